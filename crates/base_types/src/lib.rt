@@ -5,11 +5,28 @@
 //! gives and in which order, which lock modes the writers of a field take, and how a field's text is
 //! made of rows. They are definitions of specs/, and the functions here compute them.
 //!
-//! A list inside a public type is a [`Listed`], which contracts see as its list.
+//! A list inside a public type is a [`Listed`], which contracts see as its list. Names, rows and
+//! scans are `Copy`: they keep their bytes in place, and copying one takes no memory.
 #![tactic(auto)]
 
+mod command;
+mod ids;
 mod listed;
 mod memory;
+mod mode;
+mod name;
+mod nums;
+mod row;
+mod scan;
+mod short_text;
 
+pub use command::{Command, NewColumn, Placed, Turns};
+pub use ids::{FIRST_OID, Oid, Xid};
 pub use listed::Listed;
 pub use memory::NoMemory;
+pub use mode::Mode;
+pub use name::{Name, Text, Word};
+pub use nums::{MOST_INDEX_COLUMNS, Nums};
+pub use row::{Catalog, ColType, ConKind, IndexState, Kind, Row, RowKey};
+pub use scan::{Field, Purpose};
+pub use short_text::{LONGEST_TEXT, ShortText};
