@@ -1,1 +1,6 @@
 pub mod Padded
+pub mod Types
+pub mod Modes
+pub mod Scans
+pub mod Words
+pub mod Fields
