@@ -19,13 +19,20 @@ pub enum Event {
     /// It joined the queue (`SharedInvalBackendInit`).
     Start,
     /// It read its has-messages word.
-    Look { yes: bool },
+    Look {
+        yes: bool,
+    },
     /// It took messages from the queue, 1 to 32 of them (`SIGetDataEntries`).
-    Fetch { count: u32 },
+    Fetch {
+        count: u32,
+    },
     /// It had fallen too far behind, and was told to reset all it caches.
     FetchReset,
     /// It was granted a lock (`LockAcquire`).
-    LockOk { rel: Oid, mode: Mode },
+    LockOk {
+        rel: Oid,
+        mode: Mode,
+    },
     /// It was refused a lock; the first other holder of a conflicting mode, and that mode.
     LockHeld {
         rel: Oid,
@@ -34,23 +41,46 @@ pub enum Event {
         held: Mode,
     },
     /// It gave a lock back (`LockRelease`).
-    Unlock { rel: Oid, mode: Mode },
+    Unlock {
+        rel: Oid,
+        mode: Mode,
+    },
     /// It scanned a catalog, and so many rows came (`systable_beginscan`).
-    Scan { purpose: Purpose, rows: u32 },
+    Scan {
+        purpose: Purpose,
+        rows: u32,
+    },
     /// It changed catalog rows, all at once.
-    Write { xid: Xid, items: Listed<Item> },
+    Write {
+        xid: Xid,
+        items: Listed<Item>,
+    },
     /// Its write was refused: the new name is that of this relation.
-    ClashRow { name: Name, rel: Oid },
+    ClashRow {
+        name: Name,
+        rel: Oid,
+    },
     /// Its write was refused: a running transaction has the new name in use.
-    ClashRunning { name: Name, xid: Xid },
+    ClashRunning {
+        name: Name,
+        xid: Xid,
+    },
     /// Its transaction is committed.
-    Visible { xid: Xid },
+    Visible {
+        xid: Xid,
+    },
     /// It put its next messages into the queue, 1 to 64 of them (`SIInsertDataEntries`).
-    Publish { count: u32 },
+    Publish {
+        count: u32,
+    },
     /// It gave back the locks that it was granted in commands of this number and above.
-    Release { from: u32 },
+    Release {
+        from: u32,
+    },
     /// What it wrote in commands of this number and above is taken back.
-    Gone { from: u32 },
+    Gone {
+        from: u32,
+    },
     /// Memory was refused to it.
     Fail,
     /// It left the queue.

@@ -1,13 +1,16 @@
-// A library with one function.
+//! What a command answers: the fields of a relation as its descriptor shows them, and the errors.
+//!
+//! A descriptor is what the relation cache keeps of a relation (`src/backend/utils/cache/relcache.c`).
+//! A field that no other backend can change under the lock that is held is shown plainly; any other
+//! says at which entry of the history it was read.
+//!
+//! The promise to the layers above: each answer has one text, and it is the one of its definition.
 #![tactic(auto)]
 
-ghost use Rattle.std.specs.Prelude.{◌≡◌};
-ghost use Rattle.rel_desc.specs.Echo.{echo_of};
+mod answer;
+mod error;
+mod value;
 
-// The `ensures` clause is the contract: what `echo` returns is `echo_of` of its argument, a definition
-// in `specs/Echo.antt`, which a caller's clause can cite too.
-pub fn echo(x: usize) -> usize
-    ensures { result ≡ echo_of x }
-{
-    x
-}
+pub use answer::{Answer, Column, Shown};
+pub use error::CommandError;
+pub use value::Value;
