@@ -1,5 +1,5 @@
 -- The locks that are held, and the fields that they protect.
-use Rattle.std.specs.Prelude.{ℕ, Bool, true, false, not, Option, Some, None, List, [], ◌∷◌, ◌++◌, ◌==◌, ◌&&◌, nat_le, fold, filter, map}
+use Rattle.std.specs.Prelude.{ℕ, Bool, not, Option, List, [], ◌∷◌, ◌++◌, ◌==◌, ◌&&◌, nat_le, fold, filter, map}
 use Rattle.std.specs.List.{flat_map, find, list_any, list_all}
 use Rattle.base_types.specs.declared.ids.Oid.{Oid}
 use Rattle.base_types.specs.declared.mode.Mode.{Mode}

@@ -1,12 +1,10 @@
 -- What a history allows as its next entry, whichever commands the backends run.
-use Rattle.std.specs.Prelude.{ℕ, Bool, true, false, not, Option, Some, None, List, [], ◌∷◌, ◌++◌, ◌+◌, ◌≡◌, ◌≤◌, ◌==◌, ◌&&◌, nat_le, length, fold, map, ⊤}
+use Rattle.std.specs.Prelude.{ℕ, Bool, true, false, Some, None, List, [], ◌∷◌, ◌+◌, ◌≡◌, ◌≤◌, ◌==◌, ◌&&◌, nat_le, length, fold, ⊤}
 use Rattle.std.specs.Option.{option_map, option_map_or}
 use Rattle.std.specs.List.{flat_map, list_any, range_with_len}
-use Rattle.base_types.specs.declared.ids.Oid.{Oid}
 use Rattle.base_types.specs.declared.ids.Xid.{Xid}
 use Rattle.base_types.specs.declared.mode.Mode.{Mode}
-use Rattle.base_types.specs.declared.row.Row.{Row}
-use Rattle.base_types.specs.declared.row.Row.TheVariants.{Class, Att, Def, Ind, Con, Trg}
+use Rattle.base_types.specs.declared.row.Row.TheVariants.{Class, Def, Con, Trg}
 use Rattle.base_types.specs.declared.row.RowKey.{RowKey}
 use Rattle.base_types.specs.Keys.{key_of, are_distinct_keys}
 use Rattle.event_kinds.specs.declared.entry.Entry.{Entry}
@@ -15,7 +13,7 @@ use Rattle.event_kinds.specs.declared.entry.Event.TheVariants.{Start, Scan, Lock
 use Rattle.event_kinds.specs.declared.entry.Item.{Item}
 use Rattle.event_kinds.specs.declared.entry.Item.TheVariants as items
 use Rattle.history_model.specs.Prefixes.{EachEntry, along_own}
-use Rattle.history_model.specs.Transactions.{Running, running_transaction_of, is_committed, runs_as, xid_for}
+use Rattle.history_model.specs.Transactions.{running_transaction_of, is_committed, runs_as, xid_for}
 use Rattle.history_model.specs.Versions.{answer_of}
 use Rattle.history_model.specs.Held.{held_of, holds, first_conflict}
 

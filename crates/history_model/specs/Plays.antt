@@ -1,9 +1,8 @@
 -- The order in which backends do what their commands say.
-use Rattle.std.specs.Prelude.{ℕ, Bool, true, false, not, Option, Some, None, List, [], ◌∷◌, ◌++◌, ◌+◌, ◌≡◌, ◌==◌, ⊤, filter, map, slice_get, negsuc}
+use Rattle.std.specs.Prelude.{ℕ, true, not, Option, Some, None, List, [], ◌∷◌, ◌++◌, ◌+◌, ◌≡◌, ◌==◌, ⊤, filter, map, slice_get, negsuc}
 use Rattle.std.specs.Option.{option_map}
 use Rattle.std.specs.List.{enumerate_from}
 use Rattle.base_types.specs.declared.ids.Oid.{Oid}
-use Rattle.base_types.specs.declared.mode.Mode.{Mode}
 use Rattle.base_types.specs.declared.mode.Mode.TheVariants.{AccessShare}
 use Rattle.base_types.specs.declared.row.Kind.TheVariants.{Table}
 use Rattle.base_types.specs.declared.row.Row.{Row}
@@ -18,7 +17,6 @@ use Rattle.base_types.specs.Scans.{build_scans}
 use Rattle.event_kinds.specs.declared.entry.Entry.{Entry}
 use Rattle.event_kinds.specs.declared.entry.Event.{Event}
 use Rattle.event_kinds.specs.declared.entry.Event.TheVariants.{Start, Scan, LockOk, LockHeld, Write, Visible, Release, Stop}
-use Rattle.event_kinds.specs.declared.entry.Item.{Item}
 use Rattle.event_kinds.specs.declared.entry.Item.TheVariants.{Add}
 use Rattle.history_model.specs.Prefixes.{EachEntry, along_own}
 use Rattle.history_model.specs.Legal.{next_oid}

@@ -1,6 +1,5 @@
 -- Which scans a backend has made, and which of them it may still go by.
-use Rattle.std.specs.Prelude.{ℕ, Bool, true, false, Option, Some, None, List, [], ◌∷◌, ◌+◌, ◌≡◌, ⊤, if◌then◌else◌, length, take, unwrap_or}
-use Rattle.base_types.specs.declared.ids.Oid.{Oid}
+use Rattle.std.specs.Prelude.{ℕ, Bool, true, false, Option, Some, None, List, ◌+◌, ◌≡◌, ⊤, if◌then◌else◌, length, take, unwrap_or}
 use Rattle.base_types.specs.declared.row.Row.{Row}
 use Rattle.base_types.specs.declared.scan.Purpose.{Purpose}
 use Rattle.base_types.specs.Scans.{same_scan, is_build_scan}

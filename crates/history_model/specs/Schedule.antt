@@ -1,11 +1,11 @@
 -- Whose entry comes next.
-use Rattle.std.specs.Prelude.{ℕ, Bool, true, false, not, Option, Some, None, List, [], ◌∷◌, ◌≡◌, if◌then◌else◌, filter, drop, slice_get}
+use Rattle.std.specs.Prelude.{ℕ, Bool, true, false, not, Some, List, [], ◌∷◌, ◌≡◌, if◌then◌else◌, filter, drop, slice_get}
 use Rattle.std.specs.List.{range_with_len}
 use Rattle.base_types.specs.declared.command.Turns.{Turns}
 use Rattle.base_types.specs.Scenario.{Scenario, schedule_of}
 use Rattle.event_kinds.specs.declared.entry.Entry.{Entry}
 use Rattle.history_model.specs.Prefixes.{EachEntry, along}
-use Rattle.history_model.specs.Legal.{Life, Unstarted, Alive, Stopped, life_of}
+use Rattle.history_model.specs.Legal.{Life, Stopped, life_of}
 
 -- a life has ended
 abbrev pub is_stopped : Life → Bool

@@ -1,5 +1,5 @@
 -- The transactions of backends, and whether one is committed.
-use Rattle.std.specs.Prelude.{ℕ, Bool, true, false, Option, Some, None, List, [], ◌∷◌, ◌++◌, ◌+◌, ◌==◌, ◌||◌, if◌then◌else◌, max, fold, unwrap_or}
+use Rattle.std.specs.Prelude.{ℕ, Bool, false, Option, Some, None, List, [], ◌∷◌, ◌++◌, ◌+◌, ◌==◌, if◌then◌else◌, max, fold, unwrap_or}
 use Rattle.std.specs.Option.{option_map_or}
 use Rattle.std.specs.List.{list_any}
 use Rattle.event_kinds.specs.declared.entry.Entry.{Entry}
