@@ -2,6 +2,7 @@
 use Rattle.std.specs.Prelude.{ℕ, Bool, not, Option, List, [], ◌∷◌, ◌++◌, ◌==◌, ◌&&◌, nat_le, fold, filter, map}
 use Rattle.std.specs.List.{flat_map, find, list_any, list_all}
 use Rattle.base_types.specs.declared.ids.Oid.{Oid}
+use Rattle.history_model.specs.declared.fact.Grant.{Grant}
 use Rattle.base_types.specs.declared.mode.Mode.{Mode}
 use Rattle.base_types.specs.declared.mode.Mode.TheVariants.{AccessExclusive}
 use Rattle.base_types.specs.declared.row.Kind.{Kind}
@@ -14,13 +15,6 @@ use Rattle.event_kinds.specs.declared.entry.Event.{Event}
 use Rattle.event_kinds.specs.declared.entry.Event.TheVariants.{LockOk, Write, Release}
 use Rattle.event_kinds.specs.declared.entry.Item.{Item}
 use Rattle.event_kinds.specs.declared.entry.Item.TheVariants.{Add}
-
--- a lock that a backend was granted in a command
-pub record Grant : Type 0 where
-  pub backend : ℕ
-  pub command : ℕ
-  pub rel : Oid
-  pub mode : Mode
 
 -- a new relation is locked by its writer
 abbrev pub granted_by : ℕ → ℕ → Item → List Grant
