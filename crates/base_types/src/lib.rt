@@ -11,6 +11,7 @@
 
 mod command;
 mod ids;
+mod line_buffer;
 mod listed;
 mod memory;
 mod mode;
@@ -24,6 +25,7 @@ mod short_text;
 
 pub use command::{Command, NewColumn, Placed, Turns};
 pub use ids::{FIRST_OID, Oid, Xid};
+pub use line_buffer::{LINE_ROOM, LineBuffer};
 pub use listed::Listed;
 pub use memory::NoMemory;
 pub use mode::Mode;
