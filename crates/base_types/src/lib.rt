@@ -22,6 +22,7 @@ mod nums;
 mod row;
 mod scan;
 mod short_text;
+mod words;
 
 pub use command::{Command, NewColumn, Placed, Turns};
 pub use ids::{FIRST_OID, Oid, Xid};
@@ -35,3 +36,4 @@ pub use nums::{MOST_INDEX_COLUMNS, Nums};
 pub use row::{Catalog, ColType, ConKind, IndexState, Kind, Row, RowKey};
 pub use scan::{Field, Purpose};
 pub use short_text::{LONGEST_TEXT, ShortText};
+pub use words::{live_word, on_word, valid_word};
