@@ -14,6 +14,23 @@ pub enum Mode {
 impl Mode {
     ghost use Rattle.std.specs.Prelude.{◌≡◌, ◌≤◌, length};
     ghost use Rattle.base_types.specs.Words.{mode_word};
+    ghost use Rattle.base_types.specs.Modes.{mode_number};
+
+    /// The number by which the server counts the mode, 1 to 8.
+    pub fn number(self) -> u32
+        ensures { result ≡ mode_number self }
+    {
+        match self {
+            Mode::AccessShare => 1,
+            Mode::RowShare => 2,
+            Mode::RowExclusive => 3,
+            Mode::ShareUpdateExclusive => 4,
+            Mode::Share => 5,
+            Mode::ShareRowExclusive => 6,
+            Mode::Exclusive => 7,
+            Mode::AccessExclusive => 8,
+        }
+    }
 
     /// The mode's word of two letters.
     pub fn word(self) -> &'static [u8]
