@@ -23,6 +23,7 @@ mod name_fault;
 mod nums;
 mod row;
 mod scan;
+mod scan_rows;
 mod short_text;
 mod words;
 
@@ -39,5 +40,6 @@ pub use name_fault::NameFault;
 pub use nums::{MOST_INDEX_COLUMNS, Nums};
 pub use row::{Catalog, ColType, ConKind, IndexState, Kind, Row, RowKey};
 pub use scan::{Field, Purpose};
+pub use scan_rows::{goes_before, put_in_order, selects};
 pub use short_text::{LONGEST_TEXT, ShortText};
 pub use words::{live_word, on_word, valid_word};
