@@ -5,3 +5,4 @@ pub mod Modes
 pub mod Scans
 pub mod Words
 pub mod Fields
+pub mod Scenario
