@@ -10,6 +10,8 @@
 #![tactic(auto)]
 
 mod command;
+mod field_item;
+mod fields;
 mod ids;
 mod line_buffer;
 mod listed;
@@ -28,6 +30,8 @@ mod short_text;
 mod words;
 
 pub use command::{Command, NewColumn, Placed, Turns};
+pub use field_item::{item_of, push_nums};
+pub use fields::{fields_of, has_field, read_by};
 pub use ids::{FIRST_OID, Oid, Xid};
 pub use line_buffer::{LINE_ROOM, LineBuffer};
 pub use listed::Listed;
