@@ -11,6 +11,7 @@
 
 mod command;
 mod field_item;
+mod field_rows;
 mod fields;
 mod ids;
 mod line_buffer;
@@ -31,6 +32,7 @@ mod words;
 
 pub use command::{Command, NewColumn, Placed, Turns};
 pub use field_item::{item_of, push_nums};
+pub use field_rows::field_text;
 pub use fields::{fields_of, has_field, read_by};
 pub use ids::{FIRST_OID, Oid, Xid};
 pub use line_buffer::{LINE_ROOM, LineBuffer};
