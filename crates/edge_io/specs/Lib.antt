@@ -1,0 +1,4 @@
+pub mod Causes
+pub mod Taken
+pub mod Gates
+pub mod Reads
