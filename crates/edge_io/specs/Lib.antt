@@ -2,3 +2,4 @@ pub mod Causes
 pub mod Taken
 pub mod Gates
 pub mod Reads
+pub mod InMemory

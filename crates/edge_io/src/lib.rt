@@ -19,6 +19,10 @@
 
 mod fault;
 mod gates;
+mod memory_sinks;
+mod memory_sources;
+mod over_std;
+mod plans;
 mod reading;
 mod sinks;
 mod sources;
@@ -26,6 +30,9 @@ mod writing;
 
 pub use fault::Failed;
 pub use gates::{Gate, Go, OpenGate, StopGate};
+pub use memory_sinks::{MEMORY_SINK_ROOM, MemorySink, SteadySink};
+pub use memory_sources::{MemorySource, SteadySource};
+pub use over_std::{StdSink, StdSource};
 pub use reading::{ReadRefusal, read_all};
 pub use sinks::Sink;
 pub use sources::Source;
