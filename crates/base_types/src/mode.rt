@@ -10,3 +10,25 @@ pub enum Mode {
     Exclusive,
     AccessExclusive,
 }
+
+impl Mode {
+    ghost use Rattle.std.specs.Prelude.{◌≡◌, ◌≤◌, length};
+    ghost use Rattle.base_types.specs.Words.{mode_word};
+
+    /// The mode's word of two letters.
+    pub fn word(self) -> &'static [u8]
+        ensures text { result.now ≡ mode_word self }
+        ensures short { length result.now ≤ 2 }
+    {
+        match self {
+            Mode::AccessShare => b"as",
+            Mode::RowShare => b"rs",
+            Mode::RowExclusive => b"rx",
+            Mode::ShareUpdateExclusive => b"su",
+            Mode::Share => b"sh",
+            Mode::ShareRowExclusive => b"sr",
+            Mode::Exclusive => b"ex",
+            Mode::AccessExclusive => b"ax",
+        }
+    }
+}
