@@ -111,14 +111,26 @@ entry_head entry = codes "h " ++ place_text entry.backend entry.command ++ event
 abbrev pub changes_text : List Item → List ℕ
 changes_text changes = flat_map (λ item. codes " " ++ item_text item) changes
 
+-- an answer line up to its text
+abbrev pub line_head : Line → List ℕ
+line_head line = codes "l " ++ place_text line.backend line.command
+
 -- the answer line of a command
 abbrev pub line_text : Line → List ℕ
-line_text line = codes "l " ++ place_text line.backend line.command ++ line.text
+line_text line = line_head line ++ line.text
 
 -- a text as a line
 abbrev pub ended : List ℕ → List ℕ
 ended text = text ++ codes "\n"
 
+-- the lines of a history
+abbrev pub entries_text : List Entry → List ℕ
+entries_text history = flat_map (λ entry. ended (entry_text entry)) history
+
+-- the answer lines
+abbrev pub lines_text : List Line → List ℕ
+lines_text lines = flat_map (λ line. ended (line_text line)) lines
+
 -- a history and its answer lines, and the line `end`
 abbrev pub text_of : List Entry → List Line → List ℕ
-text_of history lines = flat_map (λ entry. ended (entry_text entry)) history ++ flat_map (λ line. ended (line_text line)) lines ++ codes "end\n"
+text_of history lines = entries_text history ++ lines_text lines ++ codes "end\n"

@@ -1,9 +1,9 @@
 ghost use Rattle.std.specs.Prelude.{◌≡◌, ◌≤◌, ◌+◌, ◌++◌, length, codes, decimal};
 ghost use Rattle.base_types.specs.Words.{mode_word};
-ghost use Rattle.event_kinds.specs.Texts.{item_text, purpose_text, event_head, place_text, entry_head, changes_of};
+ghost use Rattle.event_kinds.specs.Texts.{item_text, purpose_text, event_head, place_text, entry_head, line_head, changes_of};
 
 use crate::row_text::{push_key, push_row};
-use crate::{Entry, Event, Item};
+use crate::{Entry, Event, Item, Line};
 use base_types::{LineBuffer, Mode, Name, Oid, Purpose};
 
 /// Adds the text of a change. Condition: there is room for 401 bytes.
@@ -167,6 +167,16 @@ pub fn push_entry_head(line: &mut LineBuffer, entry: &Entry)
     line.push(b"h ");
     push_place(line, entry.backend, entry.command);
     push_event_head(line, &entry.event);
+}
+
+/// Adds an answer line up to its text. Condition: there is room for 24 bytes.
+pub fn push_line_head(head: &mut LineBuffer, line: &Line)
+    requires { length head.old + 24 ≤ 512 }
+    ensures text { head.new ≡ head.old ++ line_head line.now }
+    ensures short { length head.new ≤ length head.old + 24 }
+{
+    head.push(b"l ");
+    push_place(head, line.backend, line.command);
 }
 
 /// The changes of a write; of any other event, none.

@@ -1,12 +1,11 @@
 ghost use Rattle.std.specs.Prelude.{◌≡◌, ◌++◌, ℕ, codes};
-ghost use Rattle.std.specs.List.{flat_map};
 ghost use Rattle.edge_io.specs.Causes.{HasCause};
 ghost use Rattle.edge_io.specs.Taken.{Sends};
-ghost use Rattle.event_kinds.specs.Texts.{item_text, changes_text, entry_text, line_text, ended, text_of};
+ghost use Rattle.event_kinds.specs.Texts.{item_text, changes_text, entry_text, line_text, ended, entries_text, lines_text, text_of};
 
 use base_types::LineBuffer;
 use edge_io::{Failed, Sink, send};
-use event_kinds::{Entry, Item, Line, changes_in, push_entry_head, push_item, push_place};
+use event_kinds::{Entry, Item, Line, changes_in, push_entry_head, push_item, push_line_head};
 
 /// Writes an entry as a line. After `Failed` the sink has taken a front of it.
 pub fn put_entry<K: Sink>(sink: &mut K, entry: &Entry) -> Result<(), Failed>
@@ -29,10 +28,9 @@ pub fn put_line<K: Sink>(sink: &mut K, line: &Line) -> Result<(), Failed>
     ensures bytes { Sends (K.taken sink.old) (K.taken sink.new) result (ended (line_text line.now)) }
     ensures cause { HasCause (K.faults sink.old) (K.faults sink.new) result }
 {
-    let mut front = LineBuffer::new();
-    front.push(b"l ");
-    push_place(&mut front, line.backend, line.command);
-    send(sink, front.as_bytes())?;
+    let mut head = LineBuffer::new();
+    push_line_head(&mut head, line);
+    send(sink, head.as_bytes())?;
     put_ended(sink, line.text.as_slice())
 }
 
@@ -43,8 +41,7 @@ pub fn put_output<K: Sink>(sink: &mut K, history: &[Entry], lines: &[Line]) -> R
     ensures cause { HasCause (K.faults sink.old) (K.faults sink.new) result }
 {
     put_entries(sink, history)?;
-    put_lines(sink, lines)?;
-    send(sink, b"end\n")
+    put_ended_lines(sink, lines)
 }
 
 // The changes of a write, and the end of the line.
@@ -89,7 +86,7 @@ fn put_ended<K: Sink>(sink: &mut K, text: &[u8]) -> Result<(), Failed>
 
 // The lines of a history.
 fn put_entries<K: Sink>(sink: &mut K, history: &[Entry]) -> Result<(), Failed>
-    ensures bytes { Sends (K.taken sink.old) (K.taken sink.new) result (flat_map (λ (entry : Entry). ended (entry_text entry)) history.now) }
+    ensures bytes { Sends (K.taken sink.old) (K.taken sink.new) result (entries_text history.now) }
     ensures cause { HasCause (K.faults sink.old) (K.faults sink.new) result }
 {
     for entry in history {
@@ -98,9 +95,18 @@ fn put_entries<K: Sink>(sink: &mut K, history: &[Entry]) -> Result<(), Failed>
     Ok(())
 }
 
+// The answer lines and the line `end`.
+fn put_ended_lines<K: Sink>(sink: &mut K, lines: &[Line]) -> Result<(), Failed>
+    ensures bytes { Sends (K.taken sink.old) (K.taken sink.new) result (lines_text lines.now ++ codes "end\n") }
+    ensures cause { HasCause (K.faults sink.old) (K.faults sink.new) result }
+{
+    put_lines(sink, lines)?;
+    send(sink, b"end\n")
+}
+
 // The answer lines.
 fn put_lines<K: Sink>(sink: &mut K, lines: &[Line]) -> Result<(), Failed>
-    ensures bytes { Sends (K.taken sink.old) (K.taken sink.new) result (flat_map (λ (line : Line). ended (line_text line)) lines.now) }
+    ensures bytes { Sends (K.taken sink.old) (K.taken sink.new) result (lines_text lines.now) }
     ensures cause { HasCause (K.faults sink.old) (K.faults sink.new) result }
 {
     for line in lines {
