@@ -1,5 +1,5 @@
 -- Laws of what holds of each entry and of folds along a history: one more entry, and a front.
-use Rattle.std.proofs.Common.{◌≡◌, ℕ, true, false, List, [], ◌∷◌, ◌++◌, ◌==◌, if◌then◌else◌, refl, ap, ◌∙◌, append_assoc, rules}
+use Rattle.std.proofs.Common.{◌≡◌, ℕ, true, false, List, [], ◌∷◌, ◌++◌, ◌==◌, if◌then◌else◌, refl, ap, ◌∙◌, append_assoc, append-nil, subst, rules}
 use Rattle.event_kinds.specs.declared.entry.Entry.{Entry}
 use Rattle.history_model.specs.Prefixes.{EachFrom, EachEntry, along_from, along, along_own}
 
@@ -30,3 +30,14 @@ along_own-own b step first history e own = along-more (λ before x y. if y.backe
 pub along_own-other : {X : Type 0} (b : ℕ) (step : List Entry → X → Entry → X) (first : X) (history : List Entry) (e : Entry) → (e.backend == b) ≡ false
     → along_own b step first (history ++ e ∷ []) ≡ along_own b step first history
 along_own-other b step first history e other = along-more (λ before x y. if y.backend == b then step before x y else x) first history e ∙ rw other refl
+
+along_from-keeps : {X : Type 0} (R : List Entry → X → Type 0) (step : List Entry → X → Entry → X) → ((before : List Entry) (x : X) (e : Entry) → R before x → R (before ++ e ∷ []) (step before x e))
+    → (before : List Entry) (first : X) (history : List Entry) → R before first → R (before ++ history) (along_from step before first history)
+along_from-keeps R step more before first [] held = rw append-nil held
+along_from-keeps {X} R step more before first (x ∷ xs) held =
+    subst (λ front. R front (along_from step (before ++ x ∷ []) (step before first x) xs)) (append_assoc before (x ∷ []) xs) (along_from-keeps R step more (before ++ x ∷ []) (step before first x) xs (more before first x held))
+
+-- what holds at the start, and is kept by each step, holds at the end
+pub along-keeps : {X : Type 0} (R : List Entry → X → Type 0) (step : List Entry → X → Entry → X) → ((before : List Entry) (x : X) (e : Entry) → R before x → R (before ++ e ∷ []) (step before x e))
+    → (first : X) (history : List Entry) → R [] first → R history (along step first history)
+along-keeps R step more first history held = along_from-keeps R step more [] first history held
