@@ -1,6 +1,8 @@
-ghost use Rattle.std.specs.Prelude.{◌≡◌, true, IsTrue, IfOk, IsSome};
-ghost use Rattle.std.specs.List.{find};
-ghost use Rattle.base_types.specs.Fields.{read_by as scan_of_field};
+ghost use Rattle.std.specs.Prelude.{◌≡◌, IfOk, IsSome};
+ghost use Rattle.std.specs.List.{Contains, find};
+ghost use Rattle.std.specs.Option.{option_copied};
+ghost use Rattle.base_types.specs.declared.scan.Field.{Field};
+ghost use Rattle.base_types.specs.Fields.{read_by as scan_of_field, fields_of as fields_of_kind};
 ghost use Rattle.base_types.specs.Scans.{same_scan};
 ghost use Rattle.rel_desc.specs.declared.answer.Answer.TheVariants as answers;
 ghost use Rattle.rel_desc.specs.declared.error.CommandError.TheVariants.{NoRelation};
@@ -20,6 +22,7 @@ pub fn absent(name: Name, at: u64) -> Answer
 
 /// All fields of a relation, from the scans that are kept. Condition: each field's scan is kept.
 pub fn shown(alloc: Global, found: Found, reads: &[Read]) -> Result<Answer, NoMemory>
+    requires { (field : Field) → Contains (fields_of_kind found.kind) field → IsSome (find (λ r. same_scan r.purpose (scan_of_field field found.rel)) reads.now) }
     ensures { IfOk result (λ answer. answer ≡ answer_by reads.now found) }
 {
     let mut fields = Listed::new(alloc);
@@ -41,14 +44,11 @@ fn shown_field(
     field: Field,
     reads: &[Read],
 ) -> Result<Shown, NoMemory>
+    requires { IsSome (find (λ r. same_scan r.purpose (scan_of_field field rel)) reads.now) }
     ensures { IfOk result (λ shown. shown ≡ shown_by kind rel field (find (λ r. same_scan r.purpose (scan_of_field field rel)) reads.now)) }
 {
     let Some(read) = kept(reads, read_by(field, rel)) else {
-        return Ok(Shown {
-            field,
-            value: Value::new(Vec::new(alloc)),
-            at: None,
-        });
+        unreachable!()
     };
     Ok(Shown {
         field,
@@ -59,6 +59,7 @@ fn shown_field(
 
 // The scan among those kept, if it is.
 fn kept(reads: &[Read], scan: Purpose) -> Option<&Read>
+    ensures { option_copied result ≡ find (λ r. same_scan r.purpose scan) reads.now }
 {
     reads.iter().find(|read| read.purpose == scan)
 }

@@ -1,10 +1,16 @@
-ghost use Rattle.std.specs.Prelude.{◌≡◌, ◌≢◌, ◌≤◌, ◌<◌, ◌+◌, ◌++◌, ◌∷◌, [], ℕ, true, false, not, length, map, drop, filter, OnOk, IfOk, IsTrue};
+ghost use Rattle.std.specs.Prelude.{◌≡◌, ◌≢◌, ◌≤◌, ◌+◌, ◌↔◌, [], ℕ, true, List, length, slice_get, OnOk, IsTrue};
+ghost use Rattle.std.specs.List.{list_any};
+ghost use Rattle.base_types.specs.Scans.{same_scan, build_scans};
+ghost use Rattle.history_model.specs.Plays.{commands_of};
+ghost use Rattle.walk_run.specs.Reads.{next_owed_of, found_in, first_own_from};
 
 use crate::answers::{absent, shown};
-use crate::segment::{Locked, Scanned, Segment};
+use crate::segment::{Locked, Segment};
 use base_types::{Command, Kind, Listed, Mode, Name, NewColumn, NoMemory, Oid, Placed, Purpose, Row, Xid};
 use event_kinds::Line;
+use out_text::answer_text;
 use rel_desc::{Answer, CommandError};
+use script_text::Script;
 use std::alloc::Global;
 
 /// A relation that a lookup found.
@@ -64,7 +70,6 @@ pub struct Backend {
 impl Backend {
     ghost use Rattle.walk_run.specs.Stands.{BackendStands, Steps};
     ghost use Rattle.walk_run.specs.Ends.{MayEnd};
-    ghost use Rattle.walk_run.specs.Reads.{next_owed_of};
     ghost use Rattle.history_model.specs.Settled.{OneWriter};
     ghost use Rattle.script_text.specs.Built.{is_built};
 

@@ -12,6 +12,8 @@
 //! definition, which reads them off the history alone.
 #![tactic(auto)]
 
+mod answers;
+mod backend;
 mod segment;
 
 pub use segment::{Locked, Scanned, Segment};
