@@ -156,6 +156,7 @@ pub record IsAhead (scenario : Scenario) (b n at : ℕ) : Type 0 where
 -- where a backend stands in a history
 pub record BackendStands (scenario : Scenario) (history : List Entry) (s : Backend) : Type 0 where
   pub number : IsBackend scenario.backends s.id
+  pub few : s.finished ≤ 20000
   pub ahead : IsAhead scenario s.id s.finished s.at
   pub stage : StageStands scenario history s.id s.finished s.stage
   pub reads : ReadsStand history s.id s.reads

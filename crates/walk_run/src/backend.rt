@@ -5,7 +5,7 @@ ghost use Rattle.history_model.specs.Plays.{commands_of};
 ghost use Rattle.walk_run.specs.Reads.{next_owed_of, found_in, first_own_from};
 
 use crate::answers::{absent, shown};
-use crate::segment::{Locked, Segment};
+use crate::segment::{Locked, Scanned, Segment};
 use base_types::{Command, Kind, Listed, Mode, Name, NewColumn, NoMemory, Oid, Placed, Purpose, Row, Xid};
 use event_kinds::Line;
 use out_text::answer_text;
@@ -229,11 +229,12 @@ impl Backend {
         requires command { slice_get (commands_of script.now self.old.id) self.old.finished ≡ Some (Command.Show name None) }
         ensures { OnOk result (Steps script.now segment.old segment.new self.old self.new) }
     {
-        let scanned = segment.scan(alloc, self.id, self.finished + 1, Purpose::RelName(name))?;
+        let purpose = Purpose::RelName(name);
+        let Scanned { rows, at } = segment.scan(alloc, self.id, self.finished + 1, purpose)?;
         self.stage = Stage::LookedUp {
             name,
-            found: first_found(&scanned.rows),
-            at: scanned.at,
+            found: first_found(&rows),
+            at,
         };
         Ok(())
     }
@@ -296,11 +297,11 @@ impl Backend {
         requires stage { (found : Found) × (self.old.stage ≡ Stage.Opened found) × (next_owed_of self.old.reads found.rel ≡ Some purpose) }
         ensures { OnOk result (Steps script.now segment.old segment.new self.old self.new) }
     {
-        let scanned = segment.scan(alloc, self.id, self.finished + 1, purpose)?;
+        let Scanned { rows, at } = segment.scan(alloc, self.id, self.finished + 1, purpose)?;
         self.reads.push(Read {
             purpose,
-            rows: Listed::from_vec(scanned.rows),
-            at: scanned.at,
+            rows: Listed::from_vec(rows),
+            at,
         })?;
         Ok(())
     }
@@ -318,10 +319,12 @@ impl Backend {
         ensures { OnOk result (Steps script.now segment.old segment.new self.old self.new) }
     {
         let command = self.finished + 1;
+        let mut text = Vec::new(alloc);
+        answer_text(&answer, &mut text)?;
         self.lines.push(Line {
             backend: self.id,
             command,
-            text: answer_text(alloc, &answer)?,
+            text: Listed::from_vec(text),
         })?;
         segment.release(self.id, command, command)?;
         self.finished = command;
