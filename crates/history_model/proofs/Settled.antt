@@ -1,5 +1,5 @@
 -- What a backend has read of a table stays true, where each write is that of one new table.
-use Rattle.std.proofs.Common.{◌≡◌, ◌≤◌, ◌<◌, ℕ, Bool, true, false, Option, Some, None, List, [], ◌∷◌, ◌++◌, ◌||◌, ◌+◌, ◌∙◌, ◌⊎◌, cond, refl, sym, ap, subst, length, map, filter, fold, arith, append-nil, inl, inr, rules}
+use Rattle.std.proofs.Common.{◌≡◌, ◌≤◌, ◌<◌, ℕ, Bool, true, false, Some, List, [], ◌∷◌, ◌++◌, ◌||◌, ◌+◌, ◌∙◌, ◌⊎◌, cond, refl, sym, ap, subst, length, map, filter, fold, arith, append-nil, inl, inr, rules}
 use Rattle.std.specs.List.{AllByRecursion, Contains, flat_map, enumerate_from}
 use Rattle.std.proofs.lemmas.List.{map-append}
 use Rattle.std.proofs.lemmas.List.Elements.{All-from_recursion, recursion_from_All, All-contains, All-contains_itself, All-weaker, filter-append, Contains-append_cases}
@@ -16,43 +16,14 @@ use Rattle.base_types.specs.Scans.{selects, put_in_order, build_scans}
 use Rattle.event_kinds.specs.declared.entry.Entry.{Entry}
 use Rattle.event_kinds.specs.declared.entry.Event.{Event}
 use Rattle.event_kinds.specs.declared.entry.Event.TheVariants as events
-use Rattle.event_kinds.specs.declared.entry.Item.{Item}
 use Rattle.event_kinds.specs.declared.entry.Item.TheVariants.{Add}
 use Rattle.history_model.specs.declared.fact.Version.{Version}
 use Rattle.history_model.specs.Transactions.{is_committed, runs_as}
 use Rattle.history_model.specs.Versions.{versions_of, versions_by, added_by, sees, answer_of}
 use Rattle.history_model.specs.Legal.{next_oid, next_oid_by, drawn_by}
 use Rattle.history_model.specs.Plays.{table_rows, column_row}
+use Rattle.history_model.specs.Settled.{relation_number, IsTableRow, AddsTables, OneWriter, IsSettled, reads_table}
 use Rattle.history_model.proofs.Reading.{versions_of-more, next_oid-more, is_committed-kept}
-
--- the number of the relation that a table's row is of
-abbrev pub relation_number : Row → ℕ
-relation_number (rows.Class oid own kind fill) = oid.0
-relation_number (rows.Att rel num own col_type stat live) = rel.0
-relation_number row = 0
-
--- the row is one of those that make a new table
-abbrev pub IsTableRow : Row → Type 0
-IsTableRow (rows.Class oid own kind fill) = kind ≡ Table
-IsTableRow (rows.Att rel num own col_type stat live) = Unit {0}
-IsTableRow row = ⊥
-
--- the changes add the rows of one new table, with this oid
-pub record AddsTable (oid : ℕ) (items : List Item) : Type 0 where
-  pub name : List ℕ
-  pub columns : List NewColumn
-  pub items_are : items ≡ map Add (table_rows oid name columns)
-
--- if the event is a write, it adds the rows of one new table
-abbrev pub AddsTables : List Entry → Event → Type 0
-AddsTables history (events.Write xid items) = AddsTable (next_oid history) items
-AddsTables history event = Unit {0}
-
--- all versions are of tables' rows, each table's have one writer, and its oid has been drawn
-pub record OneWriter (history : List Entry) : Type 0 where
-  pub table_row : (v : Version) → Contains (versions_of history) v → IsTableRow v.row
-  pub drawn : (v : Version) → Contains (versions_of history) v → relation_number v.row < next_oid history
-  pub writer : (v w : Version) → Contains (versions_of history) v → Contains (versions_of history) w → relation_number v.row ≡ relation_number w.row → v.xid ≡ w.xid
 
 -- nothing is written yet
 pub OneWriter-start : OneWriter []
@@ -157,11 +128,6 @@ OneWriter-more history e one adds = record {
     writer_of_both v w (inr new) (inl old) same = absurd (omega (arith, one.drawn w old, new.number, same))
     writer_of_both v w (inr new) (inr newer) same = new.xid_is ∙ sym newer.xid_is
 
--- the relation's oid has been drawn, and each version of it is of a committed transaction
-pub record IsSettled (history : List Entry) (rel : Oid) : Type 0 where
-  pub drawn : rel.0 < next_oid history
-  pub committed : (v : Version) → Contains (versions_of history) v → relation_number v.row ≡ rel.0 → is_committed history v.xid.0 ≡ true
-
 -- and so it stays with one more entry
 pub IsSettled-more : (history : List Entry) (e : Entry) (rel : Oid) → AddsTables history e.event → IsSettled history rel → IsSettled (history ++ e ∷ []) rel
 IsSettled-more history e rel adds settled = record {
@@ -172,17 +138,6 @@ IsSettled-more history e rel adds settled = record {
     committed_of : (v : Version) → IsOldOrNew history e v → relation_number v.row ≡ rel.0 → is_committed (history ++ e ∷ []) v.xid.0 ≡ true
     committed_of v (inl old) same = is_committed-kept history e v.xid.0 (settled.committed v old same)
     committed_of v (inr new) same = absurd (omega (arith, settled.drawn, new.number, same))
-
--- the relation that a scan for a descriptor is of
-abbrev pub reads_table : Purpose → Option Oid
-reads_table (scans.Class rel) = Some rel
-reads_table (scans.Attribute rel) = Some rel
-reads_table (scans.AttrDef rel) = Some rel
-reads_table (scans.Constraint rel) = Some rel
-reads_table (scans.Index rel) = Some rel
-reads_table (scans.Trigger rel) = Some rel
-reads_table (scans.IndexRow rel) = Some rel
-reads_table p = None
 
 -- each scan that builds a table's descriptor reads the table
 pub reads_table-build_scans : (rel : Oid) → AllByRecursion (λ p. reads_table p ≡ Some rel) (build_scans Table rel)

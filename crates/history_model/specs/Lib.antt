@@ -7,4 +7,5 @@ pub mod Legal
 pub mod Plays
 pub mod Lines
 pub mod Schedule
+pub mod Settled
 pub mod Output
