@@ -17,7 +17,7 @@ use Rattle.history_model.specs.Transactions.{is_committed, runs_as}
 use Rattle.history_model.specs.Versions.{versions_of, sees, rows_of, answer_of}
 use Rattle.history_model.specs.Legal.{next_oid}
 use Rattle.history_model.specs.Plays.{relation_found}
-use Rattle.history_model.proofs.Settled.{relation_number, IsTableRow, OneWriter, IsSettled}
+use Rattle.history_model.specs.Settled.{relation_number, IsTableRow, OneWriter, IsSettled}
 
 -- a scan by the backend gives the row: a version that it sees has it, and the scan selects it
 pub record IsGiven (history : List Entry) (b : ℕ) (p : Purpose) (row : Row) : Type 0 where

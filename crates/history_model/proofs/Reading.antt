@@ -1,8 +1,9 @@
 -- What one more entry does to each thing that a history has.
-use Rattle.std.proofs.Common.{◌≡◌, ◌≤◌, ℕ, Bool, true, false, Option, Some, None, List, [], ◌∷◌, ◌++◌, ◌==◌, ◌||◌, ◌&&◌, ◌+◌, ◌∙◌, if◌then◌else◌, refl, ap, subst, length, arith, unwrap_or}
+use Rattle.std.proofs.Common.{◌≡◌, ◌≤◌, ℕ, Bool, true, false, Option, Some, None, List, [], ◌∷◌, ◌++◌, ◌==◌, ◌||◌, ◌&&◌, ◌+◌, ◌∙◌, if◌then◌else◌, ap, subst, length, arith, unwrap_or}
 use Rattle.std.specs.List.{list_any}
 use Rattle.std.proofs.lemmas.Grind.{fold-append}
 use Rattle.std.proofs.lemmas.List.{length_push}
+use Rattle.std.proofs.Math.Bool.{or-false}
 use Rattle.std.proofs.lemmas.List.Folds.{list_any-append}
 use Rattle.base_types.specs.declared.scan.Purpose.{Purpose}
 use Rattle.event_kinds.specs.declared.entry.Entry.{Entry}
@@ -35,10 +36,6 @@ last_xid-more history e = fold-append (λ last y. last_xid_by y.event last) 0 hi
 pub refusal_of-more : (history : List Entry) (e : Entry) (b c : ℕ)
     → refusal_of (history ++ e ∷ []) b c ≡ (if (e.backend == b) && (e.command == c) then refusal_by e.event (refusal_of history b c) else refusal_of history b c)
 refusal_of-more history e b c = fold-append (λ old y. if (y.backend == b) && (y.command == c) then refusal_by y.event old else old) None history (e ∷ [])
-
-or-false : (x : Bool) → (x || false) ≡ x
-or-false true = refl
-or-false false = refl
 
 any-more : (test : Entry → Bool) (history : List Entry) (e : Entry) → list_any test (history ++ e ∷ []) ≡ (list_any test history || test e)
 any-more test history e = list_any-append test history (e ∷ []) ∙ ap (λ x. list_any test history || x) (or-false (test e))

@@ -1,8 +1,9 @@
 -- What a backend has read stays what the scan gives, from the place where it read on.
-use Rattle.std.proofs.Common.{◌≡◌, ◌≤◌, ◌<◌, ℕ, Bool, true, false, Option, Some, None, List, [], ◌∷◌, ◌++◌, ◌||◌, ◌+◌, ◌==◌, ◌∙◌, ◌⊎◌, inl, inr, refl, sym, ap, length, take, map, filter, fold, arith}
+use Rattle.std.proofs.Common.{◌≡◌, ◌≤◌, ◌<◌, ℕ, Bool, true, false, Option, Some, None, List, [], ◌∷◌, ◌++◌, ◌||◌, ◌+◌, ◌==◌, ◌∙◌, ◌⊎◌, inl, inr, refl, sym, ap, length, take, map, filter, arith}
 use Rattle.std.proofs.lemmas.List.{take-append-le, take_all, length_push}
 use Rattle.std.proofs.lemmas.List.Elements.{filter_agree}
 use Rattle.std.proofs.lemmas.Bool.{cases_lt}
+use Rattle.std.proofs.Math.Bool.{or-false}
 use Rattle.base_types.specs.declared.ids.Oid.{Oid}
 use Rattle.base_types.specs.declared.row.Row.{Row}
 use Rattle.base_types.specs.declared.scan.Purpose.{Purpose}
@@ -12,9 +13,10 @@ use Rattle.event_kinds.specs.declared.entry.Event.{Event}
 use Rattle.event_kinds.specs.declared.entry.Event.TheVariants.{Scan, LockOk, LockHeld}
 use Rattle.history_model.specs.declared.fact.Version.{Version}
 use Rattle.history_model.specs.Transactions.{Running, running_transaction_of, running_by, has_xid, makes_visible, is_committed, runs_as}
-use Rattle.history_model.specs.Versions.{versions_of, versions_by, sees, rows_of, answer_of}
+use Rattle.history_model.specs.Versions.{versions_of, versions_by, sees, answer_of}
 use Rattle.history_model.proofs.Reading.{versions_of-more, is_committed-more, running_transaction_of-own, running_transaction_of-other}
-use Rattle.history_model.proofs.Settled.{AddsTables, OneWriter, IsSettled, reads_table, answer-more}
+use Rattle.history_model.specs.Settled.{AddsTables, OneWriter, IsSettled, reads_table, StaysRead}
+use Rattle.history_model.proofs.Settled.{answer-more}
 
 -- the event is a scan or a lock, which change no answer
 abbrev pub IsQuiet : Event → Type 0
@@ -22,10 +24,6 @@ IsQuiet (Scan purpose count) = Unit {0}
 IsQuiet (LockOk rel mode) = Unit {0}
 IsQuiet (LockHeld rel mode holder held) = Unit {0}
 IsQuiet event = ⊥
-
-or_false : (x : Bool) → (x || false) ≡ x
-or_false true = refl
-or_false false = refl
 
 versions-quiet : (c : ℕ) (event : Event) (old : List Version) → IsQuiet event → versions_by c event old ≡ old
 versions-quiet c (Scan purpose count) old quiet = refl
@@ -50,7 +48,7 @@ xid-quiet x c event old quiet = absurd quiet
 
 -- no transaction is committed by it
 pub is_committed-quiet : (history : List Entry) (e : Entry) (x : ℕ) → IsQuiet e.event → is_committed (history ++ e ∷ []) x ≡ is_committed history x
-is_committed-quiet history e x quiet = is_committed-more history e x ∙ ap (λ t. is_committed history x || t) (visible-quiet x e.event quiet) ∙ or_false (is_committed history x)
+is_committed-quiet history e x quiet = is_committed-more history e x ∙ ap (λ t. is_committed history x || t) (visible-quiet x e.event quiet) ∙ or-false (is_committed history x)
 
 -- and each backend's Xid stays
 pub runs_as-quiet : (history : List Entry) (e : Entry) (b x : ℕ) → IsQuiet e.event → runs_as (history ++ e ∷ []) b x ≡ runs_as history b x
@@ -74,39 +72,32 @@ answer-quiet history e b p quiet = ap (λ vs. scan_of p (map (λ v. v.row) vs)) 
     seen_same : filter (sees (history ++ e ∷ []) b) (versions_of (history ++ e ∷ [])) ≡ filter (sees history b) (versions_of history)
     seen_same = ap (filter (sees (history ++ e ∷ []) b)) (versions_of-quiet history e quiet) ∙ filter_agree (sees (history ++ e ∷ []) b) (sees history b) sees_same (versions_of history)
 
--- at each place from `at` on, the scan gives these rows
-pub record StaysRead (history : List Entry) (b : ℕ) (p : Purpose) (at : ℕ) (rows : List Row) : Type 0 where
-  pub same : (q : ℕ) → at ≤ q → q ≤ length history → answer_of (take q history) b p ≡ rows
-
--- a scan's own entry is the first such place
+-- a scan's own entry is the first place at which its rows stay
 pub StaysRead-start : (history : List Entry) (e : Entry) (b : ℕ) (p : Purpose) (rows : List Row) → IsQuiet e.event → rows ≡ answer_of history b p
     → StaysRead (history ++ e ∷ []) b p (length history + 1) rows
-StaysRead-start history e b p rows quiet is = record { same = same }
+StaysRead-start history e b p rows quiet is = record { within = omega (arith, length_push history e); stays = stays }
   where
-    same : (q : ℕ) → length history + 1 ≤ q → q ≤ length (history ++ e ∷ []) → answer_of (take q (history ++ e ∷ [])) b p ≡ rows
-    same q low high =
+    stays : (q : ℕ) → length history + 1 ≤ q → q ≤ length (history ++ e ∷ []) → answer_of (take q (history ++ e ∷ [])) b p ≡ rows
+    stays q low high =
         let long : length (history ++ e ∷ []) ≤ q = omega (arith, length_push history e) in
         ap (λ h. answer_of h b p) (take_all q (history ++ e ∷ []) long) ∙ answer-quiet history e b p quiet ∙ sym is
 
-extended : (history : List Entry) (e : Entry) (b : ℕ) (p : Purpose) (at : ℕ) (rows : List Row) → StaysRead history b p at rows → at ≤ length history
+extended : (history : List Entry) (e : Entry) (b : ℕ) (p : Purpose) (at : ℕ) (rows : List Row) → StaysRead history b p at rows
     → answer_of (history ++ e ∷ []) b p ≡ answer_of history b p → StaysRead (history ++ e ∷ []) b p at rows
-extended history e b p at rows stays short more = record { same = same }
+extended history e b p at rows before more = record { within = omega (arith, before.within, length_push history e); stays = λ q low high. by_place q low high (cases_lt (length history) q) }
   where
     by_place : (q : ℕ) → at ≤ q → q ≤ length (history ++ e ∷ []) → (length history < q) ⊎ (q ≤ length history) → answer_of (take q (history ++ e ∷ [])) b p ≡ rows
     by_place q low high (inl last) =
         let long : length (history ++ e ∷ []) ≤ q = omega (arith, length_push history e) in
-        ap (λ h. answer_of h b p) (take_all q (history ++ e ∷ []) long) ∙ more ∙ ap (λ h. answer_of h b p) (sym (take_all (length history) history (omega arith))) ∙ stays.same (length history) short (omega arith)
-    by_place q low high (inr before) = ap (λ h. answer_of h b p) (take-append-le q history (e ∷ []) before) ∙ stays.same q low before
+        ap (λ h. answer_of h b p) (take_all q (history ++ e ∷ []) long) ∙ more ∙ ap (λ h. answer_of h b p) (sym (take_all (length history) history (omega arith))) ∙ before.stays (length history) before.within (omega arith)
+    by_place q low high (inr within) = ap (λ h. answer_of h b p) (take-append-le q history (e ∷ []) within) ∙ before.stays q low within
 
-    same : (q : ℕ) → at ≤ q → q ≤ length (history ++ e ∷ []) → answer_of (take q (history ++ e ∷ [])) b p ≡ rows
-    same q low high = by_place q low high (cases_lt (length history) q)
-
--- and with one more entry the next is, where the scan is of a settled table
+-- they stay with one more entry, where the scan is of a settled table
 pub StaysRead-more : (history : List Entry) (e : Entry) (b : ℕ) (p : Purpose) (rel : Oid) (at : ℕ) (rows : List Row) → OneWriter history → AddsTables history e.event → IsSettled history rel
-    → reads_table p ≡ Some rel → StaysRead history b p at rows → at ≤ length history → StaysRead (history ++ e ∷ []) b p at rows
-StaysRead-more history e b p rel at rows one adds settled reads stays short = extended history e b p at rows stays short (answer-more history e b p rel one adds settled reads)
+    → reads_table p ≡ Some rel → StaysRead history b p at rows → StaysRead (history ++ e ∷ []) b p at rows
+StaysRead-more history e b p rel at rows one adds settled reads before = extended history e b p at rows before (answer-more history e b p rel one adds settled reads)
 
 -- or where the entry is a scan or a lock
-pub StaysRead-quiet : (history : List Entry) (e : Entry) (b : ℕ) (p : Purpose) (at : ℕ) (rows : List Row) → IsQuiet e.event → StaysRead history b p at rows → at ≤ length history
+pub StaysRead-quiet : (history : List Entry) (e : Entry) (b : ℕ) (p : Purpose) (at : ℕ) (rows : List Row) → IsQuiet e.event → StaysRead history b p at rows
     → StaysRead (history ++ e ∷ []) b p at rows
-StaysRead-quiet history e b p at rows quiet stays short = extended history e b p at rows stays short (answer-quiet history e b p quiet)
+StaysRead-quiet history e b p at rows quiet before = extended history e b p at rows before (answer-quiet history e b p quiet)
