@@ -143,6 +143,9 @@ IsSettled-more history e rel adds settled = record {
 pub reads_table-build_scans : (rel : Oid) → AllByRecursion (λ p. reads_table p ≡ Some rel) (build_scans Table rel)
 reads_table-build_scans rel = search rules
 
+pub reads_table-built : (rel : Oid) (p : Purpose) → Contains (build_scans Table rel) p → reads_table p ≡ Some rel
+reads_table-built rel p built = All-contains (λ scan. reads_table scan ≡ Some rel) (build_scans Table rel) p (All-from_recursion (λ scan. reads_table scan ≡ Some rel) (build_scans Table rel) (reads_table-build_scans rel)) built
+
 -- a row of a table that such a scan selects is of its relation
 selected_number : (p : Purpose) (row : Row) (rel : Oid) → IsTableRow row → reads_table p ≡ Some rel → selects p row ≡ true → relation_number row ≡ rel.0
 selected_number (scans.Class of) (rows.Class oid own kind fill) rel table reads is = let same : oid.0 ≡ of.0 = eqb-true oid.0 of.0 is in let one : of ≡ rel = cc in same ∙ ap (λ o. o.0) one
