@@ -1,4 +1,5 @@
 -- The line of a finished command stays as it is.
+-- The end of a command is any event of `ends_command`, and what is finished is compared by `finished_of`: a start changes `finished` and no line (`lines_of_backend-none`).
 use Rattle.std.proofs.Common.{◌≡◌, ◌≤◌, ◌<◌, ℕ, zero, suc, Bool, true, false, Option, Some, None, List, [], ◌∷◌, ◌++◌, ◌&&◌, ◌+◌, ◌==◌, ◌∙◌, if◌then◌else◌, refl, sym, ap, length, take, map, slice_get, unwrap_or, arith}
 use Rattle.std.specs.List.{AllByRecursion, enumerate_from}
 use Rattle.std.proofs.lemmas.List.{take-append-le, map_push}

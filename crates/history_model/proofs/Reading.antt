@@ -1,4 +1,5 @@
 -- What one more entry does to each thing that a history has.
+-- The laws end in `-more` (any entry), `-own` (one of the backend), `-other` (one of another), `-kept` (one that changes nothing here) and `-short` (a place lies in the history).
 use Rattle.std.proofs.Common.{◌≡◌, ◌≤◌, ℕ, Bool, true, false, Option, Some, None, List, [], ◌∷◌, ◌++◌, ◌==◌, ◌||◌, ◌&&◌, ◌+◌, ◌∙◌, if◌then◌else◌, refl, ap, subst, length, take, arith, unwrap_or}
 use Rattle.std.specs.List.{list_any}
 use Rattle.std.proofs.lemmas.Grind.{fold-append}

@@ -1,4 +1,5 @@
 -- What a backend has read of a table stays true, where each write is that of one new table.
+-- A scan of the table is told by `reads_table`, which `reads_table-built` gives for each of `build_scans`; that a table stays settled needs no `OneWriter`.
 use Rattle.std.proofs.Common.{◌≡◌, ◌≤◌, ◌<◌, ℕ, Bool, true, false, Some, List, [], ◌∷◌, ◌++◌, ◌||◌, ◌+◌, ◌∙◌, ◌⊎◌, cond, refl, sym, ap, subst, length, map, filter, fold, arith, append-nil, inl, inr, rules}
 use Rattle.std.specs.List.{AllByRecursion, Contains, flat_map, enumerate_from}
 use Rattle.std.proofs.lemmas.List.{map-append}

@@ -1,4 +1,5 @@
 -- What a backend has read stays what the scan gives, from the place where it read on.
+-- That the place lies in the history is a part of `StaysRead`; scans and locks are the quiet events, which change no answer of any scan.
 use Rattle.std.proofs.Common.{◌≡◌, ◌≤◌, ◌<◌, ℕ, Bool, true, false, Option, Some, None, List, [], ◌∷◌, ◌++◌, ◌||◌, ◌+◌, ◌==◌, ◌∙◌, ◌⊎◌, inl, inr, refl, sym, ap, length, take, map, filter, arith}
 use Rattle.std.proofs.lemmas.List.{take-append-le, take_all, length_push}
 use Rattle.std.proofs.lemmas.List.Elements.{filter_agree}
