@@ -1,4 +1,4 @@
--- What the definitions refuse: the worked examples up to a place, and one wrong entry there.
+-- What the definitions refuse, and at the end what they allow beside it: a worked example up to a place, and one entry there.
 use Rattle.std.proofs.Common.{◌≡◌, ◌++◌, true, false, None, Some, [], ◌∷◌, take, slice_get, codes, negsuc, rules}
 use Rattle.base_types.specs.declared.mode.Mode.TheVariants.{AccessShare, AccessExclusive, ShareUpdateExclusive}
 use Rattle.base_types.specs.declared.row.ColType.TheVariants.{Int4}
@@ -8,6 +8,8 @@ use Rattle.base_types.specs.declared.scan.Purpose.TheVariants.{RelName, Attribut
 use Rattle.base_types.specs.declared.scan.Purpose.TheVariants as scans
 use Rattle.event_kinds.specs.declared.entry.Event.TheVariants.{Start, Look, Scan, LockOk, LockHeld, Write, Visible, Release, Stop}
 use Rattle.event_kinds.specs.declared.entry.Item.TheVariants.{Add}
+use Rattle.base_types.specs.declared.scan.Field.TheVariants.{Statistics}
+use Rattle.history_model.specs.Held.{held_of, holds, is_protected}
 use Rattle.history_model.specs.Legal.{MayFollow}
 use Rattle.history_model.specs.Plays.{IsNext}
 use Rattle.history_model.specs.Read.{ScansOnlyIfNeeded}
@@ -245,3 +247,39 @@ turns_remain h = search rules
 -- without a schedule, a backend that hasn't stopped
 pub not_stopped : IsComplete create_then_show (take 13 create_then_show_history) → ⊥
 not_stopped h = search rules
+
+-- a lock granted after a release of another backend than the holder
+pub granted_after_other_release : MayFollow (take 7 two_backends_history ++ entry 2 2 (Scan (RelName (codes "t")) 1) ∷ []) (entry 2 2 (LockOk (oid 16384) AccessShare)) → ⊥
+granted_after_other_release h = search rules
+
+-- a backend that doesn't find what its own transaction wrote
+pub own_row_missed : MayFollow (take 2 two_backends_history) (entry 1 1 (Scan (RelName (codes "t")) 0)) → ⊥
+own_row_missed h = search rules
+
+-- a stop after a release that didn't end the transaction
+pub stop_after_part : MayFollow (take 5 two_backends_history ++ entry 2 1 (Release 0) ∷ []) (entry 2 1 Stop) → ⊥
+stop_after_part h = search rules
+
+-- two stops played
+pub stop_played_twice : IsNext two_backends (take 18 two_backends_history) (entry 2 3 Stop) → ⊥
+stop_played_twice h = search rules
+
+-- a backend's own locks don't stand in its way
+pub own_lock_no_conflict : MayFollow (take 2 two_backends_history) (entry 1 1 (LockOk (oid 16384) AccessShare))
+own_lock_no_conflict = search rules
+
+-- nor does a lock on another relation
+pub other_relation_free : MayFollow (take 5 two_backends_history) (entry 2 1 (LockOk (oid 16385) AccessShare))
+other_relation_free = search rules
+
+-- each command may write
+pub write_in_next_command : MayFollow (take 8 two_backends_history) (entry 1 2 (Write (xid 2) (Add (Class (oid 16385) (codes "u") Table None) ∷ [])))
+write_in_next_command = search rules
+
+-- a release leaves the locks of earlier commands
+pub earlier_locks_stay : holds (held_of (take 2 two_backends_history ++ entry 1 2 (Release 2) ∷ [])) 1 (oid 16384) AccessExclusive ≡ true
+earlier_locks_stay = search rules
+
+-- one strong lock protects a field, whatever else is held
+pub protected_by_one : is_protected (take 2 two_backends_history ++ entry 1 1 (LockOk (oid 16384) AccessShare) ∷ []) 1 (oid 16384) Table Statistics ≡ true
+protected_by_one = search rules
