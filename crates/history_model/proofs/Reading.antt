@@ -7,6 +7,7 @@ use Rattle.std.proofs.lemmas.List.{length_push, take-append-le, take_all}
 use Rattle.std.proofs.Math.Bool.{or-false}
 use Rattle.std.proofs.lemmas.List.Folds.{list_any-append}
 use Rattle.base_types.specs.declared.scan.Purpose.{Purpose}
+use Rattle.base_types.specs.Scenario.{Scenario}
 use Rattle.event_kinds.specs.declared.entry.Entry.{Entry}
 use Rattle.history_model.specs.Transactions.{running_transaction_of, running_by, makes_visible, is_committed, last_xid, last_xid_by}
 use Rattle.history_model.specs.Versions.{versions_of, versions_by, answer_of}
@@ -15,11 +16,11 @@ use Rattle.history_model.specs.Read.{read_at, is_scan_of, is_usable, usable_by, 
 use Rattle.history_model.specs.Legal.{Unstarted, life_of, life_by, next_oid, next_oid_by, has_written, is_write}
 use Rattle.history_model.specs.Plays.{place_of, place_by}
 use Rattle.history_model.specs.Lines.{judged_at, is_before_end, refusal_of, refusal_by}
-use Rattle.history_model.proofs.Prefixes.{along_own-own, along_own-other, along-keeps}
+use Rattle.history_model.proofs.Prefixes.{along-more, along_own-own, along_own-other, along-keeps}
 
 -- the versions after one more entry
-pub versions_of-more : (history : List Entry) (e : Entry) → versions_of (history ++ e ∷ []) ≡ versions_by e.command e.event (versions_of history)
-versions_of-more history e = fold-append (λ old y. versions_by y.command y.event old) [] history (e ∷ [])
+pub versions_of-more : (history : List Entry) (e : Entry) → versions_of (history ++ e ∷ []) ≡ versions_by history e.backend e.command e.event (versions_of history)
+versions_of-more history e = along-more (λ before old y. versions_by before y.backend y.command y.event old) [] history e
 
 -- the grants after one more entry
 pub held_of-more : (history : List Entry) (e : Entry) → held_of (history ++ e ∷ []) ≡ held_by e.backend e.command e.event (held_of history)
@@ -72,12 +73,12 @@ pub life_of-other : (history : List Entry) (e : Entry) (b : ℕ) → (e.backend 
 life_of-other history e b other = along_own-other b (λ before old y. life_by y.command y.event) Unstarted history e other
 
 -- the place of a backend after its own entry
-pub place_of-own : (history : List Entry) (e : Entry) (b : ℕ) → (e.backend == b) ≡ true → place_of (history ++ e ∷ []) b ≡ place_by e.event (place_of history b)
-place_of-own history e b own = along_own-own b (λ before old y. place_by y.event old) (record { finished = None; made = [] }) history e own
+pub place_of-own : (scenario : Scenario) (history : List Entry) (e : Entry) (b : ℕ) → (e.backend == b) ≡ true → place_of scenario (history ++ e ∷ []) b ≡ place_by scenario history b e.command e.event (place_of scenario history b)
+place_of-own scenario history e b own = along_own-own b (λ before old y. place_by scenario before b y.command y.event old) (record { finished = None; made = [] }) history e own
 
 -- and after another's
-pub place_of-other : (history : List Entry) (e : Entry) (b : ℕ) → (e.backend == b) ≡ false → place_of (history ++ e ∷ []) b ≡ place_of history b
-place_of-other history e b other = along_own-other b (λ before old y. place_by y.event old) (record { finished = None; made = [] }) history e other
+pub place_of-other : (scenario : Scenario) (history : List Entry) (e : Entry) (b : ℕ) → (e.backend == b) ≡ false → place_of scenario (history ++ e ∷ []) b ≡ place_of scenario history b
+place_of-other scenario history e b other = along_own-other b (λ before old y. place_by scenario before b y.command y.event old) (record { finished = None; made = [] }) history e other
 
 -- where a backend last made a scan, after its own entry
 pub read_at-own : (history : List Entry) (e : Entry) (b : ℕ) (purpose : Purpose) → (e.backend == b) ≡ true

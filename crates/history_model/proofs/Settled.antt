@@ -44,12 +44,12 @@ abbrev writer_of : Event → Xid
 writer_of (events.Write xid items) = xid
 writer_of event = record { 0 = 0 }
 
-versions-written : (c : ℕ) (event : Event) (old : List Version) → versions_by c event old ≡ old ++ written_by c event
-versions-written c (events.Write xid items) old = refl
-versions-written c event old = sym (append-nil old)
+versions-written : (before : List Entry) (b c : ℕ) (event : Event) (old : List Version) → versions_by before b c event old ≡ old ++ written_by c event
+versions-written before b c (events.Write xid items) old = refl
+versions-written before b c event old = sym (append-nil old)
 
 versions_of-written : (history : List Entry) (e : Entry) → versions_of (history ++ e ∷ []) ≡ versions_of history ++ written_by e.command e.event
-versions_of-written history e = versions_of-more history e ∙ versions-written e.command e.event (versions_of history)
+versions_of-written history e = versions_of-more history e ∙ versions-written history e.backend e.command e.event (versions_of history)
 
 -- a version that a new table's write adds
 record IsNewVersion (oid after : ℕ) (xid : Xid) (v : Version) : Type 0 where

@@ -26,11 +26,11 @@ IsQuiet (LockOk rel mode) = Unit {0}
 IsQuiet (LockHeld rel mode holder held) = Unit {0}
 IsQuiet event = ⊥
 
-versions-quiet : (c : ℕ) (event : Event) (old : List Version) → IsQuiet event → versions_by c event old ≡ old
-versions-quiet c (Scan purpose count) old quiet = refl
-versions-quiet c (LockOk rel mode) old quiet = refl
-versions-quiet c (LockHeld rel mode holder held) old quiet = refl
-versions-quiet c event old quiet = absurd quiet
+versions-quiet : (before : List Entry) (b c : ℕ) (event : Event) (old : List Version) → IsQuiet event → versions_by before b c event old ≡ old
+versions-quiet before b c (Scan purpose count) old quiet = refl
+versions-quiet before b c (LockOk rel mode) old quiet = refl
+versions-quiet before b c (LockHeld rel mode holder held) old quiet = refl
+versions-quiet before b c event old quiet = absurd quiet
 
 visible-quiet : (x : ℕ) (event : Event) → IsQuiet event → makes_visible x event ≡ false
 visible-quiet x (Scan purpose count) quiet = refl
@@ -61,7 +61,7 @@ runs_as-quiet history e b x quiet = by_owner (e.backend == b) refl
 
 -- the versions stay
 pub versions_of-quiet : (history : List Entry) (e : Entry) → IsQuiet e.event → versions_of (history ++ e ∷ []) ≡ versions_of history
-versions_of-quiet history e quiet = versions_of-more history e ∙ versions-quiet e.command e.event (versions_of history) quiet
+versions_of-quiet history e quiet = versions_of-more history e ∙ versions-quiet history e.backend e.command e.event (versions_of history) quiet
 
 -- so every scan gives what it gave
 pub answer-quiet : (history : List Entry) (e : Entry) (b : ℕ) (p : Purpose) → IsQuiet e.event → answer_of (history ++ e ∷ []) b p ≡ answer_of history b p

@@ -9,7 +9,8 @@ use Rattle.base_types.specs.declared.scan.Purpose.TheVariants as scans
 use Rattle.event_kinds.specs.declared.entry.Event.TheVariants.{Start, Look, Scan, LockOk, LockHeld, Write, Visible, Release, Stop}
 use Rattle.event_kinds.specs.declared.entry.Item.TheVariants.{Add}
 use Rattle.base_types.specs.declared.scan.Field.TheVariants.{Statistics}
-use Rattle.history_model.specs.Held.{held_of, holds, is_protected}
+use Rattle.history_model.specs.Held.{held_of, holds}
+use Rattle.history_model.specs.Protected.{is_protected}
 use Rattle.history_model.specs.Legal.{MayFollow}
 use Rattle.history_model.specs.Plays.{IsNext}
 use Rattle.history_model.specs.Read.{ScansOnlyIfNeeded}
@@ -281,5 +282,5 @@ pub earlier_locks_stay : holds (held_of (take 2 two_backends_history ++ entry 1 
 earlier_locks_stay = search rules
 
 -- one strong lock protects a field, whatever else is held
-pub protected_by_one : is_protected (take 2 two_backends_history ++ entry 1 1 (LockOk (oid 16384) AccessShare) ∷ []) 1 (oid 16384) Table Statistics ≡ true
+pub protected_by_one : is_protected two_backends (take 2 two_backends_history ++ entry 1 1 (LockOk (oid 16384) AccessShare) ∷ []) 1 (oid 16384) Table Statistics ≡ true
 protected_by_one = search rules

@@ -22,9 +22,9 @@ pub record MayEnd (scenario : Scenario) (history : List Entry) (s : Backend) (an
   pub made : List Event
   pub running : Running
   pub grants : List Grant
-  pub at : IsAt history s.id (place_at s.finished made) (Some running) (Alive (s.finished + 1)) grants
+  pub at : IsAt scenario history s.id (place_at s.finished made) (Some running) (Alive (s.finished + 1)) grants
   pub first : running.first ≡ s.finished + 1
   pub all : held_by s.id (s.finished + 1) (Release (s.finished + 1)) grants ≡ []
   pub may : MayRelease (is_ending history s.id) history s.id (s.finished + 1)
   pub next : NextOfCommand history s.id command (s.finished + 1) made (Release (s.finished + 1))
-  pub answer_is : answer ≡ answer_to history s.id (s.finished + 1) command
+  pub answer_is : answer ≡ answer_to scenario history s.id (s.finished + 1) command

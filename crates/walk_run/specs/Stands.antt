@@ -60,8 +60,8 @@ abbrev pub IsOrdinary : List Entry → Entry → Type 0
 IsOrdinary before e = IsOrdinaryEvent before e.backend e.event
 
 -- what the folds of the history say of a backend
-pub record IsAt (history : List Entry) (b : ℕ) (place : Place) (running : Option Running) (life : Life) (grants : List Grant) : Type 0 where
-  pub place_is : place_of history b ≡ place
+pub record IsAt (scenario : Scenario) (history : List Entry) (b : ℕ) (place : Place) (running : Option Running) (life : Life) (grants : List Grant) : Type 0 where
+  pub place_is : place_of scenario history b ≡ place
   pub running_is : running_transaction_of history b ≡ running
   pub life_is : life_of history b ≡ life
   pub grants_are : own_grants history b ≡ grants
@@ -102,7 +102,7 @@ pub record HasWritten (scenario : Scenario) (history : List Entry) (b n : ℕ) (
   pub columns : List NewColumn
   pub command : slice_get (commands_of scenario b) n ≡ Some (CreateTable name columns)
   pub rel : Oid
-  pub at : IsAt history b (place_at n made) (Some (written_at (n + 1) xid.0)) (Alive (n + 1)) (record { backend = b; command = n + 1; rel = rel; mode = AccessExclusive } ∷ [])
+  pub at : IsAt scenario history b (place_at n made) (Some (written_at (n + 1) xid.0)) (Alive (n + 1)) (record { backend = b; command = n + 1; rel = rel; mode = AccessExclusive } ∷ [])
   pub known : xid.0 ≤ last_xid history
   pub own : wrote_as history b xid.0 ≡ true
   pub others : (c : ℕ) → c ≢ b → wrote_as history c xid.0 ≡ false
@@ -111,7 +111,7 @@ pub record HasWritten (scenario : Scenario) (history : List Entry) (b n : ℕ) (
 pub record HasLookedUp (scenario : Scenario) (history : List Entry) (b n : ℕ) (name : List ℕ) (made : List Event) (grants : List Grant) : Type 0 where
   pub count : ℕ
   pub command : slice_get (commands_of scenario b) n ≡ Some (Show name None)
-  pub at : IsAt history b (place_at n (events.Scan (RelName name) count ∷ made)) (Some (begun_at (n + 1))) (Alive (n + 1)) grants
+  pub at : IsAt scenario history b (place_at n (events.Scan (RelName name) count ∷ made)) (Some (begun_at (n + 1))) (Alive (n + 1)) grants
 
 -- the event is a refused lock
 abbrev pub IsRefusal : Event → Type 0
@@ -120,8 +120,8 @@ IsRefusal event = ⊥
 
 -- what the stage of a backend says, with n commands finished
 abbrev pub StageStands : Scenario → List Entry → ℕ → ℕ → Stage → Type 0
-StageStands scenario history b n stages.Unstarted = (n ≡ 0) × IsAt history b (record { finished = None; made = [] }) None Unstarted []
-StageStands scenario history b n stages.Between = (last : ℕ) × (last ≤ n) × IsAt history b (place_at n []) None (Alive last) []
+StageStands scenario history b n stages.Unstarted = (n ≡ 0) × IsAt scenario history b (record { finished = None; made = [] }) None Unstarted []
+StageStands scenario history b n stages.Between = (last : ℕ) × (last ≤ n) × IsAt scenario history b (place_at n []) None (Alive last) []
 StageStands scenario history b n (stages.Wrote xid) = (items : List Item) × HasWritten scenario history b n xid (events.Write xid items ∷ []) × (is_committed history xid.0 ≡ false)
 StageStands scenario history b n stages.Visible = (xid : Xid) × (items : List Item) × HasWritten scenario history b n xid (events.Write xid items ∷ events.Visible xid ∷ []) × (is_committed history xid.0 ≡ true)
 StageStands scenario history b n (stages.LookedUp name found at) = HasLookedUp scenario history b n name [] [] × FoundStands history b name found × IsJudged history b (n + 1) × (place_read history b (RelName name) ≡ at)
