@@ -19,6 +19,8 @@
 
 mod fault;
 mod gates;
+mod gathered;
+mod held;
 mod memory_sinks;
 mod memory_sources;
 mod over_std;
@@ -30,6 +32,7 @@ mod writing;
 
 pub use fault::Failed;
 pub use gates::{Gate, Go, OpenGate, StopGate};
+pub use gathered::GatheringSink;
 pub use memory_sinks::{MEMORY_SINK_ROOM, MemorySink, SteadySink};
 pub use memory_sources::{MemorySource, SteadySource};
 pub use over_std::{StdSink, StdSource};
