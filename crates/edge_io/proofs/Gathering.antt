@@ -119,27 +119,39 @@ gathers_front a b c result error text i e p q sent stays =
     let front = part_front (told_by a) (told_by b) (told_by c) text i sent stays in
     record { stood = stood_then a b c p q; sent = rw e front }
 
--- a text was gathered from the start, and the sink failed
-pub front_of_failed : {T E : Type 0} (a b : Gathered) (result : Result T E) (error : E) (text : List ℕ) → a.held ≡ [] → result ≡ Err error → Gathers a b result text → GrowsByFront a.behind b.behind text
-front_of_failed a b result error text empty e p =
+-- a text was gathered from the start, and the sink failed: what it has taken at last
+pub front_of_failed : {S T D E K : Type 0} (taken : K → Option (List ℕ)) (a b : Gathered) (first behind last : K) (before : Result S D) (result : Result T E) (fault : D) (error : E) (text : List ℕ)
+    → a.held ≡ [] → a.behind ≡ taken first → b.behind ≡ taken behind → before ≡ Err fault → result ≡ Err error → Gathers a b before text → behind ≡ last → Sends (taken first) (taken last) result text
+front_of_failed taken a b first behind last before result fault error text empty began now e f p same =
     let told : told_by a ≡ a.behind = ap (append_known a.behind) empty ∙ told_nothing_held a.behind in
     let sent : GrowsByFront (told_by a) (told_by b) text = rw e at p.sent in
-    front_behind a.behind b.behind b.held text p.stood.grows (subst (λ t. GrowsByFront t (told_by b) text) told sent)
+    let front : GrowsByFront a.behind b.behind text =
+    front_behind a.behind b.behind b.held text p.stood.grows (subst (λ t. GrowsByFront t (told_by b) text) told sent) in
+    let from_first : GrowsByFront (taken first) b.behind text = subst (λ t. GrowsByFront t b.behind text) began front in
+    let to_last : GrowsByFront (taken first) (taken last) text = subst (λ t. GrowsByFront (taken first) t text) (now ∙ ap taken same) from_first in
+    rw f to_last
 
--- a text was gathered from the start, and what was held was handed on or the sink failed
-pub sent_behind : {T E U : Type 0} (a b c : Gathered) (gathered : Result T E) (value : T) (result : Result U E) (text : List ℕ) → a.held ≡ [] → gathered ≡ Ok value → Gathers a b gathered text → Flushes b c
-    → OnOk result (c.held ≡ []) → Sends a.behind c.behind result text
-sent_behind a b c gathered value (Ok done) text empty e p q all =
-    let told : told_by a ≡ a.behind = ap (append_known a.behind) empty ∙ told_nothing_held a.behind in
-    let sent : Grows (told_by a) (told_by b) text = rw e at p.sent in
-    let grown : Grows a.behind (told_by c) text = subst (λ t. Grows t (told_by c) text) told (grows_stays (told_by a) (told_by b) (told_by c) text sent q.told) in
-    grows_behind a.behind c.behind text (subst (λ h. Grows a.behind (append_known c.behind h) text) all grown)
-sent_behind a b c gathered value (Err error) text empty e p q all =
+ended : {T E : Type 0} (a c : Option (List ℕ)) (held : List ℕ) (result : Result T E) (text : List ℕ) → begins a c ≡ true → Grows a (append_known c held) text → OnOk result (held ≡ []) → Sends a c result text
+ended a c held (Ok value) text p grown all = grows_behind a c text (subst (λ h. Grows a (append_known c h) text) all grown)
+ended a c held (Err error) text p grown all = front_behind a c held text p (front_all a (append_known c held) text grown)
+
+-- a text was gathered from the start, and then what was held was handed on, or a front of it
+sent_to : {T E U : Type 0} (a b c : Gathered) (before : Result T E) (value : T) (result : Result U E) (text : List ℕ) → a.held ≡ [] → before ≡ Ok value → Gathers a b before text → Flushes b c → OnOk result (c.held ≡ [])
+    → Sends a.behind c.behind result text
+sent_to a b c before value result text empty e p q all =
     let told : told_by a ≡ a.behind = ap (append_known a.behind) empty ∙ told_nothing_held a.behind in
     let sent : Grows (told_by a) (told_by b) text = rw e at p.sent in
     let grown : Grows a.behind (told_by c) text = subst (λ t. Grows t (told_by c) text) told (grows_stays (told_by a) (told_by b) (told_by c) text sent q.told) in
     let stood : Stood a c = stood_then a b c p.stood q.stood in
-    front_behind a.behind c.behind c.held text stood.grows (front_all a.behind (told_by c) text grown)
+    ended a.behind c.behind c.held result text stood.grows grown all
+
+-- the same: what the sink behind has taken at last
+pub sent_behind : {S T D K : Type 0} (taken : K → Option (List ℕ)) (a b c : Gathered) (first behind last : K) (before : Result S D) (value : S) (result : Result T D) (text : List ℕ) → a.held ≡ [] → a.behind ≡ taken first
+    → c.behind ≡ taken behind → before ≡ Ok value → Gathers a b before text → Flushes b c → OnOk result (c.held ≡ []) → behind ≡ last → Sends (taken first) (taken last) result text
+sent_behind taken a b c first behind last before value result text empty began now e p q all same =
+    let sent : Sends a.behind c.behind result text = sent_to a b c before value result text empty e p q all in
+    let from_first : Sends (taken first) c.behind result text = subst (λ t. Sends t c.behind result text) began sent in
+    subst (λ t. Sends (taken first) t result text) (now ∙ ap taken same) from_first
 
 -- a text was gathered, and then the result of gathering another
 pub gathers_then : {S T E : Type 0} (a b c : Gathered) (before : Result S E) (value : S) (result : Result T E) (first second : List ℕ) → before ≡ Ok value → Gathers a b before first → Gathers b c result second
@@ -152,8 +164,8 @@ gathers_then a b c before value result first second e p q =
     }
 
 -- the first of two texts failed
-pub gathers_first : {S T E : Type 0} (a b : Gathered) (before : Result S E) (result : Result T E) (error : E) (first second : List ℕ) → before ≡ Err error → result ≡ Err error → Gathers a b before first
+pub gathers_first : {S T D E : Type 0} (a b : Gathered) (before : Result S D) (result : Result T E) (fault : D) (error : E) (first second : List ℕ) → before ≡ Err fault → result ≡ Err error → Gathers a b before first
     → Gathers a b result (first ++ second)
-gathers_first a b before result error first second e f p =
+gathers_first a b before result fault error first second e f p =
     let front : GrowsByFront (told_by a) (told_by b) first = rw e at p.sent in
     record { stood = p.stood; sent = rw f (front_first (told_by a) (told_by b) first second front) }

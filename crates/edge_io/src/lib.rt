@@ -28,6 +28,7 @@ mod plans;
 mod reading;
 mod sinks;
 mod sources;
+mod two_texts;
 mod writing;
 
 pub use fault::Failed;
@@ -39,4 +40,8 @@ pub use over_std::{StdSink, StdSource};
 pub use reading::{ReadRefusal, read_all};
 pub use sinks::Sink;
 pub use sources::Source;
+pub use two_texts::send_two;
 pub use writing::send;
+
+#[cfg(test)]
+mod tests;
