@@ -12,7 +12,12 @@
 //! the text at `Ok`, and by a front of the text at `Err`.
 //!
 //! [`send`] writes the whole of a text, [`read_all`] reads to the end or past a limit. The lemmas of
-//! `proofs/Sending.antt` join several sends into one.
+//! `proofs/Sending.antt` join several sends into one. A [`GatheringSink`] gathers small texts for a
+//! sink and hands them on in large pieces; [`send_two`] shows its use, and `proofs/Gathering.antt`
+//! says what the sink behind it has taken.
+//!
+//! [`MemorySource`], [`MemorySink`], [`SteadySource`] and [`SteadySink`] live in memory and have exact
+//! contracts. [`StdSource`] and [`StdSink`] stand over std's readers and writers and tell nothing.
 //!
 //! A counter stops at 18,446,744,073,709,551,615, so "rose" means: rose, or stands there.
 #![tactic(auto)]
