@@ -5,11 +5,47 @@
 //! gives and in which order, which lock modes the writers of a field take, and how a field's text is
 //! made of rows. They are definitions of specs/, and the functions here compute them.
 //!
-//! A list inside a public type is a [`Listed`], which contracts see as its list.
+//! A list inside a public type is a [`Listed`], which contracts see as its list. Names, rows and
+//! scans are `Copy`: they keep their bytes in place, and copying one takes no memory.
 #![tactic(auto)]
 
+mod command;
+mod field_item;
+mod field_rows;
+mod fields;
+mod ids;
+mod line_buffer;
 mod listed;
+mod lock_modes;
 mod memory;
+mod mode;
+mod mode_set;
+mod name;
+mod name_bytes;
+mod name_fault;
+mod nums;
+mod row;
+mod scan;
+mod scan_rows;
+mod short_text;
+mod words;
 
+pub use command::{Command, NewColumn, Placed, Turns};
+pub use field_item::{item_of, push_nums};
+pub use field_rows::field_text;
+pub use fields::{fields_of, has_field, read_by};
+pub use ids::{FIRST_OID, Oid, Xid};
+pub use line_buffer::{LINE_ROOM, LineBuffer};
 pub use listed::Listed;
+pub use lock_modes::{conflicts, writers};
 pub use memory::NoMemory;
+pub use mode::Mode;
+pub use mode_set::ModeSet;
+pub use name::{Name, Text, Word};
+pub use name_fault::NameFault;
+pub use nums::{MOST_INDEX_COLUMNS, Nums};
+pub use row::{Catalog, ColType, ConKind, IndexState, Kind, Row, RowKey};
+pub use scan::{Field, Purpose};
+pub use scan_rows::{goes_before, put_in_order, selects};
+pub use short_text::{LONGEST_TEXT, ShortText};
+pub use words::{live_word, on_word, valid_word};
