@@ -28,6 +28,7 @@ use Rattle.history_model.specs.Legal.{Life, Unstarted, Alive, Stopped, life_of, 
 use Rattle.history_model.specs.Plays.{Place, place_of, commands_of, IsNext}
 use Rattle.history_model.specs.Lines.{judged_at, refusal_of, lines_of_backend}
 use Rattle.history_model.specs.Settled.{AddsTables, IsSettled, StaysRead}
+use Rattle.walk_run.specs.Left.{still_to_make}
 use Rattle.walk_run.specs.declared.backend.Backend.{Backend}
 use Rattle.walk_run.specs.declared.backend.Found.{Found}
 use Rattle.walk_run.specs.declared.backend.Read.{Read}
@@ -162,7 +163,7 @@ pub record BackendStands (scenario : Scenario) (history : List Entry) (s : Backe
   pub reads : ReadsStand history s.id s.reads
   pub lines : s.lines ≡ lines_of_backend scenario history s.id
 
--- a step makes one entry of the backend's, which is allowed, and the backend stands behind it
+-- a step makes one entry of the backend's, which is allowed; the backend stands behind it, and can make fewer than before
 pub record Steps (scenario : Scenario) (old new : List Entry) (was now : Backend) : Type 0 where
   pub entry : Entry
   pub is : new ≡ old ++ entry ∷ []
@@ -173,3 +174,4 @@ pub record Steps (scenario : Scenario) (old new : List Entry) (was now : Backend
   pub needed : ScansOnlyIfNeeded old entry.backend entry.event
   pub ordinary : IsOrdinary old entry
   pub stands : BackendStands scenario new now
+  pub less : still_to_make scenario now < still_to_make scenario was
