@@ -1,2 +1,4 @@
 pub mod Padding
 pub mod Names
+pub mod Placing
+pub mod Joining

@@ -6,3 +6,4 @@ pub mod Scans
 pub mod Words
 pub mod Fields
 pub mod Scenario
+pub mod Keys

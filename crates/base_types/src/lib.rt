@@ -10,6 +10,9 @@
 #![tactic(auto)]
 
 mod command;
+mod field_item;
+mod field_rows;
+mod fields;
 mod ids;
 mod line_buffer;
 mod listed;
@@ -23,10 +26,14 @@ mod name_fault;
 mod nums;
 mod row;
 mod scan;
+mod scan_rows;
 mod short_text;
 mod words;
 
 pub use command::{Command, NewColumn, Placed, Turns};
+pub use field_item::{item_of, push_nums};
+pub use field_rows::field_text;
+pub use fields::{fields_of, has_field, read_by};
 pub use ids::{FIRST_OID, Oid, Xid};
 pub use line_buffer::{LINE_ROOM, LineBuffer};
 pub use listed::Listed;
@@ -39,5 +46,6 @@ pub use name_fault::NameFault;
 pub use nums::{MOST_INDEX_COLUMNS, Nums};
 pub use row::{Catalog, ColType, ConKind, IndexState, Kind, Row, RowKey};
 pub use scan::{Field, Purpose};
+pub use scan_rows::{goes_before, put_in_order, selects};
 pub use short_text::{LONGEST_TEXT, ShortText};
 pub use words::{live_word, on_word, valid_word};

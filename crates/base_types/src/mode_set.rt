@@ -1,3 +1,6 @@
+ghost use Rattle.std.specs.Prelude.{◌≡◌, ◌≤◌, length};
+ghost use Rattle.base_types.specs.Padded.{filled as with_filler};
+
 use crate::Mode;
 use crate::lock_modes::is_among;
 use std::marker::Model;
@@ -56,9 +59,6 @@ impl ModeSet {
         &self.modes[..self.len]
     }
 }
-
-ghost use Rattle.std.specs.Prelude.{◌≡◌, ◌≤◌, length};
-ghost use Rattle.base_types.specs.Padded.{filled as with_filler};
 
 // The modes in an array, with the weakest mode after them.
 fn filled(modes: &[Mode]) -> [Mode; 8]

@@ -1,0 +1,5 @@
+pub mod Causes
+pub mod Taken
+pub mod Gates
+pub mod Reads
+pub mod InMemory
