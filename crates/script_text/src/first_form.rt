@@ -7,6 +7,8 @@ mod commands;
 mod cursor;
 mod fault;
 mod steps;
+#[cfg(test)]
+mod tests;
 
 use crate::{Script, is_built};
 use cursor::Cursor;
@@ -21,8 +23,8 @@ const MOST_BACKENDS: u32 = 64;
 /// `B: show T`, at most one line `steps ITEM ITEM`, and `end`, with single blanks and a line feed
 /// after each line. The queue has 4,096 messages and begins at message 0.
 ///
-/// `NotYet` where the bytes are no such script, or one that can't be walked today. Takes time in
-/// the length of the bytes, and its logarithm for names of tables and columns.
+/// `NotYet` where the bytes are no such script, or one that can't be walked today. The time grows
+/// with the length of the bytes, and at the names of tables and columns with its logarithm too.
 pub fn read_first_form(alloc: Global, bytes: &[u8]) -> Result<Script, FormFault>
     ensures ok { IfOk result (λ script. built_form_of bytes.now ≡ Some script) }
     ensures not_yet { result ≡ Err NotYet → built_form_of bytes.now ≡ None }
