@@ -10,6 +10,7 @@
 #![tactic(auto)]
 
 mod command;
+mod dropped;
 mod field_item;
 mod field_rows;
 mod fields;
@@ -33,6 +34,7 @@ mod short_text;
 mod words;
 
 pub use command::{Command, NewColumn, Placed, Turns};
+pub use dropped::MOST_COLUMNS;
 pub use field_item::{item_of, push_nums};
 pub use field_rows::field_text;
 pub use fields::{fields_of, has_field, read_by};
