@@ -55,3 +55,6 @@ pub use scan::{Field, Purpose};
 pub use scan_rows::{goes_before, put_in_order, selects};
 pub use short_text::{LONGEST_TEXT, ShortText};
 pub use words::{live_word, on_word, valid_word};
+
+#[cfg(test)]
+mod tests;
