@@ -1,13 +1,15 @@
-// A library with one function.
+//! The top call of the program, from the bytes of a script to the bytes of its output.
+//!
+//! The order is: words, reading, script, work, writing. Nothing is written before all else is done,
+//! and writing takes no memory.
+//!
+//! The promise: after `Done` the sink took the text of one history that the script allows, complete
+//! and by its schedule, and then exactly the lines that backends without caches print on it. Each
+//! other answer has its cause; want of memory alone is free.
 #![tactic(auto)]
 
-ghost use Rattle.std.specs.Prelude.{◌≡◌};
-ghost use Rattle.catsync_top.specs.Echo.{echo_of};
+mod status;
+mod top;
 
-// The `ensures` clause is the contract: what `echo` returns is `echo_of` of its argument, a definition
-// in `specs/Echo.antt`, which a caller's clause can cite too.
-pub fn echo(x: usize) -> usize
-    ensures { result ≡ echo_of x }
-{
-    x
-}
+pub use status::Status;
+pub use top::{MOST_INPUT, catsync};

@@ -15,5 +15,7 @@
 mod answers;
 mod backend;
 mod segment;
+mod walk;
 
 pub use segment::{Locked, Scanned, Segment};
+pub use walk::{World, walk};
