@@ -1,5 +1,5 @@
 -- An entry's text is its head and its changes.
-use Rattle.std.proofs.Common.{◌≡◌, List, ◌++◌, refl, sym, ap, ◌∙◌, append_assoc, append-nil, codes}
+use Rattle.std.proofs.Common.{◌≡◌, ◌++◌, refl, sym, ap, ◌∙◌, append_assoc, append-nil, codes}
 use Rattle.event_kinds.specs.Events.{Event, Entry}
 use Rattle.event_kinds.specs.declared.entry.Event.TheVariants as events
 use Rattle.event_kinds.specs.Texts.{event_text, event_head, changes_of, changes_text, place_text, entry_text, entry_head}

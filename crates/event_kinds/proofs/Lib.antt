@@ -1,2 +1,2 @@
-pub mod Loops
 pub mod Changes
+pub mod Added

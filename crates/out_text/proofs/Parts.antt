@@ -1,5 +1,5 @@
 -- A text that was sent in two parts.
-use Rattle.std.proofs.Common.{◌≡◌, ℕ, List, ◌++◌, Option, Result, Err, sym, subst}
+use Rattle.std.proofs.Common.{◌≡◌, ℕ, List, ◌++◌, Option, Result, Err, sym, subst, ap, ◌∙◌, append_assoc}
 use Rattle.edge_io.specs.Taken.{Grows, GrowsByFront, Sends}
 use Rattle.edge_io.proofs.Sending.{sends_then, front_first}
 
@@ -14,3 +14,7 @@ pub first_failed : {T E : Type 0} (a b : Option (List ℕ)) (result : Result T E
     → result ≡ Err e → GrowsByFront a b first → Sends a b result whole
 first_failed a b result e first second whole parts failed p =
     rw (failed, parts) (front_first a b first second p)
+
+-- two texts that were pushed one after the other
+pub pushed_twice : (old mid new first second : List ℕ) → mid ≡ old ++ first → new ≡ mid ++ second → new ≡ old ++ (first ++ second)
+pushed_twice old mid new first second p q = q ∙ ap (λ l. l ++ second) p ∙ append_assoc old first second

@@ -11,6 +11,9 @@
 //! `entry_text`, `line_text` and `answer_text`.
 #![tactic(auto)]
 
+mod answer;
+mod answer_line;
 mod output;
 
+pub use answer::answer_text;
 pub use output::{put_entry, put_line, put_output};

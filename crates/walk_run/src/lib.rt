@@ -12,6 +12,10 @@
 //! definition, which reads them off the history alone.
 #![tactic(auto)]
 
+mod answers;
+mod backend;
 mod segment;
+mod walk;
 
 pub use segment::{Locked, Scanned, Segment};
+pub use walk::{World, walk};
