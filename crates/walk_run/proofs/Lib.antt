@@ -3,3 +3,4 @@ pub mod Tables
 pub mod Keeps
 pub mod Lives
 pub mod Quiet
+pub mod Looking
