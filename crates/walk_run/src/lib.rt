@@ -14,6 +14,7 @@
 
 mod answers;
 mod backend;
+mod scans;
 mod segment;
 
 pub use segment::{Locked, Scanned, Segment};
