@@ -1,1 +1,3 @@
 pub mod SameScan
+pub mod Behind
+pub mod Shown
