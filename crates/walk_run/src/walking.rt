@@ -24,35 +24,35 @@ pub fn walk(alloc: Global, script: &Script) -> Result<World, NoMemory>
     requires { is_built script.now ≡ true }
     ensures { IfOk result (λ world. IsWalk script.now world.entries world.lines) }
 {
-    let mut walk = Walk::new(alloc, script)?;
+    let mut walker = Walker::new(alloc, script)?;
     if script.steps().is_empty() {
-        walk.to_the_stops(script)?;
+        walker.to_the_stops(script)?;
     } else {
-        walk.by_schedule(script)?;
+        walker.by_schedule(script)?;
     }
-    walk.into_world()
+    walker.into_world()
 }
 
 // The backends and what they share.
 #[derive(Drop)]
-struct Walk {
+struct Walker {
     alloc: Global,
     segment: Segment,
     backends: Vec<Backend>,
 }
 
-impl Walk {
+impl Walker {
     ghost use Rattle.walk_run.specs.Walks.{Stands, Goes, GoesBy, AllStopped, stopped_below};
 
     // All backends of the script, none of which has joined.
-    fn new(alloc: Global, script: &Script) -> Result<Walk, NoMemory>
-        ensures { IfOk result (λ walk. (walk.segment ≡ []) × Stands script.now walk.segment walk.backends.items) }
+    fn new(alloc: Global, script: &Script) -> Result<Walker, NoMemory>
+        ensures { IfOk result (λ walker. (walker.segment ≡ []) × Stands script.now walker.segment walker.backends.items) }
     {
         let mut backends = Vec::new(alloc);
         for number in 0..script.backends() {
             backends.push(Backend::new(alloc, number + 1, script.commands()))?;
         }
-        Ok(Walk {
+        Ok(Walker {
             alloc,
             segment: Segment::new(alloc)?,
             backends,
@@ -140,7 +140,7 @@ impl Walk {
     fn into_world(self) -> Result<World, NoMemory>
         ensures { IfOk result (λ world. (world.entries ≡ self.segment) × (world.lines ≡ flat_map (λ s. s.lines) self.backends.items)) }
     {
-        let Walk {
+        let Walker {
             alloc,
             segment,
             backends,
