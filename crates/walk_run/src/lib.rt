@@ -14,8 +14,9 @@
 
 mod answers;
 mod backend;
+mod scans;
 mod segment;
-mod walk;
+mod walking;
 
 pub use segment::{Locked, Scanned, Segment};
-pub use walk::{World, walk};
+pub use walking::{World, walk};
