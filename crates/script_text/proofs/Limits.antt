@@ -66,14 +66,14 @@ item_kept backends bytes =
     then_each (text_at (codes " ") bytes) _ _ (λ blank. then_from (number_within 1 backends blank) _ _ _ (within 1 backends blank)
     (λ b h. then_from (count_at b.1) _ _ _ (counted b.1) (λ n k. (h, k))))
 
-steps_line_kept : (backends : ℕ) (bytes : List ℕ) → IfSome (steps_line_at backends bytes) (λ l. AllByRecursion (AreTurns backends) l.0 × (step_count l.0 ≤ 1000000))
+steps_line_kept : (backends : ℕ) (bytes : List ℕ) → IfSome (steps_line_at backends bytes) (λ l. ((1 ≤ length l.0) × AllByRecursion (AreTurns backends) l.0) × (step_count l.0 ≤ 1000000))
 unfolding steps_line_at
 steps_line_kept backends bytes =
     then_each (text_at (codes "steps") bytes) _ _ (λ word. then_from (item_at backends word) _ _ _ (item_kept backends word)
     (λ first k. then_from (many_at (begins (codes " ")) (item_at backends) 999999 first.1) _ _ _ (many_kept (begins (codes " ")) (item_at backends) (AreTurns backends) (item_kept backends) 999999 first.1)
-    (λ more m. then_each (text_at (codes "\n") more.1) _ _ (λ end. tested (nat_le (step_count (first.0 ∷ more.0)) 1000000) (first.0 ∷ more.0, end) _ (λ h. ((k, m.1), le_of (step_count (first.0 ∷ more.0)) 1000000 h))))))
+    (λ more m. then_each (text_at (codes "\n") more.1) _ _ (λ end. tested (nat_le (step_count (first.0 ∷ more.0)) 1000000) (first.0 ∷ more.0, end) _ (λ h. ((omega arith, (k, m.1)), le_of (step_count (first.0 ∷ more.0)) 1000000 h))))))
 
-steps_kept : (backends : ℕ) (bytes : List ℕ) → IfSome (steps_at backends bytes) (λ ls. AllByRecursion (AllByRecursion (AreTurns backends)) ls.0 × (sum_by step_count ls.0 ≤ 1000000))
+steps_kept : (backends : ℕ) (bytes : List ℕ) → IfSome (steps_at backends bytes) (λ ls. AllByRecursion (λ line. (1 ≤ length line) × AllByRecursion (AreTurns backends) line) ls.0 × (sum_by step_count ls.0 ≤ 1000000))
 unfolding steps_at
 steps_kept backends bytes =
     either (begins (codes "steps") bytes) _ _ _

@@ -15,7 +15,7 @@
 mod answers;
 mod backend;
 mod segment;
-mod walk;
+mod walking;
 
 pub use segment::{Locked, Scanned, Segment};
-pub use walk::{World, walk};
+pub use walking::{World, walk};
