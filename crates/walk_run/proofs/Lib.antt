@@ -1,5 +1,11 @@
+pub mod SameScan
+pub mod Behind
+pub mod Shown
 pub mod Seen
 pub mod Tables
 pub mod Keeps
 pub mod Grants
 pub mod Others
+pub mod Lives
+pub mod Quiet
+pub mod Looking

@@ -14,6 +14,7 @@
 
 mod answers;
 mod backend;
+mod scans;
 mod segment;
 mod walking;
 
