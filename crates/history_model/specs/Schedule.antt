@@ -29,9 +29,9 @@ steps_behind scenario history = along (λ before steps e. drop 1 (pass_stopped b
 abbrev pub turns_left : Scenario → List Entry → List ℕ
 turns_left scenario history = turns_by scenario.steps
   where
-  turns_by : List (List Turns) → List ℕ
-  turns_by [] = filter (λ b. not (has_stopped history b)) (range_with_len 1 scenario.backends)
-  turns_by (line ∷ lines) = pass_stopped history (steps_behind scenario history)
+    turns_by : List (List Turns) → List ℕ
+    turns_by [] = filter (λ b. not (has_stopped history b)) (range_with_len 1 scenario.backends)
+    turns_by (line ∷ lines) = pass_stopped history (steps_behind scenario history)
 
 -- each entry is of the backend whose turn it is
 abbrev pub FollowsSchedule : Scenario → List Entry → Type 0

@@ -1,0 +1,5 @@
+pub mod Seen
+pub mod Tables
+pub mod Keeps
+pub mod Grants
+pub mod Others
