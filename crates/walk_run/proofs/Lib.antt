@@ -10,3 +10,4 @@ pub mod Lives
 pub mod Quiet
 pub mod Looking
 pub mod Goings
+pub mod ReadingOn

@@ -1,10 +1,11 @@
 ghost use Rattle.std.specs.Prelude.{◌≡◌, ◌≢◌, ◌≤◌, ◌+◌, ◌↔◌, [], ℕ, true, List, length, slice_get, OnOk, IsTrue};
 ghost use Rattle.std.specs.List.{list_any};
-ghost use Rattle.base_types.specs.Scans.{same_scan, build_scans};
+ghost use Rattle.base_types.specs.Scans.{same_scan as scans_match, build_scans};
 ghost use Rattle.history_model.specs.Plays.{commands_of};
 ghost use Rattle.walk_run.specs.Reads.{next_owed_of, found_in, first_own_from};
 
 use crate::answers::{absent, shown};
+use crate::scans::same_scan;
 use crate::segment::{Locked, Scanned, Segment};
 use base_types::{Command, Kind, Listed, Mode, Name, NewColumn, NoMemory, Oid, Placed, Purpose, Row, Xid};
 use event_kinds::Line;
@@ -70,6 +71,7 @@ pub struct Backend {
 impl Backend {
     ghost use Rattle.walk_run.specs.Stands.{BackendStands, Steps};
     ghost use Rattle.walk_run.specs.Ends.{MayEnd};
+    ghost use Rattle.history_model.specs.Legal.{IsLegal};
     ghost use Rattle.history_model.specs.Settled.{OneWriter};
     ghost use Rattle.script_text.specs.Built.{is_built};
 
@@ -106,6 +108,7 @@ impl Backend {
     ) -> Result<(), NoMemory>
         requires stands { BackendStands script.now segment.old self.old }
         requires built { is_built script.now ≡ true }
+        requires legal { IsLegal segment.old }
         requires writer { OneWriter segment.old }
         requires running { self.old.stage ≢ Stage.Stopped }
         ensures { OnOk result (Steps script.now segment.old segment.new self.old self.new) }
@@ -151,6 +154,7 @@ impl Backend {
     ) -> Result<(), NoMemory>
         requires stands { BackendStands script.now segment.old self.old }
         requires built { is_built script.now ≡ true }
+        requires legal { IsLegal segment.old }
         requires writer { OneWriter segment.old }
         requires stage { self.old.stage ≡ Stage.Between }
         ensures { OnOk result (Steps script.now segment.old segment.new self.old self.new) }
@@ -224,6 +228,7 @@ impl Backend {
         name: Name,
     ) -> Result<(), NoMemory>
         requires stands { BackendStands script.now segment.old self.old }
+        requires legal { IsLegal segment.old }
         requires writer { OneWriter segment.old }
         requires stage { self.old.stage ≡ Stage.Between }
         requires command { slice_get (commands_of script.now self.old.id) self.old.finished ≡ Some (Command.Show name None) }
@@ -384,7 +389,7 @@ fn table_scans(rel: Oid) -> [Purpose; 6]
 
 // Whether a scan is among those kept.
 fn has_read(reads: &[Read], scan: &Purpose) -> bool
-    ensures { result ≡ list_any (λ r. same_scan r.purpose scan.now) reads.now }
+    ensures { result ≡ list_any (λ r. scans_match r.purpose scan.now) reads.now }
 {
-    reads.iter().any(|read| read.purpose == *scan)
+    reads.iter().any(|read| same_scan(&read.purpose, scan))
 }
