@@ -277,7 +277,7 @@ impl Backend {
         ensures { OnOk result (Steps script.now segment.old segment.new self.old self.new) }
     {
         match next_owed(self.reads.as_slice(), found.rel) {
-            Some(purpose) => self.read(alloc, script, segment, purpose),
+            Some(purpose) => self.read(alloc, script, segment, &purpose),
             None => {
                 let answer = shown(alloc, found, self.reads.as_slice())?;
                 self.finish(alloc, script, segment, answer)
@@ -291,19 +291,20 @@ impl Backend {
         alloc: Global,
         script: &Script,
         segment: &mut Segment,
-        purpose: Purpose,
+        purpose: &Purpose,
     ) -> Result<(), NoMemory>
         requires stands { BackendStands script.now segment.old self.old }
         requires writer { OneWriter segment.old }
-        requires stage { (found : Found) × (self.old.stage ≡ Stage.Opened found) × (next_owed_of self.old.reads found.rel ≡ Some purpose) }
+        requires stage { (found : Found) × (self.old.stage ≡ Stage.Opened found) × (next_owed_of self.old.reads found.rel ≡ Some purpose.now) }
         ensures { OnOk result (Steps script.now segment.old segment.new self.old self.new) }
     {
-        let Scanned { rows, at } = segment.scan(alloc, self.id, self.finished + 1, purpose)?;
-        self.reads.push(Read {
-            purpose,
+        let Scanned { rows, at } = segment.scan(alloc, self.id, self.finished + 1, *purpose)?;
+        let read = Read {
+            purpose: *purpose,
             rows: Listed::from_vec(rows),
             at,
-        })?;
+        };
+        self.reads.push(read)?;
         Ok(())
     }
 
