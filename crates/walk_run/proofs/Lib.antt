@@ -6,3 +6,6 @@ pub mod Tables
 pub mod Keeps
 pub mod Grants
 pub mod Others
+pub mod Lives
+pub mod Quiet
+pub mod Looking
