@@ -27,7 +27,7 @@ use Rattle.walk_run.proofs.Others.{BackendStands-other, ordinary_adds}
 pub running_life : (s : Scenario) (h : List Entry) (b n : ℕ) (stage : Stage) → StageStands s h b n stage → stage ≢ stages.Stopped → has_stopped h b ≡ false
 running_life s h b n stages.Unstarted stands running = ap is_stopped stands.1.life_is
 running_life s h b n stages.Between (last, few, at) running = ap is_stopped at.life_is
-running_life s h b n (stages.Wrote xid) (items, has, open) running = ap is_stopped has.at.life_is
+running_life s h b n (stages.Wrote xid) (items, has, pending) running = ap is_stopped has.at.life_is
 running_life s h b n stages.Visible (xid, items, has, done) running = ap is_stopped has.at.life_is
 running_life s h b n (stages.LookedUp name found at) stands running = ap is_stopped stands.0.at.life_is
 running_life s h b n (stages.Refused error) (name, event, has, refusal, is) running = ap is_stopped has.at.life_is
