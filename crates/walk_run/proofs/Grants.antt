@@ -4,6 +4,7 @@ use Rattle.std.specs.List.{flat_map}
 use Rattle.std.proofs.lemmas.List.Elements.{filter-append}
 use Rattle.std.proofs.lemmas.Bool.{eq-eqb, ne_eqb, eqb-true, eqb-false}
 use Rattle.std.proofs.Common.{append-nil}
+use Rattle.base_types.specs.declared.mode.Mode.TheVariants.{AccessExclusive}
 use Rattle.base_types.specs.declared.row.Row.TheVariants.{Class}
 use Rattle.event_kinds.specs.declared.entry.Entry.{Entry}
 use Rattle.event_kinds.specs.declared.entry.Event.{Event}
@@ -19,13 +20,13 @@ use Rattle.walk_run.specs.Stands.{own_grants}
 -- two tests in either order keep the same
 filter-swap : {X : Type 0} (p q : X → Bool) (xs : List X) → filter p (filter q xs) ≡ filter q (filter p xs)
 filter-swap p q [] = refl
-filter-swap {X} p q (x ∷ xs) = by_tests (p x) (q x) refl refl
+filter-swap {X} p q (x ∷ xs) = by_tests (p x) (q x) refl refl (filter-swap p q xs)
   where
-    by_tests : (s t : Bool) → p x ≡ s → q x ≡ t → filter p (filter q (x ∷ xs)) ≡ filter q (filter p (x ∷ xs))
-    by_tests true true ps qt = simp (ps, qt) (ap (λ ys. x ∷ ys) (filter-swap p q xs))
-    by_tests true false ps qt = simp (ps, qt) (filter-swap p q xs)
-    by_tests false true ps qt = simp (ps, qt) (filter-swap p q xs)
-    by_tests false false ps qt = simp (ps, qt) (filter-swap p q xs)
+    by_tests : (s t : Bool) → p x ≡ s → q x ≡ t → filter p (filter q xs) ≡ filter q (filter p xs) → filter p (filter q (x ∷ xs)) ≡ filter q (filter p (x ∷ xs))
+    by_tests true true ps qt rest = simp (ps, qt) (ap (λ ys. x ∷ ys) rest)
+    by_tests true false ps qt rest = simp (ps, qt) rest
+    by_tests false true ps qt rest = simp (ps, qt) rest
+    by_tests false false ps qt rest = simp (ps, qt) rest
 
 same : (n : ℕ) → (n == n) ≡ true
 same n = eq-eqb n n refl
@@ -36,7 +37,7 @@ own b grants = filter (λ g. g.backend == b) grants
 
 granted-own : (b c : ℕ) (items : List Item) → own b (flat_map (granted_by b c) items) ≡ flat_map (granted_by b c) items
 granted-own b c [] = refl
-granted-own b c (Add (Class oid name kind fill) ∷ items) = rw same (ap (λ gs. _ ∷ gs) (granted-own b c items))
+granted-own b c (Add (Class oid name kind fill) ∷ items) = rw same (ap (λ gs. record { backend = b; command = c; rel = oid; mode = AccessExclusive } ∷ gs) (granted-own b c items))
 granted-own b c (item ∷ items) = granted-own b c items
 
 held_by-own : (b c : ℕ) (event : Event) (old : List Grant) → own b (held_by b c event old) ≡ held_by b c event (own b old)
@@ -56,21 +57,19 @@ granted-other b other c (item ∷ items) apart = granted-other b other c items a
 
 kept-other : (b other from : ℕ) (old : List Grant) → (other == b) ≡ false → own b (filter (λ g. not ((g.backend == other) && nat_le from g.command)) old) ≡ own b old
 kept-other b other from [] apart = refl
-kept-other b other from (g ∷ gs) apart = by_owner (g.backend == other) (g.backend == b) refl refl
+kept-other b other from (g ∷ gs) apart = by_owner (g.backend == other) (g.backend == b) refl refl (kept-other b other from gs apart)
   where
-    rest : own b (filter (λ g. not ((g.backend == other) && nat_le from g.command)) gs) ≡ own b gs
-    rest = kept-other b other from gs apart
+    by_keeping : (t : Bool) → nat_le from g.command ≡ t → (g.backend == other) ≡ true → (g.backend == b) ≡ false → own b (filter (λ x. not ((x.backend == other) && nat_le from x.command)) gs) ≡ own b gs
+        → own b (filter (λ x. not ((x.backend == other) && nat_le from x.command)) (g ∷ gs)) ≡ own b (g ∷ gs)
+    by_keeping true is there here rest = simp (is, there, here) rest
+    by_keeping false is there here rest = simp (is, there, here) rest
 
-    by_keeping : (t : Bool) → nat_le from g.command ≡ t → (g.backend == other) ≡ true → (g.backend == b) ≡ false
-        → own b (filter (λ g. not ((g.backend == other) && nat_le from g.command)) (g ∷ gs)) ≡ own b (g ∷ gs)
-    by_keeping true is there here = simp (is, there, here) rest
-    by_keeping false is there here = simp (is, there, here) rest
-
-    by_owner : (s t : Bool) → (g.backend == other) ≡ s → (g.backend == b) ≡ t → own b (filter (λ g. not ((g.backend == other) && nat_le from g.command)) (g ∷ gs)) ≡ own b (g ∷ gs)
-    by_owner true true there here = absurd (eqb-false other b apart (sym (eqb-true g.backend other there) ∙ eqb-true g.backend b here))
-    by_owner true false there here = by_keeping (nat_le from g.command) refl there here
-    by_owner false true there here = simp (there, here) (ap (λ xs. g ∷ xs) rest)
-    by_owner false false there here = simp (there, here) rest
+    by_owner : (s t : Bool) → (g.backend == other) ≡ s → (g.backend == b) ≡ t → own b (filter (λ x. not ((x.backend == other) && nat_le from x.command)) gs) ≡ own b gs
+        → own b (filter (λ x. not ((x.backend == other) && nat_le from x.command)) (g ∷ gs)) ≡ own b (g ∷ gs)
+    by_owner true true there here rest = absurd (eqb-false other b apart (sym (eqb-true g.backend other there) ∙ eqb-true g.backend b here))
+    by_owner true false there here rest = by_keeping (nat_le from g.command) refl there here rest
+    by_owner false true there here rest = simp (there, here) (ap (λ xs. g ∷ xs) rest)
+    by_owner false false there here rest = simp (there, here) rest
 
 held_by-other : (b other c : ℕ) (event : Event) (old : List Grant) → (other == b) ≡ false → own b (held_by other c event old) ≡ own b old
 held_by-other b other c (events.LockOk rel mode) old apart =

@@ -1,5 +1,5 @@
-ghost use Rattle.std.specs.Prelude.{◌≡◌, ◌≢◌, ◌≤◌, ◌+◌, ◌↔◌, [], ℕ, true, List, length, slice_get, OnOk, IsTrue};
-ghost use Rattle.std.specs.List.{list_any};
+ghost use Rattle.std.specs.Prelude.{◌≡◌, ◌≢◌, ◌≤◌, ◌+◌, ◌↔◌, ◌==◌, [], ℕ, true, List, length, slice_get, OnOk, IsTrue};
+ghost use Rattle.std.specs.List.{list_any, position};
 ghost use Rattle.base_types.specs.Scans.{same_scan, build_scans};
 ghost use Rattle.history_model.specs.Plays.{commands_of};
 ghost use Rattle.walk_run.specs.Reads.{next_owed_of, found_in, first_own_from};
@@ -70,6 +70,7 @@ pub struct Backend {
 impl Backend {
     ghost use Rattle.walk_run.specs.Stands.{BackendStands, Steps};
     ghost use Rattle.walk_run.specs.Ends.{MayEnd};
+    ghost use Rattle.history_model.specs.Legal.{IsLegal};
     ghost use Rattle.history_model.specs.Settled.{OneWriter};
     ghost use Rattle.script_text.specs.Built.{is_built};
 
@@ -106,6 +107,7 @@ impl Backend {
     ) -> Result<(), NoMemory>
         requires stands { BackendStands script.now segment.old self.old }
         requires built { is_built script.now ≡ true }
+        requires legal { IsLegal segment.old }
         requires writer { OneWriter segment.old }
         requires running { self.old.stage ≢ Stage.Stopped }
         ensures { OnOk result (Steps script.now segment.old segment.new self.old self.new) }
@@ -134,6 +136,7 @@ impl Backend {
     // It joins.
     fn join(&mut self, script: &Script, segment: &mut Segment) -> Result<(), NoMemory>
         requires stands { BackendStands script.now segment.old self.old }
+        requires writer { OneWriter segment.old }
         requires stage { self.old.stage ≡ Stage.Unstarted }
         ensures { OnOk result (Steps script.now segment.old segment.new self.old self.new) }
     {
@@ -151,6 +154,7 @@ impl Backend {
     ) -> Result<(), NoMemory>
         requires stands { BackendStands script.now segment.old self.old }
         requires built { is_built script.now ≡ true }
+        requires legal { IsLegal segment.old }
         requires writer { OneWriter segment.old }
         requires stage { self.old.stage ≡ Stage.Between }
         ensures { OnOk result (Steps script.now segment.old segment.new self.old self.new) }
@@ -170,6 +174,7 @@ impl Backend {
     // It leaves, having no command left.
     fn leave(&mut self, script: &Script, segment: &mut Segment) -> Result<(), NoMemory>
         requires stands { BackendStands script.now segment.old self.old }
+        requires writer { OneWriter segment.old }
         requires stage { self.old.stage ≡ Stage.Between }
         requires none { slice_get (commands_of script.now self.old.id) self.old.finished ≡ None }
         ensures { OnOk result (Steps script.now segment.old segment.new self.old self.new) }
@@ -189,6 +194,8 @@ impl Backend {
         columns: &[NewColumn],
     ) -> Result<(), NoMemory>
         requires stands { BackendStands script.now segment.old self.old }
+        requires legal { IsLegal segment.old }
+        requires writer { OneWriter segment.old }
         requires stage { self.old.stage ≡ Stage.Between }
         requires command { slice_get (commands_of script.now self.old.id) self.old.finished ≡ Some (Command.CreateTable name columns.now) }
         requires most { length columns.now ≤ 1600 }
@@ -207,6 +214,7 @@ impl Backend {
         xid: Xid,
     ) -> Result<(), NoMemory>
         requires stands { BackendStands script.now segment.old self.old }
+        requires writer { OneWriter segment.old }
         requires stage { self.old.stage ≡ Stage.Wrote xid }
         ensures { OnOk result (Steps script.now segment.old segment.new self.old self.new) }
     {
@@ -224,6 +232,7 @@ impl Backend {
         name: Name,
     ) -> Result<(), NoMemory>
         requires stands { BackendStands script.now segment.old self.old }
+        requires legal { IsLegal segment.old }
         requires writer { OneWriter segment.old }
         requires stage { self.old.stage ≡ Stage.Between }
         requires command { slice_get (commands_of script.now self.old.id) self.old.finished ≡ Some (Command.Show name None) }
@@ -315,6 +324,7 @@ impl Backend {
         answer: Answer,
     ) -> Result<(), NoMemory>
         requires stands { BackendStands script.now segment.old self.old }
+        requires writer { OneWriter segment.old }
         requires ends { MayEnd script.now segment.old self.old answer }
         ensures { OnOk result (Steps script.now segment.old segment.new self.old self.new) }
     {
@@ -339,10 +349,15 @@ fn next_own(commands: &[Placed], from: usize, id: u32) -> usize
     requires { from ≤ length commands.now }
     ensures { result ≡ first_own_from id commands.now from }
 {
-    match commands[from..].iter().position(|placed| placed.backend == id) {
-        Some(further) => from + further,
-        None => commands.len(),
-    }
+    let rest = &commands[from..];
+    from + first_own(rest, id).unwrap_or(rest.len())
+}
+
+// The place of the first of these commands that is a backend's.
+fn first_own(commands: &[Placed], id: u32) -> Option<usize>
+    ensures { result ≡ position (λ p. p.backend == id) commands.now }
+{
+    commands.iter().position(|placed| placed.backend == id)
 }
 
 // The relation of the first row that a lookup gave.
