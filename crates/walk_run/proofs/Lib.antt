@@ -10,3 +10,5 @@ pub mod Lives
 pub mod Quiet
 pub mod Looking
 pub mod Ahead
+pub mod Kept
+pub mod Coming
