@@ -12,3 +12,4 @@ pub mod Looking
 pub mod Ahead
 pub mod Kept
 pub mod Coming
+pub mod Ending
