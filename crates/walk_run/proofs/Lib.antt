@@ -11,3 +11,7 @@ pub mod Quiet
 pub mod Looking
 pub mod Goings
 pub mod ReadingOn
+pub mod Ahead
+pub mod Kept
+pub mod Coming
+pub mod Ending
