@@ -15,3 +15,4 @@ pub mod Ahead
 pub mod Kept
 pub mod Coming
 pub mod Ending
+pub mod Turns
