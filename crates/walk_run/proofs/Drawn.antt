@@ -1,12 +1,12 @@
 -- An Xid that hasn't been drawn: nobody has written under it, runs under it, or is committed.
-use Rattle.std.proofs.Common.{◌≡◌, ◌<◌, ◌≤◌, ◌∙◌, ℕ, Bool, true, false, Option, Some, None, List, [], ◌∷◌, ◌++◌, ◌==◌, ◌||◌, ◌&&◌, if◌then◌else◌, refl, sym, ap, fold, max, append_assoc, append-nil, subst, arith}
+use Rattle.std.proofs.Common.{◌≡◌, ◌<◌, ◌≤◌, ◌∙◌, ℕ, Bool, true, false, Option, Some, None, List, [], ◌∷◌, ◌++◌, ◌==◌, ◌||◌, ◌&&◌, if◌then◌else◌, refl, sym, ap, fold, append_assoc, append-nil, subst, arith}
 use Rattle.std.specs.List.{list_any}
 use Rattle.std.proofs.lemmas.Bool.{ne_eqb}
 use Rattle.event_kinds.specs.declared.entry.Entry.{Entry}
 use Rattle.event_kinds.specs.declared.entry.Event.{Event}
 use Rattle.event_kinds.specs.declared.entry.Event.TheVariants.{Start, Write, Visible, Release, Stop}
 use Rattle.history_model.specs.Prefixes.{EachFrom}
-use Rattle.history_model.specs.Transactions.{Running, begun, after_release, running_by, running_transaction_of, makes_visible, is_committed, has_xid, runs_as, last_xid, last_xid_by}
+use Rattle.history_model.specs.Transactions.{Running, begun, after_release, running_by, makes_visible, is_committed, has_xid, runs_as, last_xid, last_xid_by}
 use Rattle.history_model.specs.Legal.{MayFollow, IsLegal, AllowsEvent}
 use Rattle.history_model.proofs.Prefixes.{along-keeps}
 use Rattle.history_model.proofs.Reading.{last_xid-more, is_committed-more}

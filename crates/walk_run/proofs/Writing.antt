@@ -1,5 +1,5 @@
 -- A backend writes the rows of a new table, and makes them visible.
-use Rattle.std.proofs.Common.{◌≡◌, ◌≢◌, ◌<◌, ◌≤◌, ◌+◌, ◌*◌, ◌-◌, ◌∙◌, ℕ, Bool, true, false, not, Option, Some, None, List, [], ◌∷◌, ◌++◌, ◌==◌, ◌||◌, ◌&&◌, refl, sym, ap, subst, length, map, max, slice_get, unwrap_or, nat_le, arith, rules}
+use Rattle.std.proofs.Common.{◌≡◌, ◌<◌, ◌≤◌, ◌+◌, ◌*◌, ◌-◌, ◌∙◌, ℕ, Bool, true, false, not, Some, None, List, [], ◌∷◌, ◌++◌, ◌==◌, ◌||◌, ◌&&◌, refl, sym, ap, subst, length, map, slice_get, unwrap_or, nat_le, arith, rules}
 use Rattle.std.specs.Option.{option_map_or}
 use Rattle.std.specs.List.{flat_map, list_any, list_all, enumerate_from, range_with_len}
 use Rattle.std.proofs.lemmas.Bool.{ne_eqb}
@@ -8,7 +8,6 @@ use Rattle.std.proofs.Math.Dec.{leb-zero}
 use Rattle.base_types.specs.declared.ids.Oid.{Oid}
 use Rattle.base_types.specs.declared.ids.Xid.{Xid}
 use Rattle.base_types.specs.declared.mode.Mode.TheVariants.{AccessExclusive}
-use Rattle.base_types.specs.declared.row.RowKey.{RowKey}
 use Rattle.base_types.specs.declared.row.RowKey.TheVariants as keys
 use Rattle.base_types.specs.declared.command.Command.TheVariants.{CreateTable}
 use Rattle.base_types.specs.declared.command.NewColumn.{NewColumn}
@@ -16,16 +15,15 @@ use Rattle.base_types.specs.Keys.{same_key, are_distinct_keys}
 use Rattle.base_types.specs.Scans.{same_oid}
 use Rattle.base_types.specs.Scenario.{Scenario}
 use Rattle.event_kinds.specs.declared.entry.Entry.{Entry}
-use Rattle.event_kinds.specs.declared.entry.Event.{Event}
 use Rattle.event_kinds.specs.declared.entry.Event.TheVariants.{Write, Visible}
 use Rattle.event_kinds.specs.declared.entry.Item.{Item}
 use Rattle.event_kinds.specs.declared.entry.Item.TheVariants.{Add}
 use Rattle.history_model.specs.declared.fact.Grant.{Grant}
-use Rattle.history_model.specs.Transactions.{running_transaction_of, running_by, has_xid, is_committed, makes_visible, last_xid}
+use Rattle.history_model.specs.Transactions.{running_transaction_of, running_by, has_xid, is_committed, last_xid}
 use Rattle.history_model.specs.Held.{held_of, held_by, holds}
 use Rattle.history_model.specs.Legal.{Alive, life_of, IsLegal, IsWriteAllowed, FollowsLife, FollowsVisible, is_ending, changed_key, drawn_by, is_guarded, next_oid}
-use Rattle.history_model.specs.Plays.{Place, place_of, place_by, commands_of, column_row, table_rows, NextAt, NextOf}
-use Rattle.history_model.specs.Lines.{finished_of, lines_of_backend}
+use Rattle.history_model.specs.Plays.{Place, commands_of, column_row, NextAt, NextOf}
+use Rattle.history_model.specs.Lines.{finished_of}
 use Rattle.history_model.specs.Settled.{OneWriter}
 use Rattle.history_model.proofs.Reading.{running_transaction_of-own, life_of-own, place_of-own, last_xid-more, is_committed-more}
 use Rattle.history_model.proofs.Judged.{lines_of_backend-same}
@@ -34,7 +32,7 @@ use Rattle.walk_run.specs.declared.backend.Stage.TheVariants as stages
 use Rattle.walk_run.specs.Entries.{entry_of}
 use Rattle.walk_run.specs.Left.{entries_left}
 use Rattle.walk_run.specs.Segment.{Writes}
-use Rattle.walk_run.specs.Stands.{IsAt, HasWritten, StageStands, BackendStands, Steps, place_at, written_at, writes_as, wrote_as}
+use Rattle.walk_run.specs.Stands.{IsAt, HasWritten, StageStands, BackendStands, Steps, place_at, wrote_as}
 use Rattle.walk_run.proofs.Drawn.{undrawn_wrote, undrawn_committed}
 use Rattle.walk_run.proofs.Grants.{own_grants-own}
 use Rattle.walk_run.proofs.Kept.{ReadsStand-kept}
@@ -105,24 +103,28 @@ may_write h b last c xid name columns legal alive later idle fresh = record {
 written_stands : (s : Scenario) (h : List Entry) (b n : ℕ) (xid : Xid) (name : List ℕ) (columns : List NewColumn) → IsLegal h → xid.0 ≡ last_xid h + 1 → slice_get (commands_of s b) n ≡ Some (CreateTable name columns)
     → (last : ℕ) → last ≤ n → IsAt s h b (place_at n []) None (Alive last) []
     → StageStands s (h ++ entry_of b (n + 1) (Write xid (table_items (next_oid h) name columns)) ∷ []) b n (stages.Wrote xid)
-written_stands s h b n xid name columns legal fresh command last few at = (table_items (next_oid h) name columns, record {
-  name = name;
-  columns = columns;
-  command = command;
-  rel = record { 0 = next_oid h };
-  at = record {
-    place_is = place_of-own s h e b (itself b) ∙ ap (λ (p : Place). let q : Place = record { finished = p.finished; made = p.made ++ e.event ∷ [] } in q) at.place_is;
-    running_is = running_transaction_of-own h e b (itself b) ∙ ap (running_by (n + 1) e.event) at.running_is;
-    life_is = life_of-own h e b (itself b);
-    grants_are = own_grants-own h b (n + 1) e.event ∙ ap (held_by b (n + 1) e.event) at.grants_are ∙ table_grants b (n + 1) (next_oid h) name columns;
-  };
-  refused = refusal-quiet h b (n + 1) e.event None (untouched h b last (n + 1) legal at.life_is (omega (arith, few))).refused;
-  known = omega (arith, last_xid-more h e);
-  own = wrote_as-more h e b xid.0 ∙ ap (λ t. wrote_as h b xid.0 || (t && (xid.0 == xid.0))) (itself b) ∙ ap (λ t. wrote_as h b xid.0 || t) (itself xid.0) ∙ or-true (wrote_as h b xid.0);
-  others = λ c ne.
-      wrote_as-more h e c xid.0 ∙ ap (λ t. t || ((b == c) && (xid.0 == xid.0))) (undrawn_wrote h c xid.0 below)
-      ∙ ap (λ t. t && (xid.0 == xid.0)) (ne_eqb b c (λ same. ne (sym same)));
-}, is_committed-more h e xid.0 ∙ ap (λ t. t || false) (undrawn_committed h xid.0 legal below))
+written_stands s h b n xid name columns legal fresh command last few at = (
+  table_items (next_oid h) name columns,
+  record {
+    name = name;
+    columns = columns;
+    command = command;
+    rel = record { 0 = next_oid h };
+    at = record {
+      place_is = place_of-own s h e b (itself b) ∙ ap (λ (p : Place). let q : Place = record { finished = p.finished; made = p.made ++ e.event ∷ [] } in q) at.place_is;
+      running_is = running_transaction_of-own h e b (itself b) ∙ ap (running_by (n + 1) e.event) at.running_is;
+      life_is = life_of-own h e b (itself b);
+      grants_are = own_grants-own h b (n + 1) e.event ∙ ap (held_by b (n + 1) e.event) at.grants_are ∙ table_grants b (n + 1) (next_oid h) name columns;
+    };
+    refused = refusal-quiet h b (n + 1) e.event None (untouched h b last (n + 1) legal at.life_is (omega (arith, few))).refused;
+    known = omega (arith, last_xid-more h e);
+    own = wrote_as-more h e b xid.0 ∙ ap (λ t. wrote_as h b xid.0 || (t && (xid.0 == xid.0))) (itself b) ∙ ap (λ t. wrote_as h b xid.0 || t) (itself xid.0) ∙ or-true (wrote_as h b xid.0);
+    others = λ c ne.
+        wrote_as-more h e c xid.0 ∙ ap (λ t. t || ((b == c) && (xid.0 == xid.0))) (undrawn_wrote h c xid.0 below)
+        ∙ ap (λ t. t && (xid.0 == xid.0)) (ne_eqb b c (λ same. ne (sym same)));
+  },
+  is_committed-more h e xid.0 ∙ ap (λ t. t || false) (undrawn_committed h xid.0 legal below),
+)
   where
     e : Entry
     e = entry_of b (n + 1) (Write xid (table_items (next_oid h) name columns))
@@ -143,8 +145,11 @@ writes_at s h was name columns xid stands legal one stage command fresh (last, f
     visible = subst (λ t. FollowsVisible t e.event) (sym (is_ending-without h was.id None at.running_is tt)) (search rules);
     event = may_write h was.id last (was.finished + 1) xid name columns legal at.life_is (omega (arith, few)) at.running_is fresh;
   };
-  next = (stands.number, subst (λ (p : Place). NextAt h was.id (commands_of s was.id) p.finished p.made e.command e.event) (sym at.place_is)
-  (refl, subst (λ x. NextOf h was.id x e.command [] e.event) (sym command) refl));
+  next = (
+    stands.number,
+    subst (λ (p : Place). NextAt h was.id (commands_of s was.id) p.finished p.made e.command e.event) (sym at.place_is)
+        (refl, subst (λ x. NextOf h was.id x e.command [] e.event) (sym command) refl),
+  );
   needed = search rules;
   ordinary = record { fresh = fresh; adds = record { name = name; columns = columns; items_are = refl } };
   stands = record {
@@ -176,22 +181,27 @@ writes s h new was name columns xid stands legal one stage command made =
 
 -- where the backend stands when what it wrote is visible
 visible_stands : (s : Scenario) (h : List Entry) (b n : ℕ) (xid : Xid) (items : List Item) → HasWritten s h b n xid (Write xid items ∷ []) → StageStands s (h ++ entry_of b (n + 1) (Visible xid) ∷ []) b n stages.Visible
-visible_stands s h b n xid items has = (xid, items, record {
-  name = has.name;
-  columns = has.columns;
-  command = has.command;
-  rel = has.rel;
-  at = record {
-    place_is = place_of-own s h e b (itself b) ∙ ap (λ (p : Place). let q : Place = record { finished = p.finished; made = p.made ++ e.event ∷ [] } in q) has.at.place_is;
-    running_is = running_transaction_of-own h e b (itself b) ∙ ap (running_by (n + 1) e.event) has.at.running_is;
-    life_is = life_of-own h e b (itself b);
-    grants_are = own_grants-own h b (n + 1) e.event ∙ has.at.grants_are;
-  };
-  refused = refusal-quiet h b (n + 1) e.event None has.refused;
-  known = omega (arith, last_xid-more h e, has.known);
-  own = wrote_as-more h e b xid.0 ∙ ap (λ t. t || ((b == b) && false)) has.own;
-  others = λ c ne. wrote_as-more h e c xid.0 ∙ ap (λ t. t || ((b == c) && false)) (has.others c ne) ∙ and-false (b == c);
-}, is_committed-more h e xid.0 ∙ ap (λ t. is_committed h xid.0 || t) (itself xid.0) ∙ or-true (is_committed h xid.0))
+visible_stands s h b n xid items has = (
+  xid,
+  items,
+  record {
+    name = has.name;
+    columns = has.columns;
+    command = has.command;
+    rel = has.rel;
+    at = record {
+      place_is = place_of-own s h e b (itself b) ∙ ap (λ (p : Place). let q : Place = record { finished = p.finished; made = p.made ++ e.event ∷ [] } in q) has.at.place_is;
+      running_is = running_transaction_of-own h e b (itself b) ∙ ap (running_by (n + 1) e.event) has.at.running_is;
+      life_is = life_of-own h e b (itself b);
+      grants_are = own_grants-own h b (n + 1) e.event ∙ has.at.grants_are;
+    };
+    refused = refusal-quiet h b (n + 1) e.event None has.refused;
+    known = omega (arith, last_xid-more h e, has.known);
+    own = wrote_as-more h e b xid.0 ∙ ap (λ t. t || ((b == b) && false)) has.own;
+    others = λ c ne. wrote_as-more h e c xid.0 ∙ ap (λ t. t || ((b == c) && false)) (has.others c ne) ∙ and-false (b == c);
+  },
+  is_committed-more h e xid.0 ∙ ap (λ t. is_committed h xid.0 || t) (itself xid.0) ∙ or-true (is_committed h xid.0),
+)
   where
     e : Entry
     e = entry_of b (n + 1) (Visible xid)
@@ -208,8 +218,11 @@ commits_at s h was xid stands one stage (items, has, pending) = record {
     visible = subst (λ t. FollowsVisible t e.event) (sym not_ending) (search rules);
     event = (ap (has_xid xid.0) has.at.running_is ∙ itself xid.0, ap (λ r. option_map_or (λ t. list_any (nat_le 0) t.writes) r false) has.at.running_is ∙ ap (λ t. t || false) (leb-zero (was.finished + 1)));
   };
-  next = (stands.number, subst (λ (p : Place). NextAt h was.id (commands_of s was.id) p.finished p.made e.command e.event) (sym has.at.place_is)
-  (refl, subst (λ x. NextOf h was.id x e.command (Write xid items ∷ []) e.event) (sym has.command) refl));
+  next = (
+    stands.number,
+    subst (λ (p : Place). NextAt h was.id (commands_of s was.id) p.finished p.made e.command e.event) (sym has.at.place_is)
+        (refl, subst (λ x. NextOf h was.id x e.command (Write xid items ∷ []) e.event) (sym has.command) refl),
+  );
   needed = search rules;
   ordinary = has.own;
   stands = record {
@@ -221,7 +234,7 @@ commits_at s h was xid stands one stage (items, has, pending) = record {
     lines = stands.lines ∙ sym (lines_of_backend-same s h e was.id same later);
   };
   less = subst (λ stage. 10 * (length (commands_of s was.id) - was.finished) - 1 < entries_left (length (commands_of s was.id) - was.finished) was.reads stage) (sym stage)
-  (omega (arith, slice_get_within (commands_of s was.id) was.finished (CreateTable has.name has.columns) has.command));
+      (omega (arith, slice_get_within (commands_of s was.id) was.finished (CreateTable has.name has.columns) has.command));
 }
   where
     e : Entry
