@@ -16,3 +16,4 @@ pub mod Kept
 pub mod Coming
 pub mod Drawn
 pub mod Writing
+pub mod Ending
