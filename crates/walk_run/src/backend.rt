@@ -1,5 +1,5 @@
-ghost use Rattle.std.specs.Prelude.{◌≡◌, ◌≢◌, ◌≤◌, ◌+◌, ◌↔◌, [], ℕ, true, List, length, slice_get, OnOk, IsTrue};
-ghost use Rattle.std.specs.List.{list_any};
+ghost use Rattle.std.specs.Prelude.{◌≡◌, ◌≢◌, ◌≤◌, ◌+◌, ◌↔◌, [], ℕ, true, not, List, length, slice_get, OnOk, IsTrue};
+ghost use Rattle.std.specs.List.{find, list_any};
 ghost use Rattle.base_types.specs.Scans.{same_scan as scans_match, build_scans};
 ghost use Rattle.history_model.specs.Plays.{commands_of};
 ghost use Rattle.walk_run.specs.Reads.{next_owed_of, found_in, first_own_from};
@@ -367,10 +367,14 @@ fn first_found(rows: &[Row]) -> Option<Found>
 fn next_owed(reads: &[Read], rel: Oid) -> Option<Purpose>
     ensures { result ≡ next_owed_of reads.now rel }
 {
-    table_scans(rel)
-        .iter()
-        .find(|scan| !has_read(reads, scan))
-        .copied()
+    first_unread(reads, &table_scans(rel))
+}
+
+// The first scan that isn't among those kept.
+fn first_unread(reads: &[Read], scans: &[Purpose]) -> Option<Purpose>
+    ensures { result ≡ find (λ scan. not (list_any (λ r. scans_match r.purpose scan) reads.now)) scans.now }
+{
+    scans.iter().find(|scan| !has_read(reads, scan)).copied()
 }
 
 // The scans that build the descriptor of a table, in order.
