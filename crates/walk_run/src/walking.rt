@@ -42,7 +42,7 @@ struct Walker {
 }
 
 impl Walker {
-    ghost use Rattle.walk_run.specs.Walks.{Stands, Goes, GoesBy, AllStopped, stopped_below};
+    ghost use Rattle.walk_run.specs.Walks.{Stands, Goes, GoesToStops};
 
     // All backends of the script, none of which has joined.
     fn new(alloc: Global, script: &Script) -> Result<Walker, NoMemory>
