@@ -1,5 +1,6 @@
 ghost use Rattle.std.specs.Prelude.{◌≡◌, ◌≢◌, ◌≤◌, ◌+◌, ◌↔◌, [], ℕ, true, not, List, length, slice_get, OnOk, IsTrue};
 ghost use Rattle.std.specs.List.{find, list_any};
+ghost use Rattle.std.specs.Option.{option_copied};
 ghost use Rattle.base_types.specs.Scans.{same_scan as scans_match, build_scans};
 ghost use Rattle.history_model.specs.Plays.{commands_of};
 ghost use Rattle.walk_run.specs.Reads.{next_owed_of, found_in, first_own_from};
@@ -367,14 +368,15 @@ fn first_found(rows: &[Row]) -> Option<Found>
 fn next_owed(reads: &[Read], rel: Oid) -> Option<Purpose>
     ensures { result ≡ next_owed_of reads.now rel }
 {
-    first_unread(reads, &table_scans(rel))
+    let scans = table_scans(rel);
+    first_unread(reads, &scans).copied()
 }
 
 // The first scan that isn't among those kept.
-fn first_unread(reads: &[Read], scans: &[Purpose]) -> Option<Purpose>
-    ensures { result ≡ find (λ scan. not (list_any (λ r. scans_match r.purpose scan) reads.now)) scans.now }
+fn first_unread<'a>(reads: &[Read], scans: &'a [Purpose]) -> Option<&'a Purpose>
+    ensures { option_copied result ≡ find (λ scan. not (list_any (λ r. scans_match r.purpose scan) reads.now)) scans.now }
 {
-    scans.iter().find(|scan| !has_read(reads, scan)).copied()
+    scans.iter().find(|scan| !has_read(reads, scan))
 }
 
 // The scans that build the descriptor of a table, in order.
