@@ -8,7 +8,9 @@ ghost use Rattle.walk_run.specs.Reads.{next_owed_of, found_in, first_own_from};
 use crate::answers::{absent, shown};
 use crate::scans::same_scan;
 use crate::segment::{Locked, Scanned, Segment};
-use base_types::{Command, Kind, Listed, Mode, Name, NewColumn, NoMemory, Oid, Placed, Purpose, Row, Xid};
+use base_types::{
+    Command, Kind, Listed, Mode, Name, NewColumn, NoMemory, Oid, Placed, Purpose, Row, Xid,
+};
 use event_kinds::Line;
 use out_text::answer_text;
 use rel_desc::{Answer, CommandError};
@@ -205,12 +207,7 @@ impl Backend {
     }
 
     // It makes its write visible.
-    fn commit(
-        &mut self,
-        script: &Script,
-        segment: &mut Segment,
-        xid: Xid,
-    ) -> Result<(), NoMemory>
+    fn commit(&mut self, script: &Script, segment: &mut Segment, xid: Xid) -> Result<(), NoMemory>
         requires stands { BackendStands script.now segment.old self.old }
         requires stage { self.old.stage ≡ Stage.Wrote xid }
         ensures { OnOk result (Steps script.now segment.old segment.new self.old self.new) }
@@ -246,12 +243,7 @@ impl Backend {
     }
 
     // It asks for the lock of the relation that it found.
-    fn lock(
-        &mut self,
-        script: &Script,
-        segment: &mut Segment,
-        found: Found,
-    ) -> Result<(), NoMemory>
+    fn lock(&mut self, script: &Script, segment: &mut Segment, found: Found) -> Result<(), NoMemory>
         requires stands { BackendStands script.now segment.old self.old }
         requires stage { (name : List ℕ) × (at : ℕ) × (self.old.stage ≡ Stage.LookedUp name (Some found) at) }
         ensures { OnOk result (Steps script.now segment.old segment.new self.old self.new) }
@@ -282,7 +274,7 @@ impl Backend {
         ensures { OnOk result (Steps script.now segment.old segment.new self.old self.new) }
     {
         match next_owed(self.reads.as_slice(), found.rel) {
-            Some(purpose) => self.read(alloc, script, segment, purpose),
+            Some(purpose) => self.read(alloc, script, segment, &purpose),
             None => {
                 let answer = shown(alloc, found, self.reads.as_slice())?;
                 self.finish(alloc, script, segment, answer)
@@ -296,17 +288,17 @@ impl Backend {
         alloc: Global,
         script: &Script,
         segment: &mut Segment,
-        purpose: Purpose,
+        purpose: &Purpose,
     ) -> Result<(), NoMemory>
         requires stands { BackendStands script.now segment.old self.old }
-        requires writer { OneWriter segment.old }
-        requires stage { (found : Found) × (self.old.stage ≡ Stage.Opened found) × (next_owed_of self.old.reads found.rel ≡ Some purpose) }
+        requires stage { (found : Found) × (self.old.stage ≡ Stage.Opened found) × (next_owed_of self.old.reads found.rel ≡ Some purpose.now) }
         ensures { OnOk result (Steps script.now segment.old segment.new self.old self.new) }
     {
-        let Scanned { rows, at } = segment.scan(alloc, self.id, self.finished + 1, purpose)?;
+        let Scanned { rows, at } = segment.scan(alloc, self.id, self.finished + 1, *purpose)?;
+        let rows = Listed::from_vec(rows);
         self.reads.push(Read {
-            purpose,
-            rows: Listed::from_vec(rows),
+            purpose: *purpose,
+            rows,
             at,
         })?;
         Ok(())
@@ -345,7 +337,10 @@ fn next_own(commands: &[Placed], from: usize, id: u32) -> usize
     requires { from ≤ length commands.now }
     ensures { result ≡ first_own_from id commands.now from }
 {
-    match commands[from..].iter().position(|placed| placed.backend == id) {
+    match commands[from..]
+        .iter()
+        .position(|placed| placed.backend == id)
+    {
         Some(further) => from + further,
         None => commands.len(),
     }
