@@ -9,4 +9,9 @@ pub mod Others
 pub mod Lives
 pub mod Quiet
 pub mod Looking
+pub mod Goings
 pub mod ReadingOn
+pub mod Ahead
+pub mod Kept
+pub mod Coming
+pub mod Ending

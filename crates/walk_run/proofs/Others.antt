@@ -115,6 +115,7 @@ HasWritten-other : (s : Scenario) (h : List Entry) (e : Entry) (b n : ℕ) (xid 
 HasWritten-other s h e b n xid made other ordinary has = record {
   name = has.name; columns = has.columns; command = has.command; rel = has.rel;
   at = IsAt-other s h e b _ _ _ _ other has.at;
+  refused = refusal_of-more h e b (n + 1) ∙ rw other has.refused;
   known = omega (arith, has.known, last_xid-rises h e);
   own = wrote_as-kept h e b xid.0 ordinary has.known ∙ has.own;
   others = λ c ne. wrote_as-kept h e c xid.0 ordinary has.known ∙ has.others c ne;
@@ -131,8 +132,8 @@ StageStands-other : (s : Scenario) (h : List Entry) (e : Entry) (b n : ℕ) (sta
     → StageStands s h b n stage → StageStands s (h ++ e ∷ []) b n stage
 StageStands-other s h e b n stages.Unstarted other ordinary stands = (stands.0, IsAt-other s h e b _ _ _ _ other stands.1)
 StageStands-other s h e b n stages.Between other ordinary (last, few, at) = (last, few, IsAt-other s h e b _ _ _ _ other at)
-StageStands-other s h e b n (stages.Wrote xid) other ordinary (items, has, open) =
-    (items, HasWritten-other s h e b n xid _ other ordinary has, still_uncommitted h e xid.0 ordinary (has.others e.backend (apart e b other)) open)
+StageStands-other s h e b n (stages.Wrote xid) other ordinary (items, has, pending) =
+    (items, HasWritten-other s h e b n xid _ other ordinary has, still_uncommitted h e xid.0 ordinary (has.others e.backend (apart e b other)) pending)
 StageStands-other s h e b n stages.Visible other ordinary (xid, items, has, done) =
     (xid, items, HasWritten-other s h e b n xid _ other ordinary has, is_committed-kept h e xid.0 done)
 StageStands-other s h e b n (stages.LookedUp name found at) other ordinary stands =

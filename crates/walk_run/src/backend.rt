@@ -1,6 +1,5 @@
-ghost use Rattle.std.specs.Prelude.{◌≡◌, ◌≢◌, ◌≤◌, ◌+◌, ◌↔◌, [], ℕ, true, not, List, length, slice_get, OnOk, IsTrue};
-ghost use Rattle.std.specs.List.{find, list_any};
-ghost use Rattle.std.specs.Option.{option_copied};
+ghost use Rattle.std.specs.Prelude.{◌≡◌, ◌≢◌, ◌≤◌, ◌+◌, ◌↔◌, ◌==◌, [], ℕ, true, List, length, not, slice_get, OnOk, IsTrue};
+ghost use Rattle.std.specs.List.{list_any, find, position};
 ghost use Rattle.base_types.specs.Scans.{same_scan as scans_match, build_scans};
 ghost use Rattle.history_model.specs.Plays.{commands_of};
 ghost use Rattle.walk_run.specs.Reads.{next_owed_of, found_in, first_own_from};
@@ -8,9 +7,7 @@ ghost use Rattle.walk_run.specs.Reads.{next_owed_of, found_in, first_own_from};
 use crate::answers::{absent, shown};
 use crate::scans::same_scan;
 use crate::segment::{Locked, Scanned, Segment};
-use base_types::{
-    Command, Kind, Listed, Mode, Name, NewColumn, NoMemory, Oid, Placed, Purpose, Row, Xid,
-};
+use base_types::{Command, Kind, Listed, Mode, Name, NewColumn, NoMemory, Oid, Placed, Purpose, Row, Xid};
 use event_kinds::Line;
 use out_text::answer_text;
 use rel_desc::{Answer, CommandError};
@@ -140,6 +137,7 @@ impl Backend {
     // It joins.
     fn join(&mut self, script: &Script, segment: &mut Segment) -> Result<(), NoMemory>
         requires stands { BackendStands script.now segment.old self.old }
+        requires writer { OneWriter segment.old }
         requires stage { self.old.stage ≡ Stage.Unstarted }
         ensures { OnOk result (Steps script.now segment.old segment.new self.old self.new) }
     {
@@ -177,6 +175,7 @@ impl Backend {
     // It leaves, having no command left.
     fn leave(&mut self, script: &Script, segment: &mut Segment) -> Result<(), NoMemory>
         requires stands { BackendStands script.now segment.old self.old }
+        requires writer { OneWriter segment.old }
         requires stage { self.old.stage ≡ Stage.Between }
         requires none { slice_get (commands_of script.now self.old.id) self.old.finished ≡ None }
         ensures { OnOk result (Steps script.now segment.old segment.new self.old self.new) }
@@ -196,6 +195,8 @@ impl Backend {
         columns: &[NewColumn],
     ) -> Result<(), NoMemory>
         requires stands { BackendStands script.now segment.old self.old }
+        requires legal { IsLegal segment.old }
+        requires writer { OneWriter segment.old }
         requires stage { self.old.stage ≡ Stage.Between }
         requires command { slice_get (commands_of script.now self.old.id) self.old.finished ≡ Some (Command.CreateTable name columns.now) }
         requires most { length columns.now ≤ 1600 }
@@ -207,8 +208,14 @@ impl Backend {
     }
 
     // It makes its write visible.
-    fn commit(&mut self, script: &Script, segment: &mut Segment, xid: Xid) -> Result<(), NoMemory>
+    fn commit(
+        &mut self,
+        script: &Script,
+        segment: &mut Segment,
+        xid: Xid,
+    ) -> Result<(), NoMemory>
         requires stands { BackendStands script.now segment.old self.old }
+        requires writer { OneWriter segment.old }
         requires stage { self.old.stage ≡ Stage.Wrote xid }
         ensures { OnOk result (Steps script.now segment.old segment.new self.old self.new) }
     {
@@ -243,7 +250,12 @@ impl Backend {
     }
 
     // It asks for the lock of the relation that it found.
-    fn lock(&mut self, script: &Script, segment: &mut Segment, found: Found) -> Result<(), NoMemory>
+    fn lock(
+        &mut self,
+        script: &Script,
+        segment: &mut Segment,
+        found: Found,
+    ) -> Result<(), NoMemory>
         requires stands { BackendStands script.now segment.old self.old }
         requires stage { (name : List ℕ) × (at : ℕ) × (self.old.stage ≡ Stage.LookedUp name (Some found) at) }
         ensures { OnOk result (Steps script.now segment.old segment.new self.old self.new) }
@@ -291,16 +303,17 @@ impl Backend {
         purpose: &Purpose,
     ) -> Result<(), NoMemory>
         requires stands { BackendStands script.now segment.old self.old }
+        requires writer { OneWriter segment.old }
         requires stage { (found : Found) × (self.old.stage ≡ Stage.Opened found) × (next_owed_of self.old.reads found.rel ≡ Some purpose.now) }
         ensures { OnOk result (Steps script.now segment.old segment.new self.old self.new) }
     {
         let Scanned { rows, at } = segment.scan(alloc, self.id, self.finished + 1, *purpose)?;
-        let rows = Listed::from_vec(rows);
-        self.reads.push(Read {
+        let read = Read {
             purpose: *purpose,
-            rows,
+            rows: Listed::from_vec(rows),
             at,
-        })?;
+        };
+        self.reads.push(read)?;
         Ok(())
     }
 
@@ -313,6 +326,7 @@ impl Backend {
         answer: Answer,
     ) -> Result<(), NoMemory>
         requires stands { BackendStands script.now segment.old self.old }
+        requires writer { OneWriter segment.old }
         requires ends { MayEnd script.now segment.old self.old answer }
         ensures { OnOk result (Steps script.now segment.old segment.new self.old self.new) }
     {
@@ -337,13 +351,15 @@ fn next_own(commands: &[Placed], from: usize, id: u32) -> usize
     requires { from ≤ length commands.now }
     ensures { result ≡ first_own_from id commands.now from }
 {
-    match commands[from..]
-        .iter()
-        .position(|placed| placed.backend == id)
-    {
-        Some(further) => from + further,
-        None => commands.len(),
-    }
+    let rest = &commands[from..];
+    from + first_own(rest, id).unwrap_or(rest.len())
+}
+
+// The place of the first of these commands that is a backend's.
+fn first_own(commands: &[Placed], id: u32) -> Option<usize>
+    ensures { result ≡ position (λ p. p.backend == id) commands.now }
+{
+    commands.iter().position(|placed| placed.backend == id)
 }
 
 // The relation of the first row that a lookup gave.
@@ -363,15 +379,14 @@ fn first_found(rows: &[Row]) -> Option<Found>
 fn next_owed(reads: &[Read], rel: Oid) -> Option<Purpose>
     ensures { result ≡ next_owed_of reads.now rel }
 {
-    let scans = table_scans(rel);
-    first_unread(reads, &scans).copied()
+    first_unread(reads, &table_scans(rel))
 }
 
-// The first scan that isn't among those kept.
-fn first_unread<'a>(reads: &[Read], scans: &'a [Purpose]) -> Option<&'a Purpose>
-    ensures { option_copied result ≡ find (λ scan. not (list_any (λ r. scans_match r.purpose scan) reads.now)) scans.now }
+// The first of these scans that isn't among those kept.
+fn first_unread(reads: &[Read], scans: &[Purpose]) -> Option<Purpose>
+    ensures { result ≡ find (λ scan. not (list_any (λ r. scans_match r.purpose scan) reads.now)) scans.now }
 {
-    scans.iter().find(|scan| !has_read(reads, scan))
+    scans.iter().find(|scan| !has_read(reads, scan)).copied()
 }
 
 // The scans that build the descriptor of a table, in order.
