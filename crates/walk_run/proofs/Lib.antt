@@ -9,3 +9,4 @@ pub mod Others
 pub mod Lives
 pub mod Quiet
 pub mod Looking
+pub mod ReadingOn

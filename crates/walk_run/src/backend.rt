@@ -71,6 +71,7 @@ pub struct Backend {
 impl Backend {
     ghost use Rattle.walk_run.specs.Stands.{BackendStands, Steps};
     ghost use Rattle.walk_run.specs.Ends.{MayEnd};
+    ghost use Rattle.history_model.specs.Legal.{IsLegal};
     ghost use Rattle.history_model.specs.Settled.{OneWriter};
     ghost use Rattle.script_text.specs.Built.{is_built};
 
@@ -107,6 +108,7 @@ impl Backend {
     ) -> Result<(), NoMemory>
         requires stands { BackendStands script.now segment.old self.old }
         requires built { is_built script.now ≡ true }
+        requires legal { IsLegal segment.old }
         requires writer { OneWriter segment.old }
         requires running { self.old.stage ≢ Stage.Stopped }
         ensures { OnOk result (Steps script.now segment.old segment.new self.old self.new) }
@@ -152,6 +154,7 @@ impl Backend {
     ) -> Result<(), NoMemory>
         requires stands { BackendStands script.now segment.old self.old }
         requires built { is_built script.now ≡ true }
+        requires legal { IsLegal segment.old }
         requires writer { OneWriter segment.old }
         requires stage { self.old.stage ≡ Stage.Between }
         ensures { OnOk result (Steps script.now segment.old segment.new self.old self.new) }
@@ -225,6 +228,7 @@ impl Backend {
         name: Name,
     ) -> Result<(), NoMemory>
         requires stands { BackendStands script.now segment.old self.old }
+        requires legal { IsLegal segment.old }
         requires writer { OneWriter segment.old }
         requires stage { self.old.stage ≡ Stage.Between }
         requires command { slice_get (commands_of script.now self.old.id) self.old.finished ≡ Some (Command.Show name None) }
