@@ -249,6 +249,13 @@ MayRelease-unwritten history b c running = rw (not_ending history b c running) (
 lock_given_back : (b c : ℕ) (rel : Oid) → held_by b c (events.Release c) (lock_of b c rel ∷ []) ≡ []
 lock_given_back b c rel = rw (eq-eqb b b refl, le-leb c c (omega arith)) refl
 
+-- what a backend has opened is a table
+pub opened_table : (scenario : Scenario) (history : List Entry) (s : Backend) (found : Found) → BackendStands scenario history s → s.stage ≡ stages.Opened found → found.kind ≡ Table
+opened_table scenario history s found at stage = table (subst (StageStands scenario history s.id s.finished) stage at.stage)
+  where
+    table : StageStands scenario history s.id s.finished (stages.Opened found) → found.kind ≡ Table
+    table opened = opened.3.table
+
 -- a backend that has opened a table and read all of it may end its command
 pub MayEnd-shown : (scenario : Scenario) (history : List Entry) (s : Backend) (found : Found) → BackendStands scenario history s → s.stage ≡ stages.Opened found → next_owed_of s.reads found.rel ≡ None
     → MayEnd scenario history s (answer_by s.reads found)
