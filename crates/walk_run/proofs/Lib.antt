@@ -9,4 +9,5 @@ pub mod Others
 pub mod Lives
 pub mod Quiet
 pub mod Looking
+pub mod Goings
 pub mod ReadingOn
