@@ -11,3 +11,6 @@ pub mod Quiet
 pub mod Looking
 pub mod Goings
 pub mod ReadingOn
+pub mod Ahead
+pub mod Kept
+pub mod Coming

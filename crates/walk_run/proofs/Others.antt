@@ -115,6 +115,7 @@ HasWritten-other : (s : Scenario) (h : List Entry) (e : Entry) (b n : ℕ) (xid 
 HasWritten-other s h e b n xid made other ordinary has = record {
   name = has.name; columns = has.columns; command = has.command; rel = has.rel;
   at = IsAt-other s h e b _ _ _ _ other has.at;
+  refused = refusal_of-more h e b (n + 1) ∙ rw other has.refused;
   known = omega (arith, has.known, last_xid-rises h e);
   own = wrote_as-kept h e b xid.0 ordinary has.known ∙ has.own;
   others = λ c ne. wrote_as-kept h e c xid.0 ordinary has.known ∙ has.others c ne;

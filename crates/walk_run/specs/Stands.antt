@@ -104,6 +104,7 @@ pub record HasWritten (scenario : Scenario) (history : List Entry) (b n : ℕ) (
   pub command : slice_get (commands_of scenario b) n ≡ Some (CreateTable name columns)
   pub rel : Oid
   pub at : IsAt scenario history b (place_at n made) (Some (written_at (n + 1) xid.0)) (Alive (n + 1)) (record { backend = b; command = n + 1; rel = rel; mode = AccessExclusive } ∷ [])
+  pub refused : refusal_of history b (n + 1) ≡ None
   pub known : xid.0 ≤ last_xid history
   pub own : wrote_as history b xid.0 ≡ true
   pub others : (c : ℕ) → c ≢ b → wrote_as history c xid.0 ≡ false

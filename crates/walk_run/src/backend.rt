@@ -1,5 +1,5 @@
-ghost use Rattle.std.specs.Prelude.{◌≡◌, ◌≢◌, ◌≤◌, ◌+◌, ◌↔◌, [], ℕ, true, List, length, not, slice_get, OnOk, IsTrue};
-ghost use Rattle.std.specs.List.{list_any, find};
+ghost use Rattle.std.specs.Prelude.{◌≡◌, ◌≢◌, ◌≤◌, ◌+◌, ◌↔◌, ◌==◌, [], ℕ, true, List, length, not, slice_get, OnOk, IsTrue};
+ghost use Rattle.std.specs.List.{list_any, find, position};
 ghost use Rattle.base_types.specs.Scans.{same_scan as scans_match, build_scans};
 ghost use Rattle.history_model.specs.Plays.{commands_of};
 ghost use Rattle.walk_run.specs.Reads.{next_owed_of, found_in, first_own_from};
@@ -137,6 +137,7 @@ impl Backend {
     // It joins.
     fn join(&mut self, script: &Script, segment: &mut Segment) -> Result<(), NoMemory>
         requires stands { BackendStands script.now segment.old self.old }
+        requires writer { OneWriter segment.old }
         requires stage { self.old.stage ≡ Stage.Unstarted }
         ensures { OnOk result (Steps script.now segment.old segment.new self.old self.new) }
     {
@@ -174,6 +175,7 @@ impl Backend {
     // It leaves, having no command left.
     fn leave(&mut self, script: &Script, segment: &mut Segment) -> Result<(), NoMemory>
         requires stands { BackendStands script.now segment.old self.old }
+        requires writer { OneWriter segment.old }
         requires stage { self.old.stage ≡ Stage.Between }
         requires none { slice_get (commands_of script.now self.old.id) self.old.finished ≡ None }
         ensures { OnOk result (Steps script.now segment.old segment.new self.old self.new) }
@@ -193,6 +195,8 @@ impl Backend {
         columns: &[NewColumn],
     ) -> Result<(), NoMemory>
         requires stands { BackendStands script.now segment.old self.old }
+        requires legal { IsLegal segment.old }
+        requires writer { OneWriter segment.old }
         requires stage { self.old.stage ≡ Stage.Between }
         requires command { slice_get (commands_of script.now self.old.id) self.old.finished ≡ Some (Command.CreateTable name columns.now) }
         requires most { length columns.now ≤ 1600 }
@@ -211,6 +215,7 @@ impl Backend {
         xid: Xid,
     ) -> Result<(), NoMemory>
         requires stands { BackendStands script.now segment.old self.old }
+        requires writer { OneWriter segment.old }
         requires stage { self.old.stage ≡ Stage.Wrote xid }
         ensures { OnOk result (Steps script.now segment.old segment.new self.old self.new) }
     {
@@ -321,6 +326,7 @@ impl Backend {
         answer: Answer,
     ) -> Result<(), NoMemory>
         requires stands { BackendStands script.now segment.old self.old }
+        requires writer { OneWriter segment.old }
         requires ends { MayEnd script.now segment.old self.old answer }
         ensures { OnOk result (Steps script.now segment.old segment.new self.old self.new) }
     {
@@ -345,10 +351,15 @@ fn next_own(commands: &[Placed], from: usize, id: u32) -> usize
     requires { from ≤ length commands.now }
     ensures { result ≡ first_own_from id commands.now from }
 {
-    match commands[from..].iter().position(|placed| placed.backend == id) {
-        Some(further) => from + further,
-        None => commands.len(),
-    }
+    let rest = &commands[from..];
+    from + first_own(rest, id).unwrap_or(rest.len())
+}
+
+// The place of the first of these commands that is a backend's.
+fn first_own(commands: &[Placed], id: u32) -> Option<usize>
+    ensures { result ≡ position (λ p. p.backend == id) commands.now }
+{
+    commands.iter().position(|placed| placed.backend == id)
 }
 
 // The relation of the first row that a lookup gave.
