@@ -1,5 +1,6 @@
-use Rattle.std.proofs.Common.{◌≡◌, None}
-use Rattle.walk_run.specs.Reads.{next_owed_of}
+use Rattle.std.proofs.Common.{◌≡◌, ◌∙◌, None, ap, sym, subst}
+use Rattle.walk_run.specs.Ends.{MayEnd}
+use Rattle.walk_run.specs.Reads.{next_owed_of, answer_by}
 use Rattle.walk_run.proofs.Shown.{can_show, opened_table, MayEnd-shown}
 use Rattle.walk_run.proofs.backend.Backend.read_on.Goals as goal
 
@@ -11,5 +12,5 @@ shown-requires c =
 pub finish-requires-clause-ends : goal.finish-requires-clause-ends
 finish-requires-clause-ends c =
     let none : next_owed_of c.args.self.now.reads c.args.found.rel ≡ None = cc in
-    let ends = MayEnd-shown c.args.script.now c.args.segment.now c.args.self.now c.args.found c.requires.stands c.requires.stage none in
-    ?
+    let is : c.in_ok-answer-in-None.answer ≡ answer_by c.args.self.now.reads c.args.found = c.in_ok-answer-in-None.ensures ∙ ap (λ reads. answer_by reads c.args.found) c.as_slice-in-None.ensures in
+    subst (MayEnd c.args.script.now c.args.segment.now c.args.self.now) (sym is) (MayEnd-shown c.args.script.now c.args.segment.now c.args.self.now c.args.found c.requires.stands c.requires.stage none)
