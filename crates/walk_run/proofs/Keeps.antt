@@ -1,5 +1,5 @@
 -- What is kept beside the history stays what the definitions read off it, over one more entry.
-use Rattle.std.proofs.Common.{◌≡◌, ◌<◌, ◌≤◌, ◌+◌, ◌^◌, ◌∙◌, ◌==◌, ◌||◌, ℕ, Bool, true, false, List, [], ◌∷◌, ◌++◌, length, max, unwrap_or, slice_get, slice_set, get_or, ap, sym, refl, arith, suc, zero, ◌⊎◌, inl, inr, ◌≢◌}
+use Rattle.std.proofs.Common.{OnOk, OnErr, Result, Ok, Err, ◌≡◌, ◌<◌, ◌≤◌, ◌+◌, ◌^◌, ◌∙◌, ◌==◌, ◌||◌, ℕ, Bool, true, false, List, [], ◌∷◌, ◌++◌, length, max, unwrap_or, slice_get, slice_set, get_or, ap, sym, refl, arith, suc, zero, ◌⊎◌, inl, inr, ◌≢◌}
 use Rattle.std.specs.List.{flat_map}
 use Rattle.std.proofs.lemmas.List.{length_push, length-set, get_or-set_other}
 use Rattle.std.proofs.lemmas.Grind.{get_or-set_at}
@@ -9,14 +9,15 @@ use Rattle.base_types.specs.declared.ids.Xid.{Xid}
 use Rattle.base_types.specs.declared.mode.Mode.TheVariants.{AccessExclusive}
 use Rattle.base_types.specs.declared.command.NewColumn.{NewColumn}
 use Rattle.event_kinds.specs.declared.entry.Entry.{Entry}
+use Rattle.event_kinds.specs.declared.entry.Event.{Event}
 use Rattle.event_kinds.specs.declared.entry.Event.TheVariants.{Visible, Write}
 use Rattle.event_kinds.specs.declared.entry.Item.{Item}
 use Rattle.history_model.specs.declared.fact.Version.{Version}
 use Rattle.history_model.specs.declared.fact.Grant.{Grant}
-use Rattle.history_model.specs.Transactions.{is_committed, last_xid}
-use Rattle.history_model.specs.Versions.{added_by}
-use Rattle.history_model.specs.Held.{held_of}
-use Rattle.history_model.specs.Legal.{next_oid}
+use Rattle.history_model.specs.Transactions.{is_committed, last_xid, last_xid_by, makes_visible}
+use Rattle.history_model.specs.Versions.{added_by, versions_by}
+use Rattle.history_model.specs.Held.{held_of, held_by}
+use Rattle.history_model.specs.Legal.{next_oid, next_oid_by}
 use Rattle.history_model.proofs.Reading.{versions_of-more, held_of-more, next_oid-more, last_xid-more, is_committed-more}
 use Rattle.walk_run.specs.Entries.{entry_of}
 use Rattle.walk_run.specs.Segment.{KeepsFolds}
@@ -44,6 +45,36 @@ marked marks xid x within = unwrap_or-slice_get (slice_set marks xid true) x fal
     by_cases : ((xid == x) ≡ true) × (xid ≡ x) ⊎ ((xid == x) ≡ false) × (xid ≢ x) → get_or (slice_set marks xid true) x false ≡ (get_or marks x false || (xid == x))
     by_cases (inl same) = get_or-set_at marks xid x true false (sym same.1) within ∙ sym (or-true (get_or marks x false)) ∙ ap (λ b. get_or marks x false || b) (sym same.0)
     by_cases (inr other) = get_or-set_other marks xid x true false (λ e. other.1 (sym e)) ∙ sym (or-false (get_or marks x false)) ∙ ap (λ b. get_or marks x false || b) (sym other.0)
+
+-- an entry that changes no row: it adds no version, draws no oid and no Xid, and makes nothing visible
+pub keeps_quiet : (history after : List Entry) (versions : List Version) (committed : List Bool) (grants grants' : List Grant) (next : ℕ) (b c : ℕ) (event : Event)
+    → KeepsFolds history versions committed grants next → after ≡ history ++ entry_of b c event ∷ [] → length after ≤ 2 ^ 31 → grants' ≡ held_by b c event grants
+    → versions_by history b c event versions ≡ versions → next_oid_by event next ≡ next → last_xid_by event (last_xid history) ≡ last_xid history → ((x : ℕ) → makes_visible x event ≡ false)
+    → KeepsFolds after versions committed grants' next
+keeps_quiet history after versions committed grants grants' next b c event k after_is short grants_are no_version no_oid no_xid no_commit =
+    let e = entry_of b c event in
+    let oids : next_oid (history ++ e ∷ []) ≡ next_oid history = next_oid-more history e ∙ ap (next_oid_by event) (sym k.next_is) ∙ no_oid ∙ k.next_is in
+    let last : last_xid (history ++ e ∷ []) ≡ last_xid history = last_xid-more history e ∙ no_xid in
+    let short : length (history ++ e ∷ []) ≤ 2 ^ 31 = omega (arith, ap length after_is) in
+    rw after_is (record {
+      versions_are = sym no_version ∙ ap (versions_by history b c event) k.versions_are ∙ sym (versions_of-more history e);
+      grants_are = grants_are ∙ ap (held_by b c event) k.grants_are ∙ sym (held_of-more history e);
+      next_is = k.next_is ∙ sym oids;
+      xids = k.xids ∙ ap (λ n. n + 1) (sym last);
+      committed_are = λ x. k.committed_are x ∙ sym (or-false (is_committed history x)) ∙ ap (λ t. is_committed history x || t) (sym (no_commit x)) ∙ sym (is_committed-more history e x);
+      short = short;
+      oids = omega (arith, oids, k.oids, length_push history e);
+      last = omega (arith, last, k.last, length_push history e);
+    })
+
+-- the same where the entry may be wanting
+pub keeps_entered : {T E : Type 0} (result : Result T E) (history after : List Entry) (versions : List Version) (committed : List Bool) (grants : List Grant) (next : ℕ) (b c : ℕ) (event : Event)
+    → KeepsFolds history versions committed grants next → OnOk result (after ≡ history ++ entry_of b c event ∷ []) → OnOk result (length after ≤ 2 ^ 31) → OnErr result (after ≡ history) → held_by b c event grants ≡ grants
+    → versions_by history b c event versions ≡ versions → next_oid_by event next ≡ next → last_xid_by event (last_xid history) ≡ last_xid history → ((x : ℕ) → makes_visible x event ≡ false)
+    → KeepsFolds after versions committed grants next
+keeps_entered (Ok done) history after versions committed grants next b c event k after_is short same no_grant no_version no_oid no_xid no_commit =
+    keeps_quiet history after versions committed grants grants next b c event k after_is short (sym no_grant) no_version no_oid no_xid no_commit
+keeps_entered (Err error) history after versions committed grants next b c event k after_is short same no_grant no_version no_oid no_xid no_commit = rw same k
 
 -- a transaction that has drawn its Xid becomes visible
 pub keeps_visible : (history : List Entry) (versions : List Version) (committed : List Bool) (grants : List Grant) (next : ℕ) (b c : ℕ) (xid : Xid)

@@ -9,6 +9,8 @@ pub mod Others
 pub mod Lives
 pub mod Quiet
 pub mod Looking
+pub mod Goings
+pub mod ReadingOn
 pub mod Ahead
 pub mod Kept
 pub mod Coming

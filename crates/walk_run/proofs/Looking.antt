@@ -98,11 +98,12 @@ name_scan s h was name count stands legal one stage command counted = from (subs
           allowed = counted;
           next = subst (λ x. NextOf h was.id x (was.finished + 1) [] (Scan (scans.RelName name) count)) (sym command) refl;
           needed = λ built. absurd (cc);
-        })
-        (record { count = count; command = command; at = IsAt-quiet s h was.id (was.finished + 1) was.finished [] None (Alive last) [] (Scan (scans.RelName name) count) tt at },
-        looked_up h was.id (was.finished + 1) count name one (runs_as-without h was.id None at.running_is tt),
-        IsJudged-quiet h was.id (was.finished + 1) (Scan (scans.RelName name) count) tt refl (untouched h was.id last (was.finished + 1) legal at.life_is (omega (arith, few))).refused,
-        place_read-scan h (entry_of was.id (was.finished + 1) (Scan (scans.RelName name) count)) was.id (scans.RelName name) (itself was.id) (same_name name))
+        }) (
+          record { count = count; command = command; at = IsAt-quiet s h was.id (was.finished + 1) was.finished [] None (Alive last) [] (Scan (scans.RelName name) count) tt at },
+          looked_up h was.id (was.finished + 1) count name one (runs_as-without h was.id None at.running_is tt),
+          IsJudged-quiet h was.id (was.finished + 1) (Scan (scans.RelName name) count) tt refl (untouched h was.id last (was.finished + 1) legal at.life_is (omega (arith, few))).refused,
+          place_read-scan h (entry_of was.id (was.finished + 1) (Scan (scans.RelName name) count)) was.id (scans.RelName name) (itself was.id) (same_name name),
+        )
         (ReadsStand-quiet h was.id (was.finished + 1) (Scan (scans.RelName name) count) was.reads tt (not_for_descriptor name) stands.reads)
         (subst (λ x. entries_left (length (commands_of s was.id) - was.finished) was.reads (stages.LookedUp name (found_in (answer_of h was.id (scans.RelName name))) (length h + 1)) < entries_left (length (commands_of s was.id) - was.finished) was.reads x) (sym stage) (omega arith))
 
@@ -166,10 +167,13 @@ locks s h new was name found at stands stage (free, made) =
         → Steps s h (h ++ entry_of was.id (was.finished + 1) (LockOk found.rel AccessShare) ∷ []) was (record was { stage = stages.Opened found })
     from (has, is, judged, place) =
         Steps-quiet s h was (was.finished + 1) (Scan (scans.RelName name) has.count ∷ []) (Some (begun_at (was.finished + 1))) [] (LockOk found.rel AccessShare) (stages.Opened found) was.reads stands
-        (may_lock s h was.id was.finished name found (LockOk found.rel AccessShare) has is tt (λ row. (row, refl)) (λ none. (none, free)) (search rules))
-        (name, [], record { count = has.count; command = has.command; at = IsAt-quiet s h was.id (was.finished + 1) was.finished (Scan (scans.RelName name) has.count ∷ []) (Some (begun_at (was.finished + 1))) (Alive (was.finished + 1)) [] (LockOk found.rel AccessShare) tt has.at },
-        IsFound-quiet h was.id (was.finished + 1) name found (LockOk found.rel AccessShare) tt refl is,
-        IsJudged-quiet h was.id (was.finished + 1) (LockOk found.rel AccessShare) tt refl judged.refused)
+        (may_lock s h was.id was.finished name found (LockOk found.rel AccessShare) has is tt (λ row. (row, refl)) (λ none. (none, free)) (search rules)) (
+          name,
+          [],
+          record { count = has.count; command = has.command; at = IsAt-quiet s h was.id (was.finished + 1) was.finished (Scan (scans.RelName name) has.count ∷ []) (Some (begun_at (was.finished + 1))) (Alive (was.finished + 1)) [] (LockOk found.rel AccessShare) tt has.at },
+          IsFound-quiet h was.id (was.finished + 1) name found (LockOk found.rel AccessShare) tt refl is,
+          IsJudged-quiet h was.id (was.finished + 1) (LockOk found.rel AccessShare) tt refl judged.refused,
+        )
         (ReadsStand-quiet h was.id (was.finished + 1) (LockOk found.rel AccessShare) was.reads tt (λ scan built. refl) stands.reads)
         (subst (λ x. entries_left (length (commands_of s was.id) - was.finished) was.reads (stages.Opened found) < entries_left (length (commands_of s was.id) - was.finished) was.reads x) (sym stage)
         (omega (arith, few_owed was.reads found.rel, slice_get_within (commands_of s was.id) was.finished (Show name None) has.command)))
@@ -184,11 +188,13 @@ is_refused s h new was name found at holder held stands stage (taken, made) =
         → Steps s h (h ++ entry_of was.id (was.finished + 1) (LockHeld found.rel AccessShare holder held) ∷ []) was (record was { stage = stages.Refused (Locked found.rel holder held) })
     from (has, is, judged, place) =
         Steps-quiet s h was (was.finished + 1) (Scan (scans.RelName name) has.count ∷ []) (Some (begun_at (was.finished + 1))) [] (LockHeld found.rel AccessShare holder held) (stages.Refused (Locked found.rel holder held)) was.reads stands
-        (may_lock s h was.id was.finished name found (LockHeld found.rel AccessShare holder held) has is tt (λ row. (row, refl)) (λ none. (none, taken)) (search rules))
-        (name, LockHeld found.rel AccessShare holder held,
-        record { count = has.count; command = has.command; at = IsAt-quiet s h was.id (was.finished + 1) was.finished (Scan (scans.RelName name) has.count ∷ []) (Some (begun_at (was.finished + 1))) (Alive (was.finished + 1)) [] (LockHeld found.rel AccessShare holder held) tt has.at },
-        search rules,
-        refusal-quiet h was.id (was.finished + 1) (LockHeld found.rel AccessShare holder held) None judged.refused)
+        (may_lock s h was.id was.finished name found (LockHeld found.rel AccessShare holder held) has is tt (λ row. (row, refl)) (λ none. (none, taken)) (search rules)) (
+          name,
+          LockHeld found.rel AccessShare holder held,
+          record { count = has.count; command = has.command; at = IsAt-quiet s h was.id (was.finished + 1) was.finished (Scan (scans.RelName name) has.count ∷ []) (Some (begun_at (was.finished + 1))) (Alive (was.finished + 1)) [] (LockHeld found.rel AccessShare holder held) tt has.at },
+          search rules,
+          refusal-quiet h was.id (was.finished + 1) (LockHeld found.rel AccessShare holder held) None judged.refused,
+        )
         (ReadsStand-quiet h was.id (was.finished + 1) (LockHeld found.rel AccessShare holder held) was.reads tt (λ scan built. refl) stands.reads)
         (subst (λ x. entries_left (length (commands_of s was.id) - was.finished) was.reads (stages.Refused (Locked found.rel holder held)) < entries_left (length (commands_of s was.id) - was.finished) was.reads x) (sym stage)
         (omega (arith, slice_get_within (commands_of s was.id) was.finished (Show name None) has.command)))

@@ -68,8 +68,8 @@ pub IsAt-quiet : (s : Scenario) (h : List Entry) (b c n : ℕ) (made : List Even
     → IsAt s h b (place_at n made) running life grants → IsAt s (h ++ entry_of b c event ∷ []) b (place_at n (made ++ event ∷ [])) (Some (begun c running)) (Alive c) (held_by b c event grants)
 IsAt-quiet s h b c n made running life grants event quiet at = record {
   place_is =
-    place_of-own s h (entry_of b c event) b (itself b) ∙ place-quiet s h b c event (place_of s h b) quiet
-    ∙ ap (λ (p : Place). let q : Place = record { finished = p.finished; made = p.made ++ event ∷ [] } in q) at.place_is;
+      place_of-own s h (entry_of b c event) b (itself b) ∙ place-quiet s h b c event (place_of s h b) quiet
+      ∙ ap (λ (p : Place). let q : Place = record { finished = p.finished; made = p.made ++ event ∷ [] } in q) at.place_is;
   running_is = running_transaction_of-own h (entry_of b c event) b (itself b) ∙ running-quiet c event (running_transaction_of h b) quiet ∙ ap (λ r. Some (begun c r)) at.running_is;
   life_is = life_of-own h (entry_of b c event) b (itself b) ∙ life-quiet c event quiet;
   grants_are = ap (filter (λ g. g.backend == b)) (held_of-more h (entry_of b c event)) ∙ held-quiet b c event (held_of h) quiet ∙ ap (held_by b c event) at.grants_are;
@@ -101,8 +101,8 @@ refusal-quiet h b c event before was =
 pub IsJudged-quiet : (h : List Entry) (b c : ℕ) (event : Event) → IsQuiet event → refusal_by event None ≡ None → refusal_of h b c ≡ None → IsJudged (h ++ entry_of b c event ∷ []) b c
 IsJudged-quiet h b c event quiet shows_none none = record {
   others =
-    ap (λ at. list_all (λ y. not (y.backend == b)) (drop at (h ++ entry_of b c event ∷ []))) place
-    ∙ ap (list_all (λ y. not (y.backend == b))) (drop_all (length h + 1) (h ++ entry_of b c event ∷ []) (omega (arith, length_push h (entry_of b c event))));
+      ap (λ at. list_all (λ y. not (y.backend == b)) (drop at (h ++ entry_of b c event ∷ []))) place
+      ∙ ap (list_all (λ y. not (y.backend == b))) (drop_all (length h + 1) (h ++ entry_of b c event ∷ []) (omega (arith, length_push h (entry_of b c event))));
   refused = refusal-quiet h b c event None none ∙ shows_none;
 }
   where

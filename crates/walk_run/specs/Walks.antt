@@ -40,16 +40,16 @@ pub record IsDue (scenario : Scenario) (history : List Entry) (steps : List ℕ)
   pub left : pass_stopped history (steps_behind scenario history) ≡ pass_stopped history steps
 
 -- a walk by these steps: whatever is due behind them is due then
-pub record Goes (scenario : Scenario) (old : List Entry) (were : List Backend) (new : List Entry) (are : List Backend) (steps : List ℕ) : Type 0 where
+pub record Goes (scenario : Scenario) (old : List Entry) (new : List Entry) (are : List Backend) (steps : List ℕ) : Type 0 where
   pub stands : Stands scenario new are
   pub due : HasSchedule scenario → (rest : List ℕ) → IsDue scenario old (steps ++ rest) → IsDue scenario new rest
 
--- each backend of a number up to this one has stopped
-abbrev pub AreStopped : List Entry → ℕ → Type 0
-AreStopped history n = (b : ℕ) → 1 ≤ b → b ≤ n → has_stopped history b ≡ true
+-- the first backends have stopped, and each entry came when its backend was the first that hadn't
+pub record InTurn (scenario : Scenario) (history : List Entry) (n : ℕ) : Type 0 where
+  pub follows : FollowsSchedule scenario history
+  pub stopped : (b : ℕ) → 1 ≤ b → b ≤ n → has_stopped history b ≡ true
 
--- a walk in which the first backends have come to their stops, one after the other
-pub record GoesToStops (scenario : Scenario) (old : List Entry) (new : List Entry) (are : List Backend) (n : ℕ) : Type 0 where
+-- a walk without a schedule that brings more backends to their stops, one after the other
+pub record GoesOn (scenario : Scenario) (old : List Entry) (n : ℕ) (new : List Entry) (are : List Backend) (m : ℕ) : Type 0 where
   pub stands : Stands scenario new are
-  pub follows : (scenario.steps ≡ []) → FollowsSchedule scenario old → AreStopped old 0 → FollowsSchedule scenario new
-  pub stopped : AreStopped new n
+  pub turn : scenario.steps ≡ [] → InTurn scenario old n → InTurn scenario new m

@@ -1,10 +1,11 @@
-ghost use Rattle.std.specs.Prelude.{◌≡◌, ◌≢◌, ◌≤◌, ◌+◌, ◌↔◌, ◌==◌, [], ℕ, true, List, length, slice_get, OnOk, IsTrue};
-ghost use Rattle.std.specs.List.{list_any, position};
-ghost use Rattle.base_types.specs.Scans.{same_scan, build_scans};
+ghost use Rattle.std.specs.Prelude.{◌≡◌, ◌≢◌, ◌≤◌, ◌+◌, ◌↔◌, ◌==◌, [], ℕ, true, List, length, not, slice_get, OnOk, IsTrue};
+ghost use Rattle.std.specs.List.{list_any, find, position};
+ghost use Rattle.base_types.specs.Scans.{same_scan as scans_match, build_scans};
 ghost use Rattle.history_model.specs.Plays.{commands_of};
 ghost use Rattle.walk_run.specs.Reads.{next_owed_of, found_in, first_own_from};
 
 use crate::answers::{absent, shown};
+use crate::scans::same_scan;
 use crate::segment::{Locked, Scanned, Segment};
 use base_types::{Command, Kind, Listed, Mode, Name, NewColumn, NoMemory, Oid, Placed, Purpose, Row, Xid};
 use event_kinds::Line;
@@ -291,7 +292,7 @@ impl Backend {
         ensures { OnOk result (Steps script.now segment.old segment.new self.old self.new) }
     {
         match next_owed(self.reads.as_slice(), found.rel) {
-            Some(purpose) => self.read(alloc, script, segment, purpose),
+            Some(purpose) => self.read(alloc, script, segment, &purpose),
             None => {
                 let answer = shown(alloc, found, self.reads.as_slice())?;
                 self.finish(alloc, script, segment, answer)
@@ -305,19 +306,20 @@ impl Backend {
         alloc: Global,
         script: &Script,
         segment: &mut Segment,
-        purpose: Purpose,
+        purpose: &Purpose,
     ) -> Result<(), NoMemory>
         requires stands { BackendStands script.now segment.old self.old }
         requires writer { OneWriter segment.old }
-        requires stage { (found : Found) × (self.old.stage ≡ Stage.Opened found) × (next_owed_of self.old.reads found.rel ≡ Some purpose) }
+        requires stage { (found : Found) × (self.old.stage ≡ Stage.Opened found) × (next_owed_of self.old.reads found.rel ≡ Some purpose.now) }
         ensures { OnOk result (Steps script.now segment.old segment.new self.old self.new) }
     {
-        let Scanned { rows, at } = segment.scan(alloc, self.id, self.finished + 1, purpose)?;
-        self.reads.push(Read {
-            purpose,
+        let Scanned { rows, at } = segment.scan(alloc, self.id, self.finished + 1, *purpose)?;
+        let read = Read {
+            purpose: *purpose,
             rows: Listed::from_vec(rows),
             at,
-        })?;
+        };
+        self.reads.push(read)?;
         Ok(())
     }
 
@@ -383,10 +385,14 @@ fn first_found(rows: &[Row]) -> Option<Found>
 fn next_owed(reads: &[Read], rel: Oid) -> Option<Purpose>
     ensures { result ≡ next_owed_of reads.now rel }
 {
-    table_scans(rel)
-        .iter()
-        .find(|scan| !has_read(reads, scan))
-        .copied()
+    first_unread(reads, &table_scans(rel))
+}
+
+// The first of these scans that isn't among those kept.
+fn first_unread(reads: &[Read], scans: &[Purpose]) -> Option<Purpose>
+    ensures { result ≡ find (λ scan. not (list_any (λ r. scans_match r.purpose scan) reads.now)) scans.now }
+{
+    scans.iter().find(|scan| !has_read(reads, scan)).copied()
 }
 
 // The scans that build the descriptor of a table, in order.
@@ -405,7 +411,7 @@ fn table_scans(rel: Oid) -> [Purpose; 6]
 
 // Whether a scan is among those kept.
 fn has_read(reads: &[Read], scan: &Purpose) -> bool
-    ensures { result ≡ list_any (λ r. same_scan r.purpose scan.now) reads.now }
+    ensures { result ≡ list_any (λ r. scans_match r.purpose scan.now) reads.now }
 {
-    reads.iter().any(|read| read.purpose == *scan)
+    reads.iter().any(|read| same_scan(&read.purpose, scan))
 }

@@ -1,5 +1,6 @@
-ghost use Rattle.std.specs.Prelude.{◌≡◌, ◌≤◌, ◌<◌, ◌-◌, ℕ, true, List, ◌++◌, length, replicate, OnOk, IfOk};
-ghost use Rattle.base_types.specs.Scenario.{IsBackend, AreTurns, turns_of};
+ghost use Rattle.std.specs.Prelude.{◌≡◌, ◌-◌, [], ◌∷◌, true, replicate, OnOk, IfOk};
+ghost use Rattle.std.specs.List.{AllByRecursion, flat_map};
+ghost use Rattle.base_types.specs.Scenario.{IsBackend, AreTurns, turns_of, schedule_of};
 ghost use Rattle.script_text.specs.Built.{is_built};
 ghost use Rattle.walk_run.specs.Walks.{IsWalk};
 
@@ -42,11 +43,11 @@ struct Walker {
 }
 
 impl Walker {
-    ghost use Rattle.walk_run.specs.Walks.{Stands, Goes, GoesToStops};
+    ghost use Rattle.walk_run.specs.Walks.{Stands, Goes, GoesOn};
 
     // All backends of the script, none of which has joined.
     fn new(alloc: Global, script: &Script) -> Result<Walker, NoMemory>
-        ensures { IfOk result (λ walker. (walker.segment ≡ []) × Stands script.now walker.segment walker.backends.items) }
+        ensures { IfOk result (λ walker. (walker.segment ≡ []) × Stands script.now [] walker.backends.items) }
     {
         let mut backends = Vec::new(alloc);
         for number in 0..script.backends() {
@@ -64,7 +65,7 @@ impl Walker {
         requires built { is_built script.now ≡ true }
         requires backend { IsBackend script.now.backends b }
         requires stands { Stands script.now self.old.segment self.old.backends.items }
-        ensures { OnOk result (Goes script.now self.old.segment self.old.backends.items self.new.segment self.new.backends.items (b ∷ [])) }
+        ensures { OnOk result (Goes script.now self.old.segment self.new.segment self.new.backends.items (b ∷ [])) }
     {
         let backend = &mut self.backends[b as usize - 1];
         if backend.is_stopped() {
@@ -78,9 +79,9 @@ impl Walker {
         requires built { is_built script.now ≡ true }
         requires turns { AreTurns script.now.backends turns }
         requires stands { Stands script.now self.old.segment self.old.backends.items }
-        ensures { OnOk result (Goes script.now self.old.segment self.old.backends.items self.new.segment self.new.backends.items (replicate turns.count turns.backend)) }
+        ensures { OnOk result (Goes script.now self.old.segment self.new.segment self.new.backends.items (replicate turns.count turns.backend)) }
     {
-        for _ in 0..turns.count {
+        for _turn in 0..turns.count {
             self.step(script, turns.backend)?;
         }
         Ok(())
@@ -91,7 +92,7 @@ impl Walker {
         requires built { is_built script.now ≡ true }
         requires turns { AllByRecursion (AreTurns script.now.backends) line.now }
         requires stands { Stands script.now self.old.segment self.old.backends.items }
-        ensures { OnOk result (Goes script.now self.old.segment self.old.backends.items self.new.segment self.new.backends.items (turns_of line.now)) }
+        ensures { OnOk result (Goes script.now self.old.segment self.new.segment self.new.backends.items (turns_of line.now)) }
     {
         for turns in line {
             self.by_turns(script, *turns)?;
@@ -103,7 +104,7 @@ impl Walker {
     fn by_schedule(&mut self, script: &Script) -> Result<(), NoMemory>
         requires built { is_built script.now ≡ true }
         requires stands { Stands script.now self.old.segment self.old.backends.items }
-        ensures { OnOk result (Goes script.now self.old.segment self.old.backends.items self.new.segment self.new.backends.items (schedule_of script.now)) }
+        ensures { OnOk result (Goes script.now self.old.segment self.new.segment self.new.backends.items (schedule_of script.now)) }
     {
         for line in script.steps() {
             self.by_line(script, line.as_slice())?;
@@ -115,7 +116,7 @@ impl Walker {
     fn to_the_stops(&mut self, script: &Script) -> Result<(), NoMemory>
         requires built { is_built script.now ≡ true }
         requires stands { Stands script.now self.old.segment self.old.backends.items }
-        ensures { OnOk result (GoesToStops script.now self.old.segment self.old.backends.items self.new.segment self.new.backends.items script.now.backends) }
+        ensures { OnOk result (GoesOn script.now self.old.segment 0 self.new.segment self.new.backends.items script.now.backends) }
     {
         for number in 0..script.backends() {
             self.to_its_stop(script, number + 1)?;
@@ -128,7 +129,7 @@ impl Walker {
         requires built { is_built script.now ≡ true }
         requires backend { IsBackend script.now.backends b }
         requires stands { Stands script.now self.old.segment self.old.backends.items }
-        ensures { OnOk result (GoesToStop script.now self.old.segment self.old.backends.items self.new.segment self.new.backends.items b) }
+        ensures { OnOk result (GoesOn script.now self.old.segment (b - 1) self.new.segment self.new.backends.items b) }
     {
         while !self.backends[b as usize - 1].is_stopped() {
             self.step(script, b)?;
