@@ -1,14 +1,11 @@
 -- The steps of a lookup and of the lock behind it.
-use Rattle.std.proofs.Common.{◌≡◌, ◌<◌, ◌≤◌, ◌+◌, ◌*◌, ◌-◌, ◌∙◌, ◌⊎◌, inl, inr, ℕ, Bool, true, false, not, cond, Option, Some, None, List, [], ◌∷◌, ◌++◌, ◌==◌, ◌||◌, ◌&&◌, refl, sym, ap, subst, length, map, filter, slice_get, zero, suc, arith, rules}
-use Rattle.std.specs.Option.{option_map}
+use Rattle.std.proofs.Common.{◌≡◌, ◌<◌, ◌≤◌, ◌+◌, ◌-◌, ◌∙◌, ◌⊎◌, inl, inr, ℕ, Bool, true, false, not, cond, Option, Some, None, List, [], ◌∷◌, ◌++◌, refl, sym, ap, subst, length, filter, slice_get, arith, rules}
 use Rattle.std.specs.List.{list_any}
 use Rattle.std.proofs.lemmas.Slice.Eq.{bytes_eq-Decides}
 use Rattle.std.proofs.lemmas.Option.{slice_get_within}
 use Rattle.base_types.specs.declared.ids.Oid.{Oid}
 use Rattle.base_types.specs.declared.mode.Mode.{Mode}
 use Rattle.base_types.specs.declared.mode.Mode.TheVariants.{AccessShare}
-use Rattle.base_types.specs.declared.row.Row.{Row}
-use Rattle.base_types.specs.declared.command.Command.{Command}
 use Rattle.base_types.specs.declared.command.Command.TheVariants.{Show}
 use Rattle.base_types.specs.declared.scan.Purpose.{Purpose}
 use Rattle.base_types.specs.declared.scan.Purpose.TheVariants as scans
@@ -25,7 +22,6 @@ use Rattle.history_model.specs.Held.{held_of, holds}
 use Rattle.history_model.specs.Read.{is_scan_of, rows_read, ScansOnlyIfNeeded}
 use Rattle.history_model.specs.Legal.{IsLegal, Alive, AllowsEvent}
 use Rattle.history_model.specs.Plays.{commands_of, relation_found, NextOf}
-use Rattle.history_model.specs.Lines.{refusal_of}
 use Rattle.history_model.specs.Settled.{OneWriter}
 use Rattle.history_model.proofs.Reading.{place_read-scan, rows_read-scan, rows_read-kept}
 use Rattle.history_model.proofs.Settled.{IsSettled-more}
@@ -34,15 +30,14 @@ use Rattle.history_model.proofs.Found.{FindsTable, found_cases, found_settled}
 use Rattle.walk_run.specs.declared.backend.Backend.{Backend}
 use Rattle.walk_run.specs.declared.backend.Found.{Found}
 use Rattle.walk_run.specs.declared.backend.Read.{Read}
-use Rattle.walk_run.specs.declared.backend.Stage.{Stage}
 use Rattle.walk_run.specs.declared.backend.Stage.TheVariants as stages
 use Rattle.walk_run.specs.declared.segment.Scanned.{Scanned}
 use Rattle.walk_run.specs.declared.segment.Locked.TheVariants.{Granted, Refused}
 use Rattle.walk_run.specs.Entries.{entry_of}
-use Rattle.walk_run.specs.Left.{still_to_make, entries_left, owed_count}
+use Rattle.walk_run.specs.Left.{entries_left, owed_count}
 use Rattle.walk_run.specs.Reads.{found_in}
 use Rattle.walk_run.specs.Segment.{Scans, Locks}
-use Rattle.walk_run.specs.Stands.{IsAt, IsFound, IsJudged, FoundStands, HasLookedUp, StageStands, BackendStands, Steps, place_at, lock_of}
+use Rattle.walk_run.specs.Stands.{IsFound, FoundStands, HasLookedUp, StageStands, BackendStands, Steps}
 use Rattle.walk_run.proofs.Lives.{untouched}
 use Rattle.walk_run.proofs.Quiet.{MayEnter, itself, IsAt-quiet, IsJudged-quiet, ReadsStand-quiet, Steps-quiet, refusal-quiet, adds-quiet, holds_none, runs_as-without}
 
