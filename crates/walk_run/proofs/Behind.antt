@@ -1,5 +1,5 @@
 -- What a backend has stays the same where only entries of others follow.
-use Rattle.std.proofs.Common.{◌≡◌, ◌≤◌, ℕ, Bool, true, false, not, Option, Some, None, List, [], ◌∷◌, ◌++◌, ◌==◌, ◌&&◌, ◌+◌, ◌∙◌, if◌then◌else◌, cond, refl, sym, ap, append_assoc, append-nil, length, take, drop, filter, unwrap_or}
+use Rattle.std.proofs.Common.{◌≡◌, ◌≤◌, ℕ, Bool, true, not, Some, None, List, [], ◌∷◌, ◌++◌, ◌==◌, ◌+◌, ◌∙◌, if◌then◌else◌, refl, sym, ap, append_assoc, append-nil, length, take, drop, unwrap_or}
 use Rattle.std.specs.List.{list_all}
 use Rattle.std.proofs.lemmas.Bool.{and_parts, not-true}
 use Rattle.std.proofs.lemmas.List.{take-append-le, take-append-drop}

@@ -1,14 +1,11 @@
 -- The steps of a lookup and of the lock behind it.
-use Rattle.std.proofs.Common.{◌≡◌, ◌<◌, ◌≤◌, ◌+◌, ◌*◌, ◌-◌, ◌∙◌, ◌⊎◌, inl, inr, ℕ, Bool, true, false, not, cond, Option, Some, None, List, [], ◌∷◌, ◌++◌, ◌==◌, ◌||◌, ◌&&◌, refl, sym, ap, subst, length, map, filter, slice_get, zero, suc, arith, rules}
-use Rattle.std.specs.Option.{option_map}
+use Rattle.std.proofs.Common.{◌≡◌, ◌<◌, ◌≤◌, ◌+◌, ◌-◌, ◌∙◌, ◌⊎◌, inl, inr, ℕ, Bool, true, false, not, cond, Option, Some, None, List, [], ◌∷◌, ◌++◌, refl, sym, ap, subst, length, filter, slice_get, arith, rules}
 use Rattle.std.specs.List.{list_any}
 use Rattle.std.proofs.lemmas.Slice.Eq.{bytes_eq-Decides}
 use Rattle.std.proofs.lemmas.Option.{slice_get_within}
 use Rattle.base_types.specs.declared.ids.Oid.{Oid}
 use Rattle.base_types.specs.declared.mode.Mode.{Mode}
 use Rattle.base_types.specs.declared.mode.Mode.TheVariants.{AccessShare}
-use Rattle.base_types.specs.declared.row.Row.{Row}
-use Rattle.base_types.specs.declared.command.Command.{Command}
 use Rattle.base_types.specs.declared.command.Command.TheVariants.{Show}
 use Rattle.base_types.specs.declared.scan.Purpose.{Purpose}
 use Rattle.base_types.specs.declared.scan.Purpose.TheVariants as scans
@@ -25,7 +22,6 @@ use Rattle.history_model.specs.Held.{held_of, holds}
 use Rattle.history_model.specs.Read.{is_scan_of, rows_read, ScansOnlyIfNeeded}
 use Rattle.history_model.specs.Legal.{IsLegal, Alive, AllowsEvent}
 use Rattle.history_model.specs.Plays.{commands_of, relation_found, NextOf}
-use Rattle.history_model.specs.Lines.{refusal_of}
 use Rattle.history_model.specs.Settled.{OneWriter}
 use Rattle.history_model.proofs.Reading.{place_read-scan, rows_read-scan, rows_read-kept}
 use Rattle.history_model.proofs.Settled.{IsSettled-more}
@@ -34,15 +30,14 @@ use Rattle.history_model.proofs.Found.{FindsTable, found_cases, found_settled}
 use Rattle.walk_run.specs.declared.backend.Backend.{Backend}
 use Rattle.walk_run.specs.declared.backend.Found.{Found}
 use Rattle.walk_run.specs.declared.backend.Read.{Read}
-use Rattle.walk_run.specs.declared.backend.Stage.{Stage}
 use Rattle.walk_run.specs.declared.backend.Stage.TheVariants as stages
 use Rattle.walk_run.specs.declared.segment.Scanned.{Scanned}
 use Rattle.walk_run.specs.declared.segment.Locked.TheVariants.{Granted, Refused}
 use Rattle.walk_run.specs.Entries.{entry_of}
-use Rattle.walk_run.specs.Left.{still_to_make, entries_left, owed_count}
+use Rattle.walk_run.specs.Left.{entries_left, owed_count}
 use Rattle.walk_run.specs.Reads.{found_in}
 use Rattle.walk_run.specs.Segment.{Scans, Locks}
-use Rattle.walk_run.specs.Stands.{IsAt, IsFound, IsJudged, FoundStands, HasLookedUp, StageStands, BackendStands, Steps, place_at, lock_of}
+use Rattle.walk_run.specs.Stands.{IsFound, FoundStands, HasLookedUp, StageStands, BackendStands, Steps}
 use Rattle.walk_run.proofs.Lives.{untouched}
 use Rattle.walk_run.proofs.Quiet.{MayEnter, itself, IsAt-quiet, IsJudged-quiet, ReadsStand-quiet, Steps-quiet, refusal-quiet, adds-quiet, holds_none, runs_as-without}
 
@@ -98,11 +93,12 @@ name_scan s h was name count stands legal one stage command counted = from (subs
           allowed = counted;
           next = subst (λ x. NextOf h was.id x (was.finished + 1) [] (Scan (scans.RelName name) count)) (sym command) refl;
           needed = λ built. absurd (cc);
-        })
-        (record { count = count; command = command; at = IsAt-quiet s h was.id (was.finished + 1) was.finished [] None (Alive last) [] (Scan (scans.RelName name) count) tt at },
-        looked_up h was.id (was.finished + 1) count name one (runs_as-without h was.id None at.running_is tt),
-        IsJudged-quiet h was.id (was.finished + 1) (Scan (scans.RelName name) count) tt refl (untouched h was.id last (was.finished + 1) legal at.life_is (omega (arith, few))).refused,
-        place_read-scan h (entry_of was.id (was.finished + 1) (Scan (scans.RelName name) count)) was.id (scans.RelName name) (itself was.id) (same_name name))
+        }) (
+          record { count = count; command = command; at = IsAt-quiet s h was.id (was.finished + 1) was.finished [] None (Alive last) [] (Scan (scans.RelName name) count) tt at },
+          looked_up h was.id (was.finished + 1) count name one (runs_as-without h was.id None at.running_is tt),
+          IsJudged-quiet h was.id (was.finished + 1) (Scan (scans.RelName name) count) tt refl (untouched h was.id last (was.finished + 1) legal at.life_is (omega (arith, few))).refused,
+          place_read-scan h (entry_of was.id (was.finished + 1) (Scan (scans.RelName name) count)) was.id (scans.RelName name) (itself was.id) (same_name name),
+        )
         (ReadsStand-quiet h was.id (was.finished + 1) (Scan (scans.RelName name) count) was.reads tt (not_for_descriptor name) stands.reads)
         (subst (λ x. entries_left (length (commands_of s was.id) - was.finished) was.reads (stages.LookedUp name (found_in (answer_of h was.id (scans.RelName name))) (length h + 1)) < entries_left (length (commands_of s was.id) - was.finished) was.reads x) (sym stage) (omega arith))
 
@@ -166,10 +162,13 @@ locks s h new was name found at stands stage (free, made) =
         → Steps s h (h ++ entry_of was.id (was.finished + 1) (LockOk found.rel AccessShare) ∷ []) was (record was { stage = stages.Opened found })
     from (has, is, judged, place) =
         Steps-quiet s h was (was.finished + 1) (Scan (scans.RelName name) has.count ∷ []) (Some (begun_at (was.finished + 1))) [] (LockOk found.rel AccessShare) (stages.Opened found) was.reads stands
-        (may_lock s h was.id was.finished name found (LockOk found.rel AccessShare) has is tt (λ row. (row, refl)) (λ none. (none, free)) (search rules))
-        (name, [], record { count = has.count; command = has.command; at = IsAt-quiet s h was.id (was.finished + 1) was.finished (Scan (scans.RelName name) has.count ∷ []) (Some (begun_at (was.finished + 1))) (Alive (was.finished + 1)) [] (LockOk found.rel AccessShare) tt has.at },
-        IsFound-quiet h was.id (was.finished + 1) name found (LockOk found.rel AccessShare) tt refl is,
-        IsJudged-quiet h was.id (was.finished + 1) (LockOk found.rel AccessShare) tt refl judged.refused)
+        (may_lock s h was.id was.finished name found (LockOk found.rel AccessShare) has is tt (λ row. (row, refl)) (λ none. (none, free)) (search rules)) (
+          name,
+          [],
+          record { count = has.count; command = has.command; at = IsAt-quiet s h was.id (was.finished + 1) was.finished (Scan (scans.RelName name) has.count ∷ []) (Some (begun_at (was.finished + 1))) (Alive (was.finished + 1)) [] (LockOk found.rel AccessShare) tt has.at },
+          IsFound-quiet h was.id (was.finished + 1) name found (LockOk found.rel AccessShare) tt refl is,
+          IsJudged-quiet h was.id (was.finished + 1) (LockOk found.rel AccessShare) tt refl judged.refused,
+        )
         (ReadsStand-quiet h was.id (was.finished + 1) (LockOk found.rel AccessShare) was.reads tt (λ scan built. refl) stands.reads)
         (subst (λ x. entries_left (length (commands_of s was.id) - was.finished) was.reads (stages.Opened found) < entries_left (length (commands_of s was.id) - was.finished) was.reads x) (sym stage)
         (omega (arith, few_owed was.reads found.rel, slice_get_within (commands_of s was.id) was.finished (Show name None) has.command)))
@@ -184,11 +183,13 @@ is_refused s h new was name found at holder held stands stage (taken, made) =
         → Steps s h (h ++ entry_of was.id (was.finished + 1) (LockHeld found.rel AccessShare holder held) ∷ []) was (record was { stage = stages.Refused (Locked found.rel holder held) })
     from (has, is, judged, place) =
         Steps-quiet s h was (was.finished + 1) (Scan (scans.RelName name) has.count ∷ []) (Some (begun_at (was.finished + 1))) [] (LockHeld found.rel AccessShare holder held) (stages.Refused (Locked found.rel holder held)) was.reads stands
-        (may_lock s h was.id was.finished name found (LockHeld found.rel AccessShare holder held) has is tt (λ row. (row, refl)) (λ none. (none, taken)) (search rules))
-        (name, LockHeld found.rel AccessShare holder held,
-        record { count = has.count; command = has.command; at = IsAt-quiet s h was.id (was.finished + 1) was.finished (Scan (scans.RelName name) has.count ∷ []) (Some (begun_at (was.finished + 1))) (Alive (was.finished + 1)) [] (LockHeld found.rel AccessShare holder held) tt has.at },
-        search rules,
-        refusal-quiet h was.id (was.finished + 1) (LockHeld found.rel AccessShare holder held) None judged.refused)
+        (may_lock s h was.id was.finished name found (LockHeld found.rel AccessShare holder held) has is tt (λ row. (row, refl)) (λ none. (none, taken)) (search rules)) (
+          name,
+          LockHeld found.rel AccessShare holder held,
+          record { count = has.count; command = has.command; at = IsAt-quiet s h was.id (was.finished + 1) was.finished (Scan (scans.RelName name) has.count ∷ []) (Some (begun_at (was.finished + 1))) (Alive (was.finished + 1)) [] (LockHeld found.rel AccessShare holder held) tt has.at },
+          search rules,
+          refusal-quiet h was.id (was.finished + 1) (LockHeld found.rel AccessShare holder held) None judged.refused,
+        )
         (ReadsStand-quiet h was.id (was.finished + 1) (LockHeld found.rel AccessShare holder held) was.reads tt (λ scan built. refl) stands.reads)
         (subst (λ x. entries_left (length (commands_of s was.id) - was.finished) was.reads (stages.Refused (Locked found.rel holder held)) < entries_left (length (commands_of s was.id) - was.finished) was.reads x) (sym stage)
         (omega (arith, slice_get_within (commands_of s was.id) was.finished (Show name None) has.command)))

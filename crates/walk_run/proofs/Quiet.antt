@@ -1,7 +1,7 @@
 -- Where a backend stands after one more entry of its own, if that is a scan or a lock.
 use Rattle.std.proofs.Common.{◌≡◌, ◌<◌, ◌≤◌, ◌+◌, ◌∙◌, ℕ, Bool, true, false, not, cond, Option, Some, None, List, [], ◌∷◌, ◌++◌, ◌==◌, ◌||◌, ◌&&◌, if◌then◌else◌, refl, sym, ap, subst, length, drop, filter, slice_get, unwrap_or, nat_lt, arith, rules}
 use Rattle.std.specs.Option.{option_map_or}
-use Rattle.std.specs.List.{list_any, list_all, Contains, AllByRecursion}
+use Rattle.std.specs.List.{list_all, Contains, AllByRecursion}
 use Rattle.std.proofs.lemmas.Bool.{eq-eqb}
 use Rattle.std.proofs.lemmas.List.{length_push, drop_all}
 use Rattle.std.proofs.lemmas.List.Elements.{filter-append, All-contains, All-from_recursion}
@@ -10,14 +10,14 @@ use Rattle.base_types.specs.declared.mode.Mode.{Mode}
 use Rattle.base_types.specs.declared.row.Kind.TheVariants.{Table}
 use Rattle.base_types.specs.declared.scan.Purpose.{Purpose}
 use Rattle.base_types.specs.Modes.{same_mode}
-use Rattle.base_types.specs.Scans.{same_oid, same_scan, is_build_scan, build_scans}
+use Rattle.base_types.specs.Scans.{same_oid, is_build_scan, build_scans}
 use Rattle.base_types.specs.Scenario.{Scenario}
 use Rattle.event_kinds.specs.declared.entry.Entry.{Entry}
 use Rattle.event_kinds.specs.declared.entry.Event.{Event}
 use Rattle.event_kinds.specs.declared.entry.Event.TheVariants.{Scan, LockOk, LockHeld}
 use Rattle.rel_desc.specs.declared.error.CommandError.{CommandError}
 use Rattle.history_model.specs.declared.fact.Grant.{Grant}
-use Rattle.history_model.specs.Transactions.{Running, begun, begun_at, running_by, running_transaction_of, has_xid, is_committed, runs_as}
+use Rattle.history_model.specs.Transactions.{Running, begun, running_by, running_transaction_of, has_xid, is_committed, runs_as}
 use Rattle.history_model.specs.Held.{held_of, held_by, holds}
 use Rattle.history_model.specs.Read.{is_scan_of, is_usable, ScansOnlyIfNeeded}
 use Rattle.history_model.specs.Legal.{Life, Alive, life_by, FollowsLife, FollowsVisible, is_ending, AllowsEvent}
@@ -33,7 +33,7 @@ use Rattle.walk_run.specs.declared.backend.Read.{Read}
 use Rattle.walk_run.specs.declared.backend.Stage.{Stage}
 use Rattle.walk_run.specs.Entries.{entry_of}
 use Rattle.walk_run.specs.Left.{still_to_make}
-use Rattle.walk_run.specs.Stands.{IsAt, IsJudged, IsOrdinaryEvent, StageStands, ReadStands, ReadsStand, BackendStands, Steps, place_at, own_grants}
+use Rattle.walk_run.specs.Stands.{IsAt, IsJudged, IsOrdinaryEvent, StageStands, ReadStands, ReadsStand, BackendStands, Steps, place_at}
 
 -- a number is itself by the test
 pub itself : (b : ℕ) → (b == b) ≡ true
@@ -68,8 +68,8 @@ pub IsAt-quiet : (s : Scenario) (h : List Entry) (b c n : ℕ) (made : List Even
     → IsAt s h b (place_at n made) running life grants → IsAt s (h ++ entry_of b c event ∷ []) b (place_at n (made ++ event ∷ [])) (Some (begun c running)) (Alive c) (held_by b c event grants)
 IsAt-quiet s h b c n made running life grants event quiet at = record {
   place_is =
-    place_of-own s h (entry_of b c event) b (itself b) ∙ place-quiet s h b c event (place_of s h b) quiet
-    ∙ ap (λ (p : Place). let q : Place = record { finished = p.finished; made = p.made ++ event ∷ [] } in q) at.place_is;
+      place_of-own s h (entry_of b c event) b (itself b) ∙ place-quiet s h b c event (place_of s h b) quiet
+      ∙ ap (λ (p : Place). let q : Place = record { finished = p.finished; made = p.made ++ event ∷ [] } in q) at.place_is;
   running_is = running_transaction_of-own h (entry_of b c event) b (itself b) ∙ running-quiet c event (running_transaction_of h b) quiet ∙ ap (λ r. Some (begun c r)) at.running_is;
   life_is = life_of-own h (entry_of b c event) b (itself b) ∙ life-quiet c event quiet;
   grants_are = ap (filter (λ g. g.backend == b)) (held_of-more h (entry_of b c event)) ∙ held-quiet b c event (held_of h) quiet ∙ ap (held_by b c event) at.grants_are;
@@ -101,8 +101,8 @@ refusal-quiet h b c event before was =
 pub IsJudged-quiet : (h : List Entry) (b c : ℕ) (event : Event) → IsQuiet event → refusal_by event None ≡ None → refusal_of h b c ≡ None → IsJudged (h ++ entry_of b c event ∷ []) b c
 IsJudged-quiet h b c event quiet shows_none none = record {
   others =
-    ap (λ at. list_all (λ y. not (y.backend == b)) (drop at (h ++ entry_of b c event ∷ []))) place
-    ∙ ap (list_all (λ y. not (y.backend == b))) (drop_all (length h + 1) (h ++ entry_of b c event ∷ []) (omega (arith, length_push h (entry_of b c event))));
+      ap (λ at. list_all (λ y. not (y.backend == b)) (drop at (h ++ entry_of b c event ∷ []))) place
+      ∙ ap (list_all (λ y. not (y.backend == b))) (drop_all (length h + 1) (h ++ entry_of b c event ∷ []) (omega (arith, length_push h (entry_of b c event))));
   refused = refusal-quiet h b c event None none ∙ shows_none;
 }
   where

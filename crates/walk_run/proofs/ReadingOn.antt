@@ -1,5 +1,5 @@
 -- The step of a scan for the descriptor.
-use Rattle.std.proofs.Common.{◌≡◌, ◌<◌, ◌≤◌, ◌+◌, ◌*◌, ◌-◌, ◌∙◌, ◌⊎◌, inl, inr, ℕ, Bool, true, false, not, cond, Option, Some, None, List, [], ◌∷◌, ◌++◌, ◌||◌, if◌then◌else◌, refl, sym, ap, subst, length, filter, arith}
+use Rattle.std.proofs.Common.{◌≡◌, ◌<◌, ◌≤◌, ◌+◌, ◌-◌, ◌∙◌, ◌⊎◌, inl, inr, ℕ, Bool, true, false, not, cond, Some, List, [], ◌∷◌, ◌++◌, ◌||◌, if◌then◌else◌, refl, sym, ap, subst, length, filter, arith}
 use Rattle.std.specs.List.{list_any, find, Contains, AllByRecursion}
 use Rattle.std.proofs.lemmas.List.Elements.{Contains-append_left, Contains-append_right, Contains-push, Contains-push_cases}
 use Rattle.std.proofs.lemmas.List.Folds.{list_any-append, list_any_at}
@@ -7,13 +7,11 @@ use Rattle.base_types.specs.declared.ids.Oid.{Oid}
 use Rattle.base_types.specs.declared.mode.Mode.TheVariants.{AccessShare}
 use Rattle.base_types.specs.declared.row.Kind.TheVariants.{Table}
 use Rattle.base_types.specs.declared.row.Row.{Row}
-use Rattle.base_types.specs.declared.command.Command.TheVariants.{Show}
 use Rattle.base_types.specs.declared.scan.Purpose.{Purpose}
 use Rattle.base_types.specs.declared.scan.Purpose.TheVariants as scans
 use Rattle.base_types.specs.Scans.{same_scan, is_build_scan, build_scans}
 use Rattle.base_types.specs.Scenario.{Scenario}
 use Rattle.event_kinds.specs.declared.entry.Entry.{Entry}
-use Rattle.event_kinds.specs.declared.entry.Event.{Event}
 use Rattle.event_kinds.specs.declared.entry.Event.TheVariants.{Scan, LockOk}
 use Rattle.history_model.specs.Transactions.{begun_at}
 use Rattle.history_model.specs.Versions.{answer_of}
@@ -106,11 +104,12 @@ not-false false is = absurd (cc)
 owed_first : (h : List Entry) (b : ℕ) (reads : List Read) (rel : Oid) (purpose : Purpose) → ReadsStand h b reads → IsFirst (λ scan. not (list_any (λ r. same_scan r.purpose scan) reads)) (build_scans Table rel) purpose
     → (rest : List Purpose) × (owed_of h b Table rel ≡ purpose ∷ rest)
 owed_first h b reads rel purpose stands first =
-    let same : (scan : Purpose) → is_build_scan scan ≡ true → not (is_usable h b scan) ≡ not (list_any (λ r. same_scan r.purpose scan) reads) = λ scan built. ap not (stands.usable scan built) in
-    (first.rest,
-    filter_same (λ scan. not (is_usable h b scan)) (λ scan. not (list_any (λ r. same_scan r.purpose scan) reads)) (build_scans Table rel)
-    (same (scans.Class rel) refl, (same (scans.Attribute rel) refl, (same (scans.AttrDef rel) refl, (same (scans.Constraint rel) refl, (same (scans.Index rel) refl, (same (scans.Trigger rel) refl, tt))))))
-    ∙ first.is)
+    let same : (scan : Purpose) → is_build_scan scan ≡ true → not (is_usable h b scan) ≡ not (list_any (λ r. same_scan r.purpose scan) reads) = λ scan built. ap not (stands.usable scan built) in (
+      first.rest,
+      filter_same (λ scan. not (is_usable h b scan)) (λ scan. not (list_any (λ r. same_scan r.purpose scan) reads)) (build_scans Table rel)
+          (same (scans.Class rel) refl, (same (scans.Attribute rel) refl, (same (scans.AttrDef rel) refl, (same (scans.Constraint rel) refl, (same (scans.Index rel) refl, (same (scans.Trigger rel) refl, tt))))))
+          ∙ first.is,
+    )
 
 or-true : (t : Bool) → (t || true) ≡ true
 or-true true = refl
@@ -153,10 +152,10 @@ reads_more : (h : List Entry) (b c : ℕ) (reads : List Read) (rel : Oid) (purpo
     → ReadsStand (h ++ entry_of b c (Scan purpose (length (answer_of h b purpose))) ∷ []) b (reads ++ record { purpose = purpose; rows = answer_of h b purpose; at = length h + 1 } ∷ [])
 reads_more h b c reads rel purpose stands settled built none = record {
   usable = λ scan is.
-    is_usable-own h (entry_of b c (Scan purpose (length (answer_of h b purpose)))) b scan (itself b)
-    ∙ ap (λ u. if same_scan purpose scan then true else u) (stands.usable scan is)
-    ∙ either (same_scan purpose scan) (list_any (λ r. same_scan r.purpose scan) reads)
-    ∙ sym (list_any-append (λ r. same_scan r.purpose scan) reads (record { purpose = purpose; rows = answer_of h b purpose; at = length h + 1 } ∷ []));
+      is_usable-own h (entry_of b c (Scan purpose (length (answer_of h b purpose)))) b scan (itself b)
+      ∙ ap (λ u. if same_scan purpose scan then true else u) (stands.usable scan is)
+      ∙ either (same_scan purpose scan) (list_any (λ r. same_scan r.purpose scan) reads)
+      ∙ sym (list_any-append (λ r. same_scan r.purpose scan) reads (record { purpose = purpose; rows = answer_of h b purpose; at = length h + 1 } ∷ []));
   each = λ read in'. of read (Contains-push_cases reads (record { purpose = purpose; rows = answer_of h b purpose; at = length h + 1 }) read in');
 }
   where
@@ -200,29 +199,35 @@ build_scan s h was found purpose stands stage owes =
           without = refl;
           allowed = refl;
           next = subst (λ x. NextOf h was.id x (was.finished + 1) (Scan (scans.RelName name) has.count ∷ LockOk found.rel AccessShare ∷ made) (Scan purpose (length (answer_of h was.id purpose)))) (sym has.command)
-            (subst (λ wanted. NextOpened (was.finished + 1) wanted (Scan purpose (length (answer_of h was.id purpose)))) (sym owed.1) refl);
+              (subst (λ wanted. NextOpened (was.finished + 1) wanted (Scan purpose (length (answer_of h was.id purpose)))) (sym owed.1) refl);
           needed = λ built. stands.reads.usable purpose built ∙ none;
         })
-        (subst (StageStands s (h ++ entry_of was.id (was.finished + 1) (Scan purpose (length (answer_of h was.id purpose))) ∷ []) was.id was.finished) (sym stage)
-        (name, made ++ Scan purpose (length (answer_of h was.id purpose)) ∷ [],
-        record {
-          count = has.count;
-          command = has.command;
-          at = IsAt-quiet s h was.id (was.finished + 1) was.finished (Scan (scans.RelName name) has.count ∷ LockOk found.rel AccessShare ∷ made) (Some (begun_at (was.finished + 1))) (Alive (was.finished + 1))
-            (lock_of was.id (was.finished + 1) found.rel ∷ []) (Scan purpose (length (answer_of h was.id purpose))) tt has.at;
-        },
-        IsFound-quiet h was.id (was.finished + 1) name found (Scan purpose (length (answer_of h was.id purpose))) tt (not_name name purpose (built_is_build found.rel purpose first.among)) is,
-        IsJudged-quiet h was.id (was.finished + 1) (Scan purpose (length (answer_of h was.id purpose))) tt refl judged.refused))
+        (subst (StageStands s (h ++ entry_of was.id (was.finished + 1) (Scan purpose (length (answer_of h was.id purpose))) ∷ []) was.id was.finished) (sym stage) (
+          name,
+          made ++ Scan purpose (length (answer_of h was.id purpose)) ∷ [],
+          record {
+            count = has.count;
+            command = has.command;
+            at = IsAt-quiet s h was.id (was.finished + 1) was.finished (Scan (scans.RelName name) has.count ∷ LockOk found.rel AccessShare ∷ made) (Some (begun_at (was.finished + 1))) (Alive (was.finished + 1))
+                (lock_of was.id (was.finished + 1) found.rel ∷ []) (Scan purpose (length (answer_of h was.id purpose))) tt has.at;
+          },
+          IsFound-quiet h was.id (was.finished + 1) name found (Scan purpose (length (answer_of h was.id purpose))) tt (not_name name purpose (built_is_build found.rel purpose first.among)) is,
+          IsJudged-quiet h was.id (was.finished + 1) (Scan purpose (length (answer_of h was.id purpose))) tt refl judged.refused,
+        ))
         (reads_more h was.id (was.finished + 1) was.reads found.rel purpose stands.reads is.settled first.among none)
         (subst (λ x. entries_left (length (commands_of s was.id) - was.finished) (was.reads ++ record { purpose = purpose; rows = answer_of h was.id purpose; at = length h + 1 } ∷ []) x < entries_left (length (commands_of s was.id) - was.finished) was.reads x) (sym stage)
         (let fewer : owed_count (was.reads ++ record { purpose = purpose; rows = answer_of h was.id purpose; at = length h + 1 } ∷ []) found.rel < owed_count was.reads found.rel = fewer_owed was.reads found.rel (record { purpose = purpose; rows = answer_of h was.id purpose; at = length h + 1 }) owes in
         omega arith))
 
 -- a scan for the descriptor: what the segment gives is kept, and it is the backend's next step
-pub reads_on : (s : Scenario) (h new : List Entry) (was : Backend) (found : Found) (purpose : Purpose) (scanned : Scanned) → BackendStands s h was → was.stage ≡ stages.Opened found → next_owed_of was.reads found.rel ≡ Some purpose
-    → Scans h new was.id (was.finished + 1) purpose scanned → Steps s h new was (record was { reads = was.reads ++ record { purpose = purpose; rows = scanned.rows.items; at = scanned.at } ∷ [] })
-reads_on s h new was found purpose scanned stands stage owes made =
-    subst (λ after. Steps s h after was (record was { reads = was.reads ++ record { purpose = purpose; rows = scanned.rows.items; at = scanned.at } ∷ [] })) (sym made.entry)
-    (subst (λ at. Steps s h (h ++ entry_of was.id (was.finished + 1) (Scan purpose (length (answer_of h was.id purpose))) ∷ []) was (record was { reads = was.reads ++ record { purpose = purpose; rows = scanned.rows.items; at = at } ∷ [] })) (sym made.at)
-    (subst (λ rows. Steps s h (h ++ entry_of was.id (was.finished + 1) (Scan purpose (length (answer_of h was.id purpose))) ∷ []) was (record was { reads = was.reads ++ record { purpose = purpose; rows = rows; at = length h + 1 } ∷ [] })) (sym made.rows)
-    (build_scan s h was found purpose stands stage owes)))
+pub reads_on : (s : Scenario) (h new : List Entry) (was : Backend) (found : Found) (purpose : Purpose) (scanned : Scanned) (rows : List Row) (reads : List Read) → BackendStands s h was
+    → was.stage ≡ stages.Opened found → next_owed_of was.reads found.rel ≡ Some purpose → Scans h new was.id (was.finished + 1) purpose scanned → rows ≡ scanned.rows.items
+    → reads ≡ was.reads ++ record { purpose = purpose; rows = rows; at = scanned.at } ∷ [] → Steps s h new was (record was { reads = reads })
+reads_on s h new was found purpose scanned rows reads stands stage owes made given kept =
+    subst (λ after. Steps s h after was (record was { reads = reads })) (sym made.entry)
+    (subst (λ all. Steps s h (h ++ entry_of was.id (was.finished + 1) (Scan purpose (length (answer_of h was.id purpose))) ∷ []) was (record was { reads = all })) (sym (kept ∙ same)) (build_scan s h was found purpose stands stage owes))
+  where
+    same : was.reads ++ record { purpose = purpose; rows = rows; at = scanned.at } ∷ [] ≡ was.reads ++ record { purpose = purpose; rows = answer_of h was.id purpose; at = length h + 1 } ∷ []
+    same =
+        ap (λ all. was.reads ++ record { purpose = purpose; rows = all; at = scanned.at } ∷ []) (given ∙ made.rows)
+        ∙ ap (λ at. was.reads ++ record { purpose = purpose; rows = answer_of h was.id purpose; at = at } ∷ []) made.at

@@ -1,5 +1,5 @@
 -- What a backend answers of the table that it has opened, and that its command may then end.
-use Rattle.std.proofs.Common.{◌≡◌, ◌≤◌, ◌≢◌, ℕ, Bool, true, false, not, Option, Some, None, List, [], ◌∷◌, ◌++◌, ◌==◌, ◌&&◌, ◌||◌, ◌+◌, ◌∙◌, if◌then◌else◌, cond, nat_le, refl, sym, ap, subst, length, take, drop, map, filter, slice_get, arith, IsSome}
+use Rattle.std.proofs.Common.{◌≡◌, ◌≤◌, ℕ, Bool, true, false, not, Option, Some, None, List, [], ◌∷◌, ◌==◌, ◌&&◌, ◌||◌, ◌+◌, ◌∙◌, if◌then◌else◌, cond, refl, sym, ap, subst, length, take, drop, map, filter, arith, IsSome}
 use Rattle.std.specs.List.{list_all, list_any, find, AllByRecursion, Contains}
 use Rattle.std.proofs.lemmas.Bool.{eq-eqb, le-leb, not-false}
 use Rattle.std.proofs.Math.Bool.{or-false}
@@ -10,7 +10,6 @@ use Rattle.base_types.specs.declared.mode.Mode.{Mode}
 use Rattle.base_types.specs.declared.mode.Mode.TheVariants.{AccessShare}
 use Rattle.base_types.specs.declared.row.Kind.{Kind}
 use Rattle.base_types.specs.declared.row.Kind.TheVariants.{Table}
-use Rattle.base_types.specs.declared.row.Row.{Row}
 use Rattle.base_types.specs.declared.command.Command.TheVariants.{Show}
 use Rattle.base_types.specs.declared.scan.Field.{Field}
 use Rattle.base_types.specs.declared.scan.Purpose.{Purpose}
@@ -20,29 +19,27 @@ use Rattle.base_types.specs.Fields.{field_text, fields_of, read_by}
 use Rattle.base_types.specs.Scans.{same_oid, same_scan, build_scans}
 use Rattle.base_types.specs.Scenario.{Scenario}
 use Rattle.event_kinds.specs.declared.entry.Entry.{Entry}
-use Rattle.event_kinds.specs.declared.entry.Event.{Event}
 use Rattle.event_kinds.specs.declared.entry.Event.TheVariants as events
-use Rattle.rel_desc.specs.declared.answer.Answer.{Answer}
 use Rattle.rel_desc.specs.declared.answer.Answer.TheVariants as answers
 use Rattle.rel_desc.specs.declared.answer.Shown.{Shown}
 use Rattle.rel_desc.specs.declared.error.CommandError.TheVariants.{NoRelation}
 use Rattle.history_model.specs.declared.fact.Grant.{Grant}
-use Rattle.history_model.specs.Transactions.{Running, running_transaction_of, is_committed, begun_at}
+use Rattle.history_model.specs.Transactions.{running_transaction_of, begun_at}
 use Rattle.history_model.specs.Versions.{answer_of, fresh_text}
 use Rattle.history_model.specs.Held.{held_of, held_by, protects}
 use Rattle.history_model.specs.Protected.{clear_modes, is_protected}
 use Rattle.history_model.specs.Read.{is_usable, place_read, rows_read}
-use Rattle.history_model.specs.Legal.{is_ending, stands, MayRelease}
-use Rattle.history_model.specs.Plays.{owed_of, commands_of, NextOpened}
-use Rattle.history_model.specs.Lines.{judged_at, refusal_of, shown_field, answer_found, answer_unrefused, error_or, answer_to}
+use Rattle.history_model.specs.Legal.{is_ending, MayRelease}
+use Rattle.history_model.specs.Plays.{owed_of, NextOpened}
+use Rattle.history_model.specs.Lines.{judged_at, shown_field, answer_found, answer_unrefused, error_or, answer_to}
 use Rattle.history_model.proofs.Reading.{place_read-short, judged_at-short}
 use Rattle.walk_run.specs.declared.backend.Backend.{Backend}
 use Rattle.walk_run.specs.declared.backend.Found.{Found}
 use Rattle.walk_run.specs.declared.backend.Read.{Read}
 use Rattle.walk_run.specs.declared.backend.Stage.TheVariants as stages
 use Rattle.walk_run.specs.Ends.{MayEnd}
-use Rattle.walk_run.specs.Reads.{next_owed_of, is_kept_by_share, shown_by, answer_by}
-use Rattle.walk_run.specs.Stands.{own_grants, IsAt, place_at, lock_of, IsJudged, IsFound, HasLookedUp, FoundStands, StageStands, ReadStands, ReadsStand, BackendStands}
+use Rattle.walk_run.specs.Reads.{next_owed_of, shown_by, answer_by}
+use Rattle.walk_run.specs.Stands.{own_grants, lock_of, IsJudged, IsFound, StageStands, ReadStands, ReadsStand, BackendStands}
 use Rattle.walk_run.proofs.SameScan.{same_scan-true}
 use Rattle.walk_run.proofs.Behind.{are_others, place_read-front, before_read-front, rows_read-front, own_grants-front}
 
@@ -248,6 +245,13 @@ MayRelease-unwritten history b c running = rw (not_ending history b c running) (
 -- a release gives back the lock of its command
 lock_given_back : (b c : ℕ) (rel : Oid) → held_by b c (events.Release c) (lock_of b c rel ∷ []) ≡ []
 lock_given_back b c rel = rw (eq-eqb b b refl, le-leb c c (omega arith)) refl
+
+-- what a backend has opened is a table
+pub opened_table : (scenario : Scenario) (history : List Entry) (s : Backend) (found : Found) → BackendStands scenario history s → s.stage ≡ stages.Opened found → found.kind ≡ Table
+opened_table scenario history s found at stage = table (subst (StageStands scenario history s.id s.finished) stage at.stage)
+  where
+    table : StageStands scenario history s.id s.finished (stages.Opened found) → found.kind ≡ Table
+    table opened = opened.3.table
 
 -- a backend that has opened a table and read all of it may end its command
 pub MayEnd-shown : (scenario : Scenario) (history : List Entry) (s : Backend) (found : Found) → BackendStands scenario history s → s.stage ≡ stages.Opened found → next_owed_of s.reads found.rel ≡ None

@@ -128,23 +128,29 @@ impl Backend {
         requires running { self.old.stage ≢ Stage.Stopped }
         ensures { OnOk result (Steps script.now segment.old segment.new self.old self.new) }
     {
-        match self.stage {
+        match &self.stage {
             Stage::Unstarted => self.join(script, segment),
             Stage::Between => self.begin(alloc, script, segment),
-            Stage::Wrote(xid) => self.commit(script, segment, xid),
+            Stage::Wrote(xid) => {
+                let xid = *xid;
+                self.commit(script, segment, xid)
+            }
             Stage::Visible => self.finish(alloc, script, segment, Answer::Ok),
-            Stage::LookedUp {
-                name: _,
-                found: Some(found),
-                at: _,
-            } => self.lock(script, segment, found),
-            Stage::LookedUp {
-                name,
-                found: None,
-                at,
-            } => self.finish(alloc, script, segment, absent(name, at)),
-            Stage::Refused(error) => self.finish(alloc, script, segment, Answer::Error(error)),
-            Stage::Opened(found) => self.read_on(alloc, script, segment, found),
+            Stage::LookedUp { name, found, at } => match *found {
+                Some(found) => self.lock(script, segment, found),
+                None => {
+                    let answer = absent(*name, *at);
+                    self.finish(alloc, script, segment, answer)
+                }
+            },
+            Stage::Refused(error) => {
+                let answer = Answer::Error(*error);
+                self.finish(alloc, script, segment, answer)
+            }
+            Stage::Opened(found) => {
+                let found = *found;
+                self.read_on(alloc, script, segment, found)
+            }
             Stage::Stopped => unreachable!(),
         }
     }
@@ -318,7 +324,6 @@ impl Backend {
         purpose: &Purpose,
     ) -> Result<(), NoMemory>
         requires stands { BackendStands script.now segment.old self.old }
-        requires writer { OneWriter segment.old }
         requires stage { (found : Found) × (self.old.stage ≡ Stage.Opened found) × (next_owed_of self.old.reads found.rel ≡ Some purpose.now) }
         ensures { OnOk result (Steps script.now segment.old segment.new self.old self.new) }
     {

@@ -1,4 +1,4 @@
-use Rattle.std.proofs.Common.{◌≡◌, ℕ, map, take}
+use Rattle.std.proofs.Common.{◌≡◌, map, take}
 use Rattle.std.specs.List.{find}
 use Rattle.base_types.specs.Fields.{read_by}
 use Rattle.base_types.specs.Scans.{same_scan}
