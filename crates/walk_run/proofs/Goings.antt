@@ -1,12 +1,17 @@
 -- A walk by steps keeps what it keeps, and comes to the end of the schedule.
-use Rattle.std.proofs.Common.{◌≡◌, ◌≢◌, ◌≤◌, ◌<◌, ◌+◌, ◌∙◌, ℕ, zero, suc, Bool, true, false, not, Option, Some, None, List, [], ◌∷◌, ◌++◌, ◌==◌, refl, sym, ap, subst, length, drop, filter, slice_get, slice_set, ◌⊎◌, inl, inr, replicate, nat_eq, append_assoc, append-nil, arith}
-use Rattle.std.specs.List.{range_with_len}
+use Rattle.std.proofs.Common.{◌≡◌, ◌≢◌, ◌≤◌, ◌<◌, ◌+◌, ◌∙◌, ℕ, zero, suc, Bool, true, false, not, Option, Some, None, List, [], ◌∷◌, ◌++◌, ◌==◌, refl, sym, ap, subst, length, drop, filter, slice_get, slice_set, ◌⊎◌, inl, inr, replicate, nat_eq, get_or, take, add-one, ◌-◌, Result, Ok, Err, append_assoc, append-nil, arith}
+use Rattle.std.specs.List.{flat_map}
+use Rattle.std.specs.Result.{OnOk}
+use Rattle.std.proofs.lemmas.Option.{slice_get_read}
+use Rattle.std.proofs.lemmas.List.{set-get_or}
+use Rattle.std.proofs.Math.Seq.{take-suc}
+use Rattle.std.proofs.lemmas.Grind.{flat_map-append}
 use Rattle.std.proofs.lemmas.Bool.{ne_eqb}
 use Rattle.std.proofs.lemmas.Bool.Decides.{eqb_tells}
 use Rattle.std.proofs.Math.ListN.{length-set}
 use Rattle.history_model.specs.Settled.{OneWriter}
 use Rattle.base_types.specs.declared.command.Turns.{Turns}
-use Rattle.base_types.specs.Scenario.{Scenario, schedule_of}
+use Rattle.base_types.specs.Scenario.{Scenario, IsBackend, schedule_of}
 use Rattle.event_kinds.specs.declared.entry.Entry.{Entry}
 use Rattle.history_model.specs.Legal.{Life, Unstarted, Alive, Stopped, MayFollow, life_of}
 use Rattle.history_model.specs.Plays.{IsNext}
@@ -20,14 +25,18 @@ use Rattle.walk_run.specs.declared.backend.Backend.{Backend}
 use Rattle.walk_run.specs.declared.backend.Stage.{Stage}
 use Rattle.walk_run.specs.declared.backend.Stage.TheVariants as stages
 use Rattle.walk_run.specs.Stands.{BackendStands, StageStands, Steps}
-use Rattle.walk_run.specs.Walks.{Stands, StandsAt, IsDue, Goes, HasSchedule, InTurn, GoesOn, IsWalk}
+use Rattle.walk_run.specs.Walks.{Stands, StandsAt, IsDue, Goes, HasSchedule, IsRunning, Makes}
 use Rattle.walk_run.proofs.Others.{BackendStands-other, ordinary_adds}
+
+-- false isn't true
+pub not_true : false ≡ true → ⊥
+not_true e = cc
 
 -- a backend's life has ended exactly at its last stage
 pub running_life : (s : Scenario) (h : List Entry) (b n : ℕ) (stage : Stage) → StageStands s h b n stage → stage ≢ stages.Stopped → has_stopped h b ≡ false
 running_life s h b n stages.Unstarted stands running = ap is_stopped stands.1.life_is
 running_life s h b n stages.Between (last, few, at) running = ap is_stopped at.life_is
-running_life s h b n (stages.Wrote xid) (items, has, open) running = ap is_stopped has.at.life_is
+running_life s h b n (stages.Wrote xid) (items, has, pending) running = ap is_stopped has.at.life_is
 running_life s h b n stages.Visible (xid, items, has, done) running = ap is_stopped has.at.life_is
 running_life s h b n (stages.LookedUp name found at) stands running = ap is_stopped stands.0.at.life_is
 running_life s h b n (stages.Refused error) (name, event, has, refusal, is) running = ap is_stopped has.at.life_is
@@ -50,7 +59,7 @@ entry_apart : (e : Entry) (was other : Backend) (i j : ℕ) → e.backend ≡ wa
 entry_apart e was other i j own mine theirs apart = ne_eqb e.backend other.id (λ same. apart (omega arith))
 
 -- what stands where a list was set
-get_of_set : {X : Type 0} (xs : List X) (i : ℕ) (now was found : X) → slice_get xs i ≡ Some was → slice_get (slice_set xs i now) i ≡ Some found → found ≡ now
+pub get_of_set : {X : Type 0} (xs : List X) (i : ℕ) (now was found : X) → slice_get xs i ≡ Some was → slice_get (slice_set xs i now) i ≡ Some found → found ≡ now
 get_of_set [] i now was found is at = absurd (cc)
 get_of_set (x ∷ xs) zero now was found is at = cc
 get_of_set (x ∷ xs) (suc i) now was found is at = get_of_set xs i now was found is at
@@ -149,3 +158,56 @@ pub scheduled_end : (s : Scenario) (h : List Entry) (bs : List Backend) → HasS
 scheduled_end s h bs has goes =
     let due : IsDue s h [] = goes.due has [] (record { follows = tt; left = ap (pass_stopped []) (sym (append-nil (schedule_of s))) }) in
     (due.follows, turns_by-schedule s h s.steps has ∙ due.left)
+
+pub found_at : (s : Scenario) (h : List Entry) (bs : List Backend) (b : ℕ) (was : Backend) → IsBackend s.backends b → Stands s h bs → was ≡ get_or bs (b - 1) was → slice_get bs (b - 1) ≡ Some was
+found_at s h bs b was number stands same = slice_get_read bs (length bs) (b - 1) was refl (omega (arith, stands.count, number.0, number.1)) same
+
+-- the backend of a number stands where it is kept
+pub stands_kept : (s : Scenario) (h : List Entry) (bs : List Backend) (b : ℕ) (was : Backend) → IsBackend s.backends b → Stands s h bs → was ≡ get_or bs (b - 1) was → BackendStands s h was
+stands_kept s h bs b was number stands same = (stands.each (b - 1) was (found_at s h bs b was number stands same)).stands
+
+-- no entry where it has stopped
+pub step_past : (s : Scenario) (h : List Entry) (bs : List Backend) (b : ℕ) (was : Backend) → IsBackend s.backends b → Stands s h bs → was ≡ get_or bs (b - 1) was → was.stage ≡ stages.Stopped → Goes s h h bs (b ∷ [])
+step_past s h bs b was number stands same stopped =
+    let n : (b - 1) + 1 ≡ b = omega (arith, number.0) in
+    subst (λ x. Goes s h h bs (x ∷ [])) n (goes_past s h bs (b - 1) was stands (found_at s h bs b was number stands same) stopped)
+
+-- a backend that is read as running is running
+pub read_running : (s : Scenario) (h : List Entry) (bs : List Backend) (b : ℕ) (was : Backend) → IsBackend s.backends b → Stands s h bs → was ≡ get_or bs (b - 1) was → was.stage ≢ stages.Stopped → IsRunning bs b
+read_running s h bs b was number stands same running backend at stopped =
+    let one : backend ≡ was = some_same (sym at ∙ found_at s h bs b was number stands same) in
+    running (ap (λ x. x.stage) (sym one) ∙ stopped)
+  where
+    some_same : {x y : Backend} → Some x ≡ Some y → x ≡ y
+    some_same e = cc
+
+-- a step that is made goes on by one step of the schedule
+pub makes_goes : {T E : Type 0} (s : Scenario) (h h' : List Entry) (bs bs' : List Backend) (b : ℕ) (result : Result T E) → IsBackend s.backends b → Stands s h bs → IsRunning bs b
+    → OnOk result (Makes s h h' bs bs' b) → OnOk result (Goes s h h' bs' (b ∷ []))
+makes_goes s h h' bs bs' b (Ok x) number stands running makes =
+    let n : (b - 1) + 1 ≡ b = omega (arith, number.0) in
+    subst (λ xs. Goes s h h' xs (b ∷ [])) (sym makes.set)
+    (subst (λ y. Goes s h h' (slice_set bs (b - 1) makes.now) (y ∷ [])) n (goes_by_step s h h' bs (b - 1) makes.was makes.now stands makes.is (running makes.was makes.is) makes.steps))
+makes_goes s h h' bs bs' b (Err e) number stands running makes = makes
+
+-- a step of a backend is one that is made
+pub step_makes : {T E : Type 0} (s : Scenario) (h h' : List Entry) (bs : List Backend) (b : ℕ) (was now : Backend) (result : Result T E) → IsBackend s.backends b → Stands s h bs → was ≡ get_or bs (b - 1) was
+    → OnOk result (Steps s h h' was now) → OnOk result (Makes s h h' bs (slice_set bs (b - 1) now) b)
+step_makes s h h' bs b was now (Ok x) number stands same steps = record { was = was; is = found_at s h bs b was number stands same; now = now; steps = steps; set = refl }
+step_makes s h h' bs b was now (Err e) number stands same steps = steps
+
+replicate_more : (n b : ℕ) → replicate (n + 1) b ≡ replicate n b ++ b ∷ []
+replicate_more zero b = refl
+replicate_more (suc n) b = ap (λ k. replicate k b) (add-one (suc n)) ∙ ap (λ xs. b ∷ xs) (ap (λ k. replicate k b) (sym (add-one n)) ∙ replicate_more n b)
+
+-- one step more of an item
+pub turns_go_on : (s : Scenario) (h h' h'' : List Entry) (bs' bs'' : List Backend) (n b : ℕ) → Goes s h h' bs' (replicate n b) → Goes s h' h'' bs'' (b ∷ []) → Goes s h h'' bs'' (replicate (n + 1) b)
+turns_go_on s h h' h'' bs' bs'' n b first second = subst (Goes s h h'' bs'') (sym (replicate_more n b)) (goes_then s h h' h'' bs' bs'' (replicate n b) (b ∷ []) first second)
+
+flat_take_more : {X : Type 0} (f : X → List ℕ) (xs : List X) (i : ℕ) (x : X) → i < length xs → x ≡ get_or xs i x → flat_map f (take (i + 1) xs) ≡ flat_map f (take i xs) ++ f x
+flat_take_more f xs i x short is = ap (flat_map f) (ap (λ n. take n xs) (add-one i) ∙ take-suc xs i x short ∙ ap (λ y. take i xs ++ y ∷ []) (sym is)) ∙ flat_map-append f (take i xs) (x ∷ []) ∙ ap (λ ys. flat_map f (take i xs) ++ ys) (append-nil (f x))
+
+-- one item or line more
+pub items_go_on : {X : Type 0} (f : X → List ℕ) (s : Scenario) (h h' h'' : List Entry) (bs' bs'' : List Backend) (xs : List X) (i : ℕ) (x : X) → i < length xs → x ≡ get_or xs i x
+    → Goes s h h' bs' (flat_map f (take i xs)) → Goes s h' h'' bs'' (f x) → Goes s h h'' bs'' (flat_map f (take (i + 1) xs))
+items_go_on f s h h' h'' bs' bs'' xs i x short is first second = subst (Goes s h h'' bs'') (sym (flat_take_more f xs i x short is)) (goes_then s h h' h'' bs' bs'' (flat_map f (take i xs)) (f x) first second)

@@ -132,8 +132,8 @@ StageStands-other : (s : Scenario) (h : List Entry) (e : Entry) (b n : ℕ) (sta
     → StageStands s h b n stage → StageStands s (h ++ e ∷ []) b n stage
 StageStands-other s h e b n stages.Unstarted other ordinary stands = (stands.0, IsAt-other s h e b _ _ _ _ other stands.1)
 StageStands-other s h e b n stages.Between other ordinary (last, few, at) = (last, few, IsAt-other s h e b _ _ _ _ other at)
-StageStands-other s h e b n (stages.Wrote xid) other ordinary (items, has, open) =
-    (items, HasWritten-other s h e b n xid _ other ordinary has, still_uncommitted h e xid.0 ordinary (has.others e.backend (apart e b other)) open)
+StageStands-other s h e b n (stages.Wrote xid) other ordinary (items, has, pending) =
+    (items, HasWritten-other s h e b n xid _ other ordinary has, still_uncommitted h e xid.0 ordinary (has.others e.backend (apart e b other)) pending)
 StageStands-other s h e b n stages.Visible other ordinary (xid, items, has, done) =
     (xid, items, HasWritten-other s h e b n xid _ other ordinary has, is_committed-kept h e xid.0 done)
 StageStands-other s h e b n (stages.LookedUp name found at) other ordinary stands =
