@@ -18,3 +18,4 @@ pub mod Drawn
 pub mod Writing
 pub mod Ending
 pub mod Turns
+pub mod Begins

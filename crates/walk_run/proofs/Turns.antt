@@ -2,7 +2,7 @@
 use Rattle.std.proofs.Common.{◌≡◌, ◌≢◌, ◌≤◌, ◌<◌, ◌+◌, ◌-◌, ◌∙◌, ℕ, zero, suc, Bool, true, false, not, cond, Option, Some, None, List, [], ◌∷◌, ◌++◌, ◌==◌, Result, Ok, Err, refl, sym, ap, subst, length, drop, filter, slice_get, slice_set, get_or, arith, ◌⊎◌, inl, inr}
 use Rattle.std.specs.List.{flat_map, range_with_len}
 use Rattle.std.specs.Option.{option_map_or}
-use Rattle.std.specs.Result.{OnOk}
+use Rattle.std.specs.Result.{OnOk, IfOk}
 use Rattle.std.proofs.lemmas.Bool.{ne_eqb}
 use Rattle.std.proofs.lemmas.Bool.Decides.{eqb_tells}
 use Rattle.base_types.specs.declared.command.Turns.{Turns}
@@ -15,10 +15,11 @@ use Rattle.history_model.proofs.Prefixes.{EachEntry-more}
 use Rattle.history_model.proofs.Reading.{life_of-other}
 use Rattle.walk_run.specs.declared.backend.Backend.{Backend}
 use Rattle.walk_run.specs.declared.backend.Stage.TheVariants as stages
+use Rattle.walk_run.specs.declared.walking.World.{World}
 use Rattle.walk_run.specs.Left.{still_to_make}
 use Rattle.walk_run.specs.Stands.{Steps}
 use Rattle.walk_run.specs.Walks.{Stands, StandsAt, Goes, InTurn, GoesOn, IsRunning, Makes, left_of, IsWalk, HasSchedule}
-use Rattle.walk_run.proofs.Goings.{running_life, stopped_life, stands_more, found_at, get_of_set, scheduled_end}
+use Rattle.walk_run.proofs.Goings.{not_true, running_life, stopped_life, stands_more, found_at, get_of_set, scheduled_end}
 
 -- the first of some numbers that passes, where all before it fail
 first_that_passes : (passes : ℕ → Bool) (a n b : ℕ) → a ≤ b → b < a + n → ((c : ℕ) → a ≤ c → c < b → passes c ≡ false) → passes b ≡ true → slice_get (filter passes (range_with_len a n)) 0 ≡ Some b
@@ -142,3 +143,28 @@ unscheduled_walk s h bs lines none goes are =
       complete = turns_by-none s h s.steps none ∙ none_passes (λ b. not (has_stopped h b)) 1 s.backends (λ c from to. ap not (turn.stopped c from (omega arith)));
       lines_are = are ∙ all_lines_are s h bs goes.stands;
     }
+
+no_steps : (s : Scenario) (steps : List (List Turns)) → steps ≡ s.steps → (length steps == 0) ≡ true → s.steps ≡ []
+no_steps s [] same none = sym same
+no_steps s (line ∷ lines) same none = absurd (not_true (sym (of (length lines)) ∙ none))
+  where
+    of : (n : ℕ) → (suc n == 0) ≡ false
+    of n = ne_eqb (suc n) 0 (λ same. absurd (omega arith))
+
+some_steps : (s : Scenario) (steps : List (List Turns)) → steps ≡ s.steps → (length steps == 0) ≡ false → HasSchedule s
+some_steps s [] same some = absurd (not_true (sym some))
+some_steps s (line ∷ lines) same some = omega (arith, ap length same)
+
+-- what a walk by the schedule gives
+pub world_scheduled : {E : Type 0} (s : Scenario) (start h : List Entry) (bs : List Backend) (steps : List (List Turns)) (result : Result World E) → steps ≡ s.steps → (length steps == 0) ≡ false → start ≡ []
+    → Goes s start h bs (schedule_of s) → IfOk result (λ w. (w.entries ≡ h) × (w.lines ≡ flat_map (λ x. x.lines) bs)) → IfOk result (λ w. IsWalk s w.entries w.lines)
+world_scheduled s start h bs steps (Ok w) same some first goes made =
+    subst (λ x. IsWalk s x w.lines) (sym made.0) (scheduled_walk s h bs w.lines (some_steps s steps same some) (subst (λ x. Goes s x h bs (schedule_of s)) first goes) made.1)
+world_scheduled s start h bs steps (Err e) same some first goes made = made
+
+-- and one without
+pub world_unscheduled : {E : Type 0} (s : Scenario) (start h : List Entry) (bs : List Backend) (steps : List (List Turns)) (result : Result World E) → steps ≡ s.steps → (length steps == 0) ≡ true → start ≡ []
+    → GoesOn s start 0 h bs s.backends → IfOk result (λ w. (w.entries ≡ h) × (w.lines ≡ flat_map (λ x. x.lines) bs)) → IfOk result (λ w. IsWalk s w.entries w.lines)
+world_unscheduled s start h bs steps (Ok w) same none first goes made =
+    subst (λ x. IsWalk s x w.lines) (sym made.0) (unscheduled_walk s h bs w.lines (no_steps s steps same none) (subst (λ x. GoesOn s x 0 h bs s.backends) first goes) made.1)
+world_unscheduled s start h bs steps (Err e) same none first goes made = made

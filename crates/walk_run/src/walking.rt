@@ -28,9 +28,9 @@ pub fn walk(alloc: Global, script: &Script) -> Result<World, NoMemory>
     let mut walker = Walker::new(alloc, script)?;
     if script.steps().is_empty() {
         walker.to_the_stops(script)?;
-    } else {
-        walker.by_schedule(script)?;
+        return walker.into_world();
     }
+    walker.by_schedule(script)?;
     walker.into_world()
 }
 
