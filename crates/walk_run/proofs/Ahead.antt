@@ -79,6 +79,14 @@ current s b n at ahead =
     slice_get-map (λ (p : Placed). p.command) (own b s.commands) n
     ∙ ap (option_map (λ (p : Placed). p.command)) (sym (at_front n (own b s.commands)) ∙ ap (λ xs. slice_get xs 0) (sym ahead.rest) ∙ head-own b (drop at s.commands) (front_own s b n at ahead) ∙ at_front at s.commands)
 
+-- where none stands there, the backend has none left
+pub current-none : (s : Scenario) (b n at : ℕ) → IsAhead s b n at → slice_get s.commands at ≡ None → slice_get (commands_of s b) n ≡ None
+current-none s b n at ahead none = current s b n at ahead ∙ ap (option_map (λ (p : Placed). p.command)) none
+
+-- the one that stands there is at hand
+pub current-some : (s : Scenario) (b n at : ℕ) (p : Placed) → IsAhead s b n at → slice_get s.commands at ≡ Some p → slice_get (commands_of s b) n ≡ Some p.command
+current-some s b n at p ahead some = current s b n at ahead ∙ ap (option_map (λ (p : Placed). p.command)) some
+
 -- a command at hand stands among all commands
 pub IsAhead-within : (s : Scenario) (b n at : ℕ) (command : Command) → IsAhead s b n at → slice_get (commands_of s b) n ≡ Some command → at < length s.commands
 IsAhead-within s b n at command ahead is = by_place (slice_get s.commands at) refl

@@ -14,4 +14,7 @@ pub mod ReadingOn
 pub mod Ahead
 pub mod Kept
 pub mod Coming
+pub mod Drawn
+pub mod Writing
 pub mod Ending
+pub mod Turns

@@ -92,6 +92,21 @@ impl Backend {
         }
     }
 
+    /// Its lines so far, the backend given up.
+    pub fn into_lines(self) -> Vec<Line>
+        ensures { result.items ≡ self.lines }
+    {
+        let Backend {
+            id: _,
+            at: _,
+            finished: _,
+            stage: _,
+            reads: _,
+            lines,
+        } = self;
+        lines.into_vec()
+    }
+
     /// Whether it has left.
     pub fn is_stopped(&self) -> bool
         ensures { IsTrue result ↔ (self.now.stage ≡ Stage.Stopped) }
@@ -113,23 +128,29 @@ impl Backend {
         requires running { self.old.stage ≢ Stage.Stopped }
         ensures { OnOk result (Steps script.now segment.old segment.new self.old self.new) }
     {
-        match self.stage {
+        match &self.stage {
             Stage::Unstarted => self.join(script, segment),
             Stage::Between => self.begin(alloc, script, segment),
-            Stage::Wrote(xid) => self.commit(script, segment, xid),
+            Stage::Wrote(xid) => {
+                let xid = *xid;
+                self.commit(script, segment, xid)
+            }
             Stage::Visible => self.finish(alloc, script, segment, Answer::Ok),
-            Stage::LookedUp {
-                name: _,
-                found: Some(found),
-                at: _,
-            } => self.lock(script, segment, found),
-            Stage::LookedUp {
-                name,
-                found: None,
-                at,
-            } => self.finish(alloc, script, segment, absent(name, at)),
-            Stage::Refused(error) => self.finish(alloc, script, segment, Answer::Error(error)),
-            Stage::Opened(found) => self.read_on(alloc, script, segment, found),
+            Stage::LookedUp { name, found, at } => match *found {
+                Some(found) => self.lock(script, segment, found),
+                None => {
+                    let answer = absent(*name, *at);
+                    self.finish(alloc, script, segment, answer)
+                }
+            },
+            Stage::Refused(error) => {
+                let answer = Answer::Error(*error);
+                self.finish(alloc, script, segment, answer)
+            }
+            Stage::Opened(found) => {
+                let found = *found;
+                self.read_on(alloc, script, segment, found)
+            }
             Stage::Stopped => unreachable!(),
         }
     }
