@@ -1,6 +1,7 @@
 -- In a command that a backend hasn't come to, it has done nothing.
 use Rattle.std.proofs.Common.{◌≡◌, ◌<◌, ℕ, Bool, true, false, None, List, [], ◌∷◌, ◌++◌, ◌==◌, ◌||◌, ◌&&◌, ◌∙◌, if◌then◌else◌, refl, sym, ap, subst, append_assoc, append-nil, arith}
 use Rattle.std.proofs.lemmas.Bool.{eqb-true, ne_eqb}
+use Rattle.std.proofs.Math.Bool.{and-false}
 use Rattle.event_kinds.specs.declared.entry.Entry.{Entry}
 use Rattle.event_kinds.specs.declared.entry.Event.{Event}
 use Rattle.event_kinds.specs.declared.entry.Event.TheVariants.{Start, Stop}
@@ -30,10 +31,6 @@ NoneAbove-other : (h : List Entry) (e : Entry) (b : ℕ) (life : Life) → (e.ba
 NoneAbove-other h e b Unstarted other none = λ c. IsUntouched-more h e b c (ap (λ t. t && (e.command == c)) other) (none c)
 NoneAbove-other h e b (Alive last) other none = λ c later. IsUntouched-more h e b c (ap (λ t. t && (e.command == c)) other) (none c later)
 NoneAbove-other h e b Stopped other none = tt
-
-and-false : (t : Bool) → (t && false) ≡ false
-and-false true = refl
-and-false false = refl
 
 elsewhere : (e : Entry) (b c : ℕ) → e.command < c → ((e.backend == b) && (e.command == c)) ≡ false
 elsewhere e b c later = ap (λ t. (e.backend == b) && t) (ne_eqb e.command c (λ same. absurd (omega arith))) ∙ and-false (e.backend == b)

@@ -3,8 +3,9 @@ use Rattle.std.proofs.Common.{◌≡◌, ◌<◌, ◌≤◌, ◌+◌, ◌∙◌,
 use Rattle.std.specs.Option.{option_map_or}
 use Rattle.std.specs.List.{list_all, Contains, AllByRecursion}
 use Rattle.std.proofs.lemmas.Bool.{eq-eqb}
+use Rattle.std.proofs.Math.Bool.{or-true}
 use Rattle.std.proofs.lemmas.List.{length_push, drop_all}
-use Rattle.std.proofs.lemmas.List.Elements.{filter-append, All-contains, All-from_recursion}
+use Rattle.std.proofs.lemmas.List.Elements.{All-contains, All-from_recursion}
 use Rattle.base_types.specs.declared.ids.Oid.{Oid}
 use Rattle.base_types.specs.declared.mode.Mode.{Mode}
 use Rattle.base_types.specs.declared.row.Kind.TheVariants.{Table}
@@ -18,13 +19,13 @@ use Rattle.event_kinds.specs.declared.entry.Event.TheVariants.{Scan, LockOk, Loc
 use Rattle.rel_desc.specs.declared.error.CommandError.{CommandError}
 use Rattle.history_model.specs.declared.fact.Grant.{Grant}
 use Rattle.history_model.specs.Transactions.{Running, begun, running_by, running_transaction_of, has_xid, is_committed, runs_as}
-use Rattle.history_model.specs.Held.{held_of, held_by, holds}
+use Rattle.history_model.specs.Held.{held_by, holds}
 use Rattle.history_model.specs.Read.{is_scan_of, is_usable, ScansOnlyIfNeeded}
 use Rattle.history_model.specs.Legal.{Life, Alive, life_by, FollowsLife, FollowsVisible, is_ending, AllowsEvent}
 use Rattle.history_model.specs.Plays.{Place, place_by, place_of, commands_of, NextOf, NextAt}
 use Rattle.history_model.specs.Lines.{ends_command, is_before_end, judged_at, refusal_by, refusal_of, lines_of_backend, finished_of}
 use Rattle.history_model.specs.Settled.{AddsTables}
-use Rattle.history_model.proofs.Reading.{held_of-more, running_transaction_of-own, life_of-own, place_of-own, is_usable-own, judged_at-own, refusal_of-more, place_read-kept}
+use Rattle.history_model.proofs.Reading.{running_transaction_of-own, life_of-own, place_of-own, is_usable-own, judged_at-own, refusal_of-more, place_read-kept}
 use Rattle.history_model.proofs.Settled.{IsSettled-more}
 use Rattle.history_model.proofs.Stays.{IsQuiet, StaysRead-quiet}
 use Rattle.history_model.proofs.Judged.{lines_of_backend-same}
@@ -34,6 +35,7 @@ use Rattle.walk_run.specs.declared.backend.Stage.{Stage}
 use Rattle.walk_run.specs.Entries.{entry_of}
 use Rattle.walk_run.specs.Left.{still_to_make}
 use Rattle.walk_run.specs.Stands.{IsAt, IsJudged, IsOrdinaryEvent, StageStands, ReadStands, ReadsStand, BackendStands, Steps, place_at}
+use Rattle.walk_run.proofs.Grants.{own_grants-own}
 
 -- a number is itself by the test
 pub itself : (b : ℕ) → (b == b) ≡ true
@@ -57,12 +59,6 @@ life-quiet c (LockOk rel mode) quiet = refl
 life-quiet c (LockHeld rel mode holder held) quiet = refl
 life-quiet c event quiet = absurd quiet
 
-held-quiet : (b c : ℕ) (event : Event) (old : List Grant) → IsQuiet event → filter (λ g. g.backend == b) (held_by b c event old) ≡ held_by b c event (filter (λ g. g.backend == b) old)
-held-quiet b c (Scan purpose count) old quiet = refl
-held-quiet b c (LockOk rel mode) old quiet = filter-append (λ g. g.backend == b) old (record { backend = b; command = c; rel = rel; mode = mode } ∷ []) ∙ ap (λ t. filter (λ g. g.backend == b) old ++ cond t (record { backend = b; command = c; rel = rel; mode = mode } ∷ []) []) (itself b)
-held-quiet b c (LockHeld rel mode holder held) old quiet = refl
-held-quiet b c event old quiet = absurd quiet
-
 -- what the folds say of the backend
 pub IsAt-quiet : (s : Scenario) (h : List Entry) (b c n : ℕ) (made : List Event) (running : Option Running) (life : Life) (grants : List Grant) (event : Event) → IsQuiet event
     → IsAt s h b (place_at n made) running life grants → IsAt s (h ++ entry_of b c event ∷ []) b (place_at n (made ++ event ∷ [])) (Some (begun c running)) (Alive c) (held_by b c event grants)
@@ -72,7 +68,7 @@ IsAt-quiet s h b c n made running life grants event quiet at = record {
       ∙ ap (λ (p : Place). let q : Place = record { finished = p.finished; made = p.made ++ event ∷ [] } in q) at.place_is;
   running_is = running_transaction_of-own h (entry_of b c event) b (itself b) ∙ running-quiet c event (running_transaction_of h b) quiet ∙ ap (λ r. Some (begun c r)) at.running_is;
   life_is = life_of-own h (entry_of b c event) b (itself b) ∙ life-quiet c event quiet;
-  grants_are = ap (filter (λ g. g.backend == b)) (held_of-more h (entry_of b c event)) ∙ held-quiet b c event (held_of h) quiet ∙ ap (held_by b c event) at.grants_are;
+  grants_are = own_grants-own h b c event ∙ ap (held_by b c event) at.grants_are;
 }
 
 ends-quiet : (event : Event) → IsQuiet event → ends_command event ≡ false
@@ -80,10 +76,6 @@ ends-quiet (Scan purpose count) quiet = refl
 ends-quiet (LockOk rel mode) quiet = refl
 ends-quiet (LockHeld rel mode holder held) quiet = refl
 ends-quiet event quiet = absurd quiet
-
-or-true : (t : Bool) → (t || true) ≡ true
-or-true true = refl
-or-true false = refl
 
 before-quiet : (b c : ℕ) (event : Event) → IsQuiet event → is_before_end c (entry_of b c event) ≡ true
 before-quiet b c event quiet =

@@ -3,6 +3,8 @@ use Rattle.std.proofs.Common.{◌≡◌, ◌<◌, ◌≤◌, ◌+◌, ◌-◌, �
 use Rattle.std.specs.List.{list_any, find, Contains, AllByRecursion}
 use Rattle.std.proofs.lemmas.List.Elements.{Contains-append_left, Contains-append_right, Contains-push, Contains-push_cases}
 use Rattle.std.proofs.lemmas.List.Folds.{list_any-append, list_any_at}
+use Rattle.std.proofs.lemmas.Bool.{not-true, not-false}
+use Rattle.std.proofs.Math.Bool.{or-true}
 use Rattle.base_types.specs.declared.ids.Oid.{Oid}
 use Rattle.base_types.specs.declared.mode.Mode.TheVariants.{AccessShare}
 use Rattle.base_types.specs.declared.row.Kind.TheVariants.{Table}
@@ -92,14 +94,6 @@ filter_fewer p q strict (y ∷ ys) x is out = by_tests (p y) (q y) refl (strict 
     by_tests false true it follows found no_more fewer = let clash : true ≡ false = follows refl in absurd (cc)
     by_tests false false it follows found no_more fewer = fewer found
 
-not-true : (t : Bool) → not t ≡ true → t ≡ false
-not-true true is = absurd (cc)
-not-true false is = refl
-
-not-false : (t : Bool) → not t ≡ false → t ≡ true
-not-false true is = refl
-not-false false is = absurd (cc)
-
 -- the first scan that isn't kept is the first that is owed
 owed_first : (h : List Entry) (b : ℕ) (reads : List Read) (rel : Oid) (purpose : Purpose) → ReadsStand h b reads → IsFirst (λ scan. not (list_any (λ r. same_scan r.purpose scan) reads)) (build_scans Table rel) purpose
     → (rest : List Purpose) × (owed_of h b Table rel ≡ purpose ∷ rest)
@@ -110,10 +104,6 @@ owed_first h b reads rel purpose stands first =
           (same (scans.Class rel) refl, (same (scans.Attribute rel) refl, (same (scans.AttrDef rel) refl, (same (scans.Constraint rel) refl, (same (scans.Index rel) refl, (same (scans.Trigger rel) refl, tt))))))
           ∙ first.is,
     )
-
-or-true : (t : Bool) → (t || true) ≡ true
-or-true true = refl
-or-true false = refl
 
 -- a scan that is kept from now on is owed no more
 fewer_owed : (reads : List Read) (rel : Oid) (read : Read) → next_owed_of reads rel ≡ Some read.purpose → owed_count (reads ++ read ∷ []) rel < owed_count reads rel
