@@ -5,7 +5,7 @@ use Rattle.std.specs.Result.{OnOk}
 use Rattle.std.proofs.lemmas.Option.{slice_get_read}
 use Rattle.std.proofs.lemmas.List.{set-get_or}
 use Rattle.std.proofs.Math.Seq.{take-suc}
-use Rattle.std.proofs.lemmas.List.Folds.{flat_map-append}
+use Rattle.std.proofs.lemmas.Grind.{flat_map-append}
 use Rattle.std.proofs.lemmas.Bool.{ne_eqb}
 use Rattle.std.proofs.lemmas.Bool.Decides.{eqb_tells}
 use Rattle.std.proofs.Math.ListN.{length-set}
@@ -25,8 +25,12 @@ use Rattle.walk_run.specs.declared.backend.Backend.{Backend}
 use Rattle.walk_run.specs.declared.backend.Stage.{Stage}
 use Rattle.walk_run.specs.declared.backend.Stage.TheVariants as stages
 use Rattle.walk_run.specs.Stands.{BackendStands, StageStands, Steps}
-use Rattle.walk_run.specs.Walks.{Stands, StandsAt, IsDue, Goes, HasSchedule, InTurn, GoesOn, IsWalk}
+use Rattle.walk_run.specs.Walks.{Stands, StandsAt, IsDue, Goes, HasSchedule, IsRunning, Makes}
 use Rattle.walk_run.proofs.Others.{BackendStands-other, ordinary_adds}
+
+-- false isn't true
+pub not_true : false ≡ true → ⊥
+not_true e = cc
 
 -- a backend's life has ended exactly at its last stage
 pub running_life : (s : Scenario) (h : List Entry) (b n : ℕ) (stage : Stage) → StageStands s h b n stage → stage ≢ stages.Stopped → has_stopped h b ≡ false
@@ -55,7 +59,7 @@ entry_apart : (e : Entry) (was other : Backend) (i j : ℕ) → e.backend ≡ wa
 entry_apart e was other i j own mine theirs apart = ne_eqb e.backend other.id (λ same. apart (omega arith))
 
 -- what stands where a list was set
-get_of_set : {X : Type 0} (xs : List X) (i : ℕ) (now was found : X) → slice_get xs i ≡ Some was → slice_get (slice_set xs i now) i ≡ Some found → found ≡ now
+pub get_of_set : {X : Type 0} (xs : List X) (i : ℕ) (now was found : X) → slice_get xs i ≡ Some was → slice_get (slice_set xs i now) i ≡ Some found → found ≡ now
 get_of_set [] i now was found is at = absurd (cc)
 get_of_set (x ∷ xs) zero now was found is at = cc
 get_of_set (x ∷ xs) (suc i) now was found is at = get_of_set xs i now was found is at
@@ -155,7 +159,7 @@ scheduled_end s h bs has goes =
     let due : IsDue s h [] = goes.due has [] (record { follows = tt; left = ap (pass_stopped []) (sym (append-nil (schedule_of s))) }) in
     (due.follows, turns_by-schedule s h s.steps has ∙ due.left)
 
-found_at : (s : Scenario) (h : List Entry) (bs : List Backend) (b : ℕ) (was : Backend) → IsBackend s.backends b → Stands s h bs → was ≡ get_or bs (b - 1) was → slice_get bs (b - 1) ≡ Some was
+pub found_at : (s : Scenario) (h : List Entry) (bs : List Backend) (b : ℕ) (was : Backend) → IsBackend s.backends b → Stands s h bs → was ≡ get_or bs (b - 1) was → slice_get bs (b - 1) ≡ Some was
 found_at s h bs b was number stands same = slice_get_read bs (length bs) (b - 1) was refl (omega (arith, stands.count, number.0, number.1)) same
 
 -- the backend of a number stands where it is kept
@@ -163,20 +167,34 @@ pub stands_kept : (s : Scenario) (h : List Entry) (bs : List Backend) (b : ℕ) 
 stands_kept s h bs b was number stands same = (stands.each (b - 1) was (found_at s h bs b was number stands same)).stands
 
 -- no entry where it has stopped
-pub step_past : (s : Scenario) (h : List Entry) (bs : List Backend) (b : ℕ) (was : Backend) → IsBackend s.backends b → Stands s h bs → was ≡ get_or bs (b - 1) was → was.stage ≡ stages.Stopped
-    → Goes s h h (slice_set bs (b - 1) was) (b ∷ [])
+pub step_past : (s : Scenario) (h : List Entry) (bs : List Backend) (b : ℕ) (was : Backend) → IsBackend s.backends b → Stands s h bs → was ≡ get_or bs (b - 1) was → was.stage ≡ stages.Stopped → Goes s h h bs (b ∷ [])
 step_past s h bs b was number stands same stopped =
-    let back : slice_set bs (b - 1) was ≡ bs = ap (slice_set bs (b - 1)) same ∙ set-get_or bs (b - 1) was in
     let n : (b - 1) + 1 ≡ b = omega (arith, number.0) in
-    subst (λ xs. Goes s h h xs (b ∷ [])) (sym back) (subst (λ x. Goes s h h bs (x ∷ [])) n (goes_past s h bs (b - 1) was stands (found_at s h bs b was number stands same) stopped))
+    subst (λ x. Goes s h h bs (x ∷ [])) n (goes_past s h bs (b - 1) was stands (found_at s h bs b was number stands same) stopped)
 
--- one entry where it hasn't
-pub step_made : {T E : Type 0} (s : Scenario) (h h' : List Entry) (bs : List Backend) (b : ℕ) (was now : Backend) (result : Result T E) → IsBackend s.backends b → Stands s h bs → was ≡ get_or bs (b - 1) was → was.stage ≢ stages.Stopped
-    → OnOk result (Steps s h h' was now) → OnOk result (Goes s h h' (slice_set bs (b - 1) now) (b ∷ []))
-step_made s h h' bs b was now (Ok x) number stands same running steps =
+-- a backend that is read as running is running
+pub read_running : (s : Scenario) (h : List Entry) (bs : List Backend) (b : ℕ) (was : Backend) → IsBackend s.backends b → Stands s h bs → was ≡ get_or bs (b - 1) was → was.stage ≢ stages.Stopped → IsRunning bs b
+read_running s h bs b was number stands same running backend at stopped =
+    let one : backend ≡ was = some_same (sym at ∙ found_at s h bs b was number stands same) in
+    running (ap (λ x. x.stage) (sym one) ∙ stopped)
+  where
+    some_same : {x y : Backend} → Some x ≡ Some y → x ≡ y
+    some_same e = cc
+
+-- a step that is made goes on by one step of the schedule
+pub makes_goes : {T E : Type 0} (s : Scenario) (h h' : List Entry) (bs bs' : List Backend) (b : ℕ) (result : Result T E) → IsBackend s.backends b → Stands s h bs → IsRunning bs b
+    → OnOk result (Makes s h h' bs bs' b) → OnOk result (Goes s h h' bs' (b ∷ []))
+makes_goes s h h' bs bs' b (Ok x) number stands running makes =
     let n : (b - 1) + 1 ≡ b = omega (arith, number.0) in
-    subst (λ y. Goes s h h' (slice_set bs (b - 1) now) (y ∷ [])) n (goes_by_step s h h' bs (b - 1) was now stands (found_at s h bs b was number stands same) running steps)
-step_made s h h' bs b was now (Err e) number stands same running steps = steps
+    subst (λ xs. Goes s h h' xs (b ∷ [])) (sym makes.set)
+    (subst (λ y. Goes s h h' (slice_set bs (b - 1) makes.now) (y ∷ [])) n (goes_by_step s h h' bs (b - 1) makes.was makes.now stands makes.is (running makes.was makes.is) makes.steps))
+makes_goes s h h' bs bs' b (Err e) number stands running makes = makes
+
+-- a step of a backend is one that is made
+pub step_makes : {T E : Type 0} (s : Scenario) (h h' : List Entry) (bs : List Backend) (b : ℕ) (was now : Backend) (result : Result T E) → IsBackend s.backends b → Stands s h bs → was ≡ get_or bs (b - 1) was
+    → OnOk result (Steps s h h' was now) → OnOk result (Makes s h h' bs (slice_set bs (b - 1) now) b)
+step_makes s h h' bs b was now (Ok x) number stands same steps = record { was = was; is = found_at s h bs b was number stands same; now = now; steps = steps; set = refl }
+step_makes s h h' bs b was now (Err e) number stands same steps = steps
 
 replicate_more : (n b : ℕ) → replicate (n + 1) b ≡ replicate n b ++ b ∷ []
 replicate_more zero b = refl

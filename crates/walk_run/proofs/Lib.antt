@@ -17,3 +17,4 @@ pub mod Coming
 pub mod Drawn
 pub mod Writing
 pub mod Ending
+pub mod Turns

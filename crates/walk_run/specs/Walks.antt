@@ -1,5 +1,5 @@
 -- What a walk keeps with each step, and what it has made in the end.
-use Rattle.std.specs.Prelude.{◌≡◌, ◌≤◌, ◌<◌, ◌+◌, ◌*◌, ◌-◌, ℕ, Bool, true, false, not, Option, Some, None, List, [], ◌∷◌, ◌++◌, ◌==◌, length, filter, drop, slice_get, ⊤}
+use Rattle.std.specs.Prelude.{◌≡◌, ◌≢◌, ◌-◌, slice_set, ◌≤◌, ◌<◌, ◌+◌, ◌*◌, ◌-◌, ℕ, Bool, true, false, not, Option, Some, None, List, [], ◌∷◌, ◌++◌, ◌==◌, length, filter, drop, slice_get, ⊤}
 use Rattle.base_types.specs.Scenario.{Scenario, schedule_of}
 use Rattle.event_kinds.specs.declared.entry.Entry.{Entry}
 use Rattle.event_kinds.specs.declared.entry.Line.{Line}
@@ -9,7 +9,10 @@ use Rattle.history_model.specs.Settled.{OneWriter}
 use Rattle.history_model.specs.Lines.{lines_of}
 use Rattle.history_model.specs.Output.{IsAllowed}
 use Rattle.walk_run.specs.declared.backend.Backend.{Backend}
-use Rattle.walk_run.specs.Stands.{BackendStands}
+use Rattle.walk_run.specs.Stands.{BackendStands, Steps}
+use Rattle.walk_run.specs.Left.{still_to_make}
+use Rattle.walk_run.specs.declared.backend.Stage.TheVariants as stages
+use Rattle.std.specs.Option.{option_map_or}
 
 -- a walk's history is allowed, follows the schedule to its end, and has exactly the lines of the definition
 pub record IsWalk (scenario : Scenario) (history : List Entry) (lines : List Line) : Type 0 where
@@ -53,3 +56,19 @@ pub record InTurn (scenario : Scenario) (history : List Entry) (n : ℕ) : Type 
 pub record GoesOn (scenario : Scenario) (old : List Entry) (n : ℕ) (new : List Entry) (are : List Backend) (m : ℕ) : Type 0 where
   pub stands : Stands scenario new are
   pub turn : scenario.steps ≡ [] → InTurn scenario old n → InTurn scenario new m
+
+-- the backend of this number hasn't stopped
+abbrev pub IsRunning : List Backend → ℕ → Type 0
+IsRunning backends b = (backend : Backend) → slice_get backends (b - 1) ≡ Some backend → backend.stage ≢ stages.Stopped
+
+-- the backend of this number makes a step, and the others stay
+pub record Makes (scenario : Scenario) (old new : List Entry) (were are : List Backend) (b : ℕ) : Type 0 where
+  pub was : Backend
+  pub is : slice_get were (b - 1) ≡ Some was
+  pub now : Backend
+  pub steps : Steps scenario old new was now
+  pub set : are ≡ slice_set were (b - 1) now
+
+-- how many entries the backend of this number can still make
+abbrev pub left_of : Scenario → List Backend → ℕ → ℕ
+left_of scenario backends b = option_map_or (still_to_make scenario) (slice_get backends (b - 1)) 0

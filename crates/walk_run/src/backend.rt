@@ -94,6 +94,21 @@ impl Backend {
         }
     }
 
+    /// Its lines so far, the backend given up.
+    pub fn into_lines(self) -> Vec<Line>
+        ensures { result.items ≡ self.lines }
+    {
+        let Backend {
+            id: _,
+            at: _,
+            finished: _,
+            stage: _,
+            reads: _,
+            lines,
+        } = self;
+        lines.into_vec()
+    }
+
     /// Whether it has left.
     pub fn is_stopped(&self) -> bool
         ensures { IsTrue result ↔ (self.now.stage ≡ Stage.Stopped) }

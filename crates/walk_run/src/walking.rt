@@ -43,7 +43,7 @@ struct Walker {
 }
 
 impl Walker {
-    ghost use Rattle.walk_run.specs.Walks.{Stands, Goes, GoesOn};
+    ghost use Rattle.walk_run.specs.Walks.{Stands, Goes, GoesOn, Makes, IsRunning};
 
     // All backends of the script, none of which has joined.
     fn new(alloc: Global, script: &Script) -> Result<Walker, NoMemory>
@@ -67,10 +67,21 @@ impl Walker {
         requires stands { Stands script.now self.old.segment self.old.backends.items }
         ensures { OnOk result (Goes script.now self.old.segment self.new.segment self.new.backends.items (b ∷ [])) }
     {
-        let backend = &mut self.backends[b as usize - 1];
-        if backend.is_stopped() {
+        if self.backends[b as usize - 1].is_stopped() {
             return Ok(());
         }
+        self.make_step(script, b)
+    }
+
+    // A step of a backend that hasn't stopped.
+    fn make_step(&mut self, script: &Script, b: u32) -> Result<(), NoMemory>
+        requires built { is_built script.now ≡ true }
+        requires backend { IsBackend script.now.backends b }
+        requires stands { Stands script.now self.old.segment self.old.backends.items }
+        requires running { IsRunning self.old.backends.items b }
+        ensures { OnOk result (Makes script.now self.old.segment self.new.segment self.old.backends.items self.new.backends.items b) }
+    {
+        let backend = &mut self.backends[b as usize - 1];
         backend.step(self.alloc, script, &mut self.segment)
     }
 
@@ -81,7 +92,7 @@ impl Walker {
         requires stands { Stands script.now self.old.segment self.old.backends.items }
         ensures { OnOk result (Goes script.now self.old.segment self.new.segment self.new.backends.items (replicate turns.count turns.backend)) }
     {
-        for _turn in 0..turns.count {
+        'steps: for _step in 0..turns.count {
             self.step(script, turns.backend)?;
         }
         Ok(())
@@ -106,7 +117,8 @@ impl Walker {
         requires stands { Stands script.now self.old.segment self.old.backends.items }
         ensures { OnOk result (Goes script.now self.old.segment self.new.segment self.new.backends.items (schedule_of script.now)) }
     {
-        for line in script.steps() {
+        let lines = script.steps();
+        for line in lines {
             self.by_line(script, line.as_slice())?;
         }
         Ok(())
@@ -131,8 +143,8 @@ impl Walker {
         requires stands { Stands script.now self.old.segment self.old.backends.items }
         ensures { OnOk result (GoesOn script.now self.old.segment (b - 1) self.new.segment self.new.backends.items b) }
     {
-        while !self.backends[b as usize - 1].is_stopped() {
-            self.step(script, b)?;
+        'running: while !self.backends[b as usize - 1].is_stopped() {
+            self.make_step(script, b)?;
         }
         Ok(())
     }
@@ -146,14 +158,22 @@ impl Walker {
             segment,
             backends,
         } = self;
-        let mut lines = Vec::new(alloc);
-        for backend in backends {
-            let mut own = backend.lines.into_vec();
-            lines.append(&mut own)?;
-        }
         Ok(World {
             entries: Listed::from_vec(segment.into_history()),
-            lines: Listed::from_vec(lines),
+            lines: Listed::from_vec(all_lines(alloc, backends)?),
         })
     }
+}
+
+// The lines of backends, one after another.
+fn all_lines(alloc: Global, backends: Vec<Backend>) -> Result<Vec<Line>, NoMemory>
+    ensures { IfOk result (λ lines. lines.items ≡ flat_map (λ s. s.lines) backends.items) }
+{
+    let mut rest = backends;
+    let mut lines = Vec::new(alloc);
+    'rest: while !rest.is_empty() {
+        let mut own = rest.remove(0).into_lines();
+        lines.append(&mut own)?;
+    }
+    Ok(lines)
 }
