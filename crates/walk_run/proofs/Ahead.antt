@@ -1,5 +1,5 @@
 -- The place of a backend's command at hand among all commands of the script.
-use Rattle.std.proofs.Common.{◌≡◌, ◌≤◌, ◌<◌, ℕ, zero, suc, Bool, true, false, not, Option, Some, None, List, [], ◌∷◌, ◌+◌, ◌==◌, ◌∙◌, refl, sym, ap, subst, length, map, filter, drop, slice_get, arith}
+use Rattle.std.proofs.Common.{◌≡◌, ◌≤◌, ◌<◌, ℕ, zero, suc, Bool, true, false, not, Option, Some, None, List, [], ◌∷◌, ◌+◌, ◌==◌, ◌∙◌, refl, sym, ap, subst, length, filter, drop, slice_get, arith}
 use Rattle.std.specs.List.{position_or_len}
 use Rattle.std.specs.Option.{option_map}
 use Rattle.std.proofs.lemmas.List.{drop-drop, length-drop}

@@ -1,14 +1,11 @@
 -- The backends of a walk before its first step.
-use Rattle.std.proofs.Common.{◌≡◌, ◌≤◌, ◌<◌, ◌+◌, ◌∙◌, ℕ, zero, suc, Bool, true, false, Option, Some, None, List, [], ◌∷◌, ◌++◌, refl, sym, ap, subst, length, slice_get, arith, ◌⊎◌, inl, inr}
+use Rattle.std.proofs.Common.{◌≡◌, ◌<◌, ◌+◌, ◌∙◌, ℕ, zero, suc, Some, None, List, [], ◌∷◌, ◌++◌, refl, sym, ap, subst, length, slice_get, arith, ◌⊎◌, inl, inr}
 use Rattle.std.specs.List.{Contains}
 use Rattle.std.proofs.lemmas.List.{length_push}
 use Rattle.base_types.specs.Scenario.{Scenario, IsBackend}
-use Rattle.event_kinds.specs.declared.entry.Line.{Line}
-use Rattle.history_model.specs.Lines.{lines_of_backend}
 use Rattle.history_model.proofs.Settled.{OneWriter-start}
 use Rattle.history_model.proofs.Judged.{lines_of_backend-none}
 use Rattle.walk_run.specs.declared.backend.Backend.{Backend}
-use Rattle.walk_run.specs.declared.backend.Read.{Read}
 use Rattle.walk_run.specs.declared.backend.Stage.TheVariants as stages
 use Rattle.walk_run.specs.Reads.{first_own_from}
 use Rattle.walk_run.specs.Stands.{IsAhead, StageStands, ReadsStand, BackendStands}

@@ -1,5 +1,5 @@
 -- A backend joins, and leaves behind its last command.
-use Rattle.std.proofs.Common.{◌≡◌, ◌<◌, ◌+◌, ◌*◌, ◌-◌, ◌∙◌, ℕ, None, List, [], ◌∷◌, ◌++◌, refl, sym, ap, subst, length, slice_get, unwrap_or, arith, rules}
+use Rattle.std.proofs.Common.{◌≡◌, ◌<◌, ◌+◌, ◌*◌, ◌-◌, ◌∙◌, None, List, [], ◌∷◌, ◌++◌, refl, sym, ap, subst, length, slice_get, unwrap_or, arith, rules}
 use Rattle.base_types.specs.Scenario.{Scenario}
 use Rattle.event_kinds.specs.declared.entry.Entry.{Entry}
 use Rattle.event_kinds.specs.declared.entry.Event.TheVariants.{Start, Stop}
@@ -13,7 +13,7 @@ use Rattle.walk_run.specs.declared.backend.Backend.{Backend}
 use Rattle.walk_run.specs.declared.backend.Stage.TheVariants as stages
 use Rattle.walk_run.specs.Entries.{entry_of}
 use Rattle.walk_run.specs.Left.{entries_left}
-use Rattle.walk_run.specs.Stands.{IsAt, StageStands, BackendStands, Steps, place_at}
+use Rattle.walk_run.specs.Stands.{StageStands, BackendStands, Steps, place_at}
 use Rattle.walk_run.proofs.Grants.{own_grants-own}
 use Rattle.walk_run.proofs.Quiet.{itself, is_ending-without}
 use Rattle.walk_run.proofs.Kept.{ReadsStand-kept}
@@ -37,12 +37,16 @@ joins_at s h was stands one stage (none, at) = record {
     number = stands.number;
     few = stands.few;
     ahead = stands.ahead;
-    stage = (0, omega arith, record {
-      place_is = place ∙ ap (λ n. place_at n []) (sym none);
-      running_is = running_transaction_of-own h (entry_of was.id 0 Start) was.id (itself was.id);
-      life_is = life_of-own h (entry_of was.id 0 Start) was.id (itself was.id);
-      grants_are = own_grants-own h was.id 0 Start ∙ at.grants_are;
-    });
+    stage = (
+      0,
+      omega arith,
+      record {
+        place_is = place ∙ ap (λ n. place_at n []) (sym none);
+        running_is = running_transaction_of-own h (entry_of was.id 0 Start) was.id (itself was.id);
+        life_is = life_of-own h (entry_of was.id 0 Start) was.id (itself was.id);
+        grants_are = own_grants-own h was.id 0 Start ∙ at.grants_are;
+      },
+    );
     reads = ReadsStand-kept h was.id 0 Start was.reads (λ scan. refl) one tt stands.reads;
     lines = stands.lines ∙ lines_of_backend-none s h was.id before ∙ sym (lines_of_backend-none s (h ++ entry_of was.id 0 Start ∷ []) was.id after);
   };
@@ -76,8 +80,11 @@ leaves_at s h was stands one stage none (last, few, at) = record {
     visible = subst (λ t. FollowsVisible t Stop) (sym (is_ending-without h was.id None at.running_is tt)) (search rules);
     event = at.running_is;
   };
-  next = (stands.number, subst (λ (p : Place). NextAt h was.id (commands_of s was.id) p.finished p.made (was.finished + 1) Stop) (sym at.place_is)
-  (refl, subst (λ command. NextOf h was.id command (was.finished + 1) [] Stop) (sym none) (search rules)));
+  next = (
+    stands.number,
+    subst (λ (p : Place). NextAt h was.id (commands_of s was.id) p.finished p.made (was.finished + 1) Stop) (sym at.place_is)
+        (refl, subst (λ command. NextOf h was.id command (was.finished + 1) [] Stop) (sym none) (search rules)),
+  );
   needed = search rules;
   ordinary = search rules;
   stands = record {

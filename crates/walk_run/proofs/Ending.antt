@@ -1,11 +1,10 @@
 -- A command ends: the backend gives back its locks and stands before its next command; and when that may be.
-use Rattle.std.proofs.Common.{◌≡◌, ◌≤◌, ◌<◌, ◌+◌, ◌*◌, ◌-◌, ◌==◌, ◌∙◌, ℕ, Bool, true, false, not, Option, Some, None, List, [], ◌∷◌, ◌++◌, if◌then◌else◌, refl, sym, ap, subst, length, map, filter, slice_get, unwrap_or, take, arith, rules}
+use Rattle.std.proofs.Common.{◌≡◌, ◌≤◌, ◌<◌, ◌+◌, ◌*◌, ◌-◌, ◌==◌, ◌∙◌, ℕ, Bool, true, false, not, Some, None, List, [], ◌∷◌, ◌++◌, if◌then◌else◌, refl, sym, ap, subst, length, filter, take, arith, rules}
 use Rattle.std.specs.Option.{option_map, option_map_or}
 use Rattle.std.proofs.lemmas.List.{length-map}
 use Rattle.std.proofs.lemmas.List.Filters.{length-filter_both}
 use Rattle.std.proofs.lemmas.Option.{slice_get_within}
 use Rattle.std.proofs.lemmas.Bool.{eq-eqb, le-leb}
-use Rattle.base_types.specs.declared.command.Command.{Command}
 use Rattle.base_types.specs.declared.command.Command.TheVariants.{CreateTable, Show}
 use Rattle.base_types.specs.declared.command.Placed.{Placed}
 use Rattle.base_types.specs.declared.mode.Mode.TheVariants.{AccessExclusive}
@@ -20,11 +19,11 @@ use Rattle.rel_desc.specs.declared.answer.Answer.TheVariants as answers
 use Rattle.rel_desc.specs.declared.error.CommandError.{CommandError}
 use Rattle.rel_desc.specs.Answers.{answer_text}
 use Rattle.history_model.specs.declared.fact.Grant.{Grant}
-use Rattle.history_model.specs.Transactions.{Running, begun, begun_at, after_release, is_committed, running_transaction_of}
+use Rattle.history_model.specs.Transactions.{begun, begun_at, after_release, is_committed}
 use Rattle.history_model.specs.Held.{held_by}
 use Rattle.history_model.specs.Legal.{Alive, Stopped, FollowsLife, FollowsVisible, MayRelease, is_ending, life_of}
-use Rattle.history_model.specs.Plays.{Place, place_of, place_by, commands_of, NextAt, NextOf, NextOfShow}
-use Rattle.history_model.specs.Lines.{answer_to, answer_unrefused, error_or, line_of, lines_of_backend, judged_at}
+use Rattle.history_model.specs.Plays.{Place, place_by, commands_of, NextAt, NextOf, NextOfShow}
+use Rattle.history_model.specs.Lines.{answer_unrefused, error_or, lines_of_backend, judged_at}
 use Rattle.history_model.specs.Settled.{OneWriter}
 use Rattle.history_model.proofs.Reading.{running_transaction_of-own, life_of-own, place_of-own}
 use Rattle.history_model.proofs.Judged.{lines_of_backend-finish}
@@ -36,7 +35,7 @@ use Rattle.walk_run.specs.Entries.{entry_of}
 use Rattle.walk_run.specs.Left.{entries_left}
 use Rattle.walk_run.specs.Reads.{first_own_from}
 use Rattle.walk_run.specs.Ends.{MayEnd}
-use Rattle.walk_run.specs.Stands.{IsAt, IsAhead, IsRefusal, StageStands, BackendStands, Steps, place_at, written_at}
+use Rattle.walk_run.specs.Stands.{IsRefusal, StageStands, BackendStands, Steps, written_at}
 use Rattle.walk_run.proofs.Ahead.{IsAhead-next}
 use Rattle.walk_run.proofs.Grants.{own_grants-own}
 use Rattle.walk_run.proofs.Quiet.{itself}
@@ -82,21 +81,28 @@ ends_at s h was answer stands one may few = record {
     visible = follows_release (is_ending h was.id) (was.finished + 1);
     event = (omega arith, may.may);
   };
-  next = (stands.number, subst (λ (p : Place). NextAt h was.id (commands_of s was.id) p.finished p.made (was.finished + 1) (events.Release (was.finished + 1))) (sym may.at.place_is)
-  (refl, subst (λ command. NextOf h was.id command (was.finished + 1) may.made (events.Release (was.finished + 1))) (sym may.is) may.next));
+  next = (
+    stands.number,
+    subst (λ (p : Place). NextAt h was.id (commands_of s was.id) p.finished p.made (was.finished + 1) (events.Release (was.finished + 1))) (sym may.at.place_is)
+        (refl, subst (λ command. NextOf h was.id command (was.finished + 1) may.made (events.Release (was.finished + 1))) (sym may.is) may.next),
+  );
   needed = search rules;
   ordinary = search rules;
   stands = record {
     number = stands.number;
     few = omega (arith, within, commands_few s was.id, few);
     ahead = IsAhead-next s was.id was.finished was.at may.command stands.ahead may.is;
-    stage = (was.finished + 1, omega arith, record {
-      place_is = place_of-own s h e was.id (itself was.id) ∙ ap (place_by s h was.id (was.finished + 1) (events.Release (was.finished + 1))) may.at.place_is;
-      running_is = running_transaction_of-own h e was.id (itself was.id) ∙ ap (λ r. after_release (was.finished + 1) (begun (was.finished + 1) r)) may.at.running_is
-          ∙ ap (λ t. if t then None else Some may.running) (eq-eqb may.running.first (was.finished + 1) may.first);
-      life_is = life_of-own h e was.id (itself was.id);
-      grants_are = own_grants-own h was.id (was.finished + 1) (events.Release (was.finished + 1)) ∙ ap (held_by was.id (was.finished + 1) (events.Release (was.finished + 1))) may.at.grants_are ∙ may.all;
-    });
+    stage = (
+      was.finished + 1,
+      omega arith,
+      record {
+        place_is = place_of-own s h e was.id (itself was.id) ∙ ap (place_by s h was.id (was.finished + 1) (events.Release (was.finished + 1))) may.at.place_is;
+        running_is = running_transaction_of-own h e was.id (itself was.id) ∙ ap (λ r. after_release (was.finished + 1) (begun (was.finished + 1) r)) may.at.running_is
+            ∙ ap (λ t. if t then None else Some may.running) (eq-eqb may.running.first (was.finished + 1) may.first);
+        life_is = life_of-own h e was.id (itself was.id);
+        grants_are = own_grants-own h was.id (was.finished + 1) (events.Release (was.finished + 1)) ∙ ap (held_by was.id (was.finished + 1) (events.Release (was.finished + 1))) may.at.grants_are ∙ may.all;
+      },
+    );
     reads = ReadsStand-kept h was.id (was.finished + 1) (events.Release (was.finished + 1)) was.reads (λ scan. refl) one tt stands.reads;
     lines = ap (λ lines. lines ++ line_at was.id (was.finished + 1) answer ∷ []) stands.lines
         ∙ ap (λ a. lines_of_backend s h was.id ++ line_at was.id (was.finished + 1) a ∷ []) may.answer_is

@@ -1,9 +1,8 @@
 -- A walk by steps keeps what it keeps, and comes to the end of the schedule.
-use Rattle.std.proofs.Common.{◌≡◌, ◌≢◌, ◌≤◌, ◌<◌, ◌+◌, ◌∙◌, ℕ, zero, suc, Bool, true, false, not, Option, Some, None, List, [], ◌∷◌, ◌++◌, ◌==◌, refl, sym, ap, subst, length, drop, filter, slice_get, slice_set, ◌⊎◌, inl, inr, replicate, nat_eq, get_or, take, add-one, ◌-◌, Result, Ok, Err, append_assoc, append-nil, arith}
+use Rattle.std.proofs.Common.{◌≡◌, ◌≢◌, ◌<◌, ◌+◌, ◌∙◌, ℕ, zero, suc, true, false, Some, List, [], ◌∷◌, ◌++◌, ◌==◌, refl, sym, ap, subst, length, drop, slice_get, slice_set, ◌⊎◌, inl, inr, replicate, nat_eq, get_or, take, add-one, ◌-◌, Result, Ok, Err, append_assoc, append-nil, arith}
 use Rattle.std.specs.List.{flat_map}
 use Rattle.std.specs.Result.{OnOk}
 use Rattle.std.proofs.lemmas.Option.{slice_get_read}
-use Rattle.std.proofs.lemmas.List.{set-get_or}
 use Rattle.std.proofs.Math.Seq.{take-suc}
 use Rattle.std.proofs.lemmas.Grind.{flat_map-append}
 use Rattle.std.proofs.lemmas.Bool.{ne_eqb}
@@ -13,13 +12,12 @@ use Rattle.history_model.specs.Settled.{OneWriter}
 use Rattle.base_types.specs.declared.command.Turns.{Turns}
 use Rattle.base_types.specs.Scenario.{Scenario, IsBackend, schedule_of}
 use Rattle.event_kinds.specs.declared.entry.Entry.{Entry}
-use Rattle.history_model.specs.Legal.{Life, Unstarted, Alive, Stopped, MayFollow, life_of}
+use Rattle.history_model.specs.Legal.{MayFollow}
 use Rattle.history_model.specs.Plays.{IsNext}
 use Rattle.history_model.specs.Read.{ScansOnlyIfNeeded}
 use Rattle.history_model.specs.Output.{IsAllowed}
 use Rattle.history_model.specs.Schedule.{FollowsSchedule, IsComplete, is_stopped, has_stopped, pass_stopped, steps_behind, turns_by, turns_left}
 use Rattle.history_model.proofs.Prefixes.{EachEntry-more, along-more}
-use Rattle.history_model.proofs.Reading.{life_of-other}
 use Rattle.history_model.proofs.Settled.{OneWriter-more}
 use Rattle.walk_run.specs.declared.backend.Backend.{Backend}
 use Rattle.walk_run.specs.declared.backend.Stage.{Stage}
@@ -105,7 +103,7 @@ stands_more s h h' bs i was now stands is steps = record {
         record {
           id = old.id;
           stands = subst (λ x. BackendStands s x backend) (sym steps.is)
-          (BackendStands-other s h steps.entry backend (entry_apart steps.entry was backend i j steps.own mine old.id apart) stands.writer steps.ordinary old.stands);
+              (BackendStands-other s h steps.entry backend (entry_apart steps.entry was backend i j steps.own mine old.id apart) stands.writer steps.ordinary old.stands);
         }
 
 -- no step
@@ -143,7 +141,7 @@ pub goes_by_step : (s : Scenario) (h h' : List Entry) (bs : List Backend) (i : �
 goes_by_step s h h' bs i was now stands is running steps = record {
   stands = stands_more s h h' bs i was now stands is steps;
   due = λ has rest due. subst (λ x. IsDue s x rest) (sym steps.is) (goes_a_step s h steps.entry (i + 1) rest (steps.own ∙ (stands.each i was is).id)
-    (subst (λ b. has_stopped h b ≡ false) (stands.each i was is).id (running_life s h was.id was.finished was.stage (stands.each i was is).stands.stage running)) has due);
+      (subst (λ b. has_stopped h b ≡ false) (stands.each i was is).id (running_life s h was.id was.finished was.stage (stands.each i was is).stands.stage running)) has due);
 }
 
 -- the step of a backend that has stopped

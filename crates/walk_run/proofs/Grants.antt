@@ -1,8 +1,8 @@
 -- The locks of a backend after one more entry.
-use Rattle.std.proofs.Common.{◌≡◌, ℕ, Bool, true, false, not, List, [], ◌∷◌, ◌++◌, ◌&&◌, ◌==◌, ◌∙◌, nat_le, refl, sym, ap, subst, filter}
+use Rattle.std.proofs.Common.{◌≡◌, ℕ, Bool, true, false, not, List, [], ◌∷◌, ◌++◌, ◌&&◌, ◌==◌, ◌∙◌, nat_le, refl, sym, ap, filter}
 use Rattle.std.specs.List.{flat_map}
 use Rattle.std.proofs.lemmas.List.Elements.{filter-append}
-use Rattle.std.proofs.lemmas.Bool.{eq-eqb, ne_eqb, eqb-true, eqb-false}
+use Rattle.std.proofs.lemmas.Bool.{eq-eqb, eqb-true, eqb-false}
 use Rattle.std.proofs.Common.{append-nil}
 use Rattle.base_types.specs.declared.mode.Mode.TheVariants.{AccessExclusive}
 use Rattle.base_types.specs.declared.row.Row.TheVariants.{Class}

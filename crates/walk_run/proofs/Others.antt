@@ -1,9 +1,9 @@
 -- Where a backend stands isn't changed by an entry of another.
-use Rattle.std.proofs.Common.{◌≡◌, ◌≢◌, ◌≤◌, ◌+◌, ◌∙◌, ℕ, Bool, true, false, not, Option, Some, None, List, [], ◌∷◌, ◌++◌, ◌==◌, ◌||◌, ◌&&◌, refl, sym, ap, subst, length, drop, filter, max, arith, rules}
-use Rattle.std.specs.List.{list_any, list_all, Contains}
+use Rattle.std.proofs.Common.{◌≡◌, ◌≢◌, ◌≤◌, ◌+◌, ◌∙◌, ℕ, Bool, true, false, not, Option, Some, None, List, [], ◌∷◌, ◌++◌, ◌==◌, ◌||◌, ◌&&◌, refl, sym, ap, drop, arith, rules}
+use Rattle.std.specs.List.{list_all}
 use Rattle.std.proofs.lemmas.List.Folds.{list_any-append, list_all-append}
 use Rattle.std.proofs.lemmas.List.{drop-append-le}
-use Rattle.std.proofs.lemmas.Bool.{eqb-true, ne_eqb}
+use Rattle.std.proofs.lemmas.Bool.{ne_eqb}
 use Rattle.base_types.specs.declared.ids.Xid.{Xid}
 use Rattle.base_types.specs.declared.scan.Purpose.TheVariants.{RelName}
 use Rattle.base_types.specs.Scenario.{Scenario}
@@ -25,7 +25,7 @@ use Rattle.walk_run.specs.declared.backend.Found.{Found}
 use Rattle.walk_run.specs.declared.backend.Read.{Read}
 use Rattle.walk_run.specs.declared.backend.Stage.{Stage}
 use Rattle.walk_run.specs.declared.backend.Stage.TheVariants as stages
-use Rattle.walk_run.specs.Stands.{IsOrdinary, IsOrdinaryEvent, IsAt, IsJudged, IsFound, FoundStands, HasWritten, HasLookedUp, StageStands, ReadStands, ReadsStand, BackendStands, writes_as, wrote_as}
+use Rattle.walk_run.specs.Stands.{IsOrdinary, IsOrdinaryEvent, IsAt, IsJudged, IsFound, FoundStands, HasWritten, HasLookedUp, StageStands, ReadStands, BackendStands, writes_as, wrote_as}
 use Rattle.walk_run.proofs.Grants.{own_grants-other}
 
 -- an ordinary write adds one new table
@@ -90,17 +90,19 @@ IsAt-other s h e b place running life grants other at = record {
 IsJudged-other : (h : List Entry) (e : Entry) (b c : ℕ) → (e.backend == b) ≡ false → IsJudged h b c → IsJudged (h ++ e ∷ []) b c
 IsJudged-other h e b c other judged = record {
   others =
-    ap (λ at. list_all (λ y. not (y.backend == b)) (drop at (h ++ e ∷ []))) (judged_at-other h e b c other)
-    ∙ ap (list_all (λ y. not (y.backend == b))) (drop-append-le (judged_at h b c) h (e ∷ []) (judged_at-short h b c))
-    ∙ list_all-append (λ y. not (y.backend == b)) (drop (judged_at h b c) h) (e ∷ [])
-    ∙ ap (λ t. t && list_all (λ y. not (y.backend == b)) (e ∷ [])) judged.others
-    ∙ ap (λ t. not t && true) other;
+      ap (λ at. list_all (λ y. not (y.backend == b)) (drop at (h ++ e ∷ []))) (judged_at-other h e b c other)
+      ∙ ap (list_all (λ y. not (y.backend == b))) (drop-append-le (judged_at h b c) h (e ∷ []) (judged_at-short h b c))
+      ∙ list_all-append (λ y. not (y.backend == b)) (drop (judged_at h b c) h) (e ∷ [])
+      ∙ ap (λ t. t && list_all (λ y. not (y.backend == b)) (e ∷ [])) judged.others
+      ∙ ap (λ t. not t && true) other;
   refused = refusal_of-more h e b c ∙ rw other judged.refused;
 }
 
 IsFound-other : (h : List Entry) (e : Entry) (b : ℕ) (name : List ℕ) (found : Found) → (e.backend == b) ≡ false → AddsTables h e.event → IsFound h b name found → IsFound (h ++ e ∷ []) b name found
 IsFound-other h e b name found other adds is = record {
-  own = is.own; fill = is.fill; rest = is.rest;
+  own = is.own;
+  fill = is.fill;
+  rest = is.rest;
   rows_are = rows_read-other h e b (RelName name) other ∙ is.rows_are;
   table = is.table;
   settled = IsSettled-more h e found.rel adds is.settled;
@@ -113,7 +115,10 @@ FoundStands-other h e b name (Some found) other adds stands = IsFound-other h e 
 HasWritten-other : (s : Scenario) (h : List Entry) (e : Entry) (b n : ℕ) (xid : Xid) (made : List Event) → (e.backend == b) ≡ false → IsOrdinary h e
     → HasWritten s h b n xid made → HasWritten s (h ++ e ∷ []) b n xid made
 HasWritten-other s h e b n xid made other ordinary has = record {
-  name = has.name; columns = has.columns; command = has.command; rel = has.rel;
+  name = has.name;
+  columns = has.columns;
+  command = has.command;
+  rel = has.rel;
   at = IsAt-other s h e b _ _ _ _ other has.at;
   refused = refusal_of-more h e b (n + 1) ∙ rw other has.refused;
   known = omega (arith, has.known, last_xid-rises h e);
@@ -136,9 +141,12 @@ StageStands-other s h e b n (stages.Wrote xid) other ordinary (items, has, pendi
     (items, HasWritten-other s h e b n xid _ other ordinary has, still_uncommitted h e xid.0 ordinary (has.others e.backend (apart e b other)) pending)
 StageStands-other s h e b n stages.Visible other ordinary (xid, items, has, done) =
     (xid, items, HasWritten-other s h e b n xid _ other ordinary has, is_committed-kept h e xid.0 done)
-StageStands-other s h e b n (stages.LookedUp name found at) other ordinary stands =
-    (HasLookedUp-other s h e b n name [] [] other stands.0, FoundStands-other h e b name found other (ordinary_adds h e ordinary) stands.1,
-    IsJudged-other h e b (n + 1) other stands.2, place_read-other h e b (RelName name) other ∙ stands.3)
+StageStands-other s h e b n (stages.LookedUp name found at) other ordinary stands = (
+  HasLookedUp-other s h e b n name [] [] other stands.0,
+  FoundStands-other h e b name found other (ordinary_adds h e ordinary) stands.1,
+  IsJudged-other h e b (n + 1) other stands.2,
+  place_read-other h e b (RelName name) other ∙ stands.3,
+)
 StageStands-other s h e b n (stages.Refused error) other ordinary (name, event, has, refusal, is) =
     (name, event, HasLookedUp-other s h e b n name _ _ other has, refusal, refusal_of-more h e b (n + 1) ∙ rw other is)
 StageStands-other s h e b n (stages.Opened found) other ordinary (name, made, has, is, judged) =

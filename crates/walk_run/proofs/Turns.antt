@@ -1,15 +1,15 @@
 -- A walk without a schedule brings each backend to its stop, one after the other.
-use Rattle.std.proofs.Common.{◌≡◌, ◌≢◌, ◌≤◌, ◌<◌, ◌+◌, ◌-◌, ◌∙◌, ℕ, zero, suc, Bool, true, false, not, cond, Option, Some, None, List, [], ◌∷◌, ◌++◌, ◌==◌, Result, Ok, Err, refl, sym, ap, subst, length, drop, filter, slice_get, slice_set, get_or, arith, ◌⊎◌, inl, inr}
+use Rattle.std.proofs.Common.{◌≡◌, ◌≢◌, ◌≤◌, ◌<◌, ◌+◌, ◌-◌, ◌∙◌, ℕ, zero, suc, Bool, true, false, not, cond, Some, List, [], ◌∷◌, ◌++◌, ◌==◌, Result, Ok, Err, refl, sym, ap, subst, length, filter, slice_get, slice_set, get_or, arith, ◌⊎◌, inl, inr}
 use Rattle.std.specs.List.{flat_map, range_with_len}
 use Rattle.std.specs.Option.{option_map_or}
-use Rattle.std.specs.Result.{OnOk, IfOk}
+use Rattle.std.specs.Result.{IfOk}
 use Rattle.std.proofs.lemmas.Bool.{ne_eqb}
 use Rattle.std.proofs.lemmas.Bool.Decides.{eqb_tells}
 use Rattle.base_types.specs.declared.command.Turns.{Turns}
 use Rattle.base_types.specs.Scenario.{Scenario, IsBackend, schedule_of}
 use Rattle.event_kinds.specs.declared.entry.Entry.{Entry}
 use Rattle.event_kinds.specs.declared.entry.Line.{Line}
-use Rattle.history_model.specs.Schedule.{FollowsSchedule, IsComplete, is_stopped, has_stopped, turns_by, turns_left}
+use Rattle.history_model.specs.Schedule.{is_stopped, has_stopped, turns_by, turns_left}
 use Rattle.history_model.specs.Lines.{lines_of, lines_of_backend}
 use Rattle.history_model.proofs.Prefixes.{EachEntry-more}
 use Rattle.history_model.proofs.Reading.{life_of-other}
@@ -17,9 +17,8 @@ use Rattle.walk_run.specs.declared.backend.Backend.{Backend}
 use Rattle.walk_run.specs.declared.backend.Stage.TheVariants as stages
 use Rattle.walk_run.specs.declared.walking.World.{World}
 use Rattle.walk_run.specs.Left.{still_to_make}
-use Rattle.walk_run.specs.Stands.{Steps}
 use Rattle.walk_run.specs.Walks.{Stands, StandsAt, Goes, InTurn, GoesOn, IsRunning, Makes, left_of, IsWalk, HasSchedule}
-use Rattle.walk_run.proofs.Goings.{not_true, running_life, stopped_life, stands_more, found_at, get_of_set, scheduled_end}
+use Rattle.walk_run.proofs.Goings.{not_true, running_life, stopped_life, stands_more, found_at, scheduled_end}
 
 -- the first of some numbers that passes, where all before it fail
 first_that_passes : (passes : ℕ → Bool) (a n b : ℕ) → a ≤ b → b < a + n → ((c : ℕ) → a ≤ c → c < b → passes c ≡ false) → passes b ≡ true → slice_get (filter passes (range_with_len a n)) 0 ≡ Some b
@@ -52,9 +51,9 @@ stays_stopped h e b c own apart stopped = ap is_stopped (life_of-other h e b (ne
 turn_more : (s : Scenario) (h : List Entry) (e : Entry) (b : ℕ) → s.steps ≡ [] → IsBackend s.backends b → e.backend ≡ b → has_stopped h b ≡ false → InTurn s h (b - 1) → InTurn s (h ++ e ∷ []) (b - 1)
 turn_more s h e b none number own running turn = record {
   follows = EachEntry-more (λ before y. slice_get (turns_left s before) 0 ≡ Some y.backend) h e turn.follows
-    (ap (λ turns. slice_get turns 0) (turns_by-none s h s.steps none)
-    ∙ first_that_passes (λ c. not (has_stopped h c)) 1 s.backends b number.0 (omega (arith, number.1)) (λ c from to. ap not (turn.stopped c from (omega arith))) (ap not running)
-    ∙ ap Some (sym own));
+      (ap (λ turns. slice_get turns 0) (turns_by-none s h s.steps none)
+      ∙ first_that_passes (λ c. not (has_stopped h c)) 1 s.backends b number.0 (omega (arith, number.1)) (λ c from to. ap not (turn.stopped c from (omega arith))) (ap not running)
+      ∙ ap Some (sym own));
   stopped = λ c from to. stays_stopped h e c b own (λ same. absurd (omega (arith, number.0))) (turn.stopped c from to);
 }
 

@@ -1,5 +1,5 @@
 -- When a command may end.
-use Rattle.std.specs.Prelude.{◌≡◌, ◌≤◌, ◌+◌, ℕ, Bool, false, Option, Some, None, List, [], ◌∷◌, slice_get}
+use Rattle.std.specs.Prelude.{◌≡◌, ◌+◌, Some, List, [], slice_get}
 use Rattle.base_types.specs.declared.command.Command.{Command}
 use Rattle.base_types.specs.Scenario.{Scenario}
 use Rattle.event_kinds.specs.declared.entry.Entry.{Entry}
@@ -8,7 +8,7 @@ use Rattle.event_kinds.specs.declared.entry.Event.TheVariants.{Release}
 use Rattle.rel_desc.specs.declared.answer.Answer.{Answer}
 use Rattle.history_model.specs.declared.fact.Grant.{Grant}
 use Rattle.history_model.specs.Transactions.{Running}
-use Rattle.history_model.specs.Legal.{Life, Alive, is_ending, MayRelease}
+use Rattle.history_model.specs.Legal.{Alive, is_ending, MayRelease}
 use Rattle.history_model.specs.Plays.{commands_of, NextOfCommand}
 use Rattle.history_model.specs.Lines.{answer_to}
 use Rattle.history_model.specs.Held.{held_by}

@@ -1,5 +1,5 @@
 -- Where a backend of the walk stands in a history.
-use Rattle.std.specs.Prelude.{◌≡◌, ◌≢◌, ◌≤◌, ◌<◌, ◌+◌, ℕ, Bool, true, false, not, Option, Some, None, List, [], ◌∷◌, ◌++◌, ◌==◌, ◌&&◌, length, map, filter, drop, slice_get, negsuc, ⊤}
+use Rattle.std.specs.Prelude.{◌≡◌, ◌≢◌, ◌≤◌, ◌<◌, ◌+◌, ℕ, Bool, true, false, not, Option, Some, None, List, [], ◌∷◌, ◌++◌, ◌==◌, ◌&&◌, length, filter, drop, slice_get, ⊤}
 use Rattle.std.specs.List.{list_any, list_all, Contains}
 use Rattle.base_types.specs.declared.ids.Oid.{Oid}
 use Rattle.base_types.specs.declared.ids.Xid.{Xid}
@@ -7,7 +7,6 @@ use Rattle.base_types.specs.declared.mode.Mode.TheVariants.{AccessShare, AccessE
 use Rattle.base_types.specs.declared.row.Kind.TheVariants.{Table}
 use Rattle.base_types.specs.declared.row.Row.{Row}
 use Rattle.base_types.specs.declared.row.Row.TheVariants.{Class}
-use Rattle.base_types.specs.declared.command.Command.{Command}
 use Rattle.base_types.specs.declared.command.Command.TheVariants.{CreateTable, Show}
 use Rattle.base_types.specs.declared.command.Placed.{Placed}
 use Rattle.base_types.specs.declared.command.NewColumn.{NewColumn}
@@ -19,12 +18,11 @@ use Rattle.event_kinds.specs.declared.entry.Entry.{Entry}
 use Rattle.event_kinds.specs.declared.entry.Event.{Event}
 use Rattle.event_kinds.specs.declared.entry.Event.TheVariants as events
 use Rattle.event_kinds.specs.declared.entry.Item.{Item}
-use Rattle.rel_desc.specs.declared.error.CommandError.{CommandError}
 use Rattle.history_model.specs.declared.fact.Grant.{Grant}
 use Rattle.history_model.specs.Transactions.{Running, begun_at, running_transaction_of, is_committed, last_xid}
 use Rattle.history_model.specs.Held.{held_of}
 use Rattle.history_model.specs.Read.{is_usable, place_read, rows_read, ScansOnlyIfNeeded}
-use Rattle.history_model.specs.Legal.{Life, Unstarted, Alive, Stopped, life_of, next_oid, MayFollow}
+use Rattle.history_model.specs.Legal.{Life, Unstarted, Alive, Stopped, life_of, MayFollow}
 use Rattle.history_model.specs.Plays.{Place, place_of, commands_of, IsNext}
 use Rattle.history_model.specs.Lines.{judged_at, refusal_of, lines_of_backend}
 use Rattle.history_model.specs.Settled.{AddsTables, IsSettled, StaysRead}

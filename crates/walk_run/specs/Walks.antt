@@ -1,9 +1,8 @@
 -- What a walk keeps with each step, and what it has made in the end.
-use Rattle.std.specs.Prelude.{◌≡◌, ◌≢◌, ◌-◌, slice_set, ◌≤◌, ◌<◌, ◌+◌, ◌*◌, ◌-◌, ℕ, Bool, true, false, not, Option, Some, None, List, [], ◌∷◌, ◌++◌, ◌==◌, length, filter, drop, slice_get, ⊤}
-use Rattle.base_types.specs.Scenario.{Scenario, schedule_of}
+use Rattle.std.specs.Prelude.{◌≡◌, ◌≢◌, ◌-◌, slice_set, ◌≤◌, ◌<◌, ◌+◌, ◌-◌, ℕ, true, Some, List, [], ◌++◌, length, slice_get}
+use Rattle.base_types.specs.Scenario.{Scenario}
 use Rattle.event_kinds.specs.declared.entry.Entry.{Entry}
 use Rattle.event_kinds.specs.declared.entry.Line.{Line}
-use Rattle.history_model.specs.Legal.{IsLegal}
 use Rattle.history_model.specs.Schedule.{FollowsSchedule, IsComplete, has_stopped, pass_stopped, steps_behind}
 use Rattle.history_model.specs.Settled.{OneWriter}
 use Rattle.history_model.specs.Lines.{lines_of}

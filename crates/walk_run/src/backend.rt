@@ -7,7 +7,9 @@ ghost use Rattle.walk_run.specs.Reads.{next_owed_of, found_in, first_own_from};
 use crate::answers::{absent, shown};
 use crate::scans::same_scan;
 use crate::segment::{Locked, Scanned, Segment};
-use base_types::{Command, Kind, Listed, Mode, Name, NewColumn, NoMemory, Oid, Placed, Purpose, Row, Xid};
+use base_types::{
+    Command, Kind, Listed, Mode, Name, NewColumn, NoMemory, Oid, Placed, Purpose, Row, Xid,
+};
 use event_kinds::Line;
 use out_text::answer_text;
 use rel_desc::{Answer, CommandError};
@@ -229,12 +231,7 @@ impl Backend {
     }
 
     // It makes its write visible.
-    fn commit(
-        &mut self,
-        script: &Script,
-        segment: &mut Segment,
-        xid: Xid,
-    ) -> Result<(), NoMemory>
+    fn commit(&mut self, script: &Script, segment: &mut Segment, xid: Xid) -> Result<(), NoMemory>
         requires stands { BackendStands script.now segment.old self.old }
         requires writer { OneWriter segment.old }
         requires stage { self.old.stage ≡ Stage.Wrote xid }
@@ -271,12 +268,7 @@ impl Backend {
     }
 
     // It asks for the lock of the relation that it found.
-    fn lock(
-        &mut self,
-        script: &Script,
-        segment: &mut Segment,
-        found: Found,
-    ) -> Result<(), NoMemory>
+    fn lock(&mut self, script: &Script, segment: &mut Segment, found: Found) -> Result<(), NoMemory>
         requires stands { BackendStands script.now segment.old self.old }
         requires stage { (name : List ℕ) × (at : ℕ) × (self.old.stage ≡ Stage.LookedUp name (Some found) at) }
         ensures { OnOk result (Steps script.now segment.old segment.new self.old self.new) }

@@ -1,4 +1,4 @@
-use Rattle.std.proofs.Common.{◌≡◌, ◌∙◌, None, ap, sym, subst}
+use Rattle.std.proofs.Common.{◌∙◌, ap, sym, subst}
 use Rattle.walk_run.specs.declared.backend.Stage.TheVariants.{LookedUp}
 use Rattle.walk_run.specs.Ends.{MayEnd}
 use Rattle.walk_run.proofs.Shown.{MayEnd-absent}
