@@ -13,3 +13,6 @@ mod top;
 
 pub use status::Status;
 pub use top::{MOST_INPUT, catsync};
+
+#[cfg(test)]
+mod tests;
