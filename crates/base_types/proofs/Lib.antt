@@ -2,3 +2,4 @@ pub mod Padding
 pub mod Names
 pub mod Placing
 pub mod Joining
+pub mod DroppedNumbers

@@ -7,3 +7,6 @@ pub mod Words
 pub mod Fields
 pub mod Scenario
 pub mod Keys
+pub mod Rows
+pub mod Parts
+pub mod Hashes

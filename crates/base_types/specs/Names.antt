@@ -1,5 +1,5 @@
 -- Which bytes make a name, a word or the text of a check, and what is wrong with others.
-use Rattle.std.specs.Prelude.{◌≡◌, ℕ, Bool, true, false, Option, Some, None, List, [], ◌∷◌, ◌==◌, ◌&&◌, ◌||◌, not, nat_le, nat_lt, length, if◌then◌else◌}
+use Rattle.std.specs.Prelude.{◌≡◌, ℕ, Bool, true, false, Option, Some, None, List, [], ◌∷◌, ◌==◌, ◌&&◌, ◌||◌, ◌⊎◌, ◌++◌, ◌<◌, ◌≤◌, ◌+◌, ◌*◌, ◌-◌, not, nat_le, nat_lt, length, fold, codes, decimal, if◌then◌else◌}
 use Rattle.std.specs.List.{position_from}
 use Rattle.base_types.specs.declared.name_fault.NameFault.{NameFault}
 use Rattle.base_types.specs.declared.name_fault.NameFault.TheVariants.{Empty, TooLong, BadByte}
@@ -53,3 +53,29 @@ IsWord text = short_fault is_word_byte text ≡ None
 -- the bytes are the text of a check
 abbrev pub IsText : List ℕ → Type 0
 IsText text = short_fault is_text_byte text ≡ None
+
+-- the name that a dropped column of this number has
+abbrev pub dropped_name : ℕ → List ℕ
+dropped_name num = codes "........pg.dropped." ++ decimal num ++ codes "........"
+
+-- the bytes are the name of the dropped column of this number
+pub record IsDropped (num : ℕ) (text : List ℕ) : Type 0 where
+  pub some : 0 < num
+  pub most : num ≤ 1600
+  pub is : text ≡ dropped_name num
+
+-- the bytes are the name of a dropped column
+abbrev pub IsDroppedName : List ℕ → Type 0
+IsDroppedName text = (num : ℕ) × IsDropped num text
+
+-- the bytes are a name that a column may have
+abbrev pub IsAnyName : List ℕ → Type 0
+IsAnyName text = IsName text ⊎ IsDroppedName text
+
+-- a number with one more digit, as its bytes give it
+abbrev pub digit_more : ℕ → ℕ → ℕ
+digit_more number byte = number * 10 + (byte - 48)
+
+-- the number that digits write
+abbrev pub number_of_digits : List ℕ → ℕ
+number_of_digits digits = fold digit_more 0 digits

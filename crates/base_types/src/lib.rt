@@ -10,10 +10,13 @@
 #![tactic(auto)]
 
 mod command;
+mod dropped;
 mod field_item;
 mod field_rows;
 mod fields;
 mod ids;
+mod key;
+mod key_bytes;
 mod line_buffer;
 mod listed;
 mod lock_modes;
@@ -31,10 +34,13 @@ mod short_text;
 mod words;
 
 pub use command::{Command, NewColumn, Placed, Turns};
+pub use dropped::MOST_COLUMNS;
 pub use field_item::{item_of, push_nums};
 pub use field_rows::field_text;
 pub use fields::{fields_of, has_field, read_by};
 pub use ids::{FIRST_OID, Oid, Xid};
+pub use key::{CacheId, Key, KeyPart};
+pub use key_bytes::key_hash;
 pub use line_buffer::{LINE_ROOM, LineBuffer};
 pub use listed::Listed;
 pub use lock_modes::{conflicts, writers};
@@ -49,3 +55,6 @@ pub use scan::{Field, Purpose};
 pub use scan_rows::{goes_before, put_in_order, selects};
 pub use short_text::{LONGEST_TEXT, ShortText};
 pub use words::{live_word, on_word, valid_word};
+
+#[cfg(test)]
+mod tests;
