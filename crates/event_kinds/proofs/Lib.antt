@@ -1,2 +1,5 @@
 pub mod Changes
 pub mod Added
+pub mod Spelling
+pub mod Leaves
+pub mod Fields
