@@ -5,3 +5,5 @@ pub mod Leaves
 pub mod Fields
 pub mod Parts
 pub mod RowLaws
+pub mod ItemLaws
+pub mod EventLaws

@@ -120,6 +120,14 @@ or_behind text Is lit f g p q = record {
     (λ read. q.takes bytes x rest read);
 }
 
+-- the same behind a fixed text
+pub or_within : {X : Type 0} (text : X → List ℕ) (Is : X → Type 0) (outer lit : List ℕ) (f g : Reader X) → Behind (outer ++ lit) text Is f → Behind outer text Is g → Behind outer text Is (or_at lit f g)
+or_within text Is outer lit f g p q = record {
+  takes = λ bytes x rest e. or_case (lit_at lit bytes) f g bytes (x, rest) e
+    (λ after found read. let t = p.takes after x rest read in (ap (λ l. outer ++ l) (lit_takes lit bytes after found) ∙ sym (append_assoc outer lit after) ∙ t.0, t.1))
+    (λ read. q.takes bytes x rest read);
+}
+
 -- the fixed text stands in front
 pub or_first : {X : Type 0} (lit bytes rest : List ℕ) (f g : Reader X) (y : Option (X × List ℕ)) → lit_at lit bytes ≡ Some rest → f rest ≡ y → or_at lit f g bytes ≡ y
 or_first lit bytes rest f g y found h = rw (found, or_at) h

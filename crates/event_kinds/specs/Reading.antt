@@ -360,6 +360,10 @@ abbrev pub ends_here : {X : Type 0} → X × List ℕ → Option X
 ends_here (x, []) = Some x
 ends_here (x, (byte ∷ bytes)) = None
 
+-- the one way for entry_at
+abbrev pub entry_cases : List (List ℕ × Reader Entry)
+entry_cases = (codes "h ", placed_at) ∷ []
+
 -- the entry of a whole line
 unfoldable pub entry_at : List ℕ → Option Entry
-entry_at bytes = choose_at ((codes "h ", placed_at) ∷ []) bytes >>= ends_here
+entry_at bytes = choose_at entry_cases bytes >>= ends_here
