@@ -1,15 +1,18 @@
 -- A single value that is read is spelled so, and what is spelled so is read.
-use Rattle.std.proofs.Common.{◌≡◌, ℕ, zero, suc, ◌+◌, ◌-◌, ◌^◌, ◌<◌, ◌≤◌, Bool, true, false, not, cond, eqb, ltb, leb, ◌&&◌, ◌||◌, ◌==◌, ◌⊎◌, inl, inr, List, [], ◌∷◌, ◌++◌, length, Option, Some, None, refl, sym, ap, subst, ◌∙◌, append_assoc, append-nil, arith, rules, codes, decimal, fold}
-use Rattle.std.specs.Prelude.{is_none}
+use Rattle.std.proofs.Common.{◌≡◌, ℕ, zero, suc, ◌+◌, ◌-◌, ◌^◌, ◌<◌, ◌≤◌, Bool, true, false, not, cond, eqb, ltb, leb, ◌&&◌, ◌||◌, ◌==◌, ◌⊎◌, inl, inr, List, [], ◌∷◌, ◌++◌, length, take, drop, get_or, Option, Some, None, Result, Ok, Err, refl, sym, ap, subst, ◌∙◌, append_assoc, append-nil, arith, rules, codes, decimal, fold}
+use Rattle.std.specs.Prelude.{is_none, IfOk, IfErr}
+use Rattle.std.specs.Result.{result_ok}
 use Rattle.std.specs.List.{list_all, AllPass, find}
-use Rattle.std.specs.Str.{bytes_eq, all_ascii_digits}
+use Rattle.std.specs.Str.{bytes_eq}
 use Rattle.std.proofs.lemmas.Slice.Eq.{bytes_eq-Decides}
-use Rattle.std.proofs.lemmas.List.Sums.{list_all-from_AllPass}
+use Rattle.std.proofs.lemmas.List.{take_more, take-append-drop}
+use Rattle.std.proofs.lemmas.List.Sums.{list_all-from_AllPass, fold-append}
 use Rattle.std.proofs.lemmas.List.Folds.{list_all-append}
 use Rattle.std.proofs.lemmas.Bool.Decides.{nat_tests}
 use Rattle.std.proofs.lemmas.Str.Parse.{IsNumeralModel, numerals_by_fold}
 use Rattle.std.proofs.lemmas.Fmt.{digits_decimal, digits_value-decimal, decimal_nonempty}
 use Rattle.base_types.specs.Names.{digit_more, number_of_digits, is_digit, is_name_byte, is_word_byte, is_text_byte, short_fault, name_fault, dropped_name, IsName, IsWord, IsText, IsDropped, IsDroppedName, IsAnyName}
+use Rattle.base_types.specs.declared.name_fault.NameFault.{NameFault}
 use Rattle.base_types.proofs.Names.{name_parts, word_parts, text_parts}
 use Rattle.base_types.proofs.DroppedNumbers.{shown}
 use Rattle.event_kinds.specs.Entries.{IsNumber}
@@ -30,9 +33,6 @@ bytes_eq-refl : (a : List ℕ) → bytes_eq a a ≡ true
 bytes_eq-refl a = (bytes_eq-Decides a a).1 refl
 
 -- ---- numbers
-
-own : IsNumeralModel (λ ds. all_ascii_digits ds ≡ true) number_of_digits
-own = numerals_by_fold _ (search rules) (fold digit_more) (search rules)
 
 own_digits : IsNumeralModel (λ ds. list_all is_digit ds ≡ true) number_of_digits
 own_digits = numerals_by_fold _ (search rules) (fold digit_more) (search rules)
@@ -169,7 +169,52 @@ pub worded_values : {X : Type 0} (word : X → List ℕ) (xs : List X) → ((x :
     → Values in_token word (λ x. Unit {0}) (worded word xs)
 worded_values word xs again pass = record { takes = λ text x e. (worded_takes word xs text x e, tt); again = λ x h. again x; pass = λ x h. pass x }
 
--- ---- a text that no number begins with
+-- ---- what constructors answer
 
-not_first : (c d : ℕ) → is_digit c ≡ false → is_digit d ≡ true → eqb c d ≡ false
-not_first c d h e = grind (arith, nat_tests)
+never : (b : Bool) → (b ≡ true → ⊥) → b ≡ false
+never true h = absurd (h refl)
+never false h = refl
+
+some_fault : {X : Type 0} (o : Option X) (x : X) → o ≡ Some x → is_none o ≡ false
+some_fault o x e = rw e refl
+
+pub name_found : (text : List ℕ) (r : Result (List ℕ) NameFault) → IfOk r (λ name. (name ≡ text) × IsAnyName text)
+    → IfErr r (λ fault. (name_fault text ≡ Some fault) × (IsDroppedName text → ⊥)) → result_ok r ≡ name_of text
+unfolding name_of
+name_found text (Ok name) ok err = rw (name_test text ok.1, ok.0) refl
+name_found text (Err fault) ok err =
+    let dropped : is_dropped_name text ≡ false = never (is_dropped_name text) (λ yes. err.1 (dropped_yes text yes)) in
+    rw (some_fault (name_fault text) fault err.0, dropped) refl
+
+pub word_found : (text : List ℕ) (r : Result (List ℕ) NameFault) → IfOk r (λ word. (word ≡ text) × IsWord text)
+    → IfErr r (λ fault. short_fault is_word_byte text ≡ Some fault) → result_ok r ≡ word_of text
+unfolding word_of
+word_found text (Ok word) ok err = rw (ok.1, ok.0) refl
+word_found text (Err fault) ok err = rw (some_fault (short_fault is_word_byte text) fault err) refl
+
+pub text_found : (text : List ℕ) (r : Result (List ℕ) NameFault) → IfOk r (λ made. (made ≡ text) × IsText text)
+    → IfErr r (λ fault. short_fault is_text_byte text ≡ Some fault) → result_ok r ≡ text_of text
+unfolding text_of
+text_found text (Ok made) ok err = rw (ok.1, ok.0) refl
+text_found text (Err fault) ok err = rw (some_fault (short_fault is_text_byte text) fault err) refl
+
+-- ---- the value of digits
+
+grows : (n : ℕ) (digits : List ℕ) → n ≤ fold digit_more n digits
+grows n [] = omega arith
+grows n (d ∷ digits) = omega (arith, grows (digit_more n d) digits)
+
+front_below : (digits : List ℕ) (k : ℕ) → number_of_digits (take k digits) ≤ number_of_digits digits
+front_below digits k =
+    let whole : number_of_digits digits ≡ fold digit_more (number_of_digits (take k digits)) (drop k digits) =
+    ap number_of_digits (sym (take-append-drop k digits)) ∙ fold-append digit_more 0 (take k digits) (drop k digits) in
+    omega (arith, whole, grows (number_of_digits (take k digits)) (drop k digits))
+
+-- a value that is too great stays so with more digits
+pub too_great : (digits : List ℕ) (i number : ℕ) → i < length digits → number ≡ number_of_digits (take i digits)
+    → 2 ^ 32 ≤ digit_more number (get_or digits i 0) → 2 ^ 32 ≤ number_of_digits digits
+too_great digits i number within same high =
+    let byte = get_or digits i 0 in
+    let one : number_of_digits (take (i + 1) digits) ≡ digit_more number byte =
+    ap number_of_digits (take_more digits i 0 within) ∙ fold-append digit_more 0 (take i digits) (byte ∷ []) ∙ ap (λ n. digit_more n byte) (sym same) in
+    omega (arith, front_below digits (i + 1), one, high)

@@ -1,5 +1,5 @@
 -- How parts of a line are read: a reader gives the value in front and the bytes behind it, or nothing.
-use Rattle.std.specs.Prelude.{ℕ, Bool, true, false, not, ◌&&◌, ◌||◌, ◌==◌, nat_eq, nat_lt, ◌^◌, Option, Some, None, List, [], ◌∷◌, length, take, drop, if◌then◌else◌}
+use Rattle.std.specs.Prelude.{◌≡◌, ℕ, Bool, nat_eq, Option, Some, None, List, [], ◌∷◌, length, take, drop, if◌then◌else◌}
 use Rattle.std.specs.List.{starts_with, prefix_len}
 
 infixl 10 ◌>>=◌
@@ -49,3 +49,8 @@ or_at text behind other bytes = elim (lit_at text bytes) [ None ↦ other bytes 
 abbrev pub choose_at : {X : Type 0} → List (List ℕ × Reader X) → Reader X
 choose_at [] bytes = None
 choose_at (c ∷ cs) bytes = or_at c.0 c.1 (choose_at cs) bytes
+
+-- what a reading function returned, and what it left, is what a reader gives
+abbrev pub Gives : {X : Type 0} → Option X → List ℕ → Option (X × List ℕ) → Type 0
+Gives None left read = read ≡ None
+Gives (Some x) left read = read ≡ Some (x, left)

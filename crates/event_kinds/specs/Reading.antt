@@ -61,6 +61,14 @@ modes = AccessShare ∷ RowShare ∷ RowExclusive ∷ ShareUpdateExclusive ∷ S
 abbrev pub col_types : List ColType
 col_types = types.Bool ∷ types.Int2 ∷ types.Int4 ∷ types.Int8 ∷ types.Text ∷ types.Bytea ∷ types.Date ∷ types.Timestamptz ∷ []
 
+-- the kinds, the states of an index, and the truth values
+abbrev pub kinds_listed : List Kind
+kinds_listed = Table ∷ Index ∷ []
+abbrev pub states : List IndexState
+states = Neither ∷ Valid ∷ []
+abbrev pub flags : List Bool
+flags = true ∷ false ∷ []
+
 -- the value of a list that has this word
 abbrev pub worded : {X : Type 0} → (X → List ℕ) → List X → List ℕ → Option X
 worded word xs text = find (λ x. bytes_eq (word x) text) xs
@@ -79,13 +87,13 @@ text_at = field_at in_token text_of
 unfoldable pub mode_at : Reader Mode
 mode_at = field_at in_token (worded mode_word modes)
 unfoldable pub kind_at : Reader Kind
-kind_at = field_at in_token (worded kind_word (Table ∷ Index ∷ []))
+kind_at = field_at in_token (worded kind_word kinds_listed)
 unfoldable pub type_at : Reader ColType
 type_at = field_at in_token (worded type_word col_types)
 unfoldable pub state_at : Reader IndexState
-state_at = field_at in_token (worded state_word (Neither ∷ Valid ∷ []))
+state_at = field_at in_token (worded state_word states)
 unfoldable pub flag_at : (Bool → List ℕ) → Reader Bool
-flag_at word = field_at in_token (worded word (true ∷ false ∷ []))
+flag_at word = field_at in_token (worded word flags)
 
 -- a number below 0 by its size
 abbrev pub minus : ℕ → ℤ

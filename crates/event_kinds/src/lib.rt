@@ -9,10 +9,13 @@
 //! definition, byte for byte.
 #![tactic(auto)]
 
+mod cursor;
 mod entry;
 mod entry_text;
 mod event_text;
+mod fault;
 mod row_text;
+mod value;
 
 pub use entry::{Entry, Event, Item, Line};
 pub use entry_text::write_entry;
@@ -20,4 +23,5 @@ pub use event_text::{
     changes_in, push_entry_head, push_event_head, push_item, push_line_head, push_place,
     push_purpose,
 };
+pub use fault::EntryFault;
 pub use row_text::{push_key, push_row};
