@@ -14,6 +14,7 @@ mod entry;
 mod entry_text;
 mod event_text;
 mod fault;
+mod row_reading;
 mod row_text;
 mod value;
 
