@@ -1,34 +1,41 @@
 -- What is read of an event or an entry is spelled so, and what is spelled so is read.
-use Rattle.std.proofs.Common.{◌≡◌, ℕ, ℤ, zero, suc, ◌+◌, ◌<◌, ◌≤◌, Bool, true, false, List, [], ◌∷◌, ◌++◌, length, Option, Some, None, refl, sym, ap, subst, ◌∙◌, append_assoc, append-nil, arith, codes, decimal}
+use Rattle.std.proofs.Common.{◌≡◌, ℕ, Bool, true, false, List, [], ◌∷◌, ◌++◌, Option, Some, None, refl, sym, ap, ◌∙◌, append_assoc, append-nil, codes, decimal}
 use Rattle.base_types.specs.Words.{mode_word}
 use Rattle.base_types.specs.declared.mode.Mode.{Mode}
 use Rattle.base_types.specs.declared.scan.Purpose.{Purpose}
 use Rattle.base_types.specs.declared.scan.Purpose.TheVariants as scans
 use Rattle.event_kinds.specs.Events.{Item, Event, Entry}
 use Rattle.event_kinds.specs.declared.entry.Event.TheVariants as events
-use Rattle.event_kinds.specs.Texts.{purpose_text, event_text, changes_text, entry_text}
-use Rattle.event_kinds.specs.Entries.{IsNumber, IsPurpose, AreItems, IsEvent, IsEntry}
-use Rattle.event_kinds.specs.Readers.{◌>>=◌, Reader, lit_at, as_at, none_at, or_at, choose_at}
-use Rattle.event_kinds.specs.Reading.{rel_name_of, rel_oid_of, att_name_of, att_list_of, class_scan_of, attribute_of, attr_def_of, constraint_of, index_of, trigger_of, index_row_of, relation_scan_cases, relation_scan_at, purpose_at, fetch_of, lock_of, unlock_of, scan_of, write_of, clash_of, visible_of, publish_of, release_of, gone_of, held_of, of_row, of_running, fetch_at, holder_cases, holder_at, lock_event_at, owner_cases, owner_at, short_event_cases, short_event_at, unlock_event_at, scan_event_at, write_event_at, clash_event_at, event_at, entry_of, placed_at, entry_cases, ends_here, entry_at}
-use Rattle.event_kinds.proofs.Spelling.{Any, read_some, or_other, Spells, Behind, or_behind, or_within, choose_behind, Part, then_part, pair_part, behind_part, again_part}
+use Rattle.event_kinds.specs.Texts.{purpose_text, event_text, entry_text}
+use Rattle.event_kinds.specs.Entries.{IsNumber, IsPurpose, IsEvent, IsEntry}
+use Rattle.event_kinds.specs.Readers.{Reader, lit_at, as_at, none_at, or_at, choose_at}
+use Rattle.event_kinds.specs.Reading.{rel_name_of, rel_oid_of, att_name_of, att_list_of, class_scan_of, attribute_of, attr_def_of, constraint_of, index_of, trigger_of, index_row_of, constraint_scan_at, relation_scan_at, purpose_at, fetch_of, lock_of, unlock_of, scan_of, write_of, clash_of, visible_of, publish_of, release_of, gone_of, held_of, of_row, of_running, fetch_at, holder_cases, holder_at, lock_event_at, owner_cases, owner_at, short_event_cases, short_event_at, unlock_event_at, scan_event_at, write_event_at, clash_event_at, event_at, entry_of, placed_at, entry_cases, ends_here, entry_at}
+use Rattle.event_kinds.proofs.Spelling.{read_some, or_other, Spells, Behind, or_behind, or_within, choose_behind, Part, then_part, pair_part, behind_part, again_part}
 use Rattle.event_kinds.proofs.Fields.{TokenEnds, no_lit_number}
 use Rattle.event_kinds.proofs.Parts.{number_part, name_part, mode_part, blank_part, behind_value}
 use Rattle.event_kinds.proofs.ItemLaws.{HereEnds, token_end, changes_end, items_part}
 
 -- ---- scans
 
+one_scan_behind : (word : List ℕ) (make : ℕ → Purpose) (other : Reader Purpose) → ((n : ℕ) → purpose_text (make n) ≡ word ++ decimal n) → ((n : ℕ) → IsNumber n → IsPurpose (make n))
+    → Behind [] purpose_text IsPurpose other → Behind [] purpose_text IsPurpose (or_at word (as_at make number_part.read) other)
+one_scan_behind word make other spelled well h = or_behind purpose_text IsPurpose word (as_at make number_part.read) other (behind_part number_part word make purpose_text IsPurpose (λ n is. spelled n) well) h
+
+constraint_scan_behind : Behind [] purpose_text IsPurpose constraint_scan_at
+unfolding constraint_scan_at
+constraint_scan_behind = choose_behind purpose_text IsPurpose ((codes "constraint ", as_at constraint_of number_part.read) ∷ []) (behind_part number_part (codes "constraint ") constraint_of purpose_text IsPurpose (λ n h. refl) (λ n h. h), tt)
+
 relation_scan_behind : Behind [] purpose_text IsPurpose relation_scan_at
 unfolding relation_scan_at
-relation_scan_behind = choose_behind purpose_text IsPurpose relation_scan_cases (
-  behind_part number_part (codes "attlist ") att_list_of purpose_text IsPurpose (λ n h. refl) (λ n h. h),
-  (behind_part number_part (codes "class ") class_scan_of purpose_text IsPurpose (λ n h. refl) (λ n h. h),
-  (behind_part number_part (codes "attribute ") attribute_of purpose_text IsPurpose (λ n h. refl) (λ n h. h),
-  (behind_part number_part (codes "attrdef ") attr_def_of purpose_text IsPurpose (λ n h. refl) (λ n h. h),
-  (behind_part number_part (codes "constraint ") constraint_of purpose_text IsPurpose (λ n h. refl) (λ n h. h),
-  (behind_part number_part (codes "index ") index_of purpose_text IsPurpose (λ n h. refl) (λ n h. h),
-  (behind_part number_part (codes "trigger ") trigger_of purpose_text IsPurpose (λ n h. refl) (λ n h. h),
-  (behind_part number_part (codes "indexrow ") index_row_of purpose_text IsPurpose (λ n h. refl) (λ n h. h),
-  tt))))))))
+relation_scan_behind =
+    one_scan_behind (codes "attlist ") att_list_of _ (λ n. refl) (λ n h. h)
+    (one_scan_behind (codes "class ") class_scan_of _ (λ n. refl) (λ n h. h)
+    (one_scan_behind (codes "attribute ") attribute_of _ (λ n. refl) (λ n h. h)
+    (one_scan_behind (codes "attrdef ") attr_def_of _ (λ n. refl) (λ n h. h)
+    (one_scan_behind (codes "index ") index_of _ (λ n. refl) (λ n h. h)
+    (one_scan_behind (codes "trigger ") trigger_of _ (λ n. refl) (λ n h. h)
+    (one_scan_behind (codes "indexrow ") index_row_of _ (λ n. refl) (λ n h. h)
+    constraint_scan_behind))))))
 
 abbrev att_name_part : Part (ℕ × List ℕ)
 att_name_part = blank_part number_part (λ rest. refl) name_part
@@ -44,7 +51,7 @@ purpose_behind = or_behind purpose_text IsPurpose (codes "relname ") _ _ (behind
     relation_scan_behind))
 
 purpose_again : (purpose : Purpose) (rest : List ℕ) → IsPurpose purpose → TokenEnds rest → purpose_at (purpose_text purpose ++ rest) ≡ Some (purpose, rest)
-unfolding purpose_at relation_scan_at lit_at
+unfolding purpose_at relation_scan_at constraint_scan_at lit_at
 purpose_again (scans.RelName name) rest is end = again_part name_part rel_name_of name rest is end
 purpose_again (scans.AttName rel name) rest is end = ap (λ l. purpose_at (l ++ rest)) (att_name_spelled (rel.0, name)) ∙ again_part att_name_part att_name_of (rel.0, name) rest (is.0, is.1) end
 purpose_again (scans.RelOid rel) rest is end = again_part number_part rel_oid_of rel.0 rest is end
@@ -80,8 +87,11 @@ holder_behind : Behind [] holder_text IsHolder holder_at
 unfolding holder_at
 holder_behind = choose_behind holder_text IsHolder holder_cases (
   behind_value None (codes "ok") holder_text IsHolder refl tt,
-  (behind_part held_part (codes "held ") held_of holder_text IsHolder (λ t h. refl) (λ t h. h.0),
-  tt))
+  (
+    behind_part held_part (codes "held ") held_of holder_text IsHolder (λ t h. refl) (λ t h. h.0),
+    tt,
+  ),
+)
 
 holder_again : (holder : Option (ℕ × Mode)) (rest : List ℕ) → IsHolder holder → TokenEnds rest → holder_at (holder_text holder ++ rest) ≡ Some (holder, rest)
 unfolding holder_at lit_at
@@ -130,8 +140,11 @@ owner_behind : Behind [] owner_text IsOwner owner_at
 unfolding owner_at
 owner_behind = choose_behind owner_text IsOwner owner_cases (
   behind_part number_part (codes "row ") of_row owner_text IsOwner (λ n h. refl) (λ n h. h),
-  (behind_part number_part (codes "running ") of_running owner_text IsOwner (λ n h. refl) (λ n h. h),
-  tt))
+  (
+    behind_part number_part (codes "running ") of_running owner_text IsOwner (λ n h. refl) (λ n h. h),
+    tt,
+  ),
+)
 
 owner_again : (owner : Bool × ℕ) (rest : List ℕ) → IsOwner owner → TokenEnds rest → owner_at (owner_text owner ++ rest) ≡ Some (owner, rest)
 unfolding owner_at lit_at
@@ -164,16 +177,35 @@ short_behind : Behind [] event_text IsEvent short_event_at
 unfolding short_event_at
 short_behind = choose_behind event_text IsEvent short_event_cases (
   behind_value events.Start (codes "start") event_text IsEvent refl tt,
-  (behind_value (events.Look true) (codes "look yes") event_text IsEvent refl tt,
-  (behind_value (events.Look false) (codes "look no") event_text IsEvent refl tt,
-  (fetch_behind,
-  (behind_part number_part (codes "visible ") visible_of event_text IsEvent (λ n h. refl) (λ n h. h),
-  (behind_part number_part (codes "publish ") publish_of event_text IsEvent (λ n h. refl) (λ n h. h),
-  (behind_part number_part (codes "release ") release_of event_text IsEvent (λ n h. refl) (λ n h. h),
-  (behind_part number_part (codes "gone ") gone_of event_text IsEvent (λ n h. refl) (λ n h. h),
-  (behind_value events.Fail (codes "fail") event_text IsEvent refl tt,
-  (behind_value events.Stop (codes "stop") event_text IsEvent refl tt,
-  tt))))))))))
+  (
+    behind_value (events.Look true) (codes "look yes") event_text IsEvent refl tt,
+    (
+      behind_value (events.Look false) (codes "look no") event_text IsEvent refl tt,
+      (
+        fetch_behind,
+        (
+          behind_part number_part (codes "visible ") visible_of event_text IsEvent (λ n h. refl) (λ n h. h),
+          (
+            behind_part number_part (codes "publish ") publish_of event_text IsEvent (λ n h. refl) (λ n h. h),
+            (
+              behind_part number_part (codes "release ") release_of event_text IsEvent (λ n h. refl) (λ n h. h),
+              (
+                behind_part number_part (codes "gone ") gone_of event_text IsEvent (λ n h. refl) (λ n h. h),
+                (
+                  behind_value events.Fail (codes "fail") event_text IsEvent refl tt,
+                  (
+                    behind_value events.Stop (codes "stop") event_text IsEvent refl tt,
+                    tt,
+                  ),
+                ),
+              ),
+            ),
+          ),
+        ),
+      ),
+    ),
+  ),
+)
 
 event_behind : Behind [] event_text IsEvent event_at
 unfolding event_at lock_event_at unlock_event_at scan_event_at write_event_at clash_event_at
@@ -230,7 +262,8 @@ entry_behind : Behind [] entry_text IsEntry (choose_at entry_cases)
 unfolding placed_at
 entry_behind = choose_behind entry_text IsEntry entry_cases (
   behind_part placed_part (codes "h ") entry_of entry_text IsEntry (λ t h. placed_spelled t) (λ t h. record { backend = h.0; command = h.1.0; event = h.1.1 }),
-  tt)
+  tt,
+)
 
 ended_here : {X : Type 0} (x y : X) (rest : List ℕ) → ends_here (x, rest) ≡ Some y → (rest ≡ []) × (x ≡ y)
 ended_here x y [] e = (refl, cc)

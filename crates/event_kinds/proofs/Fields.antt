@@ -1,9 +1,9 @@
 -- The parts of a line that stand for one value.
-use Rattle.std.proofs.Common.{◌≡◌, ℕ, ℤ, pos, negsuc, zero, suc, ◌+◌, ◌-◌, ◌^◌, ◌<◌, ◌≤◌, Bool, true, false, not, cond, eqb, ltb, leb, ◌&&◌, ◌||◌, ◌==◌, List, [], ◌∷◌, ◌++◌, length, Option, Some, None, refl, sym, ap, subst, ◌∙◌, append_assoc, append-nil, arith, rules, codes, decimal}
+use Rattle.std.proofs.Common.{◌≡◌, ℕ, ℤ, pos, negsuc, zero, suc, ◌^◌, ◌<◌, ◌≤◌, Bool, true, false, not, eqb, ltb, leb, ◌&&◌, ◌||◌, ◌==◌, List, [], ◌∷◌, ◌++◌, length, Option, Some, None, refl, arith, codes, decimal}
 use Rattle.std.specs.Prelude.{IfSome, FitsSigned}
 use Rattle.std.specs.Int.{w32}
 use Rattle.std.specs.Fmt.{signed_decimal}
-use Rattle.std.specs.List.{list_all, AllByRecursion, flat_map, join_by}
+use Rattle.std.specs.List.{list_all}
 use Rattle.std.proofs.lemmas.Bool.Decides.{nat_tests}
 use Rattle.std.proofs.lemmas.Fmt.{decimal_nonempty}
 use Rattle.std.proofs.lemmas.Option.{some_pair_parts}
@@ -18,9 +18,9 @@ use Rattle.base_types.specs.declared.row.ColType.TheVariants as types
 use Rattle.base_types.specs.declared.row.IndexState.{IndexState}
 use Rattle.base_types.specs.declared.row.IndexState.TheVariants.{Neither, Valid}
 use Rattle.event_kinds.specs.Entries.{IsNumber, AreNums}
-use Rattle.event_kinds.specs.Readers.{◌>>=◌, Reader, lit_at, field_at, pair_at, as_at, check_at, none_at, or_at}
-use Rattle.event_kinds.specs.Reading.{in_token, number_of, name_of, word_of, text_of, worded, modes, col_types, minus, number_at, digits_at, name_at, word_at, text_at, mode_at, kind_at, type_at, state_at, flag_at, signed_at, fill_at, more_nums_at, nums_at}
-use Rattle.event_kinds.proofs.Spelling.{Any, both, lit_again, or_first, or_other, stops, Spells, Behind, field_spells, check_spells, pair_spells, none_spells, behind, as_again, or_behind, behind_none, Values, Part, pair_part}
+use Rattle.event_kinds.specs.Readers.{Reader, lit_at, pair_at, as_at, check_at, none_at, more_at}
+use Rattle.event_kinds.specs.Reading.{in_token, number_of, name_of, word_of, text_of, worded, modes, col_types, minus, number_at, digits_at, name_at, word_at, text_at, mode_at, kind_at, type_at, state_at, flag_at, signed_at, fill_at, nums_at}
+use Rattle.event_kinds.proofs.Spelling.{both, lit_again, or_first, or_other, stops, Spells, Behind, field_spells, check_spells, behind, as_again, or_behind, more_text, AreUpTo, Repeats, cons_of, first_and_more, more_spells}
 use Rattle.event_kinds.proofs.Leaves.{number_values, digits_values, name_values, word_values, text_values, worded_values, digits_pass}
 
 -- no byte of a token follows
@@ -246,12 +246,6 @@ fill_spells = record { takes = fill_behind.takes; again = fill_again }
 abbrev pub NumsEnds : List ℕ → Type 0
 NumsEnds rest = stops (λ byte. is_digit byte || (byte == 43)) rest ≡ true
 
-abbrev pub more_text : List ℕ → List ℕ
-more_text nums = flat_map (λ num. codes "+" ++ decimal num) nums
-
-abbrev pub AreMore : ℕ → List ℕ → Type 0
-AreMore most nums = (length nums ≤ most) × AllByRecursion IsNumber nums
-
 neither : (a b : Bool) → not (a || b) ≡ true → (not a ≡ true) × (b ≡ false)
 neither true b h = absurd cc
 neither false true h = absurd cc
@@ -269,64 +263,32 @@ no_plus (byte ∷ bytes) h =
     let flipped : eqb 43 byte ≡ false = grind (arith, nat_tests, other) in
     rw flipped refl
 
-more_end : (nums rest : List ℕ) → NumsEnds rest → stops is_digit (more_text nums ++ rest) ≡ true
+more_end : (nums rest : List ℕ) → NumsEnds rest → stops is_digit (more_text (codes "+") decimal nums ++ rest) ≡ true
 more_end [] rest h = digits_end rest h
 more_end (num ∷ nums) rest h = refl
 
-with_one : {most : ℕ} (first : ℕ) (nums : List ℕ) → IsNumber first → AreMore most nums → AreMore (suc most) (first ∷ nums)
-with_one first nums is are = (omega (arith, are.0), (is, are.1))
+abbrev pub DigitsEnd : List ℕ → Type 0
+DigitsEnd rest = stops is_digit rest ≡ true
 
--- one number and then more
-pair_more : (most : ℕ) → Spells more_text (AreMore most) NumsEnds (more_nums_at most)
-    → Spells (λ (p : ℕ × List ℕ). decimal p.0 ++ more_text p.1) (λ (p : ℕ × List ℕ). IsNumber p.0 × AreMore most p.1) NumsEnds (pair_at digits_at (more_nums_at most))
-pair_more most s = pair_spells decimal IsNumber (λ rest. stops is_digit rest ≡ true) digits_at more_text (AreMore most) NumsEnds (more_nums_at most) digits_spells s (λ nums rest is end. more_end nums rest end)
+nums_repeat : Repeats (codes "+") decimal IsNumber DigitsEnd NumsEnds digits_at
+nums_repeat = record { one = digits_spells; others = more_end; last = no_plus }
 
-abbrev one_more : ℕ → Reader (List ℕ)
-one_more most = as_at (λ (p : ℕ × List ℕ). p.0 ∷ p.1) (pair_at digits_at (more_nums_at most))
-
-none_more : (nums : List ℕ) → AreMore 0 nums → [] ≡ nums
-none_more [] are = refl
-none_more (num ∷ nums) are = absurd (omega (arith, are.0))
-
-more_takes : (most : ℕ) → Spells more_text (AreMore most) NumsEnds (more_nums_at most) → Behind [] more_text (AreMore (suc most)) (more_nums_at (suc most))
-unfolding more_nums_at
-more_takes most s = or_behind more_text (AreMore (suc most)) (codes "+") _ (none_at [])
-    (behind (λ (p : ℕ × List ℕ). decimal p.0 ++ more_text p.1) (λ (p : ℕ × List ℕ). IsNumber p.0 × AreMore most p.1) NumsEnds (pair_at digits_at (more_nums_at most)) (codes "+") (λ (p : ℕ × List ℕ). p.0 ∷ p.1) more_text (AreMore (suc most))
-      (pair_more most s) (λ p h. refl) (λ p h. with_one p.0 p.1 h.0 h.1))
-    (record { takes = λ bytes x rest e. let parts = some_pair_parts {A = List ℕ} [] x bytes rest e in rw (← parts.0, ← parts.1) (refl, (omega arith, tt)) })
-
-more_again : (most : ℕ) → Spells more_text (AreMore most) NumsEnds (more_nums_at most) → (nums rest : List ℕ) → AreMore (suc most) nums → NumsEnds rest → more_nums_at (suc most) (more_text nums ++ rest) ≡ Some (nums, rest)
-unfolding more_nums_at
-more_again most s [] rest are end = or_other (codes "+") rest (one_more most) (none_at []) _ (no_plus rest end) refl
-more_again most s (num ∷ nums) rest are end =
-    let fewer : length nums ≤ most = omega (arith, are.0) in
-    ap (more_nums_at (suc most)) (append_assoc (codes "+" ++ decimal num) (more_text nums) rest)
-    ∙ or_first (codes "+") (codes "+" ++ (decimal num ++ (more_text nums ++ rest))) (decimal num ++ (more_text nums ++ rest)) (one_more most) (none_at []) _ (lit_again (codes "+") (decimal num ++ (more_text nums ++ rest)))
-    (ap (as_at (λ (p : ℕ × List ℕ). p.0 ∷ p.1) (pair_at digits_at (more_nums_at most))) (sym (append_assoc (decimal num) (more_text nums) rest))
-    ∙ as_again (λ (p : ℕ × List ℕ). decimal p.0 ++ more_text p.1) (λ (p : ℕ × List ℕ). IsNumber p.0 × AreMore most p.1) NumsEnds (pair_at digits_at (more_nums_at most)) (λ (p : ℕ × List ℕ). p.0 ∷ p.1) (num, nums) rest (pair_more most s) (are.1.0, (fewer, are.1.1)) end)
-
-pub more_spells : (most : ℕ) → Spells more_text (AreMore most) NumsEnds (more_nums_at most)
-unfolding more_nums_at
-more_spells zero = record {
-  takes = λ bytes nums rest e. let parts = some_pair_parts {A = List ℕ} [] nums bytes rest e in rw (← parts.0, ← parts.1) (refl, (omega arith, tt));
-  again = λ nums rest are end. rw (← none_more nums are) refl;
-}
-more_spells (suc most) = record { takes = (more_takes most (more_spells most)).takes; again = more_again most (more_spells most) }
-
-nums_well : (first : ℕ) (nums : List ℕ) → IsNumber first → AreMore 31 nums → AreNums (first ∷ nums)
-nums_well first nums is are = (omega arith, omega (arith, are.0), (is, are.1))
+nums_pair : Spells (λ (p : ℕ × List ℕ). decimal p.0 ++ more_text (codes "+") decimal p.1) (λ (p : ℕ × List ℕ). IsNumber p.0 × AreUpTo IsNumber 31 p.1) NumsEnds (pair_at digits_at (more_at (codes "+") digits_at 31))
+nums_pair = first_and_more (codes "+") decimal IsNumber DigitsEnd NumsEnds digits_at (AreUpTo IsNumber 31) (more_at (codes "+") digits_at 31) nums_repeat
+    (more_spells (codes "+") decimal IsNumber DigitsEnd NumsEnds digits_at 31 nums_repeat)
 
 nums_behind : Behind [] nums_text AreNums nums_at
 unfolding nums_at
-nums_behind = behind (λ (p : ℕ × List ℕ). decimal p.0 ++ more_text p.1) (λ (p : ℕ × List ℕ). IsNumber p.0 × AreMore 31 p.1) NumsEnds (pair_at digits_at (more_nums_at 31)) [] (λ (p : ℕ × List ℕ). p.0 ∷ p.1) nums_text AreNums
-    (pair_more 31 (more_spells 31)) (λ p h. refl) (λ p h. nums_well p.0 p.1 h.0 h.1)
+nums_behind = behind (λ (p : ℕ × List ℕ). decimal p.0 ++ more_text (codes "+") decimal p.1) (λ (p : ℕ × List ℕ). IsNumber p.0 × AreUpTo IsNumber 31 p.1) NumsEnds (pair_at digits_at (more_at (codes "+") digits_at 31)) [] cons_of nums_text AreNums
+    nums_pair (λ p h. refl) (λ p h. (omega arith, omega (arith, h.1.0), (h.0, h.1.1)))
 
 nums_again : (nums rest : List ℕ) → AreNums nums → NumsEnds rest → nums_at (nums_text nums ++ rest) ≡ Some (nums, rest)
 unfolding nums_at
 nums_again [] rest are end = absurd (omega (arith, are.0))
 nums_again (num ∷ nums) rest are end =
     let fewer : length nums ≤ 31 = omega (arith, are.1) in
-    as_again (λ (p : ℕ × List ℕ). decimal p.0 ++ more_text p.1) (λ (p : ℕ × List ℕ). IsNumber p.0 × AreMore 31 p.1) NumsEnds (pair_at digits_at (more_nums_at 31)) (λ (p : ℕ × List ℕ). p.0 ∷ p.1) (num, nums) rest (pair_more 31 (more_spells 31)) (are.2.0, (fewer, are.2.1)) end
+    as_again (λ (p : ℕ × List ℕ). decimal p.0 ++ more_text (codes "+") decimal p.1) (λ (p : ℕ × List ℕ). IsNumber p.0 × AreUpTo IsNumber 31 p.1) NumsEnds (pair_at digits_at (more_at (codes "+") digits_at 31)) cons_of (num, nums) rest
+    nums_pair (are.2.0, (fewer, are.2.1)) end
 
 pub nums_spells : Spells nums_text AreNums NumsEnds nums_at
 nums_spells = record { takes = nums_behind.takes; again = nums_again }

@@ -1,8 +1,8 @@
 -- A single value that is read is spelled so, and what is spelled so is read.
-use Rattle.std.proofs.Common.{◌≡◌, ℕ, zero, suc, ◌+◌, ◌-◌, ◌^◌, ◌<◌, ◌≤◌, Bool, true, false, not, cond, eqb, ltb, leb, ◌&&◌, ◌||◌, ◌==◌, ◌⊎◌, inl, inr, List, [], ◌∷◌, ◌++◌, length, take, drop, get_or, Option, Some, None, Result, Ok, Err, refl, sym, ap, subst, ◌∙◌, append_assoc, append-nil, arith, rules, codes, decimal, fold}
+use Rattle.std.proofs.Common.{◌≡◌, ℕ, ◌+◌, ◌^◌, ◌<◌, ◌≤◌, Bool, true, false, cond, ltb, leb, ◌&&◌, ◌||◌, ◌⊎◌, inl, inr, List, [], ◌∷◌, length, take, drop, get_or, Option, Some, None, Result, Ok, Err, refl, sym, ap, subst, ◌∙◌, arith, rules, codes, decimal, fold}
 use Rattle.std.specs.Prelude.{is_none, IfOk, IfErr}
 use Rattle.std.specs.Result.{result_ok}
-use Rattle.std.specs.List.{list_all, AllPass, find}
+use Rattle.std.specs.List.{list_all}
 use Rattle.std.specs.Str.{bytes_eq}
 use Rattle.std.proofs.lemmas.Slice.Eq.{bytes_eq-Decides}
 use Rattle.std.proofs.lemmas.List.{take_more, take-append-drop}
@@ -10,8 +10,8 @@ use Rattle.std.proofs.lemmas.List.Sums.{list_all-from_AllPass, fold-append}
 use Rattle.std.proofs.lemmas.List.Folds.{list_all-append}
 use Rattle.std.proofs.lemmas.Bool.Decides.{nat_tests}
 use Rattle.std.proofs.lemmas.Str.Parse.{IsNumeralModel, numerals_by_fold}
-use Rattle.std.proofs.lemmas.Fmt.{digits_decimal, digits_value-decimal, decimal_nonempty}
-use Rattle.base_types.specs.Names.{digit_more, number_of_digits, is_digit, is_name_byte, is_word_byte, is_text_byte, short_fault, name_fault, dropped_name, IsName, IsWord, IsText, IsDropped, IsDroppedName, IsAnyName}
+use Rattle.std.proofs.lemmas.Fmt.{digits_decimal, digits_value-decimal}
+use Rattle.base_types.specs.Names.{digit_more, number_of_digits, is_digit, is_name_byte, is_word_byte, is_text_byte, short_fault, name_fault, dropped_name, IsWord, IsText, IsDropped, IsDroppedName, IsAnyName}
 use Rattle.base_types.specs.declared.name_fault.NameFault.{NameFault}
 use Rattle.base_types.proofs.Names.{name_parts, word_parts, text_parts}
 use Rattle.base_types.proofs.DroppedNumbers.{shown}
@@ -97,7 +97,7 @@ name_is : (text : List ℕ) → is_none (name_fault text) || is_dropped_name tex
 name_is text h = elim (either (is_none (name_fault text)) (is_dropped_name text) h) [
   | inl plain ↦ inl (no_fault (name_fault text) plain)
   | inr dropped ↦ inr (dropped_yes text dropped)
-  ]
+]
 
 yes_or : (a b : Bool) → b ≡ true → a || b ≡ true
 yes_or true b h = refl
@@ -129,7 +129,7 @@ pub name_values : Values in_token (λ text. text) IsAnyName name_of
 unfolding name_of
 name_values = record {
   takes = λ bytes text e. let p = passed (is_none (name_fault bytes) || is_dropped_name bytes) bytes text e in
-    (p.1, subst IsAnyName p.1 (name_is bytes p.0));
+      (p.1, subst IsAnyName p.1 (name_is bytes p.0));
   again = λ text h. rw (name_test text h) refl;
   pass = name_pass;
 }
@@ -138,7 +138,7 @@ pub word_values : Values in_token (λ text. text) IsWord word_of
 unfolding word_of
 word_values = record {
   takes = λ bytes text e. let p = passed (is_none (short_fault is_word_byte bytes)) bytes text e in
-    (p.1, subst IsWord p.1 (no_fault (short_fault is_word_byte bytes) p.0));
+      (p.1, subst IsWord p.1 (no_fault (short_fault is_word_byte bytes) p.0));
   again = λ text h. rw h refl;
   pass = λ text h. all_by is_word_byte in_token word_byte_in_token text (list_all-from_AllPass is_word_byte text (word_parts text h).bytes);
 }
@@ -147,7 +147,7 @@ pub text_values : Values in_token (λ text. text) IsText text_of
 unfolding text_of
 text_values = record {
   takes = λ bytes text e. let p = passed (is_none (short_fault is_text_byte bytes)) bytes text e in
-    (p.1, subst IsText p.1 (no_fault (short_fault is_text_byte bytes) p.0));
+      (p.1, subst IsText p.1 (no_fault (short_fault is_text_byte bytes) p.0));
   again = λ text h. rw h refl;
   pass = λ text h. all_by is_text_byte in_token text_byte_in_token text (list_all-from_AllPass is_text_byte text (text_parts text h).bytes);
 }

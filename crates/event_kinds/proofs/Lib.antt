@@ -7,3 +7,5 @@ pub mod Parts
 pub mod RowLaws
 pub mod ItemLaws
 pub mod EventLaws
+pub mod Loops
+pub mod EntryLaws

@@ -1,5 +1,5 @@
 -- The single values of a line as parts, and parts with a comma, a parenthesis or a blank behind them.
-use Rattle.std.proofs.Common.{◌≡◌, ℕ, ℤ, zero, suc, ◌+◌, ◌<◌, ◌≤◌, Bool, true, false, List, [], ◌∷◌, ◌++◌, length, Option, Some, None, refl, sym, ap, subst, ◌∙◌, append_assoc, append-nil, arith, codes, decimal}
+use Rattle.std.proofs.Common.{◌≡◌, ℕ, ℤ, Bool, List, ◌++◌, Option, sym, ap, codes, decimal}
 use Rattle.std.specs.Prelude.{FitsSigned}
 use Rattle.std.specs.Int.{w32}
 use Rattle.std.specs.Fmt.{signed_decimal}
@@ -10,9 +10,9 @@ use Rattle.base_types.specs.declared.row.Kind.{Kind}
 use Rattle.base_types.specs.declared.row.ColType.{ColType}
 use Rattle.base_types.specs.declared.row.IndexState.{IndexState}
 use Rattle.event_kinds.specs.Entries.{IsNumber, AreNums}
-use Rattle.event_kinds.specs.Readers.{Reader, none_at}
+use Rattle.event_kinds.specs.Readers.{none_at}
 use Rattle.event_kinds.specs.Reading.{number_at, name_at, word_at, text_at, mode_at, kind_at, type_at, state_at, flag_at, signed_at, fill_at, nums_at}
-use Rattle.event_kinds.proofs.Spelling.{Any, Behind, Part, then_part, pair_part}
+use Rattle.event_kinds.proofs.Spelling.{Behind, Part, then_part, pair_part}
 use Rattle.std.proofs.lemmas.Option.{some_pair_parts}
 use Rattle.event_kinds.proofs.Fields.{TokenEnds, NumsEnds, IsFill, Flags, number_spells, name_spells, word_spells, text_spells, mode_spells, kind_spells, type_spells, state_spells, flag_spells, signed_spells, fill_spells, nums_spells}
 

@@ -1,7 +1,6 @@
 -- What is read of a row or a key is spelled so, and what is spelled so is read.
-use Rattle.std.proofs.Common.{◌≡◌, ℕ, ℤ, zero, suc, ◌+◌, ◌<◌, ◌≤◌, Bool, true, false, List, [], ◌∷◌, ◌++◌, length, Option, Some, None, refl, sym, ap, subst, ◌∙◌, append_assoc, append-nil, arith, codes, decimal}
-use Rattle.std.specs.Prelude.{FitsSigned}
-use Rattle.base_types.specs.Words.{valid_word, live_word, on_word, fill_text}
+use Rattle.std.proofs.Common.{◌≡◌, ℕ, ℤ, Bool, List, [], ◌++◌, Option, Some, refl, ap, ◌∙◌, append_assoc, codes}
+use Rattle.base_types.specs.Words.{valid_word, live_word, on_word}
 use Rattle.base_types.specs.declared.row.Kind.{Kind}
 use Rattle.base_types.specs.declared.row.ColType.{ColType}
 use Rattle.base_types.specs.declared.row.IndexState.{IndexState}
@@ -12,10 +11,10 @@ use Rattle.base_types.specs.declared.row.Row.TheVariants as rows
 use Rattle.base_types.specs.declared.row.RowKey.{RowKey}
 use Rattle.base_types.specs.declared.row.RowKey.TheVariants as keys
 use Rattle.event_kinds.specs.Texts.{con_text, row_text, key_text}
-use Rattle.event_kinds.specs.Entries.{IsNumber, IsConKind, IsRow, IsKey}
-use Rattle.event_kinds.specs.Readers.{Reader, lit_at, as_at, choose_at}
+use Rattle.event_kinds.specs.Entries.{IsConKind, IsRow, IsKey}
+use Rattle.event_kinds.specs.Readers.{lit_at}
 use Rattle.event_kinds.specs.Reading.{class_of, att_of, def_of, ind_of, con_of, trg_of, check_of, foreign_of, class_at, att_at, def_at, ind_at, check_con_at, foreign_con_at, what_cases, what_at, con_at, trg_at, row_cases, row_at, key_class_of, key_att_of, key_def_of, key_ind_of, key_con_of, key_trg_of, key_cases, key_at}
-use Rattle.event_kinds.proofs.Spelling.{Any, Spells, Behind, AllBehind, choose_behind, Part, behind_part, again_part}
+use Rattle.event_kinds.proofs.Spelling.{Any, Spells, Behind, choose_behind, Part, behind_part, again_part}
 use Rattle.event_kinds.proofs.Fields.{TokenEnds, valid_flags, live_flags, on_flags}
 use Rattle.event_kinds.proofs.Parts.{number_part, name_part, word_part, text_part, kind_part, type_part, state_part, signed_part, fill_part, nums_part, flag_part, comma_part, closed_part}
 
@@ -55,8 +54,11 @@ what_behind : Behind [] what_text IsWhat what_at
 unfolding what_at check_con_at foreign_con_at
 what_behind = choose_behind what_text IsWhat what_cases (
   behind_part check_part (codes "c,") check_of what_text IsWhat (λ t h. check_spelled t) (λ t h. h.1),
-  (behind_part foreign_part (codes "f,") foreign_of what_text IsWhat (λ t h. foreign_spelled t) (λ t h. (h.1.0, h.1.1.0, h.1.1.1)),
-  tt))
+  (
+    behind_part foreign_part (codes "f,") foreign_of what_text IsWhat (λ t h. foreign_spelled t) (λ t h. (h.1.0, h.1.1.0, h.1.1.1)),
+    tt,
+  ),
+)
 
 what_again : (valid : Bool) (what : ConKind) (rest : List ℕ) → IsConKind what → TokenEnds rest → what_at (con_text valid what ++ rest) ≡ Some ((valid, what), rest)
 unfolding what_at lit_at check_con_at foreign_con_at
@@ -100,12 +102,23 @@ pub row_behind : Behind [] row_text IsRow row_at
 unfolding row_at class_at att_at def_at ind_at con_at trg_at
 row_behind = choose_behind row_text IsRow row_cases (
   behind_part class_part (codes "class(") class_of row_text IsRow (λ t h. class_spelled t) (λ t h. (h.0, h.1.0, h.1.1.1)),
-  (behind_part att_part (codes "att(") att_of row_text IsRow (λ t h. att_spelled t) (λ t h. (h.0, h.1.0, h.1.1.0, h.1.1.1.1.0)),
-  (behind_part def_part (codes "def(") def_of row_text IsRow (λ t h. def_spelled t) (λ t h. (h.0, h.1.0, h.1.1.0, h.1.1.1)),
-  (behind_part ind_part (codes "ind(") ind_of row_text IsRow (λ t h. ind_spelled t) (λ t h. (h.0, h.1.0, h.1.1.1)),
-  (behind_part con_part (codes "con(") con_of row_text IsRow (λ t h. con_spelled t) (λ t h. (h.0, h.1.0, h.1.1.0, h.1.1.1)),
-  (behind_part trg_part (codes "trg(") trg_of row_text IsRow (λ t h. trg_spelled t) (λ t h. (h.0, h.1.0, h.1.1.0)),
-  tt))))))
+  (
+    behind_part att_part (codes "att(") att_of row_text IsRow (λ t h. att_spelled t) (λ t h. (h.0, h.1.0, h.1.1.0, h.1.1.1.1.0)),
+    (
+      behind_part def_part (codes "def(") def_of row_text IsRow (λ t h. def_spelled t) (λ t h. (h.0, h.1.0, h.1.1.0, h.1.1.1)),
+      (
+        behind_part ind_part (codes "ind(") ind_of row_text IsRow (λ t h. ind_spelled t) (λ t h. (h.0, h.1.0, h.1.1.1)),
+        (
+          behind_part con_part (codes "con(") con_of row_text IsRow (λ t h. con_spelled t) (λ t h. (h.0, h.1.0, h.1.1.0, h.1.1.1)),
+          (
+            behind_part trg_part (codes "trg(") trg_of row_text IsRow (λ t h. trg_spelled t) (λ t h. (h.0, h.1.0, h.1.1.0)),
+            tt,
+          ),
+        ),
+      ),
+    ),
+  ),
+)
 
 row_again : (row : Row) (rest : List ℕ) → IsRow row → row_at (row_text row ++ rest) ≡ Some (row, rest)
 unfolding row_at lit_at class_at att_at def_at ind_at con_at trg_at
@@ -149,12 +162,23 @@ key_behind : Behind [] key_text IsKey key_at
 unfolding key_at
 key_behind = choose_behind key_text IsKey key_cases (
   behind_part one_part (codes "class(") key_class_of key_text IsKey (λ n h. refl) (λ n h. h),
-  (behind_part two_part (codes "att(") key_att_of key_text IsKey (λ t h. key_att_spelled t) (λ t h. (h.0, h.1)),
-  (behind_part one_part (codes "def(") key_def_of key_text IsKey (λ n h. refl) (λ n h. h),
-  (behind_part one_part (codes "ind(") key_ind_of key_text IsKey (λ n h. refl) (λ n h. h),
-  (behind_part one_part (codes "con(") key_con_of key_text IsKey (λ n h. refl) (λ n h. h),
-  (behind_part one_part (codes "trg(") key_trg_of key_text IsKey (λ n h. refl) (λ n h. h),
-  tt))))))
+  (
+    behind_part two_part (codes "att(") key_att_of key_text IsKey (λ t h. key_att_spelled t) (λ t h. (h.0, h.1)),
+    (
+      behind_part one_part (codes "def(") key_def_of key_text IsKey (λ n h. refl) (λ n h. h),
+      (
+        behind_part one_part (codes "ind(") key_ind_of key_text IsKey (λ n h. refl) (λ n h. h),
+        (
+          behind_part one_part (codes "con(") key_con_of key_text IsKey (λ n h. refl) (λ n h. h),
+          (
+            behind_part one_part (codes "trg(") key_trg_of key_text IsKey (λ n h. refl) (λ n h. h),
+            tt,
+          ),
+        ),
+      ),
+    ),
+  ),
+)
 
 key_again : (key : RowKey) (rest : List ℕ) → IsKey key → key_at (key_text key ++ rest) ≡ Some (key, rest)
 unfolding key_at lit_at

@@ -1,5 +1,5 @@
 -- Which entries have a text: numbers of four bytes, names as columns may have them, words and texts, and a write of something.
-use Rattle.std.specs.Prelude.{ℕ, List, Option, ⊤, ◌<◌, ◌≤◌, ◌^◌, length, IfSome, FitsSigned}
+use Rattle.std.specs.Prelude.{ℕ, List, ⊤, ◌<◌, ◌≤◌, ◌^◌, length, IfSome, FitsSigned}
 use Rattle.std.specs.Int.{w32}
 use Rattle.std.specs.List.{AllByRecursion}
 use Rattle.base_types.specs.Names.{IsAnyName, IsWord, IsText}

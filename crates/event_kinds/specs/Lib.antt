@@ -4,3 +4,4 @@ pub mod Adding
 pub mod Entries
 pub mod Readers
 pub mod Reading
+pub mod Yields

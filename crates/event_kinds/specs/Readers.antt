@@ -1,9 +1,8 @@
 -- How parts of a line are read: a reader gives the value in front and the bytes behind it, or nothing.
-use Rattle.std.specs.Prelude.{◌≡◌, ℕ, Bool, nat_eq, Option, Some, None, List, [], ◌∷◌, length, take, drop, if◌then◌else◌}
+use Rattle.std.specs.Prelude.{◌≡◌, ℕ, zero, suc, Bool, nat_eq, Option, Some, None, List, [], ◌∷◌, ◌++◌, length, take, drop, if◌then◌else◌}
 use Rattle.std.specs.List.{starts_with, prefix_len}
 
 infixl 10 ◌>>=◌
-
 -- a step, and what follows it
 abbrev pub ◌>>=◌ : {A B : Type 0} → Option A → (A → Option B) → Option B
 None >>= f = None
@@ -49,6 +48,16 @@ or_at text behind other bytes = elim (lit_at text bytes) [ None ↦ other bytes 
 abbrev pub choose_at : {X : Type 0} → List (List ℕ × Reader X) → Reader X
 choose_at [] bytes = None
 choose_at (c ∷ cs) bytes = or_at c.0 c.1 (choose_at cs) bytes
+
+-- more values, a fixed text before each, so many at most
+unfoldable pub more_at : {X : Type 0} → List ℕ → Reader X → ℕ → Reader (List X)
+more_at lit f zero bytes = Some ([], bytes)
+more_at lit f (suc n) bytes = or_at lit (as_at (λ p. p.0 ∷ p.1) (pair_at f (more_at lit f n))) (none_at []) bytes
+
+-- values that follow others
+abbrev pub with_front : {X : Type 0} → List X → Option (List X × List ℕ) → Option (List X × List ℕ)
+with_front front None = None
+with_front front (Some x) = Some (front ++ x.0, x.1)
 
 -- what a reading function returned, and what it left, is what a reader gives
 abbrev pub Gives : {X : Type 0} → Option X → List ℕ → Option (X × List ℕ) → Type 0

@@ -1,5 +1,5 @@
 -- How an entry's line is read.
-use Rattle.std.specs.Prelude.{ℕ, ℤ, pos, negsuc, zero, suc, Bool, true, false, not, ◌&&◌, ◌||◌, ◌==◌, nat_lt, nat_le, ◌^◌, Option, Some, None, is_none, List, [], ◌∷◌, ◌++◌, length, take, drop, ◌-◌, codes, decimal, if◌then◌else◌}
+use Rattle.std.specs.Prelude.{ℕ, ℤ, pos, negsuc, zero, suc, Bool, true, false, not, ◌&&◌, ◌||◌, ◌==◌, nat_lt, nat_le, ◌^◌, Option, Some, None, is_none, List, [], ◌∷◌, length, take, drop, ◌-◌, codes, decimal, if◌then◌else◌}
 use Rattle.std.specs.List.{find}
 use Rattle.std.specs.Str.{bytes_eq}
 use Rattle.base_types.specs.Names.{is_digit, is_word_byte, is_text_byte, short_fault, name_fault, number_of_digits, dropped_name}
@@ -23,7 +23,7 @@ use Rattle.base_types.specs.declared.scan.Purpose.TheVariants as scans
 use Rattle.event_kinds.specs.Events.{Item, Event, Entry}
 use Rattle.event_kinds.specs.declared.entry.Item.TheVariants as items
 use Rattle.event_kinds.specs.declared.entry.Event.TheVariants as events
-use Rattle.event_kinds.specs.Readers.{◌>>=◌, Reader, lit_at, field_at, pair_at, then_at, as_at, check_at, none_at, or_at, choose_at}
+use Rattle.event_kinds.specs.Readers.{◌>>=◌, Reader, field_at, pair_at, then_at, as_at, check_at, none_at, or_at, choose_at, more_at}
 
 -- a byte that no blank, comma or parenthesis ends
 abbrev pub in_token : ℕ → Bool
@@ -64,8 +64,10 @@ col_types = types.Bool ∷ types.Int2 ∷ types.Int4 ∷ types.Int8 ∷ types.Te
 -- the kinds, the states of an index, and the truth values
 abbrev pub kinds_listed : List Kind
 kinds_listed = Table ∷ Index ∷ []
+
 abbrev pub states : List IndexState
 states = Neither ∷ Valid ∷ []
+
 abbrev pub flags : List Bool
 flags = true ∷ false ∷ []
 
@@ -76,22 +78,31 @@ worded word xs text = find (λ x. bytes_eq (word x) text) xs
 -- readers of single values
 unfoldable pub number_at : Reader ℕ
 number_at = field_at in_token number_of
+
 unfoldable pub digits_at : Reader ℕ
 digits_at = field_at is_digit number_of
+
 unfoldable pub name_at : Reader (List ℕ)
 name_at = field_at in_token name_of
+
 unfoldable pub word_at : Reader (List ℕ)
 word_at = field_at in_token word_of
+
 unfoldable pub text_at : Reader (List ℕ)
 text_at = field_at in_token text_of
+
 unfoldable pub mode_at : Reader Mode
 mode_at = field_at in_token (worded mode_word modes)
+
 unfoldable pub kind_at : Reader Kind
 kind_at = field_at in_token (worded kind_word kinds_listed)
+
 unfoldable pub type_at : Reader ColType
 type_at = field_at in_token (worded type_word col_types)
+
 unfoldable pub state_at : Reader IndexState
 state_at = field_at in_token (worded state_word states)
+
 unfoldable pub flag_at : (Bool → List ℕ) → Reader Bool
 flag_at word = field_at in_token (worded word flags)
 
@@ -108,20 +119,17 @@ signed_at = or_at (codes "-") (as_at minus (check_at (λ n. nat_lt 0 n && nat_le
 unfoldable pub fill_at : Reader (Option ℕ)
 fill_at = or_at (codes "-") (none_at None) (as_at (λ n. Some n) number_at)
 
--- more column numbers, a `+` before each, so many at most
-unfoldable pub more_nums_at : ℕ → Reader (List ℕ)
-more_nums_at zero bytes = Some ([], bytes)
-more_nums_at (suc n) bytes = or_at (codes "+") (as_at (λ p. p.0 ∷ p.1) (pair_at digits_at (more_nums_at n))) (none_at []) bytes
-
 -- column numbers with a `+` between them
 unfoldable pub nums_at : Reader (List ℕ)
-nums_at = as_at (λ p. p.0 ∷ p.1) (pair_at digits_at (more_nums_at 31))
+nums_at = as_at (λ p. p.0 ∷ p.1) (pair_at digits_at (more_at (codes "+") digits_at 31))
 
 -- a part and a comma, a parenthesis or a blank
 abbrev pub comma : {X : Type 0} → Reader X → Reader X
 comma f = then_at f (codes ",")
+
 abbrev pub closed : {X : Type 0} → Reader X → Reader X
 closed f = then_at f (codes ")")
+
 abbrev pub blank : {X : Type 0} → Reader X → Reader X
 blank f = then_at f (codes " ")
 
@@ -130,44 +138,58 @@ blank f = then_at f (codes " ")
 -- rows made of their columns
 abbrev pub class_of : ℕ × (List ℕ × (Kind × Option ℕ)) → Row
 class_of t = rows.Class (record { 0 = t.0 }) t.1.0 t.1.1.0 t.1.1.1
+
 abbrev pub att_of : ℕ × (ℕ × (List ℕ × (ColType × (ℤ × Bool)))) → Row
 att_of t = rows.Att (record { 0 = t.0 }) t.1.0 t.1.1.0 t.1.1.1.0 t.1.1.1.1.0 t.1.1.1.1.1
+
 abbrev pub def_of : ℕ × (ℕ × (ℕ × List ℕ)) → Row
 def_of t = rows.Def (record { 0 = t.0 }) (record { 0 = t.1.0 }) t.1.1.0 t.1.1.1
+
 abbrev pub ind_of : ℕ × (ℕ × (IndexState × List ℕ)) → Row
 ind_of t = rows.Ind (record { 0 = t.0 }) (record { 0 = t.1.0 }) t.1.1.0 t.1.1.1
+
 abbrev pub con_of : ℕ × (ℕ × (List ℕ × (Bool × ConKind))) → Row
 con_of t = rows.Con (record { 0 = t.0 }) (record { 0 = t.1.0 }) t.1.1.0 t.1.1.1.0 t.1.1.1.1
+
 abbrev pub trg_of : ℕ × (ℕ × (List ℕ × Bool)) → Row
 trg_of t = rows.Trg (record { 0 = t.0 }) (record { 0 = t.1.0 }) t.1.1.0 t.1.1.1
 
 -- a check, and a foreign key
 abbrev pub check_of : Bool × List ℕ → Bool × ConKind
 check_of t = (t.0, kinds.Check t.1)
+
 abbrev pub foreign_of : Bool × (ℕ × (ℕ × ℕ)) → Bool × ConKind
 foreign_of t = (t.0, kinds.Foreign t.1.0 (record { 0 = t.1.1.0 }) t.1.1.1)
 
 -- what stands behind each catalog's word
 unfoldable pub class_at : Reader Row
 class_at = as_at class_of (pair_at (comma number_at) (pair_at (comma name_at) (pair_at (comma kind_at) (closed fill_at))))
+
 unfoldable pub att_at : Reader Row
 att_at = as_at att_of (pair_at (comma number_at) (pair_at (comma number_at) (pair_at (comma name_at) (pair_at (comma type_at) (pair_at (comma signed_at) (closed (flag_at live_word)))))))
+
 unfoldable pub def_at : Reader Row
 def_at = as_at def_of (pair_at (comma number_at) (pair_at (comma number_at) (pair_at (comma number_at) (closed word_at))))
+
 unfoldable pub ind_at : Reader Row
 ind_at = as_at ind_of (pair_at (comma number_at) (pair_at (comma number_at) (pair_at (comma state_at) (closed nums_at))))
+
 unfoldable pub check_con_at : Reader (Bool × ConKind)
 check_con_at = as_at check_of (pair_at (comma (flag_at valid_word)) text_at)
+
 unfoldable pub foreign_con_at : Reader (Bool × ConKind)
 foreign_con_at = as_at foreign_of (pair_at (comma (flag_at valid_word)) (pair_at (comma number_at) (pair_at (comma number_at) number_at)))
+
 -- the ways to go on for what_at
 abbrev pub what_cases : List (List ℕ × Reader (Bool × ConKind))
 what_cases = (codes "c,", check_con_at) ∷ (codes "f,", foreign_con_at) ∷ []
 
 unfoldable pub what_at : Reader (Bool × ConKind)
 what_at = choose_at what_cases
+
 unfoldable pub con_at : Reader Row
 con_at = as_at con_of (pair_at (comma number_at) (pair_at (comma number_at) (pair_at (comma name_at) (closed what_at))))
+
 unfoldable pub trg_at : Reader Row
 trg_at = as_at trg_of (pair_at (comma number_at) (pair_at (comma number_at) (pair_at (comma name_at) (closed (flag_at on_word)))))
 
@@ -182,14 +204,19 @@ row_at = choose_at row_cases
 -- keys made of their numbers
 abbrev pub key_class_of : ℕ → RowKey
 key_class_of n = keys.Class (record { 0 = n })
+
 abbrev pub key_att_of : ℕ × ℕ → RowKey
 key_att_of t = keys.Att (record { 0 = t.0 }) t.1
+
 abbrev pub key_def_of : ℕ → RowKey
 key_def_of n = keys.Def (record { 0 = n })
+
 abbrev pub key_ind_of : ℕ → RowKey
 key_ind_of n = keys.Ind (record { 0 = n })
+
 abbrev pub key_con_of : ℕ → RowKey
 key_con_of n = keys.Con (record { 0 = n })
+
 abbrev pub key_trg_of : ℕ → RowKey
 key_trg_of n = keys.Trg (record { 0 = n })
 
@@ -205,10 +232,13 @@ key_at = choose_at key_cases
 
 abbrev pub add_of : Row → Item
 add_of row = items.Add row
+
 abbrev pub put_of : Row → Item
 put_of row = items.Put row
+
 abbrev pub remove_of : RowKey → Item
 remove_of key = items.Remove key
+
 abbrev pub force_of : ℕ → Item
 force_of n = items.Force (record { 0 = n })
 
@@ -223,14 +253,9 @@ item_at = choose_at item_cases
 abbrev pub with_item : Item × List Item → List Item
 with_item p = p.0 ∷ p.1
 
--- more changes, a blank before each, so many at most
-unfoldable pub more_items_at : ℕ → Reader (List Item)
-more_items_at zero bytes = Some ([], bytes)
-more_items_at (suc n) bytes = or_at (codes " ") (as_at with_item (pair_at item_at (more_items_at n))) (none_at []) bytes
-
 -- as many changes as there are
 unfoldable pub rest_items_at : Reader (List Item)
-rest_items_at bytes = more_items_at (length bytes) bytes
+rest_items_at bytes = more_at (codes " ") item_at (length bytes) bytes
 
 -- the ways to go on for items_at
 abbrev pub items_cases : List (List ℕ × Reader (List Item))
@@ -244,34 +269,44 @@ items_at = choose_at items_cases
 
 abbrev pub rel_name_of : List ℕ → Purpose
 rel_name_of name = scans.RelName name
+
 abbrev pub rel_oid_of : ℕ → Purpose
 rel_oid_of n = scans.RelOid (record { 0 = n })
+
 abbrev pub att_name_of : ℕ × List ℕ → Purpose
 att_name_of t = scans.AttName (record { 0 = t.0 }) t.1
+
 abbrev pub att_list_of : ℕ → Purpose
 att_list_of n = scans.AttList (record { 0 = n })
+
 abbrev pub class_scan_of : ℕ → Purpose
 class_scan_of n = scans.Class (record { 0 = n })
+
 abbrev pub attribute_of : ℕ → Purpose
 attribute_of n = scans.Attribute (record { 0 = n })
+
 abbrev pub attr_def_of : ℕ → Purpose
 attr_def_of n = scans.AttrDef (record { 0 = n })
+
 abbrev pub constraint_of : ℕ → Purpose
 constraint_of n = scans.Constraint (record { 0 = n })
+
 abbrev pub index_of : ℕ → Purpose
 index_of n = scans.Index (record { 0 = n })
+
 abbrev pub trigger_of : ℕ → Purpose
 trigger_of n = scans.Trigger (record { 0 = n })
+
 abbrev pub index_row_of : ℕ → Purpose
 index_row_of n = scans.IndexRow (record { 0 = n })
 
--- the ways to go on for relation_scan_at
-abbrev pub relation_scan_cases : List (List ℕ × Reader Purpose)
-relation_scan_cases = (codes "attlist ", as_at att_list_of number_at) ∷ (codes "class ", as_at class_scan_of number_at) ∷ (codes "attribute ", as_at attribute_of number_at) ∷ (codes "attrdef ", as_at attr_def_of number_at) ∷ (codes "constraint ", as_at constraint_of number_at) ∷ (codes "index ", as_at index_of number_at) ∷ (codes "trigger ", as_at trigger_of number_at) ∷ (codes "indexrow ", as_at index_row_of number_at) ∷ []
+-- a scan of one relation's constraints
+unfoldable pub constraint_scan_at : Reader Purpose
+constraint_scan_at = choose_at ((codes "constraint ", as_at constraint_of number_at) ∷ [])
 
 -- a scan of one relation's rows
 unfoldable pub relation_scan_at : Reader Purpose
-relation_scan_at = choose_at relation_scan_cases
+relation_scan_at = or_at (codes "attlist ") (as_at att_list_of number_at) (or_at (codes "class ") (as_at class_scan_of number_at) (or_at (codes "attribute ") (as_at attribute_of number_at) (or_at (codes "attrdef ") (as_at attr_def_of number_at) (or_at (codes "index ") (as_at index_of number_at) (or_at (codes "trigger ") (as_at trigger_of number_at) (or_at (codes "indexrow ") (as_at index_row_of number_at) constraint_scan_at))))))
 
 -- a scan
 unfoldable pub purpose_at : Reader Purpose
@@ -281,31 +316,42 @@ purpose_at = or_at (codes "relname ") (as_at rel_name_of name_at) (or_at (codes 
 
 abbrev pub fetch_of : ℕ → Event
 fetch_of n = events.Fetch n
+
 abbrev pub lock_of : ℕ × (Mode × Option (ℕ × Mode)) → Event
 lock_of (rel, (mode, None)) = events.LockOk (record { 0 = rel }) mode
 lock_of (rel, (mode, Some held)) = events.LockHeld (record { 0 = rel }) mode held.0 held.1
+
 abbrev pub unlock_of : ℕ × Mode → Event
 unlock_of t = events.Unlock (record { 0 = t.0 }) t.1
+
 abbrev pub scan_of : Purpose × ℕ → Event
 scan_of t = events.Scan t.0 t.1
+
 abbrev pub write_of : ℕ × List Item → Event
 write_of t = events.Write (record { 0 = t.0 }) t.1
+
 abbrev pub clash_of : List ℕ × (Bool × ℕ) → Event
 clash_of (name, (true, n)) = events.ClashRow name (record { 0 = n })
 clash_of (name, (false, n)) = events.ClashRunning name (record { 0 = n })
+
 abbrev pub visible_of : ℕ → Event
 visible_of n = events.Visible (record { 0 = n })
+
 abbrev pub publish_of : ℕ → Event
 publish_of n = events.Publish n
+
 abbrev pub release_of : ℕ → Event
 release_of n = events.Release n
+
 abbrev pub gone_of : ℕ → Event
 gone_of n = events.Gone n
 
 abbrev pub held_of : ℕ × Mode → Option (ℕ × Mode)
 held_of t = Some t
+
 abbrev pub of_row : ℕ → Bool × ℕ
 of_row n = (true, n)
+
 abbrev pub of_running : ℕ → Bool × ℕ
 of_running n = (false, n)
 
@@ -343,10 +389,13 @@ short_event_at = choose_at short_event_cases
 
 unfoldable pub unlock_event_at : Reader Event
 unlock_event_at = as_at unlock_of (pair_at (blank number_at) mode_at)
+
 unfoldable pub scan_event_at : Reader Event
 scan_event_at = as_at scan_of (pair_at (then_at purpose_at (codes " rows ")) number_at)
+
 unfoldable pub write_event_at : Reader Event
 write_event_at = as_at write_of (pair_at number_at items_at)
+
 unfoldable pub clash_event_at : Reader Event
 clash_event_at = as_at clash_of (pair_at (blank name_at) owner_at)
 

@@ -3,7 +3,10 @@ ghost use Rattle.std.specs.List.{prefix_len};
 ghost use Rattle.base_types.specs.Names.{is_digit};
 ghost use Rattle.event_kinds.specs.Reading.{in_token};
 
-use crate::value::{kind_of, is_digit_byte, is_token_byte, live_of, mode_of, name_of, number_of, on_of, state_of, text_of, type_of, valid_of, word_of};
+use crate::value::{
+    is_digit_byte, is_token_byte, kind_of, live_of, mode_of, name_of, number_of, on_of, state_of,
+    text_of, type_of, valid_of, word_of,
+};
 use base_types::{ColType, IndexState, Kind, Mode, Name, Text, Word};
 use std::marker::Model;
 

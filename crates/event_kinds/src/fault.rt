@@ -1,6 +1,6 @@
 ghost use Rattle.std.specs.Prelude.{◌≡◌};
 
-use std::alloc::AllocFailed;
+use base_types::NoMemory;
 use std::error::Error;
 use std::fmt;
 
@@ -24,12 +24,12 @@ impl fmt::Display for EntryFault {
 
 impl Error for EntryFault {}
 
-impl<T: Drop> From<AllocFailed<T>> for EntryFault {
-    ghost use Rattle.event_kinds.specs.declared.fault.EntryFault.TheVariants.{NoMemory};
+impl From<NoMemory> for EntryFault {
+    ghost use Rattle.event_kinds.specs.declared.fault.EntryFault.TheVariants as faults;
 
-    ghost from_gives = { λ _ fault. fault ≡ NoMemory };
+    ghost from_gives = { λ _ fault. fault ≡ faults.NoMemory };
 
-    fn from(_error: AllocFailed<T>) -> EntryFault {
+    fn from(_error: NoMemory) -> EntryFault {
         EntryFault::NoMemory
     }
 }

@@ -12,8 +12,10 @@
 mod cursor;
 mod entry;
 mod entry_text;
+mod event_reading;
 mod event_text;
 mod fault;
+mod reading;
 mod row_reading;
 mod row_text;
 mod value;
@@ -25,4 +27,5 @@ pub use event_text::{
     push_purpose,
 };
 pub use fault::EntryFault;
+pub use reading::read_entry;
 pub use row_text::{push_key, push_row};

@@ -49,7 +49,11 @@ pub fn number_of(text: &[u8]) -> Option<u32>
     let number = value_of(text)?;
     let mut line = LineBuffer::new();
     line.push_number(number);
-    if line.as_bytes() == text { Some(number) } else { None }
+    if line.as_bytes() == text {
+        Some(number)
+    } else {
+        None
+    }
 }
 
 // The value of digits, if it has four bytes.
@@ -98,7 +102,10 @@ pub fn mode_of(text: &[u8]) -> Option<Mode>
 pub fn type_of(text: &[u8]) -> Option<ColType>
     ensures { result ≡ worded type_word col_types text.now }
 {
-    COL_TYPES.iter().copied().find(|col_type| col_type.word() == text)
+    COL_TYPES
+        .iter()
+        .copied()
+        .find(|col_type| col_type.word() == text)
 }
 
 // The kind of this letter.
