@@ -277,11 +277,16 @@ entry_takes bytes entry e = read_some (choose_at entry_cases bytes) ends_here en
     let t = entry_behind.takes bytes a rest read in
     rw (← last.1) (t.0 ∙ ap (λ l. entry_text a ++ l) last.0 ∙ append-nil (entry_text a), t.1))
 
+-- an entry is read of its text, with nothing or a line's end behind it
+pub placed_again : (entry : Entry) (rest : List ℕ) → IsEntry entry → HereEnds rest → choose_at entry_cases (entry_text entry ++ rest) ≡ Some (entry, rest)
+unfolding placed_at lit_at
+placed_again entry rest is end =
+    let t : ℕ × (ℕ × Event) = (entry.backend, (entry.command, entry.event)) in
+    ap (λ l. choose_at entry_cases (l ++ rest)) (placed_spelled t) ∙ again_part placed_part entry_of t rest (is.backend, (is.command, is.event)) end
+
 -- an entry is read of its text
 pub entry_again : (entry : Entry) → IsEntry entry → entry_at (entry_text entry) ≡ Some entry
-unfolding entry_at placed_at lit_at
+unfolding entry_at
 entry_again entry is =
-    let t : ℕ × (ℕ × Event) = (entry.backend, (entry.command, entry.event)) in
-    let read : choose_at entry_cases (entry_text entry) ≡ Some (entry, []) =
-    ap (choose_at entry_cases) (sym (append-nil (entry_text entry)) ∙ ap (λ l. l ++ []) (placed_spelled t)) ∙ again_part placed_part entry_of t [] (is.backend, (is.command, is.event)) refl in
+    let read : choose_at entry_cases (entry_text entry) ≡ Some (entry, []) = ap (choose_at entry_cases) (sym (append-nil (entry_text entry))) ∙ placed_again entry [] is refl in
     rw read refl

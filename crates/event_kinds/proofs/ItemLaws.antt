@@ -1,14 +1,15 @@
 -- What is read of the changes of a write is spelled so, and what is spelled so is read.
-use Rattle.std.proofs.Common.{◌≡◌, ℕ, ◌+◌, ◌≤◌, List, [], ◌∷◌, ◌++◌, length, Some, None, refl, ap, ◌∙◌, append_assoc, arith, codes}
+use Rattle.std.proofs.Common.{◌≡◌, ℕ, ◌+◌, ◌≤◌, true, false, not, eqb, List, [], ◌∷◌, ◌++◌, length, Some, None, refl, ap, ◌∙◌, append_assoc, arith, codes}
 use Rattle.std.specs.List.{AllByRecursion}
 use Rattle.std.proofs.lemmas.List.{length-append}
 use Rattle.event_kinds.specs.Events.{Item}
 use Rattle.event_kinds.specs.declared.entry.Item.TheVariants as items
-use Rattle.event_kinds.specs.Texts.{item_text, changes_text}
+use Rattle.std.proofs.lemmas.Bool.Decides.{nat_tests}
+use Rattle.event_kinds.specs.Texts.{item_text, changes_text, in_line}
 use Rattle.event_kinds.specs.Entries.{IsItem, AreItems}
 use Rattle.event_kinds.specs.Readers.{lit_at, pair_at, more_at}
-use Rattle.event_kinds.specs.Reading.{add_of, put_of, remove_of, force_of, item_cases, item_at, with_item, rest_items_at, items_cases, items_at}
-use Rattle.event_kinds.proofs.Spelling.{Spells, Behind, choose_behind, AreUpTo, Repeats, first_and_more, more_spells, Part, behind_part, again_part}
+use Rattle.event_kinds.specs.Reading.{in_token, add_of, put_of, remove_of, force_of, item_cases, item_at, with_item, rest_items_at, items_cases, items_at}
+use Rattle.event_kinds.proofs.Spelling.{stops, Spells, Behind, choose_behind, AreUpTo, Repeats, first_and_more, more_spells, Part, behind_part, again_part}
 use Rattle.event_kinds.proofs.Fields.{TokenEnds}
 use Rattle.event_kinds.proofs.Parts.{number_part}
 use Rattle.event_kinds.proofs.RowLaws.{row_part, key_part}
@@ -39,12 +40,19 @@ item_again (items.Force rel) rest is end = again_part number_part force_of rel.0
 pub item_spells : Spells item_text IsItem TokenEnds item_at
 item_spells = record { takes = item_behind.takes; again = item_again }
 
--- nothing follows
+-- nothing follows, or a line's end
 abbrev pub HereEnds : List ℕ → Type 0
-HereEnds rest = rest ≡ []
+HereEnds rest = stops in_line rest ≡ true
+
+line_end_ends : (byte : ℕ) → not (in_line byte) ≡ true → not (in_token byte) ≡ true
+line_end_ends byte h = grind (arith, nat_tests, h)
+
+line_end_is_no_blank : (byte : ℕ) → not (in_line byte) ≡ true → eqb 32 byte ≡ false
+line_end_is_no_blank byte h = grind (arith, nat_tests, h)
 
 pub token_end : (rest : List ℕ) → HereEnds rest → TokenEnds rest
-token_end rest end = rw end refl
+token_end [] end = refl
+token_end (byte ∷ bytes) end = line_end_ends byte end
 
 pub changes_end : (changes : List Item) (rest : List ℕ) → HereEnds rest → TokenEnds (changes_text changes ++ rest)
 changes_end [] rest end = token_end rest end
@@ -52,7 +60,8 @@ changes_end (change ∷ changes) rest end = refl
 
 no_blank : (rest : List ℕ) → HereEnds rest → lit_at (codes " ") rest ≡ None
 unfolding lit_at
-no_blank rest end = rw end refl
+no_blank [] end = refl
+no_blank (byte ∷ bytes) end = rw (line_end_is_no_blank byte end) refl
 
 items_repeat : Repeats (codes " ") item_text IsItem TokenEnds HereEnds item_at
 items_repeat = record { one = item_spells; others = changes_end; last = no_blank }

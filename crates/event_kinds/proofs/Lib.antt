@@ -9,3 +9,4 @@ pub mod ItemLaws
 pub mod EventLaws
 pub mod Loops
 pub mod EntryLaws
+pub mod Outputs

@@ -45,7 +45,7 @@ lit_takes text bytes rest e =
     let p = passed (bytes_eq text (take (length text) bytes)) (drop (length text) bytes) rest e in
     sym (take-append-drop (length text) bytes) ∙ ap (λ t. t ++ drop (length text) bytes) (sym (bytes_same text (take (length text) bytes) p.0)) ∙ ap (λ t. text ++ t) p.1
 
-drop-append_seam : (xs ys : List ℕ) → drop (length xs) (xs ++ ys) ≡ ys
+pub drop-append_seam : (xs ys : List ℕ) → drop (length xs) (xs ++ ys) ≡ ys
 drop-append_seam [] ys = refl
 drop-append_seam (x ∷ xs) ys = drop-append_seam xs ys
 
@@ -165,7 +165,7 @@ stopped false n e = refl
 more_passed : (b : Bool) (n m : ℕ) → b ≡ true → n ≡ m → cond b (1 + n) 0 ≡ 1 + m
 more_passed b n m e h = rw (e, h) refl
 
-prefix_seam : (p : ℕ → Bool) (xs rest : List ℕ) → list_all p xs ≡ true → stops p rest ≡ true → prefix_len p (xs ++ rest) ≡ length xs
+pub prefix_seam : (p : ℕ → Bool) (xs rest : List ℕ) → list_all p xs ≡ true → stops p rest ≡ true → prefix_len p (xs ++ rest) ≡ length xs
 prefix_seam p [] [] e h = refl
 prefix_seam p [] (byte ∷ bytes) e h = stopped (p byte) _ h
 prefix_seam p (x ∷ xs) rest e h =

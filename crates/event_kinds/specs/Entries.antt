@@ -1,7 +1,7 @@
 -- Which entries have a text: numbers of four bytes, names as columns may have them, words and texts, and a write of something.
-use Rattle.std.specs.Prelude.{ℕ, List, ⊤, ◌<◌, ◌≤◌, ◌^◌, length, IfSome, FitsSigned}
+use Rattle.std.specs.Prelude.{◌≡◌, IsTrue, ℕ, List, ⊤, ◌<◌, ◌≤◌, ◌^◌, length, IfSome, FitsSigned}
 use Rattle.std.specs.Int.{w32}
-use Rattle.std.specs.List.{AllByRecursion}
+use Rattle.std.specs.List.{AllByRecursion, list_all}
 use Rattle.base_types.specs.Names.{IsAnyName, IsWord, IsText}
 use Rattle.base_types.specs.declared.row.ConKind.{ConKind}
 use Rattle.base_types.specs.declared.row.ConKind.TheVariants as kinds
@@ -11,7 +11,8 @@ use Rattle.base_types.specs.declared.row.RowKey.{RowKey}
 use Rattle.base_types.specs.declared.row.RowKey.TheVariants as keys
 use Rattle.base_types.specs.declared.scan.Purpose.{Purpose}
 use Rattle.base_types.specs.declared.scan.Purpose.TheVariants as scans
-use Rattle.event_kinds.specs.Events.{Item, Event, Entry}
+use Rattle.event_kinds.specs.Events.{Item, Event, Entry, Line}
+use Rattle.event_kinds.specs.Texts.{in_line, text_of}
 use Rattle.event_kinds.specs.declared.entry.Item.TheVariants as items
 use Rattle.event_kinds.specs.declared.entry.Event.TheVariants as events
 
@@ -96,3 +97,14 @@ pub record IsEntry (entry : Entry) : Type 0 where
   pub backend : IsNumber entry.backend
   pub command : IsNumber entry.command
   pub event : IsEvent entry.event
+
+-- an answer line: numbers of four bytes, and a text without a line's end
+pub record IsLine (line : Line) : Type 0 where
+  pub backend : IsNumber line.backend
+  pub command : IsNumber line.command
+  pub text : IsTrue (list_all in_line line.text)
+
+-- different pairs of a history and its answer lines have different texts
+abbrev pub TextsDiffer : Type 0
+TextsDiffer = (history other : List Entry) (lines others : List Line) → AllByRecursion IsEntry history → AllByRecursion IsEntry other → AllByRecursion IsLine lines → AllByRecursion IsLine others
+    → text_of history lines ≡ text_of other others → (history ≡ other) × (lines ≡ others)

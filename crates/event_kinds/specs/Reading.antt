@@ -25,9 +25,9 @@ use Rattle.event_kinds.specs.declared.entry.Item.TheVariants as items
 use Rattle.event_kinds.specs.declared.entry.Event.TheVariants as events
 use Rattle.event_kinds.specs.Readers.{◌>>=◌, Reader, field_at, pair_at, then_at, as_at, check_at, none_at, or_at, choose_at, more_at}
 
--- a byte that no blank, comma or parenthesis ends
+-- a byte that is no blank, comma, parenthesis or line's end
 abbrev pub in_token : ℕ → Bool
-in_token byte = not ((byte == 32) || (byte == 44) || (byte == 40) || (byte == 41))
+in_token byte = not ((byte == 32) || (byte == 44) || (byte == 40) || (byte == 41) || (byte == 10))
 
 -- the number of four bytes that is written so
 unfoldable pub number_of : List ℕ → Option ℕ

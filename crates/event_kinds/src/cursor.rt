@@ -189,7 +189,7 @@ impl<'a> Cursor<'a> {
     }
 }
 
-// How many bytes stand in front of a blank, a comma or a parenthesis.
+// How many bytes stand in front of a blank, a comma, a parenthesis or a line's end.
 fn token_len(bytes: &[u8]) -> usize
     ensures text { result ≡ prefix_len in_token bytes.now }
     ensures short { result ≤ length bytes.now }

@@ -27,5 +27,5 @@ pub use event_text::{
     push_purpose,
 };
 pub use fault::EntryFault;
-pub use reading::read_entry;
+pub use reading::{read_entry, texts_differ};
 pub use row_text::{push_key, push_row};

@@ -27,11 +27,11 @@ const COL_TYPES: [ColType; 8] = [
     ColType::Timestamptz,
 ];
 
-// Whether no blank, comma or parenthesis is the byte.
+// Whether the byte is no blank, comma, parenthesis or line's end.
 pub fn is_token_byte(byte: u8) -> bool
     ensures { result ≡ in_token byte }
 {
-    !matches!(byte, b' ' | b',' | b'(' | b')')
+    !matches!(byte, b' ' | b',' | b'(' | b')' | b'\n')
 }
 
 // Whether the byte is a digit.
