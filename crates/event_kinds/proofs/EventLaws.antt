@@ -9,7 +9,7 @@ use Rattle.event_kinds.specs.declared.entry.Event.TheVariants as events
 use Rattle.event_kinds.specs.Texts.{purpose_text, event_text, entry_text}
 use Rattle.event_kinds.specs.Entries.{IsNumber, IsPurpose, IsEvent, IsEntry}
 use Rattle.event_kinds.specs.Readers.{Reader, lit_at, as_at, none_at, or_at, choose_at}
-use Rattle.event_kinds.specs.Reading.{rel_name_of, rel_oid_of, att_name_of, att_list_of, class_scan_of, attribute_of, attr_def_of, constraint_of, index_of, trigger_of, index_row_of, constraint_scan_at, relation_scan_at, purpose_at, fetch_of, lock_of, unlock_of, scan_of, write_of, clash_of, visible_of, publish_of, release_of, gone_of, held_of, of_row, of_running, fetch_at, holder_cases, holder_at, lock_event_at, owner_cases, owner_at, short_event_cases, short_event_at, unlock_event_at, scan_event_at, write_event_at, clash_event_at, event_at, entry_of, placed_at, entry_cases, ends_here, entry_at}
+use Rattle.event_kinds.specs.Reading.{rel_name_of, rel_oid_of, att_name_of, att_list_of, class_scan_of, attribute_of, attr_def_of, constraint_of, index_of, trigger_of, index_row_of, constraint_scan_at, relation_scan_at, purpose_at, fetch_of, lock_of, unlock_of, scan_of, write_of, clash_of, visible_of, publish_of, release_of, gone_of, held_of, of_row, of_running, fetch_at, holder_cases, holder_at, lock_event_at, owner_cases, owner_at, number_event_cases, number_event_at, short_event_at, unlock_event_at, scan_event_at, write_event_at, clash_event_at, event_at, entry_of, placed_at, entry_cases, ends_here, entry_at}
 use Rattle.event_kinds.proofs.Spelling.{read_some, or_other, Spells, Behind, or_behind, or_within, choose_behind, Part, then_part, pair_part, behind_part, again_part}
 use Rattle.event_kinds.proofs.Fields.{TokenEnds, no_lit_number}
 use Rattle.event_kinds.proofs.Parts.{number_part, name_part, mode_part, blank_part, behind_value}
@@ -173,39 +173,34 @@ fetch_behind = or_within event_text IsEvent (codes "fetch ") (codes "reset") _ _
     (behind_value events.FetchReset (codes "fetch " ++ codes "reset") event_text IsEvent refl tt)
     (behind_part number_part (codes "fetch ") fetch_of event_text IsEvent (λ n h. refl) (λ n h. h))
 
-short_behind : Behind [] event_text IsEvent short_event_at
-unfolding short_event_at
-short_behind = choose_behind event_text IsEvent short_event_cases (
-  behind_value events.Start (codes "start") event_text IsEvent refl tt,
+number_event_behind : Behind [] event_text IsEvent number_event_at
+unfolding number_event_at
+number_event_behind = choose_behind event_text IsEvent number_event_cases (
+  behind_part number_part (codes "visible ") visible_of event_text IsEvent (λ n h. refl) (λ n h. h),
   (
-    behind_value (events.Look true) (codes "look yes") event_text IsEvent refl tt,
+    behind_part number_part (codes "publish ") publish_of event_text IsEvent (λ n h. refl) (λ n h. h),
     (
-      behind_value (events.Look false) (codes "look no") event_text IsEvent refl tt,
+      behind_part number_part (codes "release ") release_of event_text IsEvent (λ n h. refl) (λ n h. h),
       (
-        fetch_behind,
+        behind_part number_part (codes "gone ") gone_of event_text IsEvent (λ n h. refl) (λ n h. h),
         (
-          behind_part number_part (codes "visible ") visible_of event_text IsEvent (λ n h. refl) (λ n h. h),
+          behind_value events.Fail (codes "fail") event_text IsEvent refl tt,
           (
-            behind_part number_part (codes "publish ") publish_of event_text IsEvent (λ n h. refl) (λ n h. h),
-            (
-              behind_part number_part (codes "release ") release_of event_text IsEvent (λ n h. refl) (λ n h. h),
-              (
-                behind_part number_part (codes "gone ") gone_of event_text IsEvent (λ n h. refl) (λ n h. h),
-                (
-                  behind_value events.Fail (codes "fail") event_text IsEvent refl tt,
-                  (
-                    behind_value events.Stop (codes "stop") event_text IsEvent refl tt,
-                    tt,
-                  ),
-                ),
-              ),
-            ),
+            behind_value events.Stop (codes "stop") event_text IsEvent refl tt,
+            tt,
           ),
         ),
       ),
     ),
   ),
 )
+
+short_behind : Behind [] event_text IsEvent short_event_at
+unfolding short_event_at
+short_behind = or_behind event_text IsEvent (codes "start") (none_at events.Start) _ (behind_value events.Start (codes "start") event_text IsEvent refl tt)
+    (or_behind event_text IsEvent (codes "look yes") (none_at (events.Look true)) _ (behind_value (events.Look true) (codes "look yes") event_text IsEvent refl tt)
+    (or_behind event_text IsEvent (codes "look no") (none_at (events.Look false)) _ (behind_value (events.Look false) (codes "look no") event_text IsEvent refl tt)
+    (or_behind event_text IsEvent (codes "fetch ") fetch_at number_event_at fetch_behind number_event_behind)))
 
 event_behind : Behind [] event_text IsEvent event_at
 unfolding event_at lock_event_at unlock_event_at scan_event_at write_event_at clash_event_at
@@ -221,7 +216,7 @@ unfolding fetch_at
 fetch_again n rest is end = or_other (codes "reset") (decimal n ++ rest) (none_at events.FetchReset) (as_at fetch_of number_part.read) _ (no_lit_number 114 (codes "eset") n rest refl is) (again_part number_part fetch_of n rest is end)
 
 event_again : (event : Event) (rest : List ℕ) → IsEvent event → HereEnds rest → event_at (event_text event ++ rest) ≡ Some (event, rest)
-unfolding event_at lock_event_at unlock_event_at scan_event_at write_event_at clash_event_at short_event_at fetch_at lit_at
+unfolding event_at lock_event_at unlock_event_at scan_event_at write_event_at clash_event_at short_event_at number_event_at fetch_at lit_at
 event_again events.Start rest is end = refl
 event_again (events.Look true) rest is end = refl
 event_again (events.Look false) rest is end = refl

@@ -379,14 +379,19 @@ owner_cases = (codes "row ", as_at of_row number_at) ∷ (codes "running ", as_a
 unfoldable pub owner_at : Reader (Bool × ℕ)
 owner_at = choose_at owner_cases
 
--- the ways to go on for short_event_at
-abbrev pub short_event_cases : List (List ℕ × Reader Event)
-short_event_cases = (codes "start", none_at events.Start) ∷ (codes "look yes", none_at (events.Look true)) ∷ (codes "look no", none_at (events.Look false)) ∷ (codes "fetch ", fetch_at) ∷ (codes "visible ", as_at visible_of number_at) ∷ (codes "publish ", as_at publish_of number_at) ∷ (codes "release ", as_at release_of number_at) ∷ (codes "gone ", as_at gone_of number_at) ∷ (codes "fail", none_at events.Fail) ∷ (codes "stop", none_at events.Stop) ∷ []
+-- the ways to go on for number_event_at
+abbrev pub number_event_cases : List (List ℕ × Reader Event)
+number_event_cases = (codes "visible ", as_at visible_of number_at) ∷ (codes "publish ", as_at publish_of number_at) ∷ (codes "release ", as_at release_of number_at) ∷ (codes "gone ", as_at gone_of number_at) ∷ (codes "fail", none_at events.Fail) ∷ (codes "stop", none_at events.Stop) ∷ []
 
--- events whose texts are one word or a word and a number
+-- an event whose text is a word and a number, or that ends something
+unfoldable pub number_event_at : Reader Event
+number_event_at = choose_at number_event_cases
+
+-- an event whose text is one word, or a word and a number
 unfoldable pub short_event_at : Reader Event
-short_event_at = choose_at short_event_cases
+short_event_at = or_at (codes "start") (none_at events.Start) (or_at (codes "look yes") (none_at (events.Look true)) (or_at (codes "look no") (none_at (events.Look false)) (or_at (codes "fetch ") fetch_at number_event_at)))
 
+-- a lock given back, a scan, a write and a clash, behind their words
 unfoldable pub unlock_event_at : Reader Event
 unlock_event_at = as_at unlock_of (pair_at (blank number_at) mode_at)
 

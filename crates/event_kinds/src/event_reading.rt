@@ -7,7 +7,7 @@ use base_types::{Mode, Oid, Purpose, Xid};
 
 // Changes, scans, and all events but a write.
 impl<'a> Cursor<'a> {
-    ghost use Rattle.event_kinds.specs.Reading.{item_at, purpose_at, relation_scan_at, constraint_scan_at, short_event_at, fetch_at, holder_at, lock_event_at, unlock_event_at, scan_event_at, owner_at, clash_event_at};
+    ghost use Rattle.event_kinds.specs.Reading.{item_at, number_event_at, purpose_at, relation_scan_at, constraint_scan_at, short_event_at, fetch_at, holder_at, lock_event_at, unlock_event_at, scan_event_at, owner_at, clash_event_at};
 
     // A change of a write.
     #[tactic(auto, unfolding(crate::specs::Reading::item_at))]
@@ -103,6 +103,14 @@ impl<'a> Cursor<'a> {
         if self.eat(b"fetch ").is_some() {
             return self.fetch();
         }
+        self.number_event()
+    }
+
+    // Events whose texts are a word and a number, and those that end a backend.
+    #[tactic(auto, unfolding(crate::specs::Reading::number_event_at))]
+    fn number_event(&mut self) -> Option<Event>
+        ensures { Gives result self.new (number_event_at self.old) }
+    {
         if self.eat(b"visible ").is_some() {
             return Some(Event::Visible {
                 xid: Xid(self.number()?),
