@@ -1,12 +1,12 @@
 -- The number in a dropped column's name.
-use Rattle.std.proofs.Common.{IfSome, IfNone, Option, Some, None, ◌≡◌, ◌<◌, ◌≤◌, ◌+◌, ◌*◌, ◌-◌, ◌∙◌, ℕ, true, fold, List, [], ◌∷◌, ◌++◌, length, take, drop, get_or, codes, decimal, ap, sym, subst, refl, arith, rules}
+use Rattle.std.proofs.Common.{IfSome, IfNone, Option, Some, None, ◌≡◌, ◌<◌, ◌≤◌, ◌+◌, ◌-◌, ◌∙◌, ℕ, true, fold, List, [], ◌∷◌, ◌++◌, length, take, drop, get_or, codes, decimal, ap, sym, subst, arith, rules}
 use Rattle.std.specs.Str.{all_ascii_digits}
-use Rattle.std.proofs.lemmas.List.{take_more, take-append-le, take-append-drop, length-append}
+use Rattle.std.proofs.lemmas.List.{take_more, take-append-drop, length-append}
 use Rattle.std.proofs.Math.Seq.{take-append_seam}
 use Rattle.std.proofs.lemmas.List.Sums.{fold-append}
 use Rattle.std.proofs.lemmas.Str.Parse.{IsNumeralModel, numerals_by_fold}
 use Rattle.std.proofs.lemmas.Fmt.{digits_value-decimal, decimal_nonempty}
-use Rattle.base_types.specs.Names.{digit_more, number_of_digits, dropped_name, IsDropped, IsDroppedName}
+use Rattle.base_types.specs.Names.{digit_more, number_of_digits, IsDropped, IsDroppedName}
 
 grows : (n : ℕ) (digits : List ℕ) → n ≤ fold digit_more n digits
 grows n [] = omega arith

@@ -1,5 +1,5 @@
 -- The keys of rows.
-use Rattle.std.specs.Prelude.{ℕ, Bool, true, false, not, List, [], ◌∷◌, ◌==◌, ◌&&◌}
+use Rattle.std.specs.Prelude.{Bool, true, false, not, List, [], ◌∷◌, ◌==◌, ◌&&◌}
 use Rattle.std.specs.List.{list_any}
 use Rattle.base_types.specs.Types.{Row, RowKey}
 use Rattle.base_types.specs.Scans.{same_oid}

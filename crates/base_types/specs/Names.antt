@@ -1,5 +1,5 @@
 -- Which bytes make a name, a word or the text of a check, and what is wrong with others.
-use Rattle.std.specs.Prelude.{◌≡◌, ℕ, Bool, true, false, Option, Some, None, List, [], ◌∷◌, ◌==◌, ◌&&◌, ◌||◌, ◌⊎◌, ◌++◌, ◌<◌, ◌≤◌, ◌+◌, ◌*◌, ◌-◌, not, nat_le, nat_lt, length, fold, codes, decimal, if◌then◌else◌}
+use Rattle.std.specs.Prelude.{◌≡◌, ℕ, Bool, false, Option, Some, None, List, [], ◌∷◌, ◌==◌, ◌&&◌, ◌||◌, ◌⊎◌, ◌++◌, ◌<◌, ◌≤◌, ◌+◌, ◌*◌, ◌-◌, not, nat_le, nat_lt, length, fold, codes, decimal, if◌then◌else◌}
 use Rattle.std.specs.List.{position_from}
 use Rattle.base_types.specs.declared.name_fault.NameFault.{NameFault}
 use Rattle.base_types.specs.declared.name_fault.NameFault.TheVariants.{Empty, TooLong, BadByte}
@@ -11,6 +11,10 @@ is_digit byte = nat_le 48 byte && nat_le byte 57
 -- a byte of a name: a small letter, a digit or `_`
 abbrev pub is_name_byte : ℕ → Bool
 is_name_byte byte = (nat_le 97 byte && nat_le byte 122) || is_digit byte || (byte == 95)
+
+-- a byte of a name that a column may have: one of a name, or `.`
+abbrev pub is_any_name_byte : ℕ → Bool
+is_any_name_byte byte = is_name_byte byte || (byte == 46)
 
 -- a byte of a word: one of a name, or `-`
 abbrev pub is_word_byte : ℕ → Bool

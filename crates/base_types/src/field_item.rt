@@ -19,20 +19,20 @@ pub fn item_of(field: Field, rel: Oid, row: &Row) -> Option<LineBuffer>
             Row::Att {
                 name,
                 col_type,
-                live: true,
+                live,
                 ..
             },
-        ) => { Some(column_item(name, *col_type)) }
+        ) if *live => { Some(column_item(name, *col_type)) }
         (Field::Defaults, Row::Def { num, word, .. }) => Some(default_item(*num, word)),
         (
             Field::Statistics,
             Row::Att {
                 num,
                 stat,
-                live: true,
+                live,
                 ..
             },
-        ) => { Some(statistics_item(*num, *stat)) }
+        ) if *live => { Some(statistics_item(*num, *stat)) }
         (Field::Fillfactor, Row::Class { fill, .. }) => Some(fill_item(*fill)),
         (
             Field::Constraints,

@@ -1,5 +1,6 @@
 ghost use Rattle.std.specs.Prelude.{◌≡◌, ◌≤◌, length};
 ghost use Rattle.base_types.specs.Padded.{filled as with_filler};
+ghost use Rattle.base_types.specs.Parts.{no_part as filler};
 
 use crate::{Name, Oid};
 use std::marker::Model;
@@ -81,8 +82,6 @@ impl Key {
         &self.parts[..self.len]
     }
 }
-
-ghost use Rattle.base_types.specs.Parts.{no_part as filler};
 
 // The parts in an array, with the oid 0 after them.
 fn filled(parts: &[KeyPart]) -> [KeyPart; 4]

@@ -3,10 +3,24 @@
 //! Everything here is plain data in the terms of PostgreSQL's catalogs. The tables that the whole
 //! project goes by stand beside the types: which lock modes conflict, which rows a catalog scan
 //! gives and in which order, which lock modes the writers of a field take, and how a field's text is
-//! made of rows. They are definitions of specs/, and the functions here compute them.
+//! made of rows. They are definitions of specs/, and the functions here compute them: that is the
+//! promise to the layers above.
 //!
-//! A list inside a public type is a [`Listed`], which contracts see as its list. Names, rows and
-//! scans are `Copy`: they keep their bytes in place, and copying one takes no memory.
+//! A list inside a public type is a [`Listed`], which contracts see as its list. Names, rows, keys
+//! and scans are `Copy`: they keep their bytes in place, and copying one takes no memory. A line of
+//! text is made in a [`LineBuffer`], which takes none either:
+//!
+//! ```text
+//! let mut line = LineBuffer::new();
+//! line.push(b"lock ");
+//! line.push_number(rel.0);
+//! line.push(b" ");
+//! line.push(mode.word());
+//! ```
+//!
+//! Names, words and texts are made of bytes by [`Name::new`], [`Word::new`] and [`Text::new`], which
+//! tell the first fault of any others. A dropped column has a name of another form, as in the
+//! server; [`Name::dropped`] makes it and [`Name::new_or_dropped`] reads it.
 #![tactic(auto)]
 
 mod command;

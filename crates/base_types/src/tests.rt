@@ -126,6 +126,8 @@ fn scans_in_order(rt: HostRuntime) -> Result<(), Fail> {
     let columns = field_text(rt.alloc(), Field::Columns, Oid(16384), given.as_slice())?;
     assert_eq!(rt; columns.as_slice(), b"b:int4 a:int4".as_slice());
     assert!(rt; goes_before(&Purpose::AttList(Oid(16384)), &a, &b));
+    let statistics = field_text(rt.alloc(), Field::Statistics, Oid(16384), given.as_slice())?;
+    assert_eq!(rt; statistics.as_slice(), b"1:-1 2:-1".as_slice());
     let none = field_text(rt.alloc(), Field::Defaults, Oid(16384), &[])?;
     assert_eq!(rt; none.as_slice(), b"-".as_slice());
     Ok(())
@@ -174,5 +176,14 @@ fn hashes(rt: HostRuntime) -> Result<(), Fail> {
     assert_eq!(rt; key_hash(CacheId::RelName, &same), 4078);
     let by_column = Key::new(&[KeyPart::Oid(Oid(16384)), KeyPart::Name(name(b"a")?)]);
     assert_eq!(rt; key_hash(CacheId::AttName, &by_column), 85949054);
+    Ok(())
+}
+
+#[test]
+fn lists(rt: HostRuntime) -> Result<(), Fail> {
+    let mut list = Listed::new(rt.alloc());
+    list.push(7u32)?;
+    let list = Listed::from_vec(list.into_vec());
+    assert_eq!(rt; list.as_slice(), [7].as_slice());
     Ok(())
 }

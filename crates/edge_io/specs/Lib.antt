@@ -3,3 +3,4 @@ pub mod Taken
 pub mod Gates
 pub mod Reads
 pub mod InMemory
+pub mod Gathered

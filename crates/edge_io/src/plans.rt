@@ -42,7 +42,7 @@ impl Plan {
         self.made = self.made.saturating_add(1);
         let failing = self.failing.contains(&self.made);
         if failing {
-            self.faults = self.faults.saturating_add(1);
+            self.fault();
             return Err(Failed);
         }
         Ok(())

@@ -1,23 +1,26 @@
 -- What one more entry does to each thing that a history has.
-use Rattle.std.proofs.Common.{◌≡◌, ◌≤◌, ℕ, Bool, true, false, Option, Some, None, List, [], ◌∷◌, ◌++◌, ◌==◌, ◌||◌, ◌&&◌, ◌+◌, ◌∙◌, if◌then◌else◌, refl, ap, subst, length, arith, unwrap_or}
+-- The laws end in `-more` (any entry), `-own` (one of the backend), `-other` (one of another), `-kept` (one that changes nothing here) and `-short` (a place lies in the history).
+use Rattle.std.proofs.Common.{◌≡◌, ◌≤◌, ℕ, Bool, true, false, Option, Some, None, List, [], ◌∷◌, ◌++◌, ◌==◌, ◌||◌, ◌&&◌, ◌+◌, ◌∙◌, if◌then◌else◌, refl, ap, subst, length, take, arith, unwrap_or}
 use Rattle.std.specs.List.{list_any}
 use Rattle.std.proofs.lemmas.Grind.{fold-append}
-use Rattle.std.proofs.lemmas.List.{length_push}
+use Rattle.std.proofs.lemmas.List.{length_push, take-append-le, take_all}
+use Rattle.std.proofs.Math.Bool.{or-false}
 use Rattle.std.proofs.lemmas.List.Folds.{list_any-append}
 use Rattle.base_types.specs.declared.scan.Purpose.{Purpose}
+use Rattle.base_types.specs.Scenario.{Scenario}
 use Rattle.event_kinds.specs.declared.entry.Entry.{Entry}
 use Rattle.history_model.specs.Transactions.{running_transaction_of, running_by, makes_visible, is_committed, last_xid, last_xid_by}
-use Rattle.history_model.specs.Versions.{versions_of, versions_by}
+use Rattle.history_model.specs.Versions.{versions_of, versions_by, answer_of}
 use Rattle.history_model.specs.Held.{held_of, held_by}
-use Rattle.history_model.specs.Read.{read_at, is_scan_of, is_usable, usable_by, place_read}
+use Rattle.history_model.specs.Read.{read_at, is_scan_of, is_usable, usable_by, place_read, rows_read}
 use Rattle.history_model.specs.Legal.{Unstarted, life_of, life_by, next_oid, next_oid_by, has_written, is_write}
 use Rattle.history_model.specs.Plays.{place_of, place_by}
 use Rattle.history_model.specs.Lines.{judged_at, is_before_end, refusal_of, refusal_by}
-use Rattle.history_model.proofs.Prefixes.{along_own-own, along_own-other, along-keeps}
+use Rattle.history_model.proofs.Prefixes.{along-more, along_own-own, along_own-other, along-keeps}
 
 -- the versions after one more entry
-pub versions_of-more : (history : List Entry) (e : Entry) → versions_of (history ++ e ∷ []) ≡ versions_by e.command e.event (versions_of history)
-versions_of-more history e = fold-append (λ old y. versions_by y.command y.event old) [] history (e ∷ [])
+pub versions_of-more : (history : List Entry) (e : Entry) → versions_of (history ++ e ∷ []) ≡ versions_by history e.backend e.command e.event (versions_of history)
+versions_of-more history e = along-more (λ before old y. versions_by before y.backend y.command y.event old) [] history e
 
 -- the grants after one more entry
 pub held_of-more : (history : List Entry) (e : Entry) → held_of (history ++ e ∷ []) ≡ held_by e.backend e.command e.event (held_of history)
@@ -35,10 +38,6 @@ last_xid-more history e = fold-append (λ last y. last_xid_by y.event last) 0 hi
 pub refusal_of-more : (history : List Entry) (e : Entry) (b c : ℕ)
     → refusal_of (history ++ e ∷ []) b c ≡ (if (e.backend == b) && (e.command == c) then refusal_by e.event (refusal_of history b c) else refusal_of history b c)
 refusal_of-more history e b c = fold-append (λ old y. if (y.backend == b) && (y.command == c) then refusal_by y.event old else old) None history (e ∷ [])
-
-or-false : (x : Bool) → (x || false) ≡ x
-or-false true = refl
-or-false false = refl
 
 any-more : (test : Entry → Bool) (history : List Entry) (e : Entry) → list_any test (history ++ e ∷ []) ≡ (list_any test history || test e)
 any-more test history e = list_any-append test history (e ∷ []) ∙ ap (λ x. list_any test history || x) (or-false (test e))
@@ -74,12 +73,12 @@ pub life_of-other : (history : List Entry) (e : Entry) (b : ℕ) → (e.backend 
 life_of-other history e b other = along_own-other b (λ before old y. life_by y.command y.event) Unstarted history e other
 
 -- the place of a backend after its own entry
-pub place_of-own : (history : List Entry) (e : Entry) (b : ℕ) → (e.backend == b) ≡ true → place_of (history ++ e ∷ []) b ≡ place_by e.event (place_of history b)
-place_of-own history e b own = along_own-own b (λ before old y. place_by y.event old) (record { finished = None; made = [] }) history e own
+pub place_of-own : (scenario : Scenario) (history : List Entry) (e : Entry) (b : ℕ) → (e.backend == b) ≡ true → place_of scenario (history ++ e ∷ []) b ≡ place_by scenario history b e.command e.event (place_of scenario history b)
+place_of-own scenario history e b own = along_own-own b (λ before old y. place_by scenario before b y.command y.event old) (record { finished = None; made = [] }) history e own
 
 -- and after another's
-pub place_of-other : (history : List Entry) (e : Entry) (b : ℕ) → (e.backend == b) ≡ false → place_of (history ++ e ∷ []) b ≡ place_of history b
-place_of-other history e b other = along_own-other b (λ before old y. place_by y.event old) (record { finished = None; made = [] }) history e other
+pub place_of-other : (scenario : Scenario) (history : List Entry) (e : Entry) (b : ℕ) → (e.backend == b) ≡ false → place_of scenario (history ++ e ∷ []) b ≡ place_of scenario history b
+place_of-other scenario history e b other = along_own-other b (λ before old y. place_by scenario before b y.command y.event old) (record { finished = None; made = [] }) history e other
 
 -- where a backend last made a scan, after its own entry
 pub read_at-own : (history : List Entry) (e : Entry) (b : ℕ) (purpose : Purpose) → (e.backend == b) ≡ true
@@ -152,3 +151,37 @@ unwrapped-short history (Some at) short = short.1
 -- the same of the place that answers name
 pub place_read-short : (history : List Entry) (b : ℕ) (purpose : Purpose) → place_read history b purpose ≤ length history
 place_read-short history b purpose = unwrapped-short history (read_at history b purpose) (read_at-in history b purpose)
+
+-- the place of a scan that answers name, after another backend's entry
+pub place_read-other : (history : List Entry) (e : Entry) (b : ℕ) (purpose : Purpose) → (e.backend == b) ≡ false → place_read (history ++ e ∷ []) b purpose ≡ place_read history b purpose
+place_read-other history e b purpose other = ap (λ at. unwrap_or at 0) (read_at-other history e b purpose other)
+
+-- after an entry of any backend that isn't this scan
+pub place_read-kept : (history : List Entry) (e : Entry) (b : ℕ) (purpose : Purpose) → is_scan_of purpose e.event ≡ false → place_read (history ++ e ∷ []) b purpose ≡ place_read history b purpose
+place_read-kept history e b purpose not_it = by_owner (e.backend == b) refl
+  where
+    by_owner : (t : Bool) → (e.backend == b) ≡ t → place_read (history ++ e ∷ []) b purpose ≡ place_read history b purpose
+    by_owner true own = ap (λ at. unwrap_or at 0) (read_at-own history e b purpose own ∙ ap (λ t. if t then Some (length history + 1) else read_at history b purpose) not_it)
+    by_owner false other = place_read-other history e b purpose other
+
+-- and after the scan itself
+pub place_read-scan : (history : List Entry) (e : Entry) (b : ℕ) (purpose : Purpose) → (e.backend == b) ≡ true → is_scan_of purpose e.event ≡ true → place_read (history ++ e ∷ []) b purpose ≡ length history + 1
+place_read-scan history e b purpose own it = ap (λ at. unwrap_or at 0) (read_at-own history e b purpose own ∙ ap (λ t. if t then Some (length history + 1) else read_at history b purpose) it)
+
+rows_read-same : (history : List Entry) (e : Entry) (b : ℕ) (purpose : Purpose) → place_read (history ++ e ∷ []) b purpose ≡ place_read history b purpose → rows_read (history ++ e ∷ []) b purpose ≡ rows_read history b purpose
+rows_read-same history e b purpose same =
+    ap (λ at. answer_of (take at (history ++ e ∷ [])) b purpose) same ∙ ap (λ h. answer_of h b purpose) (take-append-le (place_read history b purpose) history (e ∷ []) (place_read-short history b purpose))
+
+-- what the scan gave, after another backend's entry
+pub rows_read-other : (history : List Entry) (e : Entry) (b : ℕ) (purpose : Purpose) → (e.backend == b) ≡ false → rows_read (history ++ e ∷ []) b purpose ≡ rows_read history b purpose
+rows_read-other history e b purpose other = rows_read-same history e b purpose (place_read-other history e b purpose other)
+
+-- after an entry of any backend that isn't this scan
+pub rows_read-kept : (history : List Entry) (e : Entry) (b : ℕ) (purpose : Purpose) → is_scan_of purpose e.event ≡ false → rows_read (history ++ e ∷ []) b purpose ≡ rows_read history b purpose
+rows_read-kept history e b purpose not_it = rows_read-same history e b purpose (place_read-kept history e b purpose not_it)
+
+-- and after the scan itself
+pub rows_read-scan : (history : List Entry) (e : Entry) (b : ℕ) (purpose : Purpose) → (e.backend == b) ≡ true → is_scan_of purpose e.event ≡ true → rows_read (history ++ e ∷ []) b purpose ≡ answer_of (history ++ e ∷ []) b purpose
+rows_read-scan history e b purpose own it =
+    let long : length (history ++ e ∷ []) ≤ length history + 1 = omega (arith, length_push history e) in
+    ap (λ at. answer_of (take at (history ++ e ∷ [])) b purpose) (place_read-scan history e b purpose own it) ∙ ap (λ h. answer_of h b purpose) (take_all (length history + 1) (history ++ e ∷ []) long)

@@ -25,31 +25,31 @@ use Rattle.history_model.specs.Plays.{Plays}
 use Rattle.history_model.specs.Schedule.{FollowsSchedule, IsComplete}
 use Rattle.history_model.specs.Lines.{lines_of}
 
-abbrev oid : ℕ → Oid
+abbrev pub oid : ℕ → Oid
 oid n = record { 0 = n }
 
-abbrev xid : ℕ → Xid
+abbrev pub xid : ℕ → Xid
 xid n = record { 0 = n }
 
-abbrev entry : ℕ → ℕ → Event → Entry
+abbrev pub entry : ℕ → ℕ → Event → Entry
 entry b c event = record { backend = b; command = c; event = event }
 
-abbrev placed : ℕ → Command → Placed
+abbrev pub placed : ℕ → Command → Placed
 placed b command = record { backend = b; command = command }
 
-abbrev turns : ℕ → ℕ → Turns
+abbrev pub turns : ℕ → ℕ → Turns
 turns b count = record { backend = b; count = count }
 
-abbrev one_column : Command
+abbrev pub one_column : Command
 one_column = CreateTable (codes "t") (record { name = codes "a"; col_type = Int4 } ∷ [])
 
-abbrev script : ℕ → List Placed → List (List Turns) → Scenario
+abbrev pub script : ℕ → List Placed → List (List Turns) → Scenario
 script backends commands steps = record { size = 4096; from = 0; backends = backends; commands = commands; steps = steps }
 
-abbrev create_then_show : Scenario
+abbrev pub create_then_show : Scenario
 create_then_show = script 1 (placed 1 one_column ∷ placed 1 (Show (codes "t") None) ∷ []) []
 
-abbrev create_then_show_history : List Entry
+abbrev pub create_then_show_history : List Entry
 create_then_show_history =
     entry 1 0 (Start) ∷
     entry 1 1 (Write (xid 1) (Add (Class (oid 16384) (codes "t") Table None) ∷ Add (Att (oid 16384) 1 (codes "a") Int4 (negsuc 0) true) ∷ [])) ∷
@@ -85,10 +85,10 @@ create_then_show_follows = search rules
 pub create_then_show_complete : IsComplete create_then_show create_then_show_history
 create_then_show_complete = refl
 
-abbrev two_backends : Scenario
+abbrev pub two_backends : Scenario
 two_backends = script 2 (placed 1 one_column ∷ placed 2 (Show (codes "t") None) ∷ placed 2 (Show (codes "t") None) ∷ []) ((turns 1 3 ∷ turns 2 4 ∷ turns 1 1 ∷ turns 2 10 ∷ turns 1 1 ∷ []) ∷ [])
 
-abbrev two_backends_history : List Entry
+abbrev pub two_backends_history : List Entry
 two_backends_history =
     entry 1 0 (Start) ∷
     entry 1 1 (Write (xid 1) (Add (Class (oid 16384) (codes "t") Table None) ∷ Add (Att (oid 16384) 1 (codes "a") Int4 (negsuc 0) true) ∷ [])) ∷

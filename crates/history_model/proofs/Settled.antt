@@ -1,4 +1,5 @@
 -- What a backend has read of a table stays true, where each write is that of one new table.
+-- A scan of the table is told by `reads_table`, which `reads_table-built` gives for each of `build_scans`; that a table stays settled needs no `OneWriter`.
 use Rattle.std.proofs.Common.{◌≡◌, ◌≤◌, ◌<◌, ℕ, Bool, true, false, Some, List, [], ◌∷◌, ◌++◌, ◌||◌, ◌+◌, ◌∙◌, ◌⊎◌, cond, refl, sym, ap, subst, length, map, filter, fold, arith, append-nil, inl, inr, rules}
 use Rattle.std.specs.List.{AllByRecursion, Contains, flat_map, enumerate_from}
 use Rattle.std.proofs.lemmas.List.{map-append}
@@ -43,12 +44,12 @@ abbrev writer_of : Event → Xid
 writer_of (events.Write xid items) = xid
 writer_of event = record { 0 = 0 }
 
-versions-written : (c : ℕ) (event : Event) (old : List Version) → versions_by c event old ≡ old ++ written_by c event
-versions-written c (events.Write xid items) old = refl
-versions-written c event old = sym (append-nil old)
+versions-written : (before : List Entry) (b c : ℕ) (event : Event) (old : List Version) → versions_by before b c event old ≡ old ++ written_by c event
+versions-written before b c (events.Write xid items) old = refl
+versions-written before b c event old = sym (append-nil old)
 
 versions_of-written : (history : List Entry) (e : Entry) → versions_of (history ++ e ∷ []) ≡ versions_of history ++ written_by e.command e.event
-versions_of-written history e = versions_of-more history e ∙ versions-written e.command e.event (versions_of history)
+versions_of-written history e = versions_of-more history e ∙ versions-written history e.backend e.command e.event (versions_of history)
 
 -- a version that a new table's write adds
 record IsNewVersion (oid after : ℕ) (xid : Xid) (v : Version) : Type 0 where
@@ -142,6 +143,9 @@ IsSettled-more history e rel adds settled = record {
 -- each scan that builds a table's descriptor reads the table
 pub reads_table-build_scans : (rel : Oid) → AllByRecursion (λ p. reads_table p ≡ Some rel) (build_scans Table rel)
 reads_table-build_scans rel = search rules
+
+pub reads_table-built : (rel : Oid) (p : Purpose) → Contains (build_scans Table rel) p → reads_table p ≡ Some rel
+reads_table-built rel p built = All-contains (λ scan. reads_table scan ≡ Some rel) (build_scans Table rel) p (All-from_recursion (λ scan. reads_table scan ≡ Some rel) (build_scans Table rel) (reads_table-build_scans rel)) built
 
 -- a row of a table that such a scan selects is of its relation
 selected_number : (p : Purpose) (row : Row) (rel : Oid) → IsTableRow row → reads_table p ≡ Some rel → selects p row ≡ true → relation_number row ≡ rel.0

@@ -1,5 +1,5 @@
--- The locks that are held, and the fields that they protect.
-use Rattle.std.specs.Prelude.{ℕ, Bool, not, Option, List, [], ◌∷◌, ◌++◌, ◌==◌, ◌&&◌, nat_le, fold, filter, map}
+-- The locks that are held, and the fields that lock modes protect.
+use Rattle.std.specs.Prelude.{ℕ, Bool, not, Option, List, [], ◌∷◌, ◌++◌, ◌==◌, ◌&&◌, nat_le, fold, filter}
 use Rattle.std.specs.List.{flat_map, find, list_any, list_all}
 use Rattle.base_types.specs.declared.ids.Oid.{Oid}
 use Rattle.history_model.specs.declared.fact.Grant.{Grant}
@@ -40,10 +40,6 @@ holds held b rel mode = list_any (λ g. (g.backend == b) && same_oid g.rel rel &
 abbrev pub first_conflict : List Grant → ℕ → Oid → Mode → Option Grant
 first_conflict held b rel mode = find (λ g. not (g.backend == b) && same_oid g.rel rel && conflicts mode g.mode) held
 
--- the modes that a backend holds clear on a relation: a grant is clear as it is given, while no message can be on its way
-abbrev pub clear_modes : List Entry → ℕ → Oid → List Mode
-clear_modes history b rel = map (λ g. g.mode) (filter (λ g. (g.backend == b) && same_oid g.rel rel) (held_of history))
-
--- each mode in which others may change the field conflicts with one that the backend holds clear
-abbrev pub is_protected : List Entry → ℕ → Oid → Kind → Field → Bool
-is_protected history b rel kind field = list_all (λ writer. list_any (conflicts writer) (clear_modes history b rel)) (writers_of kind field)
+-- each mode in which others may change the field conflicts with one of these
+abbrev pub protects : List Mode → Kind → Field → Bool
+protects modes kind field = list_all (λ writer. list_any (conflicts writer) modes) (writers_of kind field)

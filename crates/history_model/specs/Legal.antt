@@ -1,10 +1,10 @@
 -- What a history allows as its next entry, whichever commands the backends run.
-use Rattle.std.specs.Prelude.{ℕ, Bool, true, false, Some, None, List, [], ◌∷◌, ◌+◌, ◌≡◌, ◌≤◌, ◌==◌, ◌&&◌, nat_le, length, fold, ⊤}
+use Rattle.std.specs.Prelude.{ℕ, Bool, true, false, Some, None, List, [], ◌∷◌, ◌+◌, ◌≡◌, ◌≤◌, ◌==◌, ◌&&◌, ◌||◌, nat_le, length, fold, ⊤}
 use Rattle.std.specs.Option.{option_map, option_map_or}
-use Rattle.std.specs.List.{flat_map, list_any, range_with_len}
+use Rattle.std.specs.List.{flat_map, list_any, range_with_len, list_all}
 use Rattle.base_types.specs.declared.ids.Xid.{Xid}
 use Rattle.base_types.specs.declared.mode.Mode.{Mode}
-use Rattle.base_types.specs.declared.row.Row.TheVariants.{Class, Def, Con, Trg}
+use Rattle.base_types.specs.declared.row.Row.TheVariants.{Class, Att, Def, Con, Trg}
 use Rattle.base_types.specs.declared.row.RowKey.{RowKey}
 use Rattle.base_types.specs.Keys.{key_of, are_distinct_keys}
 use Rattle.event_kinds.specs.declared.entry.Entry.{Entry}
@@ -15,6 +15,8 @@ use Rattle.event_kinds.specs.declared.entry.Item.TheVariants as items
 use Rattle.history_model.specs.Prefixes.{EachEntry, along_own}
 use Rattle.history_model.specs.Transactions.{running_transaction_of, is_committed, runs_as, xid_for}
 use Rattle.history_model.specs.Versions.{answer_of}
+use Rattle.history_model.specs.declared.fact.Grant.{Grant}
+use Rattle.base_types.specs.declared.mode.Mode.TheVariants.{AccessExclusive}
 use Rattle.history_model.specs.Held.{held_of, holds, first_conflict}
 
 -- a backend before its start, between start and stop with the command of its last entry, and after its stop
@@ -83,11 +85,18 @@ is_write event = false
 abbrev pub has_written : List Entry → ℕ → ℕ → Bool
 has_written history b c = list_any (λ e. (e.backend == b) && (e.command == c) && is_write e.event) history
 
--- a write has its transaction's Xid or the next one, draws the next oids in order, changes no key twice, and is the only one of its command
+-- a change is that of a relation which the write itself makes, or which the backend holds in AccessExclusive
+abbrev pub is_guarded : List Grant → ℕ → List ℕ → Item → Bool
+is_guarded held b drawn (items.Add (Class oid name kind fill)) = list_any (λ n. n == oid.0) drawn
+is_guarded held b drawn (items.Add (Att rel num name col_type stat live)) = list_any (λ n. n == rel.0) drawn || holds held b rel AccessExclusive
+is_guarded held b drawn item = false
+
+-- a write has its transaction's Xid or the next one, draws the next oids in order, changes no key twice, changes nothing that isn't guarded, and is the only one of its command
 pub record IsWriteAllowed (before : List Entry) (b c : ℕ) (xid : Xid) (changes : List Item) : Type 0 where
   pub xid_is : xid.0 ≡ xid_for before b
   pub oids : flat_map drawn_by changes ≡ range_with_len (next_oid before) (length (flat_map drawn_by changes))
   pub keys : are_distinct_keys (flat_map changed_key changes) ≡ true
+  pub guarded : list_all (is_guarded (held_of before) b (flat_map drawn_by changes)) changes ≡ true
   pub only : has_written before b c ≡ false
 
 -- a write of the backend's running transaction in commands of this number and above stands
@@ -106,7 +115,7 @@ AllowsEvent before b c (Scan purpose rows) = rows ≡ length (answer_of before b
 AllowsEvent before b c (LockOk rel mode) = (holds (held_of before) b rel mode ≡ false) × (first_conflict (held_of before) b rel mode ≡ None)
 AllowsEvent before b c (LockHeld rel mode holder held) = (holds (held_of before) b rel mode ≡ false) × (option_map {U = ℕ × Mode} (λ g. (g.backend, g.mode)) (first_conflict (held_of before) b rel mode) ≡ Some (holder, held))
 AllowsEvent before b c (Write xid changes) = IsWriteAllowed before b c xid changes
-AllowsEvent before b c (Visible xid) = runs_as before b xid.0 ≡ true
+AllowsEvent before b c (Visible xid) = (runs_as before b xid.0 ≡ true) × (stands before b 0 ≡ true)
 AllowsEvent before b c (Release from) = (from ≤ c) × MayRelease (is_ending before b) before b from
 AllowsEvent before b c Stop = running_transaction_of before b ≡ None
 AllowsEvent before b c event = ⊥

@@ -5,6 +5,7 @@ pub mod Held
 pub mod Read
 pub mod Legal
 pub mod Plays
+pub mod Protected
 pub mod Lines
 pub mod Schedule
 pub mod Settled

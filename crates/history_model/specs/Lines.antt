@@ -23,7 +23,7 @@ use Rattle.rel_desc.specs.declared.answer.Shown.{Shown}
 use Rattle.rel_desc.specs.Answers.{answer_text}
 use Rattle.history_model.specs.Prefixes.{along_own}
 use Rattle.history_model.specs.Versions.{fresh_text}
-use Rattle.history_model.specs.Held.{is_protected}
+use Rattle.history_model.specs.Protected.{is_protected}
 use Rattle.history_model.specs.Read.{place_read, rows_read}
 use Rattle.history_model.specs.Plays.{commands_of, place_of}
 
@@ -53,38 +53,42 @@ abbrev pub refusal_of : List Entry → ℕ → ℕ → Option CommandError
 refusal_of history b c = fold (λ old e. if (e.backend == b) && (e.command == c) then refusal_by e.event old else old) None history
 
 -- a field under a lock that protects it is shown as it is now; any other as it was read, with the place
-abbrev pub shown_field : List Entry → ℕ → Oid → Kind → Field → Shown
-shown_field history b rel kind field =
-    if is_protected history b rel kind field
+abbrev pub shown_field : Scenario → List Entry → ℕ → Oid → Kind → Field → Shown
+shown_field scenario history b rel kind field =
+    if is_protected scenario history b rel kind field
     then record { field = field; value = fresh_text history b rel field; at = None }
     else (let at = place_read history b (read_by field rel) in record { field = field; value = fresh_text (take at history) b rel field; at = Some at })
 
 -- all fields of the relation that a lookup found, or that there is none
-abbrev pub answer_found : List Entry → ℕ → List ℕ → List Row → Answer
-answer_found history b name (rows.Class oid own kind fill ∷ rest) = answers.Shown kind oid (map (shown_field history b oid kind) (fields_of kind))
-answer_found history b name rest = answers.Error (NoRelation name (place_read history b (RelName name)))
+abbrev pub answer_found : Scenario → List Entry → ℕ → List ℕ → List Row → Answer
+answer_found scenario history b name (rows.Class oid own kind fill ∷ rest) = answers.Shown kind oid (map (shown_field scenario history b oid kind) (fields_of kind))
+answer_found scenario history b name rest = answers.Error (NoRelation name (place_read history b (RelName name)))
 
--- what `show` answers: the error of its entries, or else what its lookup found
-abbrev pub answer_of_show : List Entry → ℕ → List ℕ → Option CommandError → Answer
-answer_of_show history b name (Some error) = answers.Error error
-answer_of_show history b name None = answer_found history b name (rows_read history b (RelName name))
+-- what a command answers that no entry refused, judged behind the last of these entries
+abbrev pub answer_unrefused : Scenario → List Entry → ℕ → Command → Answer
+answer_unrefused scenario history b (commands.Show name None) = answer_found scenario history b name (rows_read history b (RelName name))
+answer_unrefused scenario history b command = answers.Ok
 
--- what a command answers
-abbrev pub answer_to : List Entry → ℕ → ℕ → Command → Answer
-answer_to history b c (commands.Show name None) = answer_of_show (take (judged_at history b c) history) b name (refusal_of history b c)
-answer_to history b c command = answers.Ok
+-- the error, or else the answer
+abbrev pub error_or : Option CommandError → Answer → Answer
+error_or (Some error) answer = answers.Error error
+error_or None answer = answer
+
+-- what a command answers: the error that its entries show, or else what it found
+abbrev pub answer_to : Scenario → List Entry → ℕ → ℕ → Command → Answer
+answer_to scenario history b c command = error_or (refusal_of history b c) (answer_unrefused scenario (take (judged_at history b c) history) b command)
 
 -- the answer line of a command
-abbrev pub line_of : List Entry → ℕ → ℕ → Command → Line
-line_of history b c command = record { backend = b; command = c; text = answer_text (answer_to history b c command) }
+abbrev pub line_of : Scenario → List Entry → ℕ → ℕ → Command → Line
+line_of scenario history b c command = record { backend = b; command = c; text = answer_text (answer_to scenario history b c command) }
 
 -- how many commands a backend has finished
-abbrev pub finished_of : List Entry → ℕ → ℕ
-finished_of history b = unwrap_or (place_of history b).finished 0
+abbrev pub finished_of : Scenario → List Entry → ℕ → ℕ
+finished_of scenario history b = unwrap_or (place_of scenario history b).finished 0
 
 -- the lines of a backend's finished commands, in order
 abbrev pub lines_of_backend : Scenario → List Entry → ℕ → List Line
-lines_of_backend scenario history b = map (λ numbered. line_of history b numbered.0 numbered.1) (enumerate_from 1 (take (finished_of history b) (commands_of scenario b)))
+lines_of_backend scenario history b = map (λ numbered. line_of scenario history b numbered.0 numbered.1) (enumerate_from 1 (take (finished_of scenario history b) (commands_of scenario b)))
 
 -- the lines of all backends, in order of backend and command
 abbrev pub lines_of : Scenario → List Entry → List Line

@@ -4,6 +4,7 @@ use Rattle.std.specs.Option.{option_map}
 use Rattle.std.specs.List.{enumerate_from}
 use Rattle.base_types.specs.declared.ids.Oid.{Oid}
 use Rattle.base_types.specs.declared.mode.Mode.TheVariants.{AccessShare}
+use Rattle.base_types.specs.declared.row.Kind.{Kind}
 use Rattle.base_types.specs.declared.row.Kind.TheVariants.{Table}
 use Rattle.base_types.specs.declared.row.Row.{Row}
 use Rattle.base_types.specs.declared.row.Row.TheVariants.{Class, Att}
@@ -31,15 +32,15 @@ pub record Place : Type 0 where
   pub finished : Option ℕ
   pub made : List Event
 
--- the place of a backend after one of its events
-abbrev pub place_by : Event → Place → Place
-place_by Start old = record { finished = Some 0; made = [] }
-place_by (Release from) old = record { finished = option_map (λ n. n + 1) old.finished; made = [] }
-place_by event old = record old { made = old.made ++ event ∷ [] }
+-- the place of a backend after one of its events: each command of today ends with a release
+abbrev pub place_by : Scenario → List Entry → ℕ → ℕ → Event → Place → Place
+place_by scenario before b command Start old = record { finished = Some 0; made = [] }
+place_by scenario before b command (Release from) old = record { finished = option_map (λ n. n + 1) old.finished; made = [] }
+place_by scenario before b command event old = record old { made = old.made ++ event ∷ [] }
 
 -- where a backend stands in its commands
-abbrev pub place_of : List Entry → ℕ → Place
-place_of history b = along_own b (λ before old e. place_by e.event old) (record { finished = None; made = [] }) history
+abbrev pub place_of : Scenario → List Entry → ℕ → Place
+place_of scenario history b = along_own b (λ before old e. place_by scenario before b e.command e.event old) (record { finished = None; made = [] }) history
 
 -- a column's row, with its number
 abbrev pub column_row : Oid → ℕ → NewColumn → Row
@@ -55,10 +56,10 @@ relation_found (Class oid name kind fill ∷ rest) = Some oid
 relation_found rows = None
 
 -- the scans of a descriptor that have to come before the command can end
-abbrev pub owed_of : List Entry → ℕ → Oid → List Purpose
-owed_of history b rel = filter (λ scan. not (is_usable history b scan)) (build_scans Table rel)
+abbrev pub owed_of : List Entry → ℕ → Kind → Oid → List Purpose
+owed_of history b kind rel = filter (λ scan. not (is_usable history b scan)) (build_scans kind rel)
 
--- the end of a command that has nothing to commit: it gives back its locks
+-- the end of a command, behind its visibility step if it has one: it gives back its locks
 abbrev pub Ends : ℕ → Event → Type 0
 Ends c (Release from) = from ≡ c
 Ends c event = ⊥
@@ -80,7 +81,7 @@ NextFound c found event = ⊥
 abbrev pub NextOfShow : List Entry → ℕ → List ℕ → ℕ → List Event → Event → Type 0
 NextOfShow before b name c [] (Scan purpose rows) = purpose ≡ RelName name
 NextOfShow before b name c (Scan purpose rows ∷ []) event = NextFound c (rows_read before b (RelName name)) event
-NextOfShow before b name c (Scan purpose rows ∷ LockOk rel mode ∷ made) event = NextOpened c (owed_of before b rel) event
+NextOfShow before b name c (Scan purpose rows ∷ LockOk rel mode ∷ made) event = NextOpened c (owed_of before b Table rel) event
 NextOfShow before b name c (Scan purpose rows ∷ LockHeld rel mode holder held ∷ []) event = Ends c event
 NextOfShow before b name c made event = ⊥
 
@@ -119,7 +120,7 @@ NextAt before b commands (Some n) made c event = (c ≡ n + 1) × NextOf before 
 
 -- an entry is what a backend of the script does next
 abbrev pub IsNext : Scenario → List Entry → Entry → Type 0
-IsNext scenario before e = IsBackend scenario.backends e.backend × NextAt before e.backend (commands_of scenario e.backend) (place_of before e.backend).finished (place_of before e.backend).made e.command e.event
+IsNext scenario before e = IsBackend scenario.backends e.backend × NextAt before e.backend (commands_of scenario e.backend) (place_of scenario before e.backend).finished (place_of scenario before e.backend).made e.command e.event
 
 -- the backends do what their commands say, in order
 abbrev pub Plays : Scenario → List Entry → Type 0

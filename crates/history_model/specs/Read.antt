@@ -18,7 +18,7 @@ is_scan_of purpose event = false
 abbrev pub read_at : List Entry → ℕ → Purpose → Option ℕ
 read_at history b purpose = along_own b (λ before old e. if is_scan_of purpose e.event then Some (length before + 1) else old) None history
 
--- that number, where there is one
+-- that number, or 0 where there is none
 abbrev pub place_read : List Entry → ℕ → Purpose → ℕ
 place_read history b purpose = unwrap_or (read_at history b purpose) 0
 
@@ -34,7 +34,7 @@ usable_by purpose event old = if is_scan_of purpose event then true else old
 abbrev pub is_usable : List Entry → ℕ → Purpose → Bool
 is_usable history b purpose = along_own b (λ before old e. usable_by purpose e.event old) false history
 
--- a scan for a descriptor is made only where its last answer can't be gone by
+-- a scan for a descriptor is made only where nothing read before still serves
 abbrev pub ScansOnlyIfNeeded : List Entry → ℕ → Event → Type 0
 ScansOnlyIfNeeded before b (Scan purpose rows) = is_build_scan purpose ≡ true → is_usable before b purpose ≡ false
 ScansOnlyIfNeeded before b event = ⊤

@@ -25,13 +25,14 @@ pass_stopped history (b ∷ steps) = if has_stopped history b then pass_stopped 
 abbrev pub steps_behind : Scenario → List Entry → List ℕ
 steps_behind scenario history = along (λ before steps e. drop 1 (pass_stopped before steps)) (schedule_of scenario) history
 
--- whose turns are still to come: by the schedule, or without one each backend to its stop
+-- whose turns are still to come: without lines of steps each backend's to its stop, else those of the steps
+abbrev pub turns_by : Scenario → List Entry → List (List Turns) → List ℕ
+turns_by scenario history [] = filter (λ b. not (has_stopped history b)) (range_with_len 1 scenario.backends)
+turns_by scenario history (line ∷ lines) = pass_stopped history (steps_behind scenario history)
+
+-- whose turns are still to come
 abbrev pub turns_left : Scenario → List Entry → List ℕ
-turns_left scenario history = turns_by scenario.steps
-  where
-    turns_by : List (List Turns) → List ℕ
-    turns_by [] = filter (λ b. not (has_stopped history b)) (range_with_len 1 scenario.backends)
-    turns_by (line ∷ lines) = pass_stopped history (steps_behind scenario history)
+turns_left scenario history = turns_by scenario history scenario.steps
 
 -- each entry is of the backend whose turn it is
 abbrev pub FollowsSchedule : Scenario → List Entry → Type 0

@@ -1,5 +1,5 @@
 -- The versions of rows that a history leaves, and the rows that a backend sees.
-use Rattle.std.specs.Prelude.{ℕ, Bool, List, [], ◌∷◌, ◌++◌, ◌||◌, fold, map, filter}
+use Rattle.std.specs.Prelude.{ℕ, Bool, List, [], ◌∷◌, ◌++◌, ◌||◌, map, filter}
 use Rattle.std.specs.List.{flat_map}
 use Rattle.base_types.specs.declared.row.Row.{Row}
 use Rattle.base_types.specs.declared.scan.Purpose.{Purpose}
@@ -14,6 +14,7 @@ use Rattle.event_kinds.specs.declared.entry.Event.{Event}
 use Rattle.event_kinds.specs.declared.entry.Event.TheVariants.{Write}
 use Rattle.event_kinds.specs.declared.entry.Item.{Item}
 use Rattle.event_kinds.specs.declared.entry.Item.TheVariants.{Add}
+use Rattle.history_model.specs.Prefixes.{along}
 use Rattle.history_model.specs.Transactions.{is_committed, runs_as}
 
 -- the version that a change adds
@@ -21,14 +22,14 @@ abbrev pub added_by : Xid → ℕ → Item → List Version
 added_by xid command (Add row) = record { row = row; xid = xid; command = command } ∷ []
 added_by xid command item = []
 
--- the versions after an event
-abbrev pub versions_by : ℕ → Event → List Version → List Version
-versions_by command (Write xid items) old = old ++ flat_map (added_by xid command) items
-versions_by command event old = old
+-- the versions after an event of a backend, by the entries before it
+abbrev pub versions_by : List Entry → ℕ → ℕ → Event → List Version → List Version
+versions_by before b command (Write xid items) old = old ++ flat_map (added_by xid command) items
+versions_by before b command event old = old
 
 -- the versions that the history leaves, in the order in which they were written
 abbrev pub versions_of : List Entry → List Version
-versions_of history = fold (λ old e. versions_by e.command e.event old) [] history
+versions_of history = along (λ before old e. versions_by before e.backend e.command e.event old) [] history
 
 -- a backend sees what a committed transaction or its own wrote
 abbrev pub sees : List Entry → ℕ → Version → Bool

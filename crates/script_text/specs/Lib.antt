@@ -1,1 +1,4 @@
 pub mod Built
+pub mod Reads
+pub mod Loops
+pub mod FirstForm

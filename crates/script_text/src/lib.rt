@@ -8,6 +8,10 @@
 //! The promise to the layers above: contracts see a script as the scenario that it asks for.
 #![tactic(auto)]
 
+mod built;
+mod first_form;
 mod script;
 
+pub use built::is_built;
+pub use first_form::{FormFault, read_first_form};
 pub use script::Script;

@@ -1,7 +1,6 @@
 -- What a backend keeps of the scans that it made for descriptors.
-use Rattle.std.specs.Prelude.{◌≡◌, ◌+◌, ℕ, Bool, true, false, not, ◌==◌, Option, Some, None, List, [], ◌∷◌, if◌then◌else◌, length, map, drop}
+use Rattle.std.specs.Prelude.{◌+◌, ℕ, Bool, not, ◌==◌, Option, Some, None, List, [], ◌∷◌, if◌then◌else◌, map, drop}
 use Rattle.std.specs.List.{list_any, list_all, find, position_or_len}
-use Rattle.std.specs.Option.{option_map_or}
 use Rattle.base_types.specs.declared.ids.Oid.{Oid}
 use Rattle.base_types.specs.declared.mode.Mode.TheVariants.{AccessShare}
 use Rattle.base_types.specs.declared.row.Kind.{Kind}

@@ -1,5 +1,5 @@
 -- What the segment keeps, and what each of its calls does to the history.
-use Rattle.std.specs.Prelude.{◌≡◌, ◌≤◌, ◌+◌, ◌^◌, ℕ, Bool, true, false, Option, Some, None, List, [], ◌∷◌, ◌++◌, length, map, unwrap_or, slice_get, MatchResult, Result}
+use Rattle.std.specs.Prelude.{◌≡◌, ◌≤◌, ◌+◌, ◌^◌, ℕ, Bool, false, Some, None, List, [], ◌∷◌, ◌++◌, length, map, unwrap_or, slice_get, MatchResult, Result}
 use Rattle.std.specs.Option.{option_map}
 use Rattle.base_types.specs.declared.ids.Oid.{Oid}
 use Rattle.base_types.specs.declared.ids.Xid.{Xid}

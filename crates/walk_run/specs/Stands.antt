@@ -1,5 +1,5 @@
 -- Where a backend of the walk stands in a history.
-use Rattle.std.specs.Prelude.{◌≡◌, ◌≢◌, ◌≤◌, ◌<◌, ◌+◌, ℕ, Bool, true, false, not, Option, Some, None, List, [], ◌∷◌, ◌++◌, ◌==◌, ◌&&◌, length, map, filter, drop, slice_get, negsuc, ⊤}
+use Rattle.std.specs.Prelude.{◌≡◌, ◌≢◌, ◌≤◌, ◌<◌, ◌+◌, ℕ, Bool, true, false, not, Option, Some, None, List, [], ◌∷◌, ◌++◌, ◌==◌, ◌&&◌, length, filter, drop, slice_get, ⊤}
 use Rattle.std.specs.List.{list_any, list_all, Contains}
 use Rattle.base_types.specs.declared.ids.Oid.{Oid}
 use Rattle.base_types.specs.declared.ids.Xid.{Xid}
@@ -7,7 +7,6 @@ use Rattle.base_types.specs.declared.mode.Mode.TheVariants.{AccessShare, AccessE
 use Rattle.base_types.specs.declared.row.Kind.TheVariants.{Table}
 use Rattle.base_types.specs.declared.row.Row.{Row}
 use Rattle.base_types.specs.declared.row.Row.TheVariants.{Class}
-use Rattle.base_types.specs.declared.command.Command.{Command}
 use Rattle.base_types.specs.declared.command.Command.TheVariants.{CreateTable, Show}
 use Rattle.base_types.specs.declared.command.Placed.{Placed}
 use Rattle.base_types.specs.declared.command.NewColumn.{NewColumn}
@@ -19,15 +18,15 @@ use Rattle.event_kinds.specs.declared.entry.Entry.{Entry}
 use Rattle.event_kinds.specs.declared.entry.Event.{Event}
 use Rattle.event_kinds.specs.declared.entry.Event.TheVariants as events
 use Rattle.event_kinds.specs.declared.entry.Item.{Item}
-use Rattle.rel_desc.specs.declared.error.CommandError.{CommandError}
 use Rattle.history_model.specs.declared.fact.Grant.{Grant}
 use Rattle.history_model.specs.Transactions.{Running, begun_at, running_transaction_of, is_committed, last_xid}
 use Rattle.history_model.specs.Held.{held_of}
 use Rattle.history_model.specs.Read.{is_usable, place_read, rows_read, ScansOnlyIfNeeded}
-use Rattle.history_model.specs.Legal.{Life, Unstarted, Alive, Stopped, life_of, next_oid, MayFollow}
+use Rattle.history_model.specs.Legal.{Life, Unstarted, Alive, Stopped, life_of, MayFollow}
 use Rattle.history_model.specs.Plays.{Place, place_of, commands_of, IsNext}
 use Rattle.history_model.specs.Lines.{judged_at, refusal_of, lines_of_backend}
 use Rattle.history_model.specs.Settled.{AddsTables, IsSettled, StaysRead}
+use Rattle.walk_run.specs.Left.{still_to_make}
 use Rattle.walk_run.specs.declared.backend.Backend.{Backend}
 use Rattle.walk_run.specs.declared.backend.Found.{Found}
 use Rattle.walk_run.specs.declared.backend.Read.{Read}
@@ -60,8 +59,8 @@ abbrev pub IsOrdinary : List Entry → Entry → Type 0
 IsOrdinary before e = IsOrdinaryEvent before e.backend e.event
 
 -- what the folds of the history say of a backend
-pub record IsAt (history : List Entry) (b : ℕ) (place : Place) (running : Option Running) (life : Life) (grants : List Grant) : Type 0 where
-  pub place_is : place_of history b ≡ place
+pub record IsAt (scenario : Scenario) (history : List Entry) (b : ℕ) (place : Place) (running : Option Running) (life : Life) (grants : List Grant) : Type 0 where
+  pub place_is : place_of scenario history b ≡ place
   pub running_is : running_transaction_of history b ≡ running
   pub life_is : life_of history b ≡ life
   pub grants_are : own_grants history b ≡ grants
@@ -102,7 +101,8 @@ pub record HasWritten (scenario : Scenario) (history : List Entry) (b n : ℕ) (
   pub columns : List NewColumn
   pub command : slice_get (commands_of scenario b) n ≡ Some (CreateTable name columns)
   pub rel : Oid
-  pub at : IsAt history b (place_at n made) (Some (written_at (n + 1) xid.0)) (Alive (n + 1)) (record { backend = b; command = n + 1; rel = rel; mode = AccessExclusive } ∷ [])
+  pub at : IsAt scenario history b (place_at n made) (Some (written_at (n + 1) xid.0)) (Alive (n + 1)) (record { backend = b; command = n + 1; rel = rel; mode = AccessExclusive } ∷ [])
+  pub refused : refusal_of history b (n + 1) ≡ None
   pub known : xid.0 ≤ last_xid history
   pub own : wrote_as history b xid.0 ≡ true
   pub others : (c : ℕ) → c ≢ b → wrote_as history c xid.0 ≡ false
@@ -111,7 +111,7 @@ pub record HasWritten (scenario : Scenario) (history : List Entry) (b n : ℕ) (
 pub record HasLookedUp (scenario : Scenario) (history : List Entry) (b n : ℕ) (name : List ℕ) (made : List Event) (grants : List Grant) : Type 0 where
   pub count : ℕ
   pub command : slice_get (commands_of scenario b) n ≡ Some (Show name None)
-  pub at : IsAt history b (place_at n (events.Scan (RelName name) count ∷ made)) (Some (begun_at (n + 1))) (Alive (n + 1)) grants
+  pub at : IsAt scenario history b (place_at n (events.Scan (RelName name) count ∷ made)) (Some (begun_at (n + 1))) (Alive (n + 1)) grants
 
 -- the event is a refused lock
 abbrev pub IsRefusal : Event → Type 0
@@ -120,8 +120,8 @@ IsRefusal event = ⊥
 
 -- what the stage of a backend says, with n commands finished
 abbrev pub StageStands : Scenario → List Entry → ℕ → ℕ → Stage → Type 0
-StageStands scenario history b n stages.Unstarted = (n ≡ 0) × IsAt history b (record { finished = None; made = [] }) None Unstarted []
-StageStands scenario history b n stages.Between = (last : ℕ) × (last ≤ n) × IsAt history b (place_at n []) None (Alive last) []
+StageStands scenario history b n stages.Unstarted = (n ≡ 0) × IsAt scenario history b (record { finished = None; made = [] }) None Unstarted []
+StageStands scenario history b n stages.Between = (last : ℕ) × (last ≤ n) × IsAt scenario history b (place_at n []) None (Alive last) []
 StageStands scenario history b n (stages.Wrote xid) = (items : List Item) × HasWritten scenario history b n xid (events.Write xid items ∷ []) × (is_committed history xid.0 ≡ false)
 StageStands scenario history b n stages.Visible = (xid : Xid) × (items : List Item) × HasWritten scenario history b n xid (events.Write xid items ∷ events.Visible xid ∷ []) × (is_committed history xid.0 ≡ true)
 StageStands scenario history b n (stages.LookedUp name found at) = HasLookedUp scenario history b n name [] [] × FoundStands history b name found × IsJudged history b (n + 1) × (place_read history b (RelName name) ≡ at)
@@ -156,12 +156,13 @@ pub record IsAhead (scenario : Scenario) (b n at : ℕ) : Type 0 where
 -- where a backend stands in a history
 pub record BackendStands (scenario : Scenario) (history : List Entry) (s : Backend) : Type 0 where
   pub number : IsBackend scenario.backends s.id
+  pub few : s.finished ≤ 20000
   pub ahead : IsAhead scenario s.id s.finished s.at
   pub stage : StageStands scenario history s.id s.finished s.stage
   pub reads : ReadsStand history s.id s.reads
   pub lines : s.lines ≡ lines_of_backend scenario history s.id
 
--- a step makes one entry of the backend's, which is allowed, and the backend stands behind it
+-- a step makes one entry of the backend's, which is allowed; the backend stands behind it, and can make fewer than before
 pub record Steps (scenario : Scenario) (old new : List Entry) (was now : Backend) : Type 0 where
   pub entry : Entry
   pub is : new ≡ old ++ entry ∷ []
@@ -172,3 +173,4 @@ pub record Steps (scenario : Scenario) (old new : List Entry) (was now : Backend
   pub needed : ScansOnlyIfNeeded old entry.backend entry.event
   pub ordinary : IsOrdinary old entry
   pub stands : BackendStands scenario new now
+  pub less : still_to_make scenario now < still_to_make scenario was

@@ -3,13 +3,17 @@ ghost use Rattle.std.specs.List.{Contains, find};
 ghost use Rattle.std.specs.Option.{option_copied};
 ghost use Rattle.base_types.specs.declared.scan.Field.{Field};
 ghost use Rattle.base_types.specs.Fields.{read_by as scan_of_field, fields_of as fields_of_kind};
-ghost use Rattle.base_types.specs.Scans.{same_scan};
+ghost use Rattle.base_types.specs.Scans.{same_scan as scans_match};
 ghost use Rattle.rel_desc.specs.declared.answer.Answer.TheVariants as answers;
 ghost use Rattle.rel_desc.specs.declared.error.CommandError.TheVariants.{NoRelation};
 ghost use Rattle.walk_run.specs.Reads.{is_kept_by_share, shown_by, answer_by};
 
 use crate::backend::{Found, Read};
-use base_types::{Field, Kind, Listed, Mode, Name, NoMemory, Oid, Purpose, conflicts, field_text, fields_of, read_by, writers};
+use crate::scans::same_scan;
+use base_types::{
+    Field, Kind, Listed, Mode, Name, NoMemory, Oid, Purpose, conflicts, field_text, fields_of,
+    read_by, writers,
+};
 use rel_desc::{Answer, CommandError, Shown, Value};
 use std::alloc::Global;
 
@@ -22,7 +26,7 @@ pub fn absent(name: Name, at: u64) -> Answer
 
 /// All fields of a relation, from the scans that are kept. Condition: each field's scan is kept.
 pub fn shown(alloc: Global, found: Found, reads: &[Read]) -> Result<Answer, NoMemory>
-    requires { (field : Field) → Contains (fields_of_kind found.kind) field → IsSome (find (λ r. same_scan r.purpose (scan_of_field field found.rel)) reads.now) }
+    requires { (field : Field) → Contains (fields_of_kind found.kind) field → IsSome (find (λ r. scans_match r.purpose (scan_of_field field found.rel)) reads.now) }
     ensures { IfOk result (λ answer. answer ≡ answer_by reads.now found) }
 {
     let mut fields = Listed::new(alloc);
@@ -44,8 +48,8 @@ fn shown_field(
     field: Field,
     reads: &[Read],
 ) -> Result<Shown, NoMemory>
-    requires { IsSome (find (λ r. same_scan r.purpose (scan_of_field field rel)) reads.now) }
-    ensures { IfOk result (λ shown. shown ≡ shown_by kind rel field (find (λ r. same_scan r.purpose (scan_of_field field rel)) reads.now)) }
+    requires { IsSome (find (λ r. scans_match r.purpose (scan_of_field field rel)) reads.now) }
+    ensures { IfOk result (λ shown. shown ≡ shown_by kind rel field (find (λ r. scans_match r.purpose (scan_of_field field rel)) reads.now)) }
 {
     let Some(read) = kept(reads, read_by(field, rel)) else {
         unreachable!()
@@ -53,15 +57,19 @@ fn shown_field(
     Ok(Shown {
         field,
         value: Value::new(field_text(alloc, field, rel, read.rows.as_slice())?),
-        at: if is_kept(kind, field) { None } else { Some(read.at) },
+        at: if is_kept(kind, field) {
+            None
+        } else {
+            Some(read.at)
+        },
     })
 }
 
 // The scan among those kept, if it is.
 fn kept(reads: &[Read], scan: Purpose) -> Option<&Read>
-    ensures { option_copied result ≡ find (λ r. same_scan r.purpose scan) reads.now }
+    ensures { option_copied result ≡ find (λ r. scans_match r.purpose scan) reads.now }
 {
-    reads.iter().find(|read| read.purpose == scan)
+    reads.iter().find(|read| same_scan(&read.purpose, &scan))
 }
 
 // Whether a lock in AccessShare keeps everybody from changing the field.

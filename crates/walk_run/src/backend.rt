@@ -1,12 +1,15 @@
-ghost use Rattle.std.specs.Prelude.{◌≡◌, ◌≢◌, ◌≤◌, ◌+◌, ◌↔◌, [], ℕ, true, List, length, slice_get, OnOk, IsTrue};
-ghost use Rattle.std.specs.List.{list_any};
-ghost use Rattle.base_types.specs.Scans.{same_scan, build_scans};
+ghost use Rattle.std.specs.Prelude.{◌≡◌, ◌≢◌, ◌≤◌, ◌+◌, ◌↔◌, ◌==◌, [], ℕ, true, List, length, not, slice_get, OnOk, IsTrue};
+ghost use Rattle.std.specs.List.{list_any, find, position};
+ghost use Rattle.base_types.specs.Scans.{same_scan as scans_match, build_scans};
 ghost use Rattle.history_model.specs.Plays.{commands_of};
 ghost use Rattle.walk_run.specs.Reads.{next_owed_of, found_in, first_own_from};
 
 use crate::answers::{absent, shown};
-use crate::segment::{Locked, Segment};
-use base_types::{Command, Kind, Listed, Mode, Name, NewColumn, NoMemory, Oid, Placed, Purpose, Row, Xid};
+use crate::scans::same_scan;
+use crate::segment::{Locked, Scanned, Segment};
+use base_types::{
+    Command, Kind, Listed, Mode, Name, NewColumn, NoMemory, Oid, Placed, Purpose, Row, Xid,
+};
 use event_kinds::Line;
 use out_text::answer_text;
 use rel_desc::{Answer, CommandError};
@@ -70,6 +73,7 @@ pub struct Backend {
 impl Backend {
     ghost use Rattle.walk_run.specs.Stands.{BackendStands, Steps};
     ghost use Rattle.walk_run.specs.Ends.{MayEnd};
+    ghost use Rattle.history_model.specs.Legal.{IsLegal};
     ghost use Rattle.history_model.specs.Settled.{OneWriter};
     ghost use Rattle.script_text.specs.Built.{is_built};
 
@@ -90,6 +94,21 @@ impl Backend {
         }
     }
 
+    /// Its lines so far, the backend given up.
+    pub fn into_lines(self) -> Vec<Line>
+        ensures { result.items ≡ self.lines }
+    {
+        let Backend {
+            id: _,
+            at: _,
+            finished: _,
+            stage: _,
+            reads: _,
+            lines,
+        } = self;
+        lines.into_vec()
+    }
+
     /// Whether it has left.
     pub fn is_stopped(&self) -> bool
         ensures { IsTrue result ↔ (self.now.stage ≡ Stage.Stopped) }
@@ -106,27 +125,34 @@ impl Backend {
     ) -> Result<(), NoMemory>
         requires stands { BackendStands script.now segment.old self.old }
         requires built { is_built script.now ≡ true }
+        requires legal { IsLegal segment.old }
         requires writer { OneWriter segment.old }
         requires running { self.old.stage ≢ Stage.Stopped }
         ensures { OnOk result (Steps script.now segment.old segment.new self.old self.new) }
     {
-        match self.stage {
+        match &self.stage {
             Stage::Unstarted => self.join(script, segment),
             Stage::Between => self.begin(alloc, script, segment),
-            Stage::Wrote(xid) => self.commit(script, segment, xid),
+            Stage::Wrote(xid) => {
+                let xid = *xid;
+                self.commit(script, segment, xid)
+            }
             Stage::Visible => self.finish(alloc, script, segment, Answer::Ok),
-            Stage::LookedUp {
-                name: _,
-                found: Some(found),
-                at: _,
-            } => self.lock(script, segment, found),
-            Stage::LookedUp {
-                name,
-                found: None,
-                at,
-            } => self.finish(alloc, script, segment, absent(name, at)),
-            Stage::Refused(error) => self.finish(alloc, script, segment, Answer::Error(error)),
-            Stage::Opened(found) => self.read_on(alloc, script, segment, found),
+            Stage::LookedUp { name, found, at } => match *found {
+                Some(found) => self.lock(script, segment, found),
+                None => {
+                    let answer = absent(*name, *at);
+                    self.finish(alloc, script, segment, answer)
+                }
+            },
+            Stage::Refused(error) => {
+                let answer = Answer::Error(*error);
+                self.finish(alloc, script, segment, answer)
+            }
+            Stage::Opened(found) => {
+                let found = *found;
+                self.read_on(alloc, script, segment, found)
+            }
             Stage::Stopped => unreachable!(),
         }
     }
@@ -134,6 +160,7 @@ impl Backend {
     // It joins.
     fn join(&mut self, script: &Script, segment: &mut Segment) -> Result<(), NoMemory>
         requires stands { BackendStands script.now segment.old self.old }
+        requires writer { OneWriter segment.old }
         requires stage { self.old.stage ≡ Stage.Unstarted }
         ensures { OnOk result (Steps script.now segment.old segment.new self.old self.new) }
     {
@@ -151,6 +178,7 @@ impl Backend {
     ) -> Result<(), NoMemory>
         requires stands { BackendStands script.now segment.old self.old }
         requires built { is_built script.now ≡ true }
+        requires legal { IsLegal segment.old }
         requires writer { OneWriter segment.old }
         requires stage { self.old.stage ≡ Stage.Between }
         ensures { OnOk result (Steps script.now segment.old segment.new self.old self.new) }
@@ -170,6 +198,7 @@ impl Backend {
     // It leaves, having no command left.
     fn leave(&mut self, script: &Script, segment: &mut Segment) -> Result<(), NoMemory>
         requires stands { BackendStands script.now segment.old self.old }
+        requires writer { OneWriter segment.old }
         requires stage { self.old.stage ≡ Stage.Between }
         requires none { slice_get (commands_of script.now self.old.id) self.old.finished ≡ None }
         ensures { OnOk result (Steps script.now segment.old segment.new self.old self.new) }
@@ -189,6 +218,8 @@ impl Backend {
         columns: &[NewColumn],
     ) -> Result<(), NoMemory>
         requires stands { BackendStands script.now segment.old self.old }
+        requires legal { IsLegal segment.old }
+        requires writer { OneWriter segment.old }
         requires stage { self.old.stage ≡ Stage.Between }
         requires command { slice_get (commands_of script.now self.old.id) self.old.finished ≡ Some (Command.CreateTable name columns.now) }
         requires most { length columns.now ≤ 1600 }
@@ -200,13 +231,9 @@ impl Backend {
     }
 
     // It makes its write visible.
-    fn commit(
-        &mut self,
-        script: &Script,
-        segment: &mut Segment,
-        xid: Xid,
-    ) -> Result<(), NoMemory>
+    fn commit(&mut self, script: &Script, segment: &mut Segment, xid: Xid) -> Result<(), NoMemory>
         requires stands { BackendStands script.now segment.old self.old }
+        requires writer { OneWriter segment.old }
         requires stage { self.old.stage ≡ Stage.Wrote xid }
         ensures { OnOk result (Steps script.now segment.old segment.new self.old self.new) }
     {
@@ -224,27 +251,24 @@ impl Backend {
         name: Name,
     ) -> Result<(), NoMemory>
         requires stands { BackendStands script.now segment.old self.old }
+        requires legal { IsLegal segment.old }
         requires writer { OneWriter segment.old }
         requires stage { self.old.stage ≡ Stage.Between }
         requires command { slice_get (commands_of script.now self.old.id) self.old.finished ≡ Some (Command.Show name None) }
         ensures { OnOk result (Steps script.now segment.old segment.new self.old self.new) }
     {
-        let scanned = segment.scan(alloc, self.id, self.finished + 1, Purpose::RelName(name))?;
+        let purpose = Purpose::RelName(name);
+        let Scanned { rows, at } = segment.scan(alloc, self.id, self.finished + 1, purpose)?;
         self.stage = Stage::LookedUp {
             name,
-            found: first_found(&scanned.rows),
-            at: scanned.at,
+            found: first_found(&rows),
+            at,
         };
         Ok(())
     }
 
     // It asks for the lock of the relation that it found.
-    fn lock(
-        &mut self,
-        script: &Script,
-        segment: &mut Segment,
-        found: Found,
-    ) -> Result<(), NoMemory>
+    fn lock(&mut self, script: &Script, segment: &mut Segment, found: Found) -> Result<(), NoMemory>
         requires stands { BackendStands script.now segment.old self.old }
         requires stage { (name : List ℕ) × (at : ℕ) × (self.old.stage ≡ Stage.LookedUp name (Some found) at) }
         ensures { OnOk result (Steps script.now segment.old segment.new self.old self.new) }
@@ -275,7 +299,7 @@ impl Backend {
         ensures { OnOk result (Steps script.now segment.old segment.new self.old self.new) }
     {
         match next_owed(self.reads.as_slice(), found.rel) {
-            Some(purpose) => self.read(alloc, script, segment, purpose),
+            Some(purpose) => self.read(alloc, script, segment, &purpose),
             None => {
                 let answer = shown(alloc, found, self.reads.as_slice())?;
                 self.finish(alloc, script, segment, answer)
@@ -289,19 +313,19 @@ impl Backend {
         alloc: Global,
         script: &Script,
         segment: &mut Segment,
-        purpose: Purpose,
+        purpose: &Purpose,
     ) -> Result<(), NoMemory>
         requires stands { BackendStands script.now segment.old self.old }
-        requires writer { OneWriter segment.old }
-        requires stage { (found : Found) × (self.old.stage ≡ Stage.Opened found) × (next_owed_of self.old.reads found.rel ≡ Some purpose) }
+        requires stage { (found : Found) × (self.old.stage ≡ Stage.Opened found) × (next_owed_of self.old.reads found.rel ≡ Some purpose.now) }
         ensures { OnOk result (Steps script.now segment.old segment.new self.old self.new) }
     {
-        let scanned = segment.scan(alloc, self.id, self.finished + 1, purpose)?;
-        self.reads.push(Read {
-            purpose,
-            rows: Listed::from_vec(scanned.rows),
-            at: scanned.at,
-        })?;
+        let Scanned { rows, at } = segment.scan(alloc, self.id, self.finished + 1, *purpose)?;
+        let read = Read {
+            purpose: *purpose,
+            rows: Listed::from_vec(rows),
+            at,
+        };
+        self.reads.push(read)?;
         Ok(())
     }
 
@@ -314,14 +338,17 @@ impl Backend {
         answer: Answer,
     ) -> Result<(), NoMemory>
         requires stands { BackendStands script.now segment.old self.old }
+        requires writer { OneWriter segment.old }
         requires ends { MayEnd script.now segment.old self.old answer }
         ensures { OnOk result (Steps script.now segment.old segment.new self.old self.new) }
     {
         let command = self.finished + 1;
+        let mut text = Vec::new(alloc);
+        answer_text(&answer, &mut text)?;
         self.lines.push(Line {
             backend: self.id,
             command,
-            text: answer_text(alloc, &answer)?,
+            text: Listed::from_vec(text),
         })?;
         segment.release(self.id, command, command)?;
         self.finished = command;
@@ -336,10 +363,15 @@ fn next_own(commands: &[Placed], from: usize, id: u32) -> usize
     requires { from ≤ length commands.now }
     ensures { result ≡ first_own_from id commands.now from }
 {
-    match commands[from..].iter().position(|placed| placed.backend == id) {
-        Some(further) => from + further,
-        None => commands.len(),
-    }
+    let rest = &commands[from..];
+    from + first_own(rest, id).unwrap_or(rest.len())
+}
+
+// The place of the first of these commands that is a backend's.
+fn first_own(commands: &[Placed], id: u32) -> Option<usize>
+    ensures { result ≡ position (λ p. p.backend == id) commands.now }
+{
+    commands.iter().position(|placed| placed.backend == id)
 }
 
 // The relation of the first row that a lookup gave.
@@ -359,10 +391,14 @@ fn first_found(rows: &[Row]) -> Option<Found>
 fn next_owed(reads: &[Read], rel: Oid) -> Option<Purpose>
     ensures { result ≡ next_owed_of reads.now rel }
 {
-    table_scans(rel)
-        .iter()
-        .find(|scan| !has_read(reads, scan))
-        .copied()
+    first_unread(reads, &table_scans(rel))
+}
+
+// The first of these scans that isn't among those kept.
+fn first_unread(reads: &[Read], scans: &[Purpose]) -> Option<Purpose>
+    ensures { result ≡ find (λ scan. not (list_any (λ r. scans_match r.purpose scan) reads.now)) scans.now }
+{
+    scans.iter().find(|scan| !has_read(reads, scan)).copied()
 }
 
 // The scans that build the descriptor of a table, in order.
@@ -381,7 +417,7 @@ fn table_scans(rel: Oid) -> [Purpose; 6]
 
 // Whether a scan is among those kept.
 fn has_read(reads: &[Read], scan: &Purpose) -> bool
-    ensures { result ≡ list_any (λ r. same_scan r.purpose scan.now) reads.now }
+    ensures { result ≡ list_any (λ r. scans_match r.purpose scan.now) reads.now }
 {
-    reads.iter().any(|read| read.purpose == *scan)
+    reads.iter().any(|read| same_scan(&read.purpose, scan))
 }

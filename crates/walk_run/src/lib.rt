@@ -14,6 +14,9 @@
 
 mod answers;
 mod backend;
+mod scans;
 mod segment;
+mod walking;
 
 pub use segment::{Locked, Scanned, Segment};
+pub use walking::{World, walk};

@@ -1,10 +1,18 @@
-ghost use Rattle.std.specs.Prelude.{◌≡◌, ◌+◌, ◌<◌, ◌≤◌, ◌^◌, ◌++◌, ◌∷◌, ◌==◌, ◌&&◌, [], ℕ, false, not, nat_le, length, map, filter, vec_len, vec_capacity, unwrap_or, slice_get, OnOk, OnErr, IfOk};
-ghost use Rattle.base_types.specs.Scans.{scan_of};
+ghost use Rattle.std.specs.Prelude.{◌≡◌, ◌+◌, ◌<◌, ◌≤◌, ◌^◌, ◌++◌, ◌∷◌, ◌==◌, ◌&&◌, [], ℕ, false, not, nat_le, length, map, filter, None, vec_len, vec_capacity, unwrap_or, slice_get, OnOk, OnErr, IfOk};
+ghost use Rattle.base_types.specs.Modes.{conflicts as do_conflict};
+ghost use Rattle.base_types.specs.Scans.{same_oid, scan_of};
+ghost use Rattle.base_types.specs.declared.row.Kind.TheVariants as kinds;
+ghost use Rattle.base_types.specs.declared.row.Row.TheVariants as rows;
 ghost use Rattle.history_model.specs.Held.{first_conflict};
-ghost use Rattle.history_model.specs.Plays.{table_rows as rows_of_table};
+ghost use Rattle.history_model.specs.Plays.{column_row as row_of_column, table_rows as rows_of_table};
+ghost use Rattle.history_model.specs.Versions.{added_by};
+ghost use Rattle.std.specs.List.{flat_map};
 ghost use Rattle.walk_run.specs.Entries.{entry_of};
 
-use base_types::{Listed, Mode, Name, NewColumn, NoMemory, Oid, Purpose, Row, Xid, put_in_order, selects};
+use base_types::{
+    Kind, Listed, Mode, Name, NewColumn, NoMemory, Oid, Purpose, Row, Xid, conflicts, put_in_order,
+    selects,
+};
 use event_kinds::{Entry, Event, Item};
 use history_model::{Grant, Version};
 use std::alloc::Global;
@@ -37,10 +45,7 @@ pub struct Scanned {
 pub enum Locked {
     Granted,
     /// The first other holder of a conflicting mode, and that mode.
-    Refused {
-        holder: u32,
-        held: Mode,
-    },
+    Refused { holder: u32, held: Mode },
 }
 
 impl Model for Segment {
@@ -147,17 +152,19 @@ impl Segment {
     {
         match conflicting(&self.grants, backend, rel, mode) {
             Some(grant) => {
+                let Grant {
+                    backend: holder,
+                    mode: held,
+                    ..
+                } = grant;
                 let event = Event::LockHeld {
                     rel,
                     mode,
-                    holder: grant.backend,
-                    held: grant.mode,
+                    holder,
+                    held,
                 };
                 enter(&mut self.entries, backend, command, event)?;
-                Ok(Locked::Refused {
-                    holder: grant.backend,
-                    held: grant.mode,
-                })
+                Ok(Locked::Refused { holder, held })
             }
             None => {
                 self.grants.reserve(1)?;
@@ -194,18 +201,18 @@ impl Segment {
     {
         let xid = Xid(self.committed.len() as u32);
         let rel = Oid(self.next_oid);
-        let rows = table_rows(alloc, rel, name, columns)?;
-        let items = added(alloc, &rows)?;
-        self.versions.reserve(rows.len())?;
+        let items = table_items(alloc, rel, name, columns)?;
+        make_room(&mut self.entries)?;
+        self.versions.reserve(items.len())?;
         self.grants.reserve(1)?;
         self.committed.reserve(1)?;
-        enter(
-            &mut self.entries,
+        keep_versions(&mut self.versions, items.as_slice(), xid, command);
+        let items = Listed::from_vec(items);
+        self.entries.push_reserved(Entry {
             backend,
             command,
-            Event::Write { xid, items },
-        )?;
-        keep_versions(&mut self.versions, &rows, xid, command);
+            event: Event::Write { xid, items },
+        });
         self.committed.push_reserved(false);
         self.grants.push_reserved(Grant {
             backend,
@@ -243,14 +250,25 @@ fn enter(entries: &mut Vec<Entry>, backend: u32, command: u32, event: Event) -> 
     ensures short { OnOk result (vec_len entries.new ≤ 2 ^ 31) }
     ensures err { OnErr result (entries.new.items ≡ entries.old.items) }
 {
-    if entries.len() >= MOST_ENTRIES {
-        return Err(NoMemory);
-    }
-    entries.push(Entry {
+    make_room(entries)?;
+    entries.push_reserved(Entry {
         backend,
         command,
         event,
-    })?;
+    });
+    Ok(())
+}
+
+// Makes room for one more entry.
+fn make_room(entries: &mut Vec<Entry>) -> Result<(), NoMemory>
+    ensures ok { OnOk result (vec_len entries.new < vec_capacity entries.new) }
+    ensures short { OnOk result (vec_len entries.new < 2 ^ 31) }
+    ensures same { entries.new.items ≡ entries.old.items }
+{
+    if entries.len() >= MOST_ENTRIES {
+        return Err(NoMemory);
+    }
+    entries.reserve(1)?;
     Ok(())
 }
 
@@ -265,12 +283,19 @@ fn seen_rows(
 {
     let mut rows = Vec::new(alloc);
     for version in versions {
-        let seen = committed.get(version.xid.0 as usize).copied();
-        if seen.unwrap_or(false) && selects(purpose, &version.row) {
+        if is_seen(version, committed) && selects(purpose, &version.row) {
             put_in_order(purpose, &mut rows, version.row)?;
         }
     }
     Ok(rows)
+}
+
+// Whether the writer of a version is committed.
+fn is_seen(version: &Version, committed: &[bool]) -> bool
+    ensures { result ≡ unwrap_or (slice_get committed.now version.now.xid.0) false }
+{
+    let seen = committed.get(version.xid.0 as usize).copied();
+    seen.unwrap_or(false)
 }
 
 // The first grant of another backend that keeps the mode from being granted.
@@ -279,61 +304,74 @@ fn conflicting(grants: &[Grant], backend: u32, rel: Oid, mode: Mode) -> Option<G
 {
     grants
         .iter()
-        .find(|grant| {
-            grant.backend != backend && grant.rel == rel && base_types::conflicts(mode, grant.mode)
-        })
+        .find(|grant| stands_against(grant, backend, rel, mode))
         .copied()
 }
 
-// The rows of a new table: its own, and one for each column.
-fn table_rows(
+// Whether a grant is another backend's and keeps the mode from being granted.
+fn stands_against(grant: &Grant, backend: u32, rel: Oid, mode: Mode) -> bool
+    ensures { result ≡ (not (grant.now.backend == backend) && same_oid grant.now.rel rel && do_conflict mode grant.now.mode) }
+{
+    grant.backend != backend && grant.rel.0 == rel.0 && conflicts(mode, grant.mode)
+}
+
+// The changes that add the rows of a new table: its own, and one for each column.
+fn table_items(
     alloc: Global,
     rel: Oid,
     name: Name,
     columns: &[NewColumn],
-) -> Result<Vec<Row>, NoMemory>
+) -> Result<Vec<Item>, NoMemory>
     requires { length columns.now ≤ 1600 }
-    ensures { IfOk result (λ rows. rows.items ≡ rows_of_table rel.0 name columns.now) }
+    ensures ok { IfOk result (λ items. items.items ≡ map Item.Add (rows_of_table rel.0 name columns.now)) }
 {
-    let mut rows = Vec::new(alloc);
-    rows.push(Row::Class {
+    let mut items = Vec::new(alloc);
+    items.push(Item::Add(class_row(rel, name)))?;
+    for (i, column) in columns.iter().enumerate() {
+        items.push(Item::Add(column_row(rel, i as u32 + 1, column)))?;
+    }
+    Ok(items)
+}
+
+// The row of a new table.
+fn class_row(rel: Oid, name: Name) -> Row
+    ensures { result ≡ rows.Class rel name kinds.Table None }
+{
+    Row::Class {
         oid: rel,
         name,
-        kind: base_types::Kind::Table,
+        kind: Kind::Table,
         fill: None,
-    })?;
-    for (i, column) in columns.iter().enumerate() {
-        rows.push(Row::Att {
-            rel,
-            num: i as u32 + 1,
-            name: column.name,
-            col_type: column.col_type,
-            stat: -1,
-            live: true,
-        })?;
     }
-    Ok(rows)
 }
 
-// The changes that add these rows.
-fn added(alloc: Global, rows: &[Row]) -> Result<Listed<Item>, NoMemory>
-    ensures { IfOk result (λ items. items ≡ map Item.Add rows.now) }
+// The row of a new table's column.
+fn column_row(rel: Oid, num: u32, column: &NewColumn) -> Row
+    ensures { result ≡ row_of_column rel num column.now }
 {
-    let items = rows.iter().map(|row| Item::Add(*row)).collect(alloc)?;
-    Ok(Listed::from_vec(items))
+    Row::Att {
+        rel,
+        num,
+        name: column.name,
+        col_type: column.col_type,
+        stat: -1,
+        live: true,
+    }
 }
 
-// Keeps rows as versions of their writer, for which there is room.
-fn keep_versions(versions: &mut Vec<Version>, rows: &[Row], xid: Xid, command: u32)
-    requires { vec_len versions.old + length rows.now ≤ vec_capacity versions.old }
-    ensures { versions.new.items ≡ versions.old.items ++ map (λ row. record { row = row; xid = xid; command = command }) rows.now }
+// Keeps the versions that changes add, for which there is room.
+fn keep_versions(versions: &mut Vec<Version>, items: &[Item], xid: Xid, command: u32)
+    requires { vec_len versions.old + length items.now ≤ vec_capacity versions.old }
+    ensures { versions.new.items ≡ versions.old.items ++ flat_map (added_by xid command) items.now }
 {
-    for row in rows {
-        versions.push_reserved(Version {
-            row: *row,
-            xid,
-            command,
-        });
+    for item in items {
+        if let Item::Add(row) = item {
+            versions.push_reserved(Version {
+                row: *row,
+                xid,
+                command,
+            });
+        }
     }
 }
 

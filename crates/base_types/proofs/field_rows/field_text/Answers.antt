@@ -1,4 +1,4 @@
-use Rattle.std.proofs.Common.{◌≡◌, ◌∙◌, ◌++◌, if◌then◌else◌, codes, sym, ap}
+use Rattle.std.proofs.Common.{◌∙◌, ◌++◌, if◌then◌else◌, codes, sym, ap}
 use Rattle.base_types.proofs.Joining.{row_adds, row_passes}
 use Rattle.base_types.proofs.field_rows.field_text.Goals.{in-Some+in_ok-push_item, in_default}
 use Rattle.base_types.proofs.field_rows.field_text.Goals as goal

@@ -1,0 +1,4 @@
+pub mod Loops
+pub mod Digits
+pub mod Limits
+pub mod Distinct
