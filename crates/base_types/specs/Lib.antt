@@ -1,5 +1,6 @@
 pub mod Padded
 pub mod Types
+pub mod Names
 pub mod Modes
 pub mod Scans
 pub mod Words

@@ -11,22 +11,35 @@
 
 mod command;
 mod ids;
+mod line_buffer;
 mod listed;
+mod lock_modes;
 mod memory;
 mod mode;
+mod mode_set;
 mod name;
+mod name_bytes;
+mod name_fault;
 mod nums;
 mod row;
 mod scan;
+mod scan_rows;
 mod short_text;
+mod words;
 
 pub use command::{Command, NewColumn, Placed, Turns};
 pub use ids::{FIRST_OID, Oid, Xid};
+pub use line_buffer::{LINE_ROOM, LineBuffer};
 pub use listed::Listed;
+pub use lock_modes::{conflicts, writers};
 pub use memory::NoMemory;
 pub use mode::Mode;
+pub use mode_set::ModeSet;
 pub use name::{Name, Text, Word};
+pub use name_fault::NameFault;
 pub use nums::{MOST_INDEX_COLUMNS, Nums};
 pub use row::{Catalog, ColType, ConKind, IndexState, Kind, Row, RowKey};
 pub use scan::{Field, Purpose};
+pub use scan_rows::{goes_before, put_in_order, selects};
 pub use short_text::{LONGEST_TEXT, ShortText};
+pub use words::{live_word, on_word, valid_word};

@@ -1,4 +1,5 @@
-use crate::ShortText;
+use crate::name_bytes::{name_fault, text_fault, word_fault};
+use crate::{NameFault, ShortText};
 use std::marker::Model;
 
 /// A name of SQL, folded to small letters: 1 to 63 bytes, or the name that a dropped column has.
@@ -17,6 +18,33 @@ impl Model for Name {
     ghost inverse = { λ bytes. record { text = bytes } };
 }
 
+impl Name {
+    ghost use Rattle.std.specs.Prelude.{◌≡◌, ◌≤◌, length, IfOk, IfErr, Some};
+    ghost use Rattle.base_types.specs.Names.{IsName, name_fault as first_fault};
+
+    /// The name of these bytes: 1 to 63 small letters, digits and `_`, with no digit in front.
+    /// `Err` has the first fault.
+    pub fn new(text: &[u8]) -> Result<Name, NameFault>
+        ensures ok { IfOk result (λ name. (name ≡ text.now) × IsName text.now) }
+        ensures err { IfErr result (λ fault. first_fault text.now ≡ Some fault) }
+    {
+        match name_fault(text) {
+            None => Ok(Name {
+                text: ShortText::new(text),
+            }),
+            Some(fault) => Err(fault),
+        }
+    }
+
+    /// The bytes of the name, at most 63.
+    pub fn as_bytes(&self) -> &[u8]
+        ensures text { result.now ≡ self.now }
+        ensures short { length self.now ≤ 63 }
+    {
+        self.text.as_bytes()
+    }
+}
+
 /// The word of a column's default.
 #[derive(Clone, Copy, Debug, PartialEq, Eq)]
 pub struct Word {
@@ -28,9 +56,36 @@ impl Model for Word {
 
     ghost Value = { List ℕ };
 
-    ghost view = { λ w. w.text };
+    ghost view = { λ t. t.text };
 
     ghost inverse = { λ bytes. record { text = bytes } };
+}
+
+impl Word {
+    ghost use Rattle.std.specs.Prelude.{◌≡◌, ◌≤◌, length, IfOk, IfErr, Some};
+    ghost use Rattle.base_types.specs.Names.{IsWord, is_word_byte as allowed, short_fault};
+
+    /// The word of these bytes: 1 to 63 small letters, digits, `_` and `-`.
+    /// `Err` has the first fault.
+    pub fn new(text: &[u8]) -> Result<Word, NameFault>
+        ensures ok { IfOk result (λ made. (made ≡ text.now) × IsWord text.now) }
+        ensures err { IfErr result (λ fault. short_fault allowed text.now ≡ Some fault) }
+    {
+        match word_fault(text) {
+            None => Ok(Word {
+                text: ShortText::new(text),
+            }),
+            Some(fault) => Err(fault),
+        }
+    }
+
+    /// The bytes of the word, at most 63.
+    pub fn as_bytes(&self) -> &[u8]
+        ensures text { result.now ≡ self.now }
+        ensures short { length self.now ≤ 63 }
+    {
+        self.text.as_bytes()
+    }
 }
 
 /// The text of a check, without its blanks.
@@ -47,4 +102,31 @@ impl Model for Text {
     ghost view = { λ t. t.text };
 
     ghost inverse = { λ bytes. record { text = bytes } };
+}
+
+impl Text {
+    ghost use Rattle.std.specs.Prelude.{◌≡◌, ◌≤◌, length, IfOk, IfErr, Some};
+    ghost use Rattle.base_types.specs.Names.{IsText, is_text_byte as allowed, short_fault};
+
+    /// The text of these bytes: 1 to 63 small letters, digits and `_ - < > = + *`.
+    /// `Err` has the first fault.
+    pub fn new(text: &[u8]) -> Result<Text, NameFault>
+        ensures ok { IfOk result (λ made. (made ≡ text.now) × IsText text.now) }
+        ensures err { IfErr result (λ fault. short_fault allowed text.now ≡ Some fault) }
+    {
+        match text_fault(text) {
+            None => Ok(Text {
+                text: ShortText::new(text),
+            }),
+            Some(fault) => Err(fault),
+        }
+    }
+
+    /// The bytes of the text, at most 63.
+    pub fn as_bytes(&self) -> &[u8]
+        ensures text { result.now ≡ self.now }
+        ensures short { length self.now ≤ 63 }
+    {
+        self.text.as_bytes()
+    }
 }

@@ -7,6 +7,22 @@ pub enum Kind {
     Index,
 }
 
+impl Kind {
+    ghost use Rattle.std.specs.Prelude.{◌≡◌, ◌≤◌, length};
+    ghost use Rattle.base_types.specs.Words.{kind_word};
+
+    /// The letter of the kind (`RELKIND_RELATION` and `RELKIND_INDEX`).
+    pub fn word(self) -> &'static [u8]
+        ensures text { result.now ≡ kind_word self }
+        ensures short { length result.now ≤ 1 }
+    {
+        match self {
+            Kind::Table => b"r",
+            Kind::Index => b"i",
+        }
+    }
+}
+
 /// The types that a column may have.
 #[derive(Clone, Copy, Debug, PartialEq, Eq)]
 pub enum ColType {
@@ -18,6 +34,28 @@ pub enum ColType {
     Bytea,
     Date,
     Timestamptz,
+}
+
+impl ColType {
+    ghost use Rattle.std.specs.Prelude.{◌≡◌, ◌≤◌, length};
+    ghost use Rattle.base_types.specs.Words.{type_word};
+
+    /// The name of the type.
+    pub fn word(self) -> &'static [u8]
+        ensures text { result.now ≡ type_word self }
+        ensures short { length result.now ≤ 12 }
+    {
+        match self {
+            ColType::Bool => b"bool",
+            ColType::Int2 => b"int2",
+            ColType::Int4 => b"int4",
+            ColType::Int8 => b"int8",
+            ColType::Text => b"text",
+            ColType::Bytea => b"bytea",
+            ColType::Date => b"date",
+            ColType::Timestamptz => b"timestamptz",
+        }
+    }
 }
 
 /// The catalogs whose rows are kept.
@@ -36,6 +74,22 @@ pub enum Catalog {
 pub enum IndexState {
     Neither,
     Valid,
+}
+
+impl IndexState {
+    ghost use Rattle.std.specs.Prelude.{◌≡◌, ◌≤◌, length};
+    ghost use Rattle.base_types.specs.Words.{state_word};
+
+    /// The letter of the state.
+    pub fn word(self) -> &'static [u8]
+        ensures text { result.now ≡ state_word self }
+        ensures short { length result.now ≤ 1 }
+    {
+        match self {
+            IndexState::Neither => b"n",
+            IndexState::Valid => b"v",
+        }
+    }
 }
 
 /// What a constraint demands.

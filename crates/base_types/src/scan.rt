@@ -42,3 +42,28 @@ pub enum Field {
     Of,
     Valid,
 }
+
+impl Field {
+    ghost use Rattle.std.specs.Prelude.{◌≡◌, ◌≤◌, length};
+    ghost use Rattle.base_types.specs.Words.{field_word};
+
+    /// The name of the field.
+    pub fn word(self) -> &'static [u8]
+        ensures text { result.now ≡ field_word self }
+        ensures short { length result.now ≤ 12 }
+    {
+        match self {
+            Field::Name => b"name",
+            Field::Columns => b"columns",
+            Field::Defaults => b"defaults",
+            Field::Statistics => b"statistics",
+            Field::Fillfactor => b"fillfactor",
+            Field::Constraints => b"constraints",
+            Field::Referenced => b"referenced",
+            Field::Indexes => b"indexes",
+            Field::Triggers => b"triggers",
+            Field::Of => b"of",
+            Field::Valid => b"valid",
+        }
+    }
+}

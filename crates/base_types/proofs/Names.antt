@@ -1,0 +1,65 @@
+-- What the bytes of a name, a word or a check's text are.
+use Rattle.std.proofs.Common.{◌≡◌, ◌<◌, ◌≤◌, ℕ, Bool, true, false, not, ◌&&◌, ◌==◌, ◌+◌, nat_lt, cond, Option, Some, None, List, [], ◌∷◌, length, refl, arith}
+use Rattle.std.specs.List.{position_from, list_all, AllPass}
+use Rattle.std.proofs.lemmas.List.Sums.{AllPass-from_list_all}
+use Rattle.std.proofs.lemmas.Bool.Decides.{nat_tests}
+use Rattle.base_types.specs.Names.{is_name_byte, is_word_byte, is_text_byte, bad_byte, first_refused, begins_with_digit, short_fault, name_fault, IsName, IsWord, IsText}
+use Rattle.base_types.specs.declared.name_fault.NameFault.{NameFault}
+
+-- a choice that is none took no fault
+untaken : (b : Bool) (fault : NameFault) (rest : Option NameFault) → cond b (Some fault) rest ≡ None → (b ≡ false) × (rest ≡ None)
+untaken true fault rest h = cc
+untaken false fault rest h = (refl, h)
+
+no_place : (at : Option ℕ) → bad_byte at ≡ None → at ≡ None
+no_place None h = refl
+no_place (Some n) h = cc
+
+one_passes : (b all : Bool) (n : ℕ) (rest : Option ℕ) → cond (not b) (Some n) rest ≡ None → (rest ≡ None → all ≡ true) → b && all ≡ true
+one_passes true all n rest h more = more h
+one_passes false all n rest h more = cc
+
+none_refused : (allowed : ℕ → Bool) (n : ℕ) (text : List ℕ) → position_from (λ byte. not (allowed byte)) n text ≡ None → list_all allowed text ≡ true
+none_refused allowed n [] h = refl
+none_refused allowed n (byte ∷ bytes) h = one_passes (allowed byte) (list_all allowed bytes) n (position_from (λ b. not (allowed b)) (n + 1) bytes) h (none_refused allowed (n + 1) bytes)
+
+-- where no byte is refused, each passes
+pub each_passes : (allowed : ℕ → Bool) (text : List ℕ) → first_refused allowed text ≡ None → AllPass allowed text
+each_passes allowed text h = AllPass-from_list_all allowed text (none_refused allowed 0 text h)
+
+not_empty : (n : ℕ) → (n == 0) ≡ false → 0 < n
+not_empty n h = grind (arith, nat_tests)
+
+not_long : (n : ℕ) → nat_lt 63 n ≡ false → n ≤ 63
+not_long n h = grind (arith, nat_tests)
+
+-- bytes that the test allows, 1 to 63 of them
+pub record IsShort (allowed : ℕ → Bool) (text : List ℕ) : Type 0 where
+  pub some : 0 < length text
+  pub short : length text ≤ 63
+  pub bytes : AllPass allowed text
+
+short_parts : (allowed : ℕ → Bool) (text : List ℕ) → short_fault allowed text ≡ None → IsShort allowed text
+short_parts allowed text h =
+    let empty = untaken (length text == 0) _ _ h in
+    let long = untaken (nat_lt 63 (length text)) _ _ empty.1 in
+    record { some = not_empty (length text) empty.0; short = not_long (length text) long.0; bytes = each_passes allowed text (no_place (first_refused allowed text) long.1) }
+
+pub word_parts : (text : List ℕ) → IsWord text → IsShort is_word_byte text
+word_parts text h = short_parts is_word_byte text h
+
+pub text_parts : (text : List ℕ) → IsText text → IsShort is_text_byte text
+text_parts text h = short_parts is_text_byte text h
+
+pub name_parts : (text : List ℕ) → IsName text → IsShort is_name_byte text
+name_parts text h =
+    let empty = untaken (length text == 0) _ _ h in
+    let long = untaken (nat_lt 63 (length text)) _ _ empty.1 in
+    let digit = untaken (begins_with_digit text) _ _ long.1 in
+    record { some = not_empty (length text) empty.0; short = not_long (length text) long.0; bytes = each_passes is_name_byte text (no_place (first_refused is_name_byte text) digit.1) }
+
+pub name_front : (text : List ℕ) → IsName text → begins_with_digit text ≡ false
+name_front text h =
+    let empty = untaken (length text == 0) _ _ h in
+    let long = untaken (nat_lt 63 (length text)) _ _ empty.1 in
+    (untaken (begins_with_digit text) _ _ long.1).0
