@@ -8,6 +8,8 @@
 //! The promise to the layers above: contracts see a script as the scenario that it asks for.
 #![tactic(auto)]
 
+mod fault;
 mod script;
 
+pub use fault::{Rest, ScriptCause};
 pub use script::Script;

@@ -1,0 +1,37 @@
+/// The rule that a line breaks, in the order in which a line is tested.
+#[derive(Clone, Copy, Debug, PartialEq, Eq)]
+pub enum ScriptCause {
+    /// A line that counts holds printable ASCII and tabs alone.
+    BadByte,
+    /// A `ring` line has its form and stands before the others.
+    BadRing,
+    /// The first line that counts, but for a `ring` line, is a `backends` line.
+    NoBackends,
+    /// A `backends` line has its form, with 1 to 64 backends.
+    BadCount,
+    /// The input has an `end` line.
+    NoEnd,
+    /// A `steps` line has its form, with backends of the script.
+    BadSteps,
+    /// There are at most 1,000,000 steps.
+    TooManySteps,
+    /// A command line begins with a backend of the script and a colon.
+    UnknownBackend,
+    /// No command follows a `steps` line.
+    LateCommand,
+    /// A command has one of the forms of commands.
+    BadCommand,
+    /// There are at most 20,000 commands.
+    TooManyCommands,
+    /// Nothing that counts follows the `end` line, where no rest is allowed.
+    AfterEnd,
+}
+
+/// Whether the input may go on behind the `end` line.
+#[derive(Clone, Copy, Debug, PartialEq, Eq)]
+pub enum Rest {
+    /// Nothing that counts may follow.
+    Refused,
+    /// Reading stops behind the `end` line.
+    Given,
+}
