@@ -1,5 +1,5 @@
 -- The tokens of a line, and how they are taken from the front.
-use Rattle.std.specs.Prelude.{ℕ, Bool, true, false, Option, Some, None, List, [], ◌∷◌, ◌==◌, ◌||◌, not, option_map, option_and_then, if◌then◌else◌}
+use Rattle.std.specs.Prelude.{◌≡◌, ⊤, ℕ, Bool, true, false, Option, Some, None, List, [], ◌∷◌, ◌==◌, ◌||◌, not, option_map, option_and_then, if◌then◌else◌}
 use Rattle.std.specs.Str.{bytes_eq}
 use Rattle.script_text.specs.Lines.{is_blank, with_byte}
 
@@ -62,3 +62,8 @@ ends text ts = ended (said text ts)
 -- the value, where a command ends behind these words
 abbrev pub done : {X : Type 0} → List ℕ → List (List ℕ) → X → Option X
 done text ts x = if ends text ts then Some x else None
+
+-- nothing, or a byte that isn't blank in front
+abbrev pub StartsToken : List ℕ → Type 0
+StartsToken [] = ⊤
+StartsToken (byte ∷ bytes) = is_blank byte ≡ false

@@ -10,6 +10,7 @@
 
 mod fault;
 mod script;
+mod tokens;
 
 pub use fault::{Rest, ScriptCause};
 pub use script::Script;
