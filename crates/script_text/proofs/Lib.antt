@@ -1,2 +1,3 @@
 mod Rows
 pub mod Splitting
+pub mod Numbers

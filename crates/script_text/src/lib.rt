@@ -9,6 +9,7 @@
 #![tactic(auto)]
 
 mod fault;
+mod operands;
 mod script;
 mod tokens;
 

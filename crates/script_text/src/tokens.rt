@@ -48,6 +48,21 @@ impl<'a> Tokens<'a> {
         self.rest = rest;
         Some(token)
     }
+
+    /// Takes the tokens of these words; `None` where others stand in front.
+    #[tactic(auto, unfolding(crate::specs::Tokens::behind))]
+    pub fn words(&mut self, words: &str) -> Option<()>
+        ensures { MatchOption result (said words.now self.old ≡ None) (λ _. said words.now self.old ≡ Some self.new) }
+    {
+        let mut wanted = Tokens::of(words.as_bytes());
+        'words: while let Some(word) = wanted.next() {
+            let token = self.next()?;
+            if token != word {
+                return None;
+            }
+        }
+        Some(())
+    }
 }
 
 // A line without the blanks in front.
