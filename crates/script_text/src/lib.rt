@@ -11,6 +11,7 @@
 mod fault;
 mod operands;
 mod script;
+mod taking;
 mod tokens;
 
 pub use fault::{Rest, ScriptCause};
