@@ -21,12 +21,18 @@ one_name text ts = do
   name ← name_after text ts
   done [] name.1 name.0
 
+-- these words, a name, further words and a name, and the tokens behind them
+unfoldable pub names_after : List ℕ → List ℕ → List (List ℕ) → Option ((List ℕ × List ℕ) × List (List ℕ))
+names_after text further ts = do
+  first ← name_after text ts
+  second ← name_after further first.1
+  Some ((first.0, second.0), second.1)
+
 -- these words, a name, further words, a name, and the end
 unfoldable pub two_names : List ℕ → List ℕ → List (List ℕ) → Option (List ℕ × List ℕ)
 two_names text further ts = do
-  first ← name_after text ts
-  second ← name_after further first.1
-  done [] second.1 (first.0, second.0)
+  names ← names_after text further ts
+  done [] names.1 names.0
 
 -- begin, commit, rollback
 unfoldable pub bare_command : List (List ℕ) → Option Command
@@ -75,12 +81,30 @@ table_command ts = option_or (option_map (λ n. Column n.0 n.1) (two_names (code
     (option_or (option_map (λ n. ValidateConstraint n.0 n.1) (two_names (codes "alter table") (codes "validate constraint") ts))
     (option_map (λ n. DropConstraint n.0 n.1) (two_names (codes "alter table") (codes "drop constraint") ts)))))
 
+-- alter table NAME enable trigger NAME, or disable trigger NAME
+unfoldable pub trigger_command : List ℕ → Bool → List (List ℕ) → Option Command
+trigger_command further on ts = do
+  names ← two_names (codes "alter table") further ts
+  Some (SetTrigger names.0 names.1 on)
+
+-- create trigger NAME on NAME
+unfoldable pub create_trigger_command : List (List ℕ) → Option Command
+create_trigger_command ts = do
+  names ← two_names (codes "create trigger") (codes "on") ts
+  Some (CreateTrigger names.1 names.0)
+
+-- alter index NAME rename to NAME
+unfoldable pub rename_index_command : List (List ℕ) → Option Command
+rename_index_command ts = do
+  names ← two_names (codes "alter index") (codes "rename to") ts
+  Some (RenameIndex names.0 names.1)
+
 -- commands of triggers and the renaming of an index
 unfoldable pub pair_command : List (List ℕ) → Option Command
-pair_command ts = option_or (option_map (λ n. SetTrigger n.0 n.1 true) (two_names (codes "alter table") (codes "enable trigger") ts))
-    (option_or (option_map (λ n. SetTrigger n.0 n.1 false) (two_names (codes "alter table") (codes "disable trigger") ts))
-    (option_or (option_map (λ n. CreateTrigger n.1 n.0) (two_names (codes "create trigger") (codes "on") ts))
-    (option_map (λ n. RenameIndex n.0 n.1) (two_names (codes "alter index") (codes "rename to") ts))))
+pair_command ts = option_or (trigger_command (codes "enable trigger") true ts)
+    (option_or (trigger_command (codes "disable trigger") false ts)
+    (option_or (create_trigger_command ts)
+    (rename_index_command ts)))
 
 -- regclass OID
 unfoldable pub regclass_command : List (List ℕ) → Option Command
@@ -88,17 +112,25 @@ regclass_command ts = do
   oid ← after (codes "regclass") (number_of 9) ts
   done [] oid.1 (Regclass (record { 0 = oid.0 }))
 
--- a lock mode by its words, and the end
-unfoldable pub mode_behind : List (List ℕ) → Option Mode
-mode_behind ts = if ends (codes "in access share mode") ts then Some AccessShare
+-- one of the weaker lock modes by its words, and the end
+unfoldable pub weak_mode : List (List ℕ) → Option Mode
+weak_mode ts = if ends (codes "in access share mode") ts then Some AccessShare
     else if ends (codes "in row share mode") ts then Some RowShare
     else if ends (codes "in row exclusive mode") ts then Some RowExclusive
     else if ends (codes "in share update exclusive mode") ts then Some ShareUpdateExclusive
-    else if ends (codes "in share mode") ts then Some Share
+    else None
+
+-- one of the stronger ones
+unfoldable pub strong_mode : List (List ℕ) → Option Mode
+strong_mode ts = if ends (codes "in share mode") ts then Some Share
     else if ends (codes "in share row exclusive mode") ts then Some ShareRowExclusive
     else if ends (codes "in exclusive mode") ts then Some Exclusive
     else if ends (codes "in access exclusive mode") ts then Some AccessExclusive
     else None
+
+-- a lock mode by its words, and the end
+unfoldable pub mode_behind : List (List ℕ) → Option Mode
+mode_behind ts = option_or (weak_mode ts) (strong_mode ts)
 
 -- lock table NAME in MODE mode
 unfoldable pub lock_command : List (List ℕ) → Option Command
@@ -110,34 +142,30 @@ lock_command ts = do
 -- alter table NAME add column NAME TYPE
 unfoldable pub add_column_command : List (List ℕ) → Option Command
 add_column_command ts = do
-  name ← name_after (codes "alter table") ts
-  column ← name_after (codes "add column") name.1
-  col_type ← taken type_of column.1
-  done [] col_type.1 (AddColumn name.0 column.0 col_type.0)
+  names ← names_after (codes "alter table") (codes "add column") ts
+  col_type ← taken type_of names.1
+  done [] col_type.1 (AddColumn names.0.0 names.0.1 col_type.0)
 
 -- alter table NAME rename column NAME to NAME
 unfoldable pub rename_column_command : List (List ℕ) → Option Command
 rename_column_command ts = do
-  name ← name_after (codes "alter table") ts
-  column ← name_after (codes "rename column") name.1
-  to ← name_after (codes "to") column.1
-  done [] to.1 (RenameColumn name.0 column.0 to.0)
+  names ← names_after (codes "alter table") (codes "rename column") ts
+  to ← name_after (codes "to") names.1
+  done [] to.1 (RenameColumn names.0.0 names.0.1 to.0)
 
 -- alter table NAME alter column NAME set default WORD
 unfoldable pub default_command : List (List ℕ) → Option Command
 default_command ts = do
-  name ← name_after (codes "alter table") ts
-  column ← name_after (codes "alter column") name.1
-  word ← after (codes "set default") word_of column.1
-  done [] word.1 (SetDefault name.0 column.0 word.0)
+  names ← names_after (codes "alter table") (codes "alter column") ts
+  word ← after (codes "set default") word_of names.1
+  done [] word.1 (SetDefault names.0.0 names.0.1 word.0)
 
 -- alter table NAME alter column NAME set statistics STAT
 unfoldable pub statistics_command : List (List ℕ) → Option Command
 statistics_command ts = do
-  name ← name_after (codes "alter table") ts
-  column ← name_after (codes "alter column") name.1
-  stat ← after (codes "set statistics") stat_of column.1
-  done [] stat.1 (SetStatistics name.0 column.0 stat.0)
+  names ← names_after (codes "alter table") (codes "alter column") ts
+  stat ← after (codes "set statistics") stat_of names.1
+  done [] stat.1 (SetStatistics names.0.0 names.0.1 stat.0)
 
 -- alter table NAME set (fillfactor = NUMBER)
 unfoldable pub fillfactor_command : List (List ℕ) → Option Command
@@ -151,32 +179,47 @@ unfoldable pub enclosed : List (List ℕ) → Option (List ℕ × List (List ℕ
 enclosed [] = None
 enclosed (t ∷ ts) = if bytes_eq t (codes ")") then Some ([], ts) else option_map (λ r. (t ++ r.0, r.1)) (enclosed ts)
 
+-- the same, where it is the text of a check
+unfoldable pub enclosed_text : List (List ℕ) → Option (List ℕ × List (List ℕ))
+enclosed_text ts = do
+  inside ← enclosed ts
+  text ← text_of inside.0
+  Some (text, inside.1)
+
 -- nothing for a constraint that is valid at once, or `not valid`
 unfoldable pub valid_behind : List (List ℕ) → Option Bool
 valid_behind ts = if is_end ts then Some true else done (codes "not valid") ts false
 
+-- check (TEXT), and whether it is valid at once
+unfoldable pub check_behind : List (List ℕ) → Option (List ℕ × Bool)
+check_behind ts = do
+  rest ← said (codes "check (") ts
+  text ← enclosed_text rest
+  valid ← valid_behind text.1
+  Some (text.0, valid)
+
 -- alter table NAME add constraint NAME check (TEXT)
 unfoldable pub check_command : List (List ℕ) → Option Command
 check_command ts = do
-  name ← name_after (codes "alter table") ts
-  constraint ← name_after (codes "add constraint") name.1
-  rest ← said (codes "check (") constraint.1
-  inside ← enclosed rest
-  text ← text_of inside.0
-  valid ← valid_behind inside.1
-  Some (AddCheck name.0 constraint.0 text valid)
+  names ← names_after (codes "alter table") (codes "add constraint") ts
+  what ← check_behind names.1
+  Some (AddCheck names.0.0 names.0.1 what.0 what.1)
+
+-- (NAME), and whether it is valid at once
+unfoldable pub referred_behind : List (List ℕ) → Option (List ℕ × Bool)
+referred_behind ts = do
+  ref_column ← name_after (codes "(") ts
+  rest ← said (codes ")") ref_column.1
+  valid ← valid_behind rest
+  Some (ref_column.0, valid)
 
 -- alter table NAME add constraint NAME foreign key (NAME) references NAME (NAME)
 unfoldable pub foreign_command : List (List ℕ) → Option Command
 foreign_command ts = do
-  name ← name_after (codes "alter table") ts
-  constraint ← name_after (codes "add constraint") name.1
-  column ← name_after (codes "foreign key (") constraint.1
-  refers ← name_after (codes ") references") column.1
-  ref_column ← name_after (codes "(") refers.1
-  rest ← said (codes ")") ref_column.1
-  valid ← valid_behind rest
-  Some (AddForeign name.0 constraint.0 column.0 refers.0 ref_column.0 valid)
+  names ← names_after (codes "alter table") (codes "add constraint") ts
+  key ← names_after (codes "foreign key (") (codes ") references") names.1
+  referred ← referred_behind key.1
+  Some (AddForeign names.0.0 names.0.1 key.0.0 key.0.1 referred.0 referred.1)
 
 -- an item of a list, alone at a closing parenthesis and the end, and with the others at a comma
 abbrev pub items_behind : {X : Type 0} → X → List ℕ → List (List ℕ) → Option (List X) → Option (List X)
@@ -192,12 +235,17 @@ columns_at (a ∷ b ∷ mark ∷ ts) = do
   col_type ← type_of b
   items_behind (record { name = name; col_type = col_type }) mark ts (columns_at ts)
 
+-- (NAME TYPE, ..), or empty parentheses
+unfoldable pub columns_behind : List (List ℕ) → Option (List NewColumn)
+columns_behind ts = if ends (codes "()") ts then Some [] else do
+  rest ← said (codes "(") ts
+  columns_at rest
+
 -- create table NAME (NAME TYPE, ..), or with empty parentheses
 unfoldable pub create_table_command : List (List ℕ) → Option Command
 create_table_command ts = do
   name ← name_after (codes "create table") ts
-  rest ← said (codes "(") name.1
-  columns ← if ends (codes ")") rest then Some [] else columns_at rest
+  columns ← columns_behind name.1
   Some (CreateTable name.0 columns)
 
 -- names with commas between them, up to a closing parenthesis and the end
@@ -208,14 +256,18 @@ names_at (a ∷ mark ∷ ts) = do
   name ← name_of a
   items_behind name mark ts (names_at ts)
 
+-- (NAME, ..)
+unfoldable pub names_behind : List (List ℕ) → Option (List (List ℕ))
+names_behind ts = do
+  rest ← said (codes "(") ts
+  names_at rest
+
 -- create index NAME on NAME (NAME, ..)
 unfoldable pub create_index_command : List (List ℕ) → Option Command
 create_index_command ts = do
-  name ← name_after (codes "create index") ts
-  on_table ← name_after (codes "on") name.1
-  rest ← said (codes "(") on_table.1
-  columns ← names_at rest
-  Some (CreateIndex name.0 on_table.0 columns)
+  names ← names_after (codes "create index") (codes "on") ts
+  columns ← names_behind names.1
+  Some (CreateIndex names.0.0 names.0.1 columns)
 
 -- the commands that take no memory
 unfoldable pub short_command : List (List ℕ) → Option Command
@@ -235,11 +287,12 @@ alter_command ts = option_or (add_column_command ts)
     (option_or (default_command ts)
     (option_or (statistics_command ts)
     (option_or (fillfactor_command ts)
-    (foreign_command ts)))))
+    (option_or (check_command ts)
+    (foreign_command ts))))))
 
--- the commands with a text or a list
+-- the commands with a list
 unfoldable pub long_command : List (List ℕ) → Option Command
-long_command ts = option_or (check_command ts) (option_or (create_table_command ts) (create_index_command ts))
+long_command ts = option_or (create_table_command ts) (create_index_command ts)
 
 -- the command of these tokens
 unfoldable pub command_of : List (List ℕ) → Option Command
