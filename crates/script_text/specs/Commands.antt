@@ -81,11 +81,17 @@ table_command ts = option_or (option_map (λ n. Column n.0 n.1) (two_names (code
     (option_or (option_map (λ n. ValidateConstraint n.0 n.1) (two_names (codes "alter table") (codes "validate constraint") ts))
     (option_map (λ n. DropConstraint n.0 n.1) (two_names (codes "alter table") (codes "drop constraint") ts)))))
 
--- alter table NAME enable trigger NAME, or disable trigger NAME
-unfoldable pub trigger_command : List ℕ → Bool → List (List ℕ) → Option Command
-trigger_command further on ts = do
-  names ← two_names (codes "alter table") further ts
-  Some (SetTrigger names.0 names.1 on)
+-- alter table NAME enable trigger NAME
+unfoldable pub enable_command : List (List ℕ) → Option Command
+enable_command ts = do
+  names ← two_names (codes "alter table") (codes "enable trigger") ts
+  Some (SetTrigger names.0 names.1 true)
+
+-- alter table NAME disable trigger NAME
+unfoldable pub disable_command : List (List ℕ) → Option Command
+disable_command ts = do
+  names ← two_names (codes "alter table") (codes "disable trigger") ts
+  Some (SetTrigger names.0 names.1 false)
 
 -- create trigger NAME on NAME
 unfoldable pub create_trigger_command : List (List ℕ) → Option Command
@@ -101,8 +107,8 @@ rename_index_command ts = do
 
 -- commands of triggers and the renaming of an index
 unfoldable pub pair_command : List (List ℕ) → Option Command
-pair_command ts = option_or (trigger_command (codes "enable trigger") true ts)
-    (option_or (trigger_command (codes "disable trigger") false ts)
+pair_command ts = option_or (enable_command ts)
+    (option_or (disable_command ts)
     (option_or (create_trigger_command ts)
     (rename_index_command ts)))
 

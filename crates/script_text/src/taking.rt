@@ -1,5 +1,6 @@
 ghost use Rattle.std.specs.Prelude.{◌≡◌, ◌≤◌, MatchOption, None, Some, List, ℕ};
 ghost use Rattle.script_text.specs.Tokens.{after, taken, said, is_end as end_of_command, ends as ends_behind};
+ghost use Rattle.script_text.specs.Commands.{names_after as two_names_after};
 ghost use Rattle.script_text.specs.Operands.{number_of, number_within, stat_of, name_of, word_of, type_of, field_of};
 
 use crate::operands;
@@ -14,6 +15,16 @@ impl<'a> Tokens<'a> {
     {
         self.words(words)?;
         operands::name(self.next()?)
+    }
+
+    /// Takes these words, a name, further words and another name.
+    #[tactic(auto, unfolding(crate::specs::Commands::names_after))]
+    pub fn names_after(&mut self, words: &str, further: &str) -> Option<(Name, Name)>
+        ensures { MatchOption result (two_names_after words.now further.now self.old ≡ None) (λ x. two_names_after words.now further.now self.old ≡ Some (x, self.new)) }
+    {
+        let first = self.name_after(words)?;
+        let second = self.name_after(further)?;
+        Some((first, second))
     }
 
     /// Takes these words and a word of a default behind them.
