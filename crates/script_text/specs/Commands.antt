@@ -219,13 +219,19 @@ referred_behind ts = do
   valid ← valid_behind rest
   Some (ref_column.0, valid)
 
+-- foreign key (NAME) references NAME (NAME), and whether it is valid at once
+unfoldable pub key_behind : List (List ℕ) → Option (List ℕ × List ℕ × List ℕ × Bool)
+key_behind ts = do
+  key ← names_after (codes "foreign key (") (codes ") references") ts
+  referred ← referred_behind key.1
+  Some (key.0.0, key.0.1, referred.0, referred.1)
+
 -- alter table NAME add constraint NAME foreign key (NAME) references NAME (NAME)
 unfoldable pub foreign_command : List (List ℕ) → Option Command
 foreign_command ts = do
   names ← names_after (codes "alter table") (codes "add constraint") ts
-  key ← names_after (codes "foreign key (") (codes ") references") names.1
-  referred ← referred_behind key.1
-  Some (AddForeign names.0.0 names.0.1 key.0.0 key.0.1 referred.0 referred.1)
+  key ← key_behind names.1
+  Some (AddForeign names.0.0 names.0.1 key.0 key.1 key.2 key.3)
 
 -- an item of a list, alone at a closing parenthesis and the end, and with the others at a comma
 abbrev pub items_behind : {X : Type 0} → X → List ℕ → List (List ℕ) → Option (List X) → Option (List X)

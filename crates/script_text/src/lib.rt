@@ -8,6 +8,7 @@
 //! The promise to the layers above: contracts see a script as the scenario that it asks for.
 #![tactic(auto)]
 
+mod alterations;
 mod commands;
 mod fault;
 mod operands;
