@@ -1,3 +1,4 @@
 mod Rows
 pub mod Splitting
 pub mod Numbers
+pub mod Listing

@@ -1,5 +1,5 @@
 -- The forms of commands, over the tokens of a line behind the colon.
-use Rattle.std.specs.Prelude.{ℕ, Bool, true, false, not, Option, Some, None, List, [], ◌∷◌, ◌++◌, option_map, codes, if◌then◌else◌}
+use Rattle.std.specs.Prelude.{◌≡◌, ℕ, Bool, true, false, not, Option, Some, None, List, [], ◌∷◌, ◌++◌, option_map, codes, if◌then◌else◌}
 use Rattle.std.specs.Str.{bytes_eq}
 use Rattle.std.specs.Option.{option_or}
 use Rattle.base_types.specs.declared.command.Command.{Command}
@@ -236,6 +236,12 @@ foreign_command ts = do
 -- an item of a list, alone at a closing parenthesis and the end, and with the others at a comma
 abbrev pub items_behind : {X : Type 0} → X → List ℕ → List (List ℕ) → Option (List X) → Option (List X)
 items_behind item mark ts others = if bytes_eq mark (codes ",") then option_map (λ items. item ∷ items) others else if bytes_eq mark (codes ")") then (if is_end ts then Some (item ∷ []) else None) else None
+
+-- what is taken of a list at a time: an item, and whether others follow; no item where there is no list
+abbrev pub Item : {X : Type 0} → (List (List ℕ) → Option (List X)) → List (List ℕ) → List (List ℕ) → Option (X × Bool) → Type 0
+Item all old new None = all old ≡ None
+Item all old new (Some (x, true)) = all old ≡ option_map (λ xs. x ∷ xs) (all new)
+Item all old new (Some (x, false)) = all old ≡ Some (x ∷ [])
 
 -- columns with commas between them, up to a closing parenthesis and the end
 unfoldable pub columns_at : List (List ℕ) → Option (List NewColumn)

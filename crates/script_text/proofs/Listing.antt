@@ -1,0 +1,75 @@
+-- Reading a list item by item, and a text token by token, as loops do.
+use Rattle.std.proofs.Common.{◌≡◌, ◌<◌, ◌≤◌, ◌+◌, ℕ, Bool, true, false, ◌==◌, nat_lt, cond, Option, Some, None, List, [], ◌∷◌, ◌++◌, length, length-append, append_assoc, codes, refl, sym, ap, ◌∙◌, arith}
+use Rattle.std.specs.Option.{option_map}
+use Rattle.std.specs.Str.{bytes_eq}
+use Rattle.std.proofs.lemmas.List.{append-nil}
+use Rattle.std.proofs.lemmas.Bool.Decides.{nat_tests}
+use Rattle.base_types.specs.Names.{short_fault, is_text_byte}
+use Rattle.script_text.specs.Tokens.{◌>>=◌}
+use Rattle.script_text.specs.Operands.{text_of}
+use Rattle.script_text.specs.Commands.{Item, enclosed, enclosed_text}
+
+-- the items so far, and those that are read yet
+abbrev pub with_items : {X : Type 0} → List X → Option (List X) → Option (List X)
+with_items front read = option_map (λ xs. front ++ xs) read
+
+regrouped : {X : Type 0} (front : List X) (x : X) (read : Option (List X)) → with_items front (option_map (λ xs. x ∷ xs) read) ≡ with_items (front ++ x ∷ []) read
+regrouped front x None = refl
+regrouped front x (Some xs) = ap Some (simp append_assoc)
+
+pub no_item : {X : Type 0} (all : List (List ℕ) → Option (List X)) (front : List X) (old new : List (List ℕ)) (whole : Option (List X)) → Item all old new None → with_items front (all old) ≡ whole → whole ≡ None
+no_item all front old new whole item so_far = sym so_far ∙ ap (with_items front) item
+
+pub one_item : {X : Type 0} (all : List (List ℕ) → Option (List X)) (front : List X) (old new : List (List ℕ)) (whole : Option (List X)) (x : X) → Item all old new (Some (x, true)) → with_items front (all old) ≡ whole
+    → with_items (front ++ x ∷ []) (all new) ≡ whole
+one_item all front old new whole x item so_far = sym (regrouped front x (all new)) ∙ sym (ap (with_items front) item) ∙ so_far
+
+pub last_item : {X : Type 0} (all : List (List ℕ) → Option (List X)) (front : List X) (old new : List (List ℕ)) (whole : Option (List X)) (x : X) → Item all old new (Some (x, false)) → with_items front (all old) ≡ whole
+    → whole ≡ Some (front ++ x ∷ [])
+last_item all front old new whole x item so_far = sym so_far ∙ ap (with_items front) item
+
+-- the text so far, and what is read yet
+abbrev pub with_text : List ℕ → Option (List ℕ × List (List ℕ)) → Option (List ℕ × List (List ℕ))
+with_text front read = option_map (λ x. (front ++ x.0, x.1)) read
+
+joined : (front t : List ℕ) (read : Option (List ℕ × List (List ℕ))) → with_text front (option_map (λ r. (t ++ r.0, r.1)) read) ≡ with_text (front ++ t) read
+joined front t None = refl
+joined front t (Some x) = ap (λ (text : List ℕ). Some (text, x.1)) (simp append_assoc)
+
+pub text_more : (front t : List ℕ) (ts : List (List ℕ)) (whole : Option (List ℕ × List (List ℕ))) → bytes_eq t (codes ")") ≡ false → with_text front (enclosed (t ∷ ts)) ≡ whole → with_text (front ++ t) (enclosed ts) ≡ whole
+unfolding enclosed
+text_more front t ts whole other so_far =
+    let step : with_text front (enclosed (t ∷ ts)) ≡ with_text front (option_map (λ r. (t ++ r.0, r.1)) (enclosed ts)) = rw other refl in
+    sym (joined front t (enclosed ts)) ∙ sym step ∙ so_far
+
+pub text_ends : (front t : List ℕ) (ts : List (List ℕ)) (whole : Option (List ℕ × List (List ℕ))) → bytes_eq t (codes ")") ≡ true → with_text front (enclosed (t ∷ ts)) ≡ whole → whole ≡ Some (front, ts)
+unfolding enclosed
+text_ends front t ts whole closing so_far =
+    let step : with_text front (enclosed (t ∷ ts)) ≡ Some (front ++ [], ts) = rw closing refl in
+    sym so_far ∙ step ∙ ap (λ (text : List ℕ). Some (text, ts)) (append-nil front)
+
+-- what is read of a text
+abbrev pub as_text : Option (List ℕ × List (List ℕ)) → Option (List ℕ × List (List ℕ))
+as_text read = read >>= λ inside. text_of inside.0 >>= λ text. Some (text, inside.1)
+
+pub as_text_is : (ts : List (List ℕ)) → enclosed_text ts ≡ as_text (enclosed ts)
+unfolding enclosed_text
+as_text_is ts = refl
+
+is_long : (n : ℕ) → 63 < n → ((n == 0) ≡ false) × (nat_lt 63 n ≡ true)
+is_long n lt = (grind (arith, nat_tests), grind (arith, nat_tests))
+
+long_text : (text : List ℕ) → 63 < length text → text_of text ≡ None
+unfolding text_of
+long_text text lt = let h = is_long (length text) lt in rw (h.0, h.1) refl
+
+too_long_behind : (front : List ℕ) (read : Option (List ℕ × List (List ℕ))) → 63 < length front → as_text (with_text front read) ≡ None
+too_long_behind front None lt = refl
+too_long_behind front (Some x) lt =
+    let long : 63 < length (front ++ x.0) = simp length-append (omega arith) in
+    rw (long_text (front ++ x.0) long) refl
+
+pub too_long : (front t : List ℕ) (ts : List (List ℕ)) (whole : Option (List ℕ × List (List ℕ))) → bytes_eq t (codes ")") ≡ false → 63 < length front + length t → with_text front (enclosed (t ∷ ts)) ≡ whole → as_text whole ≡ None
+too_long front t ts whole other lt so_far =
+    let long : 63 < length (front ++ t) = simp length-append (omega arith) in
+    ap as_text (sym (text_more front t ts whole other so_far)) ∙ too_long_behind (front ++ t) (enclosed ts) long
