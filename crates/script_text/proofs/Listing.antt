@@ -1,5 +1,5 @@
 -- Reading a list item by item, and a text token by token, as loops do.
-use Rattle.std.proofs.Common.{◌≡◌, ◌<◌, ◌≤◌, ◌+◌, ℕ, Bool, true, false, ◌==◌, nat_lt, cond, Option, Some, None, List, [], ◌∷◌, ◌++◌, length, length-append, append_assoc, codes, refl, sym, ap, ◌∙◌, arith}
+use Rattle.std.proofs.Common.{◌≡◌, ◌<◌, ◌≤◌, ◌+◌, ℕ, Bool, true, false, ◌==◌, nat_lt, cond, Option, Some, None, MatchOption, List, [], ◌∷◌, ◌++◌, length, length-append, append_assoc, codes, refl, sym, ap, ◌∙◌, arith}
 use Rattle.std.specs.Option.{option_map}
 use Rattle.std.specs.Str.{bytes_eq}
 use Rattle.std.proofs.lemmas.List.{append-nil}
@@ -73,3 +73,14 @@ pub too_long : (front t : List ℕ) (ts : List (List ℕ)) (whole : Option (List
 too_long front t ts whole other lt so_far =
     let long : 63 < length (front ++ t) = simp length-append (omega arith) in
     ap as_text (sym (text_more front t ts whole other so_far)) ∙ too_long_behind (front ++ t) (enclosed ts) long
+
+pub unclosed : (front : List ℕ) (ts : List (List ℕ)) (whole : Option (List ℕ × List (List ℕ))) → ts ≡ [] → with_text front (enclosed ts) ≡ whole → as_text whole ≡ None
+unfolding enclosed
+unclosed front ts whole none so_far =
+    let step : with_text front (enclosed ts) ≡ None = rw none refl in
+    ap as_text (sym so_far ∙ step)
+
+pub closed_text : (whole : Option (List ℕ × List (List ℕ))) (front : List ℕ) (rest : List (List ℕ)) (found : Option (List ℕ)) → whole ≡ Some (front, rest) → found ≡ text_of front
+    → MatchOption found (as_text whole ≡ None) (λ x. as_text whole ≡ Some (x, rest))
+closed_text whole front rest None e f = rw (e, sym f) refl
+closed_text whole front rest (Some x) e f = rw (e, sym f) refl

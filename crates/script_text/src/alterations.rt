@@ -1,9 +1,10 @@
 ghost use Rattle.std.specs.Prelude.{◌≡◌, MatchOption, Option, None, Some, List, ℕ};
 ghost use Rattle.script_text.specs.Tokens.{tokens};
-ghost use Rattle.script_text.specs.Commands.{add_column_command, rename_column_command, default_command, statistics_command, fillfactor_command, valid_behind as valid_of_constraint, referred_behind as column_referred_to, key_behind as key_at, foreign_command, alter_command};
+ghost use Rattle.script_text.specs.Commands.{add_column_command, rename_column_command, default_command, statistics_command, fillfactor_command, valid_behind as valid_of_constraint, referred_behind as column_referred_to, key_behind as key_at, foreign_command, enclosed_text as text_enclosed, check_behind as check_at, check_command, alter_command};
 
+use crate::operands;
 use crate::tokens::Tokens;
-use base_types::{Command, Name};
+use base_types::{Command, LONGEST_TEXT, LineBuffer, Name, Text};
 
 #[tactic(auto, unfolding(crate::specs::Commands::add_column_command))]
 fn add_column(line: &[u8]) -> Option<Command>
@@ -129,4 +130,73 @@ fn add_foreign(line: &[u8]) -> Option<Command>
         ref_column,
         valid,
     })
+}
+
+// The text up to a closing parenthesis, where it is the text of a check.
+fn enclosed_text(tokens: &mut Tokens) -> Option<Text>
+    ensures { MatchOption result (text_enclosed tokens.old ≡ None) (λ x. text_enclosed tokens.old ≡ Some (x, tokens.new)) }
+{
+    let mut text = LineBuffer::new();
+    'tokens: loop {
+        let token = tokens.next()?;
+        if operands::is(token, ")") {
+            return operands::check_text(text.as_bytes());
+        }
+        if token.len() > LONGEST_TEXT - text.as_bytes().len() {
+            return None;
+        }
+        text.push(token);
+    }
+}
+
+// check (TEXT), and whether it is valid at once.
+#[tactic(auto, unfolding(crate::specs::Commands::check_behind))]
+fn check_behind(tokens: &mut Tokens) -> Option<(Text, bool)>
+    ensures { result ≡ check_at tokens.old }
+{
+    tokens.words("check (")?;
+    let text = enclosed_text(tokens)?;
+    let valid = valid_behind(tokens)?;
+    Some((text, valid))
+}
+
+#[tactic(auto, unfolding(crate::specs::Commands::check_command))]
+fn add_check(line: &[u8]) -> Option<Command>
+    ensures { result ≡ check_command (tokens line.now) }
+{
+    let mut tokens = Tokens::of(line);
+    let (name, constraint) = tokens.names_after("alter table", "add constraint")?;
+    let (text, valid) = check_behind(&mut tokens)?;
+    Some(Command::AddCheck {
+        name,
+        constraint,
+        text,
+        valid,
+    })
+}
+
+/// The alteration of a table with operands of its own that a line's text is, if it is one.
+#[tactic(auto, unfolding(crate::specs::Commands::alter_command))]
+pub fn alter(line: &[u8]) -> Option<Command>
+    ensures { result ≡ alter_command (tokens line.now) }
+{
+    if let Some(command) = add_column(line) {
+        return Some(command);
+    }
+    if let Some(command) = rename_column(line) {
+        return Some(command);
+    }
+    if let Some(command) = set_default(line) {
+        return Some(command);
+    }
+    if let Some(command) = set_statistics(line) {
+        return Some(command);
+    }
+    if let Some(command) = set_fillfactor(line) {
+        return Some(command);
+    }
+    if let Some(command) = add_check(line) {
+        return Some(command);
+    }
+    add_foreign(line)
 }

@@ -68,3 +68,74 @@ fn columns_at(alloc: Global, tokens: &mut Tokens) -> Result<Option<Listed<NewCol
         }
     }
 }
+
+// (NAME, ..)
+#[tactic(auto, unfolding(crate::specs::Commands::names_behind))]
+fn names_behind(alloc: Global, tokens: &mut Tokens) -> Result<Option<Listed<Name>>, NoMemory>
+    ensures { IfOk result (λ found. found ≡ names_enclosed tokens.old) }
+{
+    match tokens.words("(") {
+        None => Ok(None),
+        Some(()) => names_at(alloc, tokens),
+    }
+}
+
+// (NAME TYPE, ..), or empty parentheses.
+#[tactic(auto, unfolding(crate::specs::Commands::columns_behind))]
+fn columns_behind(
+    alloc: Global,
+    tokens: &mut Tokens,
+) -> Result<Option<Listed<NewColumn>>, NoMemory>
+    ensures { IfOk result (λ found. found ≡ columns_enclosed tokens.old) }
+{
+    if tokens.ends("()") {
+        return Ok(Some(Listed::new(alloc)));
+    }
+    match tokens.words("(") {
+        None => Ok(None),
+        Some(()) => columns_at(alloc, tokens),
+    }
+}
+
+#[tactic(auto, unfolding(crate::specs::Commands::create_table_command))]
+fn create_table(alloc: Global, line: &[u8]) -> Result<Option<Command>, NoMemory>
+    ensures { IfOk result (λ found. found ≡ create_table_command (tokens line.now)) }
+{
+    let mut tokens = Tokens::of(line);
+    let Some(name) = tokens.name_after("create table") else {
+        return Ok(None);
+    };
+    let Some(columns) = columns_behind(alloc, &mut tokens)? else {
+        return Ok(None);
+    };
+    Ok(Some(Command::CreateTable { name, columns }))
+}
+
+#[tactic(auto, unfolding(crate::specs::Commands::create_index_command))]
+fn create_index(alloc: Global, line: &[u8]) -> Result<Option<Command>, NoMemory>
+    ensures { IfOk result (λ found. found ≡ create_index_command (tokens line.now)) }
+{
+    let mut tokens = Tokens::of(line);
+    let Some((name, on_table)) = tokens.names_after("create index", "on") else {
+        return Ok(None);
+    };
+    let Some(columns) = names_behind(alloc, &mut tokens)? else {
+        return Ok(None);
+    };
+    Ok(Some(Command::CreateIndex {
+        name,
+        on_table,
+        columns,
+    }))
+}
+
+/// The command with a list that a line's text is, if it is one.
+#[tactic(auto, unfolding(crate::specs::Commands::long_command))]
+pub fn long(alloc: Global, line: &[u8]) -> Result<Option<Command>, NoMemory>
+    ensures { IfOk result (λ found. found ≡ long_command (tokens line.now)) }
+{
+    if let Some(command) = create_table(alloc, line)? {
+        return Ok(Some(command));
+    }
+    create_index(alloc, line)
+}
