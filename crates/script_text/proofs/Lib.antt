@@ -1,4 +1,5 @@
 mod Rows
 pub mod Splitting
 pub mod Numbers
+pub mod Bounds
 pub mod Listing

@@ -1,6 +1,5 @@
 -- The forms of the lines that aren't commands, over their tokens.
-use Rattle.std.specs.Prelude.{ℕ, Bool, true, false, Option, Some, None, List, [], ◌∷◌, ◌+◌, ◌*◌, ◌==◌, zero, suc, length, nat_lt, option_map, codes, if◌then◌else◌}
-use Rattle.std.specs.List.{list_any}
+use Rattle.std.specs.Prelude.{ℕ, Bool, true, false, Option, Some, None, List, [], ◌∷◌, ◌+◌, ◌*◌, ◌==◌, ◌||◌, nat_lt, option_map, codes, if◌then◌else◌}
 use Rattle.std.specs.Str.{bytes_eq}
 use Rattle.base_types.specs.declared.command.Turns.{Turns}
 use Rattle.script_text.specs.Tokens.{◌>>=◌, tokens, said, taken, after}
@@ -20,10 +19,14 @@ none_left (t ∷ ts) = false
 abbrev pub closed : {X : Type 0} → List (List ℕ) → X → Option X
 closed ts x = if none_left ts then Some x else None
 
+-- the queue may have that size
+abbrev pub is_size : ℕ → Bool
+is_size n = (n == 64) || (n == 128) || (n == 256) || (n == 512) || (n == 1024) || (n == 2048) || (n == 4096)
+
 -- the number, if the queue may have that size
 abbrev pub if_size : Option ℕ → Option ℕ
 if_size None = None
-if_size (Some n) = if list_any (λ size. n == size) (64 ∷ 128 ∷ 256 ∷ 512 ∷ 1024 ∷ 2048 ∷ 4096 ∷ []) then Some n else None
+if_size (Some n) = if is_size n then Some n else None
 
 -- a size of the queue
 unfoldable pub size_of : List ℕ → Option ℕ
@@ -57,34 +60,37 @@ backends_of ts = do
   backends ← after (codes "backends") (number_within 1 64) ts
   closed backends.1 backends.0
 
--- one step for a backend, or behind an asterisk how many
-abbrev pub count_behind : List (List ℕ) → Option (ℕ × List (List ℕ))
-count_behind [] = Some (1, [])
-count_behind (t ∷ ts) = if bytes_eq t (codes "*") then taken (number_within 1 1000000) ts else Some (1, t ∷ ts)
+-- this many steps of a backend, and others behind them
+abbrev pub with_turns : Option ℕ → Option ℕ → Option (List Turns) → Option (List Turns)
+with_turns backend count others = do
+  b ← backend
+  c ← count
+  option_map (λ turns. record { backend = b; count = c } ∷ turns) others
 
--- a backend and its steps, and the tokens behind them
-unfoldable pub turns_at : ℕ → List (List ℕ) → Option (Turns × List (List ℕ))
-turns_at backends ts = do
-  backend ← taken (number_within 1 backends) ts
-  count ← count_behind backend.1
-  Some (record { backend = backend.0; count = count.0 }, count.1)
+-- a backend of so many
+abbrev pub backend_of : ℕ → List ℕ → Option ℕ
+backend_of backends text = number_within 1 backends text
 
--- all of a line's steps, of as many items at most
-unfoldable pub all_turns : ℕ → ℕ → List (List ℕ) → Option (List Turns)
-all_turns backends most [] = Some []
-all_turns backends zero (t ∷ ts) = None
-all_turns backends (suc most) (t ∷ ts) = do
-  first ← turns_at backends (t ∷ ts)
-  others ← all_turns backends most first.1
-  Some (first.0 ∷ others)
+-- a count of steps
+abbrev pub count_of : List ℕ → Option ℕ
+count_of text = number_within 1 1000000 text
+
+-- the token is an asterisk
+abbrev pub is_times : List ℕ → Bool
+is_times t = bytes_eq t (codes "*")
+
+-- the steps of a line: a backend has one, or behind an asterisk as many as a number says
+unfoldable pub all_turns : ℕ → List (List ℕ) → Option (List Turns)
+all_turns backends [] = Some []
+all_turns backends (b ∷ []) = with_turns (backend_of backends b) (Some 1) (Some [])
+all_turns backends (b ∷ t ∷ []) = if is_times t then None else with_turns (backend_of backends b) (Some 1) (all_turns backends (t ∷ []))
+all_turns backends (b ∷ t ∷ c ∷ ts) = if is_times t then with_turns (backend_of backends b) (count_of c) (all_turns backends ts) else with_turns (backend_of backends b) (Some 1) (all_turns backends (t ∷ c ∷ ts))
 
 -- steps ITEM ITEM .., with an item or more
 unfoldable pub steps_of : ℕ → List (List ℕ) → Option (List Turns)
 steps_of backends ts = do
   rest ← said (codes "steps") ts
-  first ← turns_at backends rest
-  others ← all_turns backends (length first.1) first.1
-  Some (first.0 ∷ others)
+  if none_left rest then None else all_turns backends rest
 
 -- BACKEND: and the tokens of a command
 unfoldable pub addressed : ℕ → List (List ℕ) → Option (ℕ × List (List ℕ))

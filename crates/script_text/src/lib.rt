@@ -11,6 +11,7 @@
 mod alterations;
 mod commands;
 mod fault;
+mod line_forms;
 mod lists;
 mod operands;
 mod script;

@@ -1,6 +1,7 @@
 ghost use Rattle.std.specs.Prelude.{◌≡◌, ◌≤◌, ◌<◌, IsTrue, MatchOption, List, [], ◌∷◌, ℕ, None, Some, length, take, drop, codes};
 ghost use Rattle.std.specs.List.{prefix_len};
 ghost use Rattle.script_text.specs.Lines.{is_blank as blank, counts as line_counts};
+ghost use Rattle.script_text.specs.LineForms.{none_left, begins as first_is};
 ghost use Rattle.script_text.specs.Tokens.{tokens, said, ends, is_mark as mark, in_word as inside, goes_on, StartsToken};
 
 use std::marker::Model;
@@ -33,6 +34,23 @@ impl<'a> Tokens<'a> {
         ensures { tokens result.now ≡ self.now }
     {
         self.rest
+    }
+
+    /// No token is left.
+    pub fn is_empty(&self) -> bool
+        ensures { result ≡ none_left self.now }
+    {
+        Tokens::of(self.rest).next().is_none()
+    }
+
+    /// The next token is this word.
+    pub fn begins(&self, word: &str) -> bool
+        ensures { result ≡ first_is word.now self.now }
+    {
+        match Tokens::of(self.rest).next() {
+            None => false,
+            Some(token) => token == word.as_bytes(),
+        }
     }
 
     /// Takes the next token; `None` where none is left.
