@@ -1,5 +1,6 @@
 mod Rows
 pub mod Splitting
 pub mod Numbers
+pub mod Turning
 pub mod Bounds
 pub mod Listing

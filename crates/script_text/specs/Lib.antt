@@ -5,3 +5,4 @@ pub mod Operands
 pub mod Commands
 pub mod LineForms
 pub mod Grammar
+pub mod Drafts

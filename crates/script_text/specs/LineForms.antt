@@ -1,5 +1,5 @@
 -- The forms of the lines that aren't commands, over their tokens.
-use Rattle.std.specs.Prelude.{ℕ, Bool, true, false, Option, Some, None, List, [], ◌∷◌, ◌+◌, ◌*◌, ◌==◌, ◌||◌, nat_lt, option_map, codes, if◌then◌else◌}
+use Rattle.std.specs.Prelude.{◌≡◌, ℕ, Bool, true, false, Option, Some, None, List, [], ◌∷◌, ◌+◌, ◌*◌, ◌==◌, ◌||◌, nat_lt, option_map, codes, if◌then◌else◌}
 use Rattle.std.specs.Str.{bytes_eq}
 use Rattle.base_types.specs.declared.command.Turns.{Turns}
 use Rattle.script_text.specs.Tokens.{◌>>=◌, tokens, said, taken, after}
@@ -85,6 +85,16 @@ all_turns backends [] = Some []
 all_turns backends (b ∷ []) = with_turns (backend_of backends b) (Some 1) (Some [])
 all_turns backends (b ∷ t ∷ []) = if is_times t then None else with_turns (backend_of backends b) (Some 1) (all_turns backends (t ∷ []))
 all_turns backends (b ∷ t ∷ c ∷ ts) = if is_times t then with_turns (backend_of backends b) (count_of c) (all_turns backends ts) else with_turns (backend_of backends b) (Some 1) (all_turns backends (t ∷ c ∷ ts))
+
+-- one step, or behind an asterisk how many, and the tokens behind that
+unfoldable pub count_behind : List (List ℕ) → Option (ℕ × List (List ℕ))
+count_behind [] = Some (1, [])
+count_behind (t ∷ ts) = if is_times t then taken count_of ts else Some (1, t ∷ ts)
+
+-- what is taken of a line's steps at a time
+abbrev pub NextTurns : ℕ → List (List ℕ) → List (List ℕ) → Option Turns → Type 0
+NextTurns backends old new None = all_turns backends old ≡ None
+NextTurns backends old new (Some turns) = all_turns backends old ≡ option_map (λ others. turns ∷ others) (all_turns backends new)
 
 -- steps ITEM ITEM .., with an item or more
 unfoldable pub steps_of : ℕ → List (List ℕ) → Option (List Turns)

@@ -1,3 +1,6 @@
+ghost use Rattle.std.specs.Prelude.{◌≡◌};
+ghost use Rattle.script_text.specs.declared.fault.LineFault.TheVariants.{NoMemory};
+
 /// The rule that a line breaks, in the order in which a line is tested.
 #[derive(Clone, Copy, Debug, PartialEq, Eq)]
 pub enum ScriptCause {
@@ -34,4 +37,31 @@ pub enum Rest {
     Refused,
     /// Reading stops behind the `end` line.
     Given,
+}
+
+/// Why a line was not taken.
+#[derive(Clone, Copy, Debug, PartialEq, Eq)]
+pub enum LineFault {
+    /// It breaks a rule.
+    Breaks(ScriptCause),
+    /// Want of memory.
+    NoMemory,
+}
+
+impl From<base_types::NoMemory> for LineFault {
+    ghost from_gives = { λ _ fault. fault ≡ NoMemory };
+
+    fn from(_error: base_types::NoMemory) -> LineFault {
+        LineFault::NoMemory
+    }
+}
+
+/// Why there is no script.
+#[derive(Clone, Copy, Debug, PartialEq, Eq)]
+pub enum ScriptFault {
+    /// The first line that breaks a rule, from 1, and the first rule that it breaks. A fault of the
+    /// input's end names the line after the last one.
+    Bad { line: u32, cause: ScriptCause },
+    /// Want of memory.
+    NoMemory,
 }

@@ -10,13 +10,15 @@
 
 mod alterations;
 mod commands;
+mod draft;
 mod fault;
 mod line_forms;
 mod lists;
 mod operands;
 mod script;
 mod taking;
+mod steps;
 mod tokens;
 
-pub use fault::{Rest, ScriptCause};
+pub use fault::{LineFault, Rest, ScriptCause, ScriptFault};
 pub use script::Script;
