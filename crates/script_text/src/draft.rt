@@ -1,6 +1,7 @@
-ghost use Rattle.std.specs.Prelude.{◌≡◌};
-ghost use Rattle.script_text.specs.Tokens.{tokens};
-ghost use Rattle.script_text.specs.Grammar.{blank, ring_line as after_ring, backends_line as after_backends, steps_line as after_steps, command_line as after_command, body_line as after_body, tokens_line as after_tokens};
+ghost use Rattle.std.specs.Prelude.{◌≡◌, IfOk, codes};
+ghost use Rattle.script_text.specs.Tokens.{tokens, said};
+ghost use Rattle.script_text.specs.Commands.{command_of};
+ghost use Rattle.script_text.specs.Grammar.{blank, ring_line as after_ring, backends_line as after_backends, steps_line as after_steps, command_line as after_command, body_line as after_body, tokens_line as after_tokens, is_end_line as end_line};
 ghost use Rattle.script_text.specs.Drafts.{Takes};
 
 use crate::alterations;
@@ -86,4 +87,78 @@ impl Draft {
         self.backends = backends;
         Ok(())
     }
+
+    // A line that begins with `steps`.
+    #[tactic(auto, unfolding(crate::specs::Grammar::steps_line))]
+    fn steps_line(&mut self, alloc: Global, line: &[u8]) -> Result<(), LineFault>
+        ensures { Takes self.new result (after_steps self.old (tokens line.now)) }
+    {
+        let Some(turns) = steps::steps(alloc, line, self.backends)? else {
+            return Err(LineFault::Breaks(ScriptCause::BadSteps));
+        };
+        let Some(total) = steps::steps_with(self.total, turns.as_slice()) else {
+            return Err(LineFault::Breaks(ScriptCause::TooManySteps));
+        };
+        self.steps.push(turns)?;
+        self.total = total;
+        Ok(())
+    }
+
+    // Any other line.
+    #[tactic(auto, unfolding(crate::specs::Grammar::command_line))]
+    fn command_line(&mut self, alloc: Global, line: &[u8]) -> Result<(), LineFault>
+        ensures { Takes self.new result (after_command self.old (tokens line.now)) }
+    {
+        let Some((backend, text)) = line_forms::addressed(line, self.backends) else {
+            return Err(LineFault::Breaks(ScriptCause::UnknownBackend));
+        };
+        if !self.steps.as_slice().is_empty() {
+            return Err(LineFault::Breaks(ScriptCause::LateCommand));
+        }
+        let Some(command) = command(alloc, text)? else {
+            return Err(LineFault::Breaks(ScriptCause::BadCommand));
+        };
+        if self.commands.as_slice().len() >= 20_000 {
+            return Err(LineFault::Breaks(ScriptCause::TooManyCommands));
+        }
+        self.commands.push(Placed { backend, command })?;
+        Ok(())
+    }
+
+    // A line behind that of the backends.
+    #[tactic(auto, unfolding(crate::specs::Grammar::body_line))]
+    fn body_line(&mut self, alloc: Global, line: &[u8]) -> Result<(), LineFault>
+        ensures { Takes self.new result (after_body self.old (tokens line.now)) }
+    {
+        if is_end_line(line) {
+            self.has_end = true;
+            return Ok(());
+        }
+        if Tokens::of(line).begins("steps") {
+            return self.steps_line(alloc, line);
+        }
+        self.command_line(alloc, line)
+    }
+}
+
+// The command of a line's text, if it has the form of one.
+#[tactic(auto, unfolding(crate::specs::Commands::command_of))]
+fn command(alloc: Global, line: &[u8]) -> Result<Option<Command>, NoMemory>
+    ensures { IfOk result (λ found. found ≡ command_of (tokens line.now)) }
+{
+    if let Some(command) = commands::short(line) {
+        return Ok(Some(command));
+    }
+    if let Some(command) = alterations::alter(line) {
+        return Ok(Some(command));
+    }
+    lists::long(alloc, line)
+}
+
+// The line is `end` alone.
+fn is_end_line(line: &[u8]) -> bool
+    ensures { result ≡ end_line (said (codes "end") (tokens line.now)) }
+{
+    let mut tokens = Tokens::of(line);
+    tokens.words("end").is_some() && tokens.is_empty()
 }
