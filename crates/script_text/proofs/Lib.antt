@@ -1,6 +1,7 @@
 mod Rows
 pub mod Splitting
 pub mod Numbers
+pub mod Parting
 pub mod Turning
 pub mod Bounds
 pub mod Listing

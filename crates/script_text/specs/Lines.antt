@@ -1,5 +1,6 @@
 -- The lines of a text, and which of them count.
-use Rattle.std.specs.Prelude.{ℕ, Bool, true, false, List, [], ◌∷◌, ◌==◌, ◌+◌, ◌||◌, ◌&&◌, not, nat_le, if◌then◌else◌}
+use Rattle.std.specs.Prelude.{ℕ, Bool, true, false, List, [], ◌∷◌, ◌==◌, ◌+◌, ◌||◌, ◌&&◌, not, ◌-◌, length, get_or, take, min, nat_le, if◌then◌else◌}
+use Rattle.std.specs.List.{prefix_len}
 
 -- a blank or a tab
 abbrev pub is_blank : ℕ → Bool
@@ -15,17 +16,31 @@ unfoldable pub lines_of : List ℕ → List (List ℕ)
 lines_of [] = []
 lines_of (byte ∷ bytes) = if byte == 10 then (byte ∷ []) ∷ lines_of bytes else with_byte byte (lines_of bytes)
 
+-- the length of the first line with its LF
+abbrev pub line_len : List ℕ → ℕ
+line_len text = min (prefix_len (λ byte. not (byte == 10)) text + 1) (length text)
+
+-- the text ends in this byte
+abbrev pub ends_in : ℕ → List ℕ → Bool
+ends_in byte text = not (length text == 0) && (get_or text (length text - 1) 0 == byte)
+
+-- the text without its last byte
+abbrev pub but_last : List ℕ → List ℕ
+but_last text = take (length text - 1) text
+
 -- a line without its LF and the CR before that
 unfoldable pub bare : List ℕ → List ℕ
-bare [] = []
-bare (a ∷ []) = if a == 10 then [] else a ∷ []
-bare (a ∷ b ∷ []) = if (a == 13) && (b == 10) then [] else if b == 10 then a ∷ [] else a ∷ b ∷ []
-bare (a ∷ b ∷ c ∷ bytes) = a ∷ bare (b ∷ c ∷ bytes)
+bare line = if ends_in 10 line then (if ends_in 13 (but_last line) then but_last (but_last line) else but_last line) else line
 
 -- two dashes stand in front
 abbrev pub begins_comment : List ℕ → Bool
 begins_comment (a ∷ b ∷ bytes) = (a == 45) && (b == 45)
 begins_comment bytes = false
+
+-- the text that a line has behind its blanks makes it count
+abbrev pub front_counts : List ℕ → Bool
+front_counts [] = false
+front_counts (byte ∷ bytes) = not (begins_comment (byte ∷ bytes))
 
 -- a line counts if it has more than blanks and isn't a comment
 unfoldable pub counts : List ℕ → Bool

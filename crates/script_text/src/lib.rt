@@ -13,6 +13,7 @@ mod commands;
 mod draft;
 mod fault;
 mod line_forms;
+mod lines;
 mod lists;
 mod operands;
 mod script;

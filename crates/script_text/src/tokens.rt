@@ -83,8 +83,9 @@ impl<'a> Tokens<'a> {
     }
 }
 
-// A line without the blanks in front.
-fn without_blanks(line: &[u8]) -> &[u8]
+/// A line without the blanks in front.
+pub fn without_blanks(line: &[u8]) -> &[u8]
+    ensures value { result.now ≡ drop (prefix_len blank line.now) line.now }
     ensures same { tokens result.now ≡ tokens line.now }
     ensures starts { StartsToken result.now }
 {
