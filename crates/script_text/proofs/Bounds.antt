@@ -16,15 +16,21 @@ power n k m is low high h = let e : n ≡ m = named n m h in rw e (record { powe
 
 pub queue_size : (n : ℕ) → is_size n ≡ true → IsQueueSize n
 queue_size n h = elim (split _ (n == 4096) h) [
-    inr e ↦ power n 12 4096 refl (omega arith) (omega arith) e
+  | inr e ↦ power n 12 4096 refl (omega arith) (omega arith) e
   | inl h ↦ elim (split _ (n == 2048) h) [
-    inr e ↦ power n 11 2048 refl (omega arith) (omega arith) e
-  | inl h ↦ elim (split _ (n == 1024) h) [
-    inr e ↦ power n 10 1024 refl (omega arith) (omega arith) e
-  | inl h ↦ elim (split _ (n == 512) h) [
-    inr e ↦ power n 9 512 refl (omega arith) (omega arith) e
-  | inl h ↦ elim (split _ (n == 256) h) [
-    inr e ↦ power n 8 256 refl (omega arith) (omega arith) e
-  | inl h ↦ elim (split (n == 64) (n == 128) h) [
-    inr e ↦ power n 7 128 refl (omega arith) (omega arith) e
-  | inl e ↦ power n 6 64 refl (omega arith) (omega arith) e ] ] ] ] ] ]
+    | inr e ↦ power n 11 2048 refl (omega arith) (omega arith) e
+    | inl h ↦ elim (split _ (n == 1024) h) [
+      | inr e ↦ power n 10 1024 refl (omega arith) (omega arith) e
+      | inl h ↦ elim (split _ (n == 512) h) [
+        | inr e ↦ power n 9 512 refl (omega arith) (omega arith) e
+        | inl h ↦ elim (split _ (n == 256) h) [
+          | inr e ↦ power n 8 256 refl (omega arith) (omega arith) e
+          | inl h ↦ elim (split (n == 64) (n == 128) h) [
+            | inr e ↦ power n 7 128 refl (omega arith) (omega arith) e
+            | inl e ↦ power n 6 64 refl (omega arith) (omega arith) e
+          ]
+        ]
+      ]
+    ]
+  ]
+]

@@ -1,6 +1,8 @@
 mod Rows
 pub mod Splitting
 pub mod Numbers
+pub mod Drafting
+pub mod Following
 pub mod Parting
 pub mod Turning
 pub mod Bounds

@@ -1,16 +1,14 @@
 ghost use Rattle.std.specs.Prelude.{◌≡◌, IfOk, codes};
 ghost use Rattle.script_text.specs.Tokens.{tokens, said};
 ghost use Rattle.script_text.specs.Commands.{command_of};
-ghost use Rattle.script_text.specs.Grammar.{blank, ring_line as after_ring, backends_line as after_backends, steps_line as after_steps, command_line as after_command, body_line as after_body, tokens_line as after_tokens, is_end_line as end_line};
-ghost use Rattle.script_text.specs.Drafts.{Takes};
+ghost use Rattle.script_text.specs.Grammar.{blank, ring_line as after_ring, backends_line as after_backends, steps_line as after_steps, command_line as after_command, body_line as after_body, tokens_line as after_tokens, is_end_line as end_line, before_end, line_after, any_line, stops as stops_here, at_end};
+ghost use Rattle.script_text.specs.Drafts.{Takes, Reads};
 
-use crate::alterations;
-use crate::commands;
-use crate::fault::{LineFault, ScriptCause};
-use crate::line_forms;
-use crate::lists;
-use crate::steps;
+use crate::fault::{LineFault, Rest, ScriptCause, ScriptFault};
+use crate::reading::ScriptRead;
+use crate::script::Script;
 use crate::tokens::Tokens;
+use crate::{alterations, commands, line_forms, lines, lists, steps};
 use base_types::{Command, Listed, NoMemory, Placed, Turns};
 use std::alloc::Global;
 use std::marker::Model;
@@ -30,13 +28,13 @@ pub struct Draft {
 
 impl Model for Draft {
     ghost use Rattle.script_text.specs.Grammar.{Draft};
-    ghost use Rattle.script_text.specs.Drafts.{IsCounted};
+    ghost use Rattle.script_text.specs.Drafts.{IsCounted, IsDraft};
 
     ghost Value = { Draft };
 
     ghost view = { λ d. record { asked = record { size = d.size; from = d.from; backends = d.backends; commands = d.commands; steps = d.steps }; has_ring = d.has_ring; has_end = d.has_end } };
 
-    ghost invariant = { λ d. IsCounted d.total d.steps };
+    ghost invariant = { λ d. IsCounted d.total d.steps × IsDraft (record { size = d.size; from = d.from; backends = d.backends; commands = d.commands; steps = d.steps }) };
 }
 
 impl Draft {
@@ -76,6 +74,7 @@ impl Draft {
     // The line that says how many backends there are.
     #[tactic(auto, unfolding(crate::specs::Grammar::backends_line))]
     fn backends_line(&mut self, line: &[u8]) -> Result<(), LineFault>
+        requires { self.old.asked.backends ≡ 0 }
         ensures { Takes self.new result (after_backends self.old (tokens line.now)) }
     {
         if !Tokens::of(line).begins("backends") {
@@ -138,6 +137,100 @@ impl Draft {
             return self.steps_line(alloc, line);
         }
         self.command_line(alloc, line)
+    }
+
+    // A body line, behind which no `end` line came before.
+    fn before_end(&mut self, alloc: Global, line: &[u8]) -> Result<(), LineFault>
+        ensures { Takes self.new result (before_end self.old (after_body self.old (tokens line.now))) }
+    {
+        let has_end = self.has_end;
+        match self.body_line(alloc, line) {
+            Err(fault) => Err(fault),
+            Ok(()) => {
+                if has_end {
+                    Err(LineFault::Breaks(ScriptCause::AfterEnd))
+                } else {
+                    Ok(())
+                }
+            }
+        }
+    }
+
+    // A line in small letters.
+    #[tactic(auto, unfolding(crate::specs::Grammar::tokens_line))]
+    fn tokens_line(&mut self, alloc: Global, line: &[u8]) -> Result<(), LineFault>
+        ensures { Takes self.new result (after_tokens self.old (tokens line.now)) }
+    {
+        if Tokens::of(line).begins("ring") {
+            return self.ring_line(line);
+        }
+        if self.backends == 0 {
+            return self.backends_line(line);
+        }
+        self.before_end(alloc, line)
+    }
+
+    // A line that counts, in large or small letters.
+    #[tactic(auto, unfolding(crate::specs::Grammar::line_after))]
+    fn counting_line(&mut self, alloc: Global, line: &[u8]) -> Result<(), LineFault>
+        ensures { Takes self.new result (line_after self.old line.now) }
+    {
+        if lines::has_bad_byte(line) {
+            return Err(LineFault::Breaks(ScriptCause::BadByte));
+        }
+        let folded = lines::in_small_letters(alloc, line)?;
+        self.tokens_line(alloc, folded.as_slice())
+    }
+
+    /// Takes a line with its end.
+    #[tactic(auto, unfolding(crate::specs::Grammar::any_line))]
+    pub fn line(&mut self, alloc: Global, line: &[u8]) -> Result<(), LineFault>
+        ensures { Takes self.new result (any_line self.old line.now) }
+    {
+        let line = lines::bare(line);
+        if !lines::counts(line) {
+            return Ok(());
+        }
+        self.counting_line(alloc, line)
+    }
+
+    /// Reading stops here: behind the `end` line, where a rest is given.
+    pub fn stops(&self, rest: Rest) -> bool
+        ensures { result ≡ stops_here rest self.now }
+    {
+        match rest {
+            Rest::Given => self.has_end,
+            Rest::Refused => false,
+        }
+    }
+
+    /// What was read, at the end of the input or of reading: the line and the place behind it.
+    pub fn finish(self, line: u32, place: usize) -> Result<ScriptRead, ScriptFault>
+        ensures { Reads result (at_end self line place) }
+    {
+        if self.backends == 0 {
+            return Err(ScriptFault::Bad {
+                line,
+                cause: ScriptCause::NoBackends,
+            });
+        }
+        if !self.has_end {
+            return Err(ScriptFault::Bad {
+                line,
+                cause: ScriptCause::NoEnd,
+            });
+        }
+        Ok(ScriptRead {
+            script: Script::new(
+                self.size,
+                self.from,
+                self.backends,
+                self.commands,
+                self.steps,
+            ),
+            has_ring: self.has_ring,
+            rest_at: place,
+        })
     }
 }
 

@@ -1,5 +1,6 @@
 ghost use Rattle.std.specs.Prelude.{◌≡◌};
 ghost use Rattle.script_text.specs.declared.fault.LineFault.TheVariants.{NoMemory};
+ghost use Rattle.script_text.specs.Drafts.{fault_at};
 
 /// The rule that a line breaks, in the order in which a line is tested.
 #[derive(Clone, Copy, Debug, PartialEq, Eq)]
@@ -64,4 +65,16 @@ pub enum ScriptFault {
     Bad { line: u32, cause: ScriptCause },
     /// Want of memory.
     NoMemory,
+}
+
+impl LineFault {
+    /// The fault of a script whose line with this number has this one.
+    pub fn at_line(self, line: u32) -> ScriptFault
+        ensures { result ≡ fault_at self line }
+    {
+        match self {
+            LineFault::Breaks(cause) => ScriptFault::Bad { line, cause },
+            LineFault::NoMemory => ScriptFault::NoMemory,
+        }
+    }
 }

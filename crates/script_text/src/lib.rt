@@ -16,10 +16,12 @@ mod line_forms;
 mod lines;
 mod lists;
 mod operands;
+mod reading;
 mod script;
-mod taking;
 mod steps;
+mod taking;
 mod tokens;
 
 pub use fault::{LineFault, Rest, ScriptCause, ScriptFault};
+pub use reading::{ScriptRead, read_script};
 pub use script::Script;

@@ -15,7 +15,11 @@ pub fn line_len(text: &[u8]) -> usize
     ensures within { result ≤ length text.now }
 {
     let before = before_lf(text);
-    if before < text.len() { before + 1 } else { before }
+    if before < text.len() {
+        before + 1
+    } else {
+        before
+    }
 }
 
 // The number of bytes before the first LF.
@@ -97,5 +101,9 @@ pub fn in_small_letters(alloc: Global, line: &[u8]) -> Result<Vec<u8>, NoMemory>
 fn small(byte: u8) -> u8
     ensures { result ≡ small_of byte }
 {
-    if matches!(byte, b'A'..=b'Z') { byte + 32 } else { byte }
+    if matches!(byte, b'A'..=b'Z') {
+        byte + 32
+    } else {
+        byte
+    }
 }

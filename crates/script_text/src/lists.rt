@@ -82,10 +82,7 @@ fn names_behind(alloc: Global, tokens: &mut Tokens) -> Result<Option<Listed<Name
 
 // (NAME TYPE, ..), or empty parentheses.
 #[tactic(auto, unfolding(crate::specs::Commands::columns_behind))]
-fn columns_behind(
-    alloc: Global,
-    tokens: &mut Tokens,
-) -> Result<Option<Listed<NewColumn>>, NoMemory>
+fn columns_behind(alloc: Global, tokens: &mut Tokens) -> Result<Option<Listed<NewColumn>>, NoMemory>
     ensures { IfOk result (λ found. found ≡ columns_enclosed tokens.old) }
 {
     if tokens.ends("()") {
