@@ -1,3 +1,5 @@
 pub mod Padding
 pub mod Names
 pub mod Placing
+pub mod Joining
+pub mod DroppedNumbers

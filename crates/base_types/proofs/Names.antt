@@ -1,9 +1,12 @@
 -- What the bytes of a name, a word or a check's text are.
-use Rattle.std.proofs.Common.{◌≡◌, ◌<◌, ◌≤◌, ℕ, Bool, true, false, not, ◌&&◌, ◌==◌, ◌+◌, nat_lt, cond, Option, Some, None, List, [], ◌∷◌, length, refl, arith}
+use Rattle.std.proofs.Common.{◌||◌, ◌++◌, ◌∙◌, inl, inr, nat_le, get_or, codes, decimal, ap, sym, subst, rules, ◌≡◌, ◌<◌, ◌≤◌, ℕ, Bool, true, false, not, ◌&&◌, ◌==◌, ◌+◌, nat_lt, cond, Option, Some, None, List, [], ◌∷◌, length, refl, arith}
 use Rattle.std.specs.List.{position_from, list_all, AllPass}
 use Rattle.std.proofs.lemmas.List.Sums.{AllPass-from_list_all}
+use Rattle.std.proofs.lemmas.List.Elements.{All-append, All-weaker}
+use Rattle.std.proofs.lemmas.Str.Parse.{numerals_by_value}
+use Rattle.std.proofs.lemmas.Fmt.{digits_decimal}
 use Rattle.std.proofs.lemmas.Bool.Decides.{nat_tests}
-use Rattle.base_types.specs.Names.{is_name_byte, is_word_byte, is_text_byte, bad_byte, first_refused, begins_with_digit, short_fault, name_fault, IsName, IsWord, IsText}
+use Rattle.base_types.specs.Names.{is_digit, is_any_name_byte, IsAnyName, is_name_byte, is_word_byte, is_text_byte, bad_byte, first_refused, begins_with_digit, short_fault, IsName, IsWord, IsText}
 use Rattle.base_types.specs.declared.name_fault.NameFault.{NameFault}
 
 -- a choice that is none took no fault
@@ -63,3 +66,39 @@ name_front text h =
     let empty = untaken (length text == 0) _ _ h in
     let long = untaken (nat_lt 63 (length text)) _ _ empty.1 in
     (untaken (begins_with_digit text) _ _ long.1).0
+
+-- a byte that the test refuses stands nowhere
+pub stands_nowhere : (allowed : ℕ → Bool) (text : List ℕ) (byte : ℕ) → AllPass allowed text → allowed byte ≡ false → (k d : ℕ) → k < length text → get_or text k d ≡ byte → ⊥
+stands_nowhere allowed text byte passes refused k d within is =
+    let here : allowed (get_or text k d) ≡ true = passes k d within in
+    let there : allowed (get_or text k d) ≡ false = ap allowed is ∙ refused in
+    cc
+
+or_more : (a b c : Bool) → b ≡ true → a || b || c ≡ true
+or_more true b c h = refl
+or_more false true c h = refl
+or_more false false c h = cc
+
+digit_is_any : (byte : ℕ) → is_digit byte ≡ true → is_any_name_byte byte ≡ true
+digit_is_any byte h = ap (λ b. b || (byte == 46)) (or_more (nat_le 97 byte && nat_le byte 122) (is_digit byte) (byte == 95) h)
+
+digits_of_decimal : (num : ℕ) → num ≤ 1600 → AllPass is_digit (decimal num)
+digits_of_decimal num small = AllPass-from_list_all is_digit (decimal num) (digits_decimal (numerals_by_value (λ ds. list_all is_digit ds ≡ true) (search rules)) num (omega arith))
+
+any_of_dropped : (digits : List ℕ) → AllPass is_any_name_byte digits → AllPass is_any_name_byte (codes "........pg.dropped." ++ digits ++ codes "........")
+any_of_dropped digits h =
+    let P : ℕ → Type 0 = λ byte. is_any_name_byte byte ≡ true in
+    All-append P (codes "........pg.dropped." ++ digits) (codes "........")
+    (All-append P (codes "........pg.dropped.") digits (AllPass-from_list_all is_any_name_byte (codes "........pg.dropped.") refl) h)
+    (AllPass-from_list_all is_any_name_byte (codes "........") refl)
+
+-- what the bytes of a name are, also of a dropped column's
+pub any_name_bytes : (text : List ℕ) → IsAnyName text → AllPass is_any_name_byte text
+any_name_bytes text (inl name) =
+    let P : ℕ → Type 0 = λ byte. is_name_byte byte ≡ true in
+    let Q : ℕ → Type 0 = λ byte. is_any_name_byte byte ≡ true in
+    All-weaker P Q (λ byte h. ap (λ b. b || (byte == 46)) h) text (name_parts text name).bytes
+any_name_bytes text (inr dropped) =
+    let P : ℕ → Type 0 = λ byte. is_digit byte ≡ true in
+    let Q : ℕ → Type 0 = λ byte. is_any_name_byte byte ≡ true in
+    subst (λ (t : List ℕ). AllPass is_any_name_byte t) (sym dropped.1.is) (any_of_dropped (decimal dropped.0) (All-weaker P Q digit_is_any (decimal dropped.0) (digits_of_decimal dropped.0 dropped.1.most)))

@@ -1,7 +1,7 @@
 -- The fields of a descriptor: which a kind has, which scan reads one, and its text.
-use Rattle.std.specs.Prelude.{ℕ, Bool, true, Option, Some, None, List, [], ◌∷◌, ◌++◌, codes, decimal, if◌then◌else◌}
+use Rattle.std.specs.Prelude.{ℕ, Bool, true, Option, Some, None, List, [], ◌∷◌, ◌++◌, codes, decimal, ◌==◌, if◌then◌else◌}
 use Rattle.std.specs.Fmt.{signed_decimal}
-use Rattle.std.specs.List.{filter_map, join_by}
+use Rattle.std.specs.List.{filter_map, join_by, list_any}
 use Rattle.base_types.specs.Types.{Oid, Row, Purpose, Kind, Field, ConKind}
 use Rattle.base_types.specs.Scans.{same_oid}
 use Rattle.base_types.specs.Words.{type_word, state_word, valid_word, on_word, fill_text, nums_text}
@@ -15,6 +15,28 @@ use Rattle.base_types.specs.declared.scan.Field.TheVariants as fields
 abbrev pub fields_of : Kind → List Field
 fields_of Table = fields.Name ∷ fields.Columns ∷ fields.Defaults ∷ fields.Statistics ∷ fields.Fillfactor ∷ fields.Constraints ∷ fields.Referenced ∷ fields.Indexes ∷ fields.Triggers ∷ []
 fields_of Index = fields.Name ∷ fields.Of ∷ fields.Valid ∷ []
+
+-- the place of a field in its type
+abbrev pub field_number : Field → ℕ
+field_number fields.Name = 0
+field_number fields.Columns = 1
+field_number fields.Defaults = 2
+field_number fields.Statistics = 3
+field_number fields.Fillfactor = 4
+field_number fields.Constraints = 5
+field_number fields.Referenced = 6
+field_number fields.Indexes = 7
+field_number fields.Triggers = 8
+field_number fields.Of = 9
+field_number fields.Valid = 10
+
+-- two fields are one
+abbrev pub same_field : Field → Field → Bool
+same_field a b = field_number a == field_number b
+
+-- the kind has the field
+abbrev pub has_field : Kind → Field → Bool
+has_field kind field = list_any (same_field field) (fields_of kind)
 
 -- the scan that reads a field of a relation
 abbrev pub read_by : Field → Oid → Purpose

@@ -6,3 +6,7 @@ pub mod Scans
 pub mod Words
 pub mod Fields
 pub mod Scenario
+pub mod Keys
+pub mod Rows
+pub mod Parts
+pub mod Hashes

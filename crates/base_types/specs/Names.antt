@@ -1,5 +1,5 @@
 -- Which bytes make a name, a word or the text of a check, and what is wrong with others.
-use Rattle.std.specs.Prelude.{◌≡◌, ℕ, Bool, true, false, Option, Some, None, List, [], ◌∷◌, ◌==◌, ◌&&◌, ◌||◌, not, nat_le, nat_lt, length, if◌then◌else◌}
+use Rattle.std.specs.Prelude.{◌≡◌, ℕ, Bool, false, Option, Some, None, List, [], ◌∷◌, ◌==◌, ◌&&◌, ◌||◌, ◌⊎◌, ◌++◌, ◌<◌, ◌≤◌, ◌+◌, ◌*◌, ◌-◌, not, nat_le, nat_lt, length, fold, codes, decimal, if◌then◌else◌}
 use Rattle.std.specs.List.{position_from}
 use Rattle.base_types.specs.declared.name_fault.NameFault.{NameFault}
 use Rattle.base_types.specs.declared.name_fault.NameFault.TheVariants.{Empty, TooLong, BadByte}
@@ -11,6 +11,10 @@ is_digit byte = nat_le 48 byte && nat_le byte 57
 -- a byte of a name: a small letter, a digit or `_`
 abbrev pub is_name_byte : ℕ → Bool
 is_name_byte byte = (nat_le 97 byte && nat_le byte 122) || is_digit byte || (byte == 95)
+
+-- a byte of a name that a column may have: one of a name, or `.`
+abbrev pub is_any_name_byte : ℕ → Bool
+is_any_name_byte byte = is_name_byte byte || (byte == 46)
 
 -- a byte of a word: one of a name, or `-`
 abbrev pub is_word_byte : ℕ → Bool
@@ -53,3 +57,29 @@ IsWord text = short_fault is_word_byte text ≡ None
 -- the bytes are the text of a check
 abbrev pub IsText : List ℕ → Type 0
 IsText text = short_fault is_text_byte text ≡ None
+
+-- the name that a dropped column of this number has
+abbrev pub dropped_name : ℕ → List ℕ
+dropped_name num = codes "........pg.dropped." ++ decimal num ++ codes "........"
+
+-- the bytes are the name of the dropped column of this number
+pub record IsDropped (num : ℕ) (text : List ℕ) : Type 0 where
+  pub some : 0 < num
+  pub most : num ≤ 1600
+  pub is : text ≡ dropped_name num
+
+-- the bytes are the name of a dropped column
+abbrev pub IsDroppedName : List ℕ → Type 0
+IsDroppedName text = (num : ℕ) × IsDropped num text
+
+-- the bytes are a name that a column may have
+abbrev pub IsAnyName : List ℕ → Type 0
+IsAnyName text = IsName text ⊎ IsDroppedName text
+
+-- a number with one more digit, as its bytes give it
+abbrev pub digit_more : ℕ → ℕ → ℕ
+digit_more number byte = number * 10 + (byte - 48)
+
+-- the number that digits write
+abbrev pub number_of_digits : List ℕ → ℕ
+number_of_digits digits = fold digit_more 0 digits

@@ -1,7 +1,6 @@
 -- What a script asks for.
-use Rattle.std.specs.Prelude.{◌≡◌, ◌≤◌, ◌<◌, ◌*◌, ◌^◌, ◌⊎◌, ℕ, List, [], ◌∷◌, ◌++◌, length, map, sum_by, replicate}
+use Rattle.std.specs.Prelude.{◌≡◌, ◌≤◌, ◌<◌, ◌*◌, ◌^◌, ℕ, List, length, sum_by, replicate}
 use Rattle.std.specs.List.{flat_map, AllByRecursion}
-use Rattle.base_types.specs.declared.command.Command.{Command}
 use Rattle.base_types.specs.declared.command.Placed.{Placed}
 use Rattle.base_types.specs.declared.command.Turns.{Turns}
 
@@ -47,5 +46,5 @@ pub record IsScript (scenario : Scenario) : Type 0 where
   pub backends : IsBackend 64 scenario.backends
   pub commands : length scenario.commands ≤ 20000
   pub placed : AllByRecursion (λ p. IsBackend scenario.backends p.backend) scenario.commands
-  pub turns : AllByRecursion (AllByRecursion (AreTurns scenario.backends)) scenario.steps
+  pub turns : AllByRecursion (λ line. (1 ≤ length line) × AllByRecursion (AreTurns scenario.backends) line) scenario.steps
   pub steps : sum_by step_count scenario.steps ≤ 1000000

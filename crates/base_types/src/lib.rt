@@ -3,14 +3,34 @@
 //! Everything here is plain data in the terms of PostgreSQL's catalogs. The tables that the whole
 //! project goes by stand beside the types: which lock modes conflict, which rows a catalog scan
 //! gives and in which order, which lock modes the writers of a field take, and how a field's text is
-//! made of rows. They are definitions of specs/, and the functions here compute them.
+//! made of rows. They are definitions of specs/, and the functions here compute them: that is the
+//! promise to the layers above.
 //!
-//! A list inside a public type is a [`Listed`], which contracts see as its list. Names, rows and
-//! scans are `Copy`: they keep their bytes in place, and copying one takes no memory.
+//! A list inside a public type is a [`Listed`], which contracts see as its list. Names, rows, keys
+//! and scans are `Copy`: they keep their bytes in place, and copying one takes no memory. A line of
+//! text is made in a [`LineBuffer`], which takes none either:
+//!
+//! ```text
+//! let mut line = LineBuffer::new();
+//! line.push(b"lock ");
+//! line.push_number(rel.0);
+//! line.push(b" ");
+//! line.push(mode.word());
+//! ```
+//!
+//! Names, words and texts are made of bytes by [`Name::new`], [`Word::new`] and [`Text::new`], which
+//! tell the first fault of any others. A dropped column has a name of another form, as in the
+//! server; [`Name::dropped`] makes it and [`Name::new_or_dropped`] reads it.
 #![tactic(auto)]
 
 mod command;
+mod dropped;
+mod field_item;
+mod field_rows;
+mod fields;
 mod ids;
+mod key;
+mod key_bytes;
 mod line_buffer;
 mod listed;
 mod lock_modes;
@@ -28,7 +48,13 @@ mod short_text;
 mod words;
 
 pub use command::{Command, NewColumn, Placed, Turns};
+pub use dropped::MOST_COLUMNS;
+pub use field_item::{item_of, push_nums};
+pub use field_rows::field_text;
+pub use fields::{fields_of, has_field, read_by};
 pub use ids::{FIRST_OID, Oid, Xid};
+pub use key::{CacheId, Key, KeyPart};
+pub use key_bytes::key_hash;
 pub use line_buffer::{LINE_ROOM, LineBuffer};
 pub use listed::Listed;
 pub use lock_modes::{conflicts, writers};
@@ -43,3 +69,6 @@ pub use scan::{Field, Purpose};
 pub use scan_rows::{goes_before, put_in_order, selects};
 pub use short_text::{LONGEST_TEXT, ShortText};
 pub use words::{live_word, on_word, valid_word};
+
+#[cfg(test)]
+mod tests;

@@ -66,6 +66,16 @@ impl LineBuffer {
         self.push(buffer.format(number).as_bytes());
     }
 
+    /// Adds a long number that may be below 0 in decimal. Condition: there is room for twenty bytes.
+    pub fn push_i64(&mut self, number: i64)
+        requires { length self.old + 20 ≤ 512 }
+        ensures text { self.new ≡ self.old ++ signed_decimal number }
+        ensures short { length self.new ≤ length self.old + 20 }
+    {
+        let mut buffer = Buffer::new();
+        self.push(buffer.format(number).as_bytes());
+    }
+
     /// Adds a long number in decimal. Condition: there is room for twenty digits.
     pub fn push_u64(&mut self, number: u64)
         requires { length self.old + 20 ≤ 512 }

@@ -1,5 +1,6 @@
+use crate::dropped::dropped_number;
 use crate::name_bytes::{name_fault, text_fault, word_fault};
-use crate::{NameFault, ShortText};
+use crate::{LineBuffer, NameFault, ShortText};
 use std::marker::Model;
 
 /// A name of SQL, folded to small letters: 1 to 63 bytes, or the name that a dropped column has.
@@ -20,7 +21,8 @@ impl Model for Name {
 
 impl Name {
     ghost use Rattle.std.specs.Prelude.{◌≡◌, ◌≤◌, length, IfOk, IfErr, Some};
-    ghost use Rattle.base_types.specs.Names.{IsName, name_fault as first_fault};
+    ghost use Rattle.std.specs.Prelude.{◌<◌};
+    ghost use Rattle.base_types.specs.Names.{IsName, IsAnyName, IsDroppedName, dropped_name, name_fault as first_fault};
 
     /// The name of these bytes: 1 to 63 small letters, digits and `_`, with no digit in front.
     /// `Err` has the first fault.
@@ -33,6 +35,34 @@ impl Name {
                 text: ShortText::new(text),
             }),
             Some(fault) => Err(fault),
+        }
+    }
+
+    /// The name that the dropped column of this number has (`RemoveAttributeById` in
+    /// `src/backend/catalog/heap.c`). Condition: 1 to 1,600.
+    pub fn dropped(num: u32) -> Name
+        requires some { 0 < num }
+        requires most { num ≤ 1600 }
+        ensures { result ≡ dropped_name num }
+    {
+        let mut line = LineBuffer::new();
+        line.push(b"........pg.dropped.");
+        line.push_number(num);
+        line.push(b"........");
+        Name {
+            text: ShortText::new(line.as_bytes()),
+        }
+    }
+
+    /// The name of these bytes, also where they are the name of a dropped column. `Err` has the
+    /// first fault as a name.
+    pub fn new_or_dropped(text: &[u8]) -> Result<Name, NameFault>
+        ensures ok { IfOk result (λ name. (name ≡ text.now) × IsAnyName text.now) }
+        ensures err { IfErr result (λ fault. (first_fault text.now ≡ Some fault) × (IsDroppedName text.now → ⊥)) }
+    {
+        match dropped_number(text) {
+            Some(num) => Ok(Name::dropped(num)),
+            None => Name::new(text),
         }
     }
 

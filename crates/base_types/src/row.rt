@@ -159,3 +159,59 @@ pub enum RowKey {
     Con(Oid),
     Trg(Oid),
 }
+
+impl Row {
+    ghost use Rattle.std.specs.Prelude.{◌≡◌};
+    ghost use Rattle.base_types.specs.Rows.{catalog_of};
+    ghost use Rattle.base_types.specs.Keys.{key_of};
+
+    /// The catalog of the row.
+    pub fn catalog(&self) -> Catalog
+        ensures { result ≡ catalog_of self.now }
+    {
+        match self {
+            Row::Class { .. } => Catalog::Class,
+            Row::Att { .. } => Catalog::Attribute,
+            Row::Def { .. } => Catalog::AttrDef,
+            Row::Ind { .. } => Catalog::Index,
+            Row::Con { .. } => Catalog::Constraint,
+            Row::Trg { .. } => Catalog::Trigger,
+        }
+    }
+
+    /// What tells the row from the others of its catalog.
+    pub fn key(&self) -> RowKey
+        ensures { result ≡ key_of self.now }
+    {
+        match self {
+            Row::Class { oid, .. } => RowKey::Class(*oid),
+            Row::Att { rel, num, .. } => RowKey::Att(*rel, *num),
+            Row::Def { oid, .. } => RowKey::Def(*oid),
+            Row::Ind { index, .. } => RowKey::Ind(*index),
+            Row::Con { oid, .. } => RowKey::Con(*oid),
+            Row::Trg { oid, .. } => RowKey::Trg(*oid),
+        }
+    }
+}
+
+impl RowKey {
+    ghost use Rattle.std.specs.Prelude.{◌≡◌};
+    ghost use Rattle.base_types.specs.Keys.{same_key};
+
+    /// Whether two keys are one.
+    pub fn is(&self, other: &RowKey) -> bool
+        ensures { result ≡ same_key self.now other.now }
+    {
+        match (self, other) {
+            (RowKey::Att(rel, num), RowKey::Att(of, other_num)) => {
+                rel.0 == of.0 && num == other_num
+            }
+            (RowKey::Class(oid), RowKey::Class(of))
+            | (RowKey::Def(oid), RowKey::Def(of))
+            | (RowKey::Ind(oid), RowKey::Ind(of))
+            | (RowKey::Con(oid), RowKey::Con(of))
+            | (RowKey::Trg(oid), RowKey::Trg(of)) => oid.0 == of.0,
+            _ => false,
+        }
+    }
+}

@@ -1,5 +1,5 @@
 -- The text of each row, scan, event, entry and answer line.
-use Rattle.std.specs.Prelude.{ℕ, Bool, true, false, List, ◌++◌, codes, decimal}
+use Rattle.std.specs.Prelude.{ℕ, Bool, true, false, List, [], ◌++◌, codes, decimal}
 use Rattle.std.specs.Fmt.{signed_decimal}
 use Rattle.std.specs.List.{flat_map}
 use Rattle.base_types.specs.declared.ids.Oid.{Oid}
@@ -85,6 +85,16 @@ event_text (events.Gone from) = codes "gone " ++ decimal from
 event_text events.Fail = codes "fail"
 event_text events.Stop = codes "stop"
 
+-- an event's text, but of a write what stands in front of its changes
+abbrev pub event_head : Event → List ℕ
+event_head (events.Write xid changes) = codes "write " ++ decimal xid.0
+event_head event = event_text event
+
+-- the changes of a write; any other event has none
+abbrev pub changes_of : Event → List Item
+changes_of (events.Write xid changes) = changes
+changes_of event = []
+
 -- the backend and the command of an entry or a line
 abbrev pub place_text : ℕ → ℕ → List ℕ
 place_text backend command = decimal backend ++ codes " " ++ decimal command ++ codes " "
@@ -93,14 +103,34 @@ place_text backend command = decimal backend ++ codes " " ++ decimal command ++ 
 abbrev pub entry_text : Entry → List ℕ
 entry_text entry = codes "h " ++ place_text entry.backend entry.command ++ event_text entry.event
 
+-- an entry's line, but of a write what stands in front of its changes
+abbrev pub entry_head : Entry → List ℕ
+entry_head entry = codes "h " ++ place_text entry.backend entry.command ++ event_head entry.event
+
+-- changes, a blank before each
+abbrev pub changes_text : List Item → List ℕ
+changes_text changes = flat_map (λ item. codes " " ++ item_text item) changes
+
+-- an answer line up to its text
+abbrev pub line_head : Line → List ℕ
+line_head line = codes "l " ++ place_text line.backend line.command
+
 -- the answer line of a command
 abbrev pub line_text : Line → List ℕ
-line_text line = codes "l " ++ place_text line.backend line.command ++ line.text
+line_text line = line_head line ++ line.text
 
 -- a text as a line
 abbrev pub ended : List ℕ → List ℕ
 ended text = text ++ codes "\n"
 
+-- the lines of a history
+abbrev pub entries_text : List Entry → List ℕ
+entries_text history = flat_map (λ entry. ended (entry_text entry)) history
+
+-- the answer lines
+abbrev pub lines_text : List Line → List ℕ
+lines_text lines = flat_map (λ line. ended (line_text line)) lines
+
 -- a history and its answer lines, and the line `end`
 abbrev pub text_of : List Entry → List Line → List ℕ
-text_of history lines = flat_map (λ entry. ended (entry_text entry)) history ++ flat_map (λ line. ended (line_text line)) lines ++ codes "end\n"
+text_of history lines = entries_text history ++ lines_text lines ++ codes "end\n"

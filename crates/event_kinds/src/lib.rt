@@ -10,5 +10,14 @@
 #![tactic(auto)]
 
 mod entry;
+mod entry_text;
+mod event_text;
+mod row_text;
 
 pub use entry::{Entry, Event, Item, Line};
+pub use entry_text::write_entry;
+pub use event_text::{
+    changes_in, push_entry_head, push_event_head, push_item, push_line_head, push_place,
+    push_purpose,
+};
+pub use row_text::{push_key, push_row};

@@ -1,0 +1,12 @@
+pub mod Prefixes
+pub mod Transactions
+pub mod Versions
+pub mod Held
+pub mod Read
+pub mod Legal
+pub mod Plays
+pub mod Protected
+pub mod Lines
+pub mod Schedule
+pub mod Settled
+pub mod Output

@@ -1,13 +1,16 @@
-// A library with one function.
+//! What a history of entries means: the public definitions of the project, as plain folds and relations.
+//!
+//! A history is the list of all entries, oldest first. What it "has" is a fold over it: the versions
+//! of catalog rows, the locks that are held, the transaction that a backend runs, how far a backend
+//! has come in its commands. What may come next is a relation of an entry and the entries before it,
+//! and a history is legal, played by its commands and economical where that holds of each of its
+//! entries. What a command answers is read off the history alone, as a backend without any cache
+//! would answer. Nothing here is a cache, a queue or an index.
+//!
+//! specs/ is to be read in this order: Prefixes, Transactions, Versions, Held, Read, Legal, Plays,
+//! Lines, Schedule, Output. The worked examples hold of them by computation (proofs/Rows.antt).
 #![tactic(auto)]
 
-ghost use Rattle.std.specs.Prelude.{◌≡◌};
-ghost use Rattle.history_model.specs.Echo.{echo_of};
+mod fact;
 
-// The `ensures` clause is the contract: what `echo` returns is `echo_of` of its argument, a definition
-// in `specs/Echo.antt`, which a caller's clause can cite too.
-pub fn echo(x: usize) -> usize
-    ensures { result ≡ echo_of x }
-{
-    x
-}
+pub use fact::{Grant, Version};

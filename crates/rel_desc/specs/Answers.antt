@@ -28,9 +28,17 @@ abbrev pub relation_word : Kind → List ℕ
 relation_word Table = codes "table "
 relation_word Index = codes "index "
 
+-- fields, `; ` before each
+abbrev pub shown_list : List Shown → List ℕ
+shown_list fields = flat_map (λ shown. codes "; " ++ shown_text shown) fields
+
 -- a column of a list
 abbrev pub column_text : Column → List ℕ
 column_text column = column.name ++ codes ":" ++ type_word column.col_type
+
+-- columns with a blank between them, or a dash for none
+abbrev pub columns_text : List Column → List ℕ
+columns_text columns = or_dash (join_by column_text (codes " ") columns)
 
 -- the name of an oid, or that there is none
 abbrev pub regclass_text : Oid → Option (List ℕ) → List ℕ
@@ -68,9 +76,9 @@ error_text errors.WantOfMemory = codes "53200 want of memory"
 abbrev pub answer_text : Answer → List ℕ
 answer_text answers.Ok = codes "ok"
 answer_text answers.RolledBack = codes "rolled back"
-answer_text (answers.Shown kind rel fields) = relation_word kind ++ decimal rel.0 ++ flat_map (λ shown. codes "; " ++ shown_text shown) fields
+answer_text (answers.Shown kind rel fields) = relation_word kind ++ decimal rel.0 ++ shown_list fields
 answer_text (answers.One shown) = shown_text shown
-answer_text (answers.Columns columns) = codes "columns " ++ or_dash (join_by column_text (codes " ") columns)
+answer_text (answers.Columns columns) = codes "columns " ++ columns_text columns
 answer_text (answers.Column num col_type) = codes "column " ++ decimal num ++ codes " " ++ type_word col_type
 answer_text (answers.Regclass rel name at) = codes "regclass " ++ regclass_text rel name ++ as_of_text (Some at)
 answer_text (answers.Error error) = codes "error " ++ error_text error

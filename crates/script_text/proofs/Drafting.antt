@@ -33,6 +33,6 @@ backends_kept asked n none most kept = record {
   backends = most;
   commands = kept.commands;
   placed = each_weaker (λ (p : Placed). IsBackend asked.backends p.backend) (λ (p : Placed). IsBackend n p.backend) asked.commands (λ p h. absurd (omega (arith, h.0, h.1, none))) kept.placed;
-  turns = each_weaker (AllByRecursion (AreTurns asked.backends)) (AllByRecursion (AreTurns n)) asked.steps (λ ts h. each_weaker (AreTurns asked.backends) (AreTurns n) ts (λ t g. absurd (omega (arith, g.0.0, g.0.1, none))) h) kept.turns;
+  turns = each_weaker (λ (line : List Turns). (1 ≤ length line) × AllByRecursion (AreTurns asked.backends) line) (λ (line : List Turns). (1 ≤ length line) × AllByRecursion (AreTurns n) line) asked.steps (λ ts h. (h.0, each_weaker (AreTurns asked.backends) (AreTurns n) ts (λ t g. absurd (omega (arith, g.0.0, g.0.1, none))) h.1)) kept.turns;
   steps = kept.steps;
 }

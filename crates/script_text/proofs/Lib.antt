@@ -7,3 +7,7 @@ pub mod Parting
 pub mod Turning
 pub mod Bounds
 pub mod Listing
+pub mod Loops
+pub mod Digits
+pub mod Limits
+pub mod Distinct

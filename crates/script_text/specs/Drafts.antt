@@ -25,7 +25,7 @@ pub record IsDraft (asked : Scenario) : Type 0 where
   pub backends : asked.backends ≤ 64
   pub commands : length asked.commands ≤ 20000
   pub placed : AllByRecursion (λ p. IsBackend asked.backends p.backend) asked.commands
-  pub turns : AllByRecursion (AllByRecursion (AreTurns asked.backends)) asked.steps
+  pub turns : AllByRecursion (λ line. (1 ≤ length line) × AllByRecursion (AreTurns asked.backends) line) asked.steps
   pub steps : sum_by step_count asked.steps ≤ 1000000
 
 -- the same was read, or the same fault was found; want of memory says nothing

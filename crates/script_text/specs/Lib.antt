@@ -6,3 +6,6 @@ pub mod Commands
 pub mod LineForms
 pub mod Grammar
 pub mod Drafts
+pub mod Reads
+pub mod Loops
+pub mod FirstForm

@@ -17,6 +17,8 @@ mod lines;
 mod lists;
 mod operands;
 mod reading;
+mod built;
+mod first_form;
 mod script;
 mod steps;
 mod taking;
@@ -24,4 +26,6 @@ mod tokens;
 
 pub use fault::{LineFault, Rest, ScriptCause, ScriptFault};
 pub use reading::{ScriptRead, read_script};
+pub use built::is_built;
+pub use first_form::{FormFault, read_first_form};
 pub use script::Script;

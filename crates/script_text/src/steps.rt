@@ -44,6 +44,7 @@ fn all_turns(
 ) -> Result<Option<Listed<Turns>>, NoMemory>
     ensures value { IfOk result (λ found. found ≡ turns_of backends tokens.old) }
     ensures turns { IfOk result (λ found. IfSome found (AllByRecursion (AreTurns backends))) }
+    ensures some { IfOk result (λ found. IfSome found (λ turns. (none_left tokens.old ≡ false → 1 ≤ length turns))) }
 {
     let mut turns = Listed::new(alloc);
     'items: while !tokens.is_empty() {
@@ -59,7 +60,7 @@ fn all_turns(
 #[tactic(auto, unfolding(crate::specs::LineForms::steps_of))]
 pub fn steps(alloc: Global, line: &[u8], backends: u32) -> Result<Option<Listed<Turns>>, NoMemory>
     ensures value { IfOk result (λ found. found ≡ steps_of backends (tokens line.now)) }
-    ensures turns { IfOk result (λ found. IfSome found (AllByRecursion (AreTurns backends))) }
+    ensures turns { IfOk result (λ found. IfSome found (λ turns. (1 ≤ length turns) × AllByRecursion (AreTurns backends) turns)) }
 {
     let mut tokens = Tokens::of(line);
     if tokens.words("steps").is_none() || tokens.is_empty() {

@@ -1,0 +1,24 @@
+-- What a gate answers, and its count of stops.
+use Rattle.std.specs.Prelude.{◌≡◌, ℕ, ◌+◌, ◌-◌, ◌≤◌, if◌then◌else◌, ◌==◌}
+use Rattle.edge_io.specs.Causes.{Rose}
+use Rattle.edge_io.specs.declared.gates.Go.{Go}
+use Rattle.edge_io.specs.declared.gates.Go.TheVariants.{On, Stop}
+
+-- a count of stops never falls; a stop comes only where it rose, and after any other answer it is as it was
+pub record StopHasCause (before now : ℕ) (answer : Go) : Type 0 where
+  pub later : before ≤ now
+  pub stopped : answer ≡ Stop → Rose before now
+  pub steady : answer ≡ On → now ≡ before
+
+-- how many passes a stopping gate has until its stop (0: none is to come), and how often it has stopped
+pub record Countdown : Type 0 where
+  pub left : ℕ
+  pub stops : ℕ
+
+-- the gate after one more pass
+abbrev pub passed : Countdown → Countdown
+passed gate = record { left = gate.left - 1; stops = if gate.left == 1 then gate.stops + 1 else gate.stops }
+
+-- the answer to one more pass
+abbrev pub answer : Countdown → Go
+answer gate = if gate.left == 1 then Stop else On

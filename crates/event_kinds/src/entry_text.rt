@@ -1,0 +1,51 @@
+ghost use Rattle.std.specs.Prelude.{◌≡◌, ◌++◌, codes, OnOk, OnErr};
+ghost use Rattle.event_kinds.specs.Adding.{Adds};
+ghost use Rattle.event_kinds.specs.Texts.{item_text, changes_text, entry_text};
+
+use crate::event_text::{changes_in, push_entry_head, push_item};
+use crate::{Entry, Item};
+use base_types::{LineBuffer, NoMemory};
+
+/// Adds the text of an entry to `out`, without the line's end; want of memory leaves `out` as it was.
+pub fn write_entry(entry: &Entry, out: &mut Vec<u8>) -> Result<(), NoMemory>
+    ensures ok { OnOk result (out.new.items ≡ out.old.items ++ entry_text entry.now) }
+    ensures err { OnErr result (out.new.items ≡ out.old.items) }
+{
+    let before = out.len();
+    let result = add_entry(entry, out);
+    if result.is_err() {
+        out.truncate(before);
+    }
+    result
+}
+
+// The text of an entry, or a front of it.
+fn add_entry(entry: &Entry, out: &mut Vec<u8>) -> Result<(), NoMemory>
+    ensures { Adds out.old.items out.new.items result (entry_text entry.now) }
+{
+    let mut head = LineBuffer::new();
+    push_entry_head(&mut head, entry);
+    add(head.as_bytes(), out)?;
+    add_changes(changes_in(&entry.event), out)
+}
+
+// The changes of a write, a blank before each, or a front of them.
+fn add_changes(changes: &[Item], out: &mut Vec<u8>) -> Result<(), NoMemory>
+    ensures { Adds out.old.items out.new.items result (changes_text changes.now) }
+{
+    for change in changes {
+        let mut line = LineBuffer::new();
+        line.push(b" ");
+        push_item(&mut line, change);
+        add(line.as_bytes(), out)?;
+    }
+    Ok(())
+}
+
+// A text, or nothing.
+fn add(text: &[u8], out: &mut Vec<u8>) -> Result<(), NoMemory>
+    ensures { Adds out.old.items out.new.items result text.now }
+{
+    out.extend_from_slice(text)?;
+    Ok(())
+}

@@ -1,0 +1,17 @@
+pub mod SameScan
+pub mod Behind
+pub mod Shown
+pub mod Seen
+pub mod Tables
+pub mod Keeps
+pub mod Grants
+pub mod Others
+pub mod Lives
+pub mod Quiet
+pub mod Looking
+pub mod Goings
+pub mod ReadingOn
+pub mod Ahead
+pub mod Kept
+pub mod Coming
+pub mod Ending

@@ -1,0 +1,55 @@
+-- What a walk keeps with each step, and what it has made in the end.
+use Rattle.std.specs.Prelude.{◌≡◌, ◌≤◌, ◌<◌, ◌+◌, ◌*◌, ◌-◌, ℕ, Bool, true, false, not, Option, Some, None, List, [], ◌∷◌, ◌++◌, ◌==◌, length, filter, drop, slice_get, ⊤}
+use Rattle.base_types.specs.Scenario.{Scenario, schedule_of}
+use Rattle.event_kinds.specs.declared.entry.Entry.{Entry}
+use Rattle.event_kinds.specs.declared.entry.Line.{Line}
+use Rattle.history_model.specs.Legal.{IsLegal}
+use Rattle.history_model.specs.Schedule.{FollowsSchedule, IsComplete, has_stopped, pass_stopped, steps_behind}
+use Rattle.history_model.specs.Settled.{OneWriter}
+use Rattle.history_model.specs.Lines.{lines_of}
+use Rattle.history_model.specs.Output.{IsAllowed}
+use Rattle.walk_run.specs.declared.backend.Backend.{Backend}
+use Rattle.walk_run.specs.Stands.{BackendStands}
+
+-- a walk's history is allowed, follows the schedule to its end, and has exactly the lines of the definition
+pub record IsWalk (scenario : Scenario) (history : List Entry) (lines : List Line) : Type 0 where
+  pub allowed : IsAllowed scenario history
+  pub follows : FollowsSchedule scenario history
+  pub complete : IsComplete scenario history
+  pub lines_are : lines ≡ lines_of scenario history
+
+-- a backend with its number stands in the history
+pub record StandsAt (scenario : Scenario) (history : List Entry) (b : ℕ) (backend : Backend) : Type 0 where
+  pub id : backend.id ≡ b
+  pub stands : BackendStands scenario history backend
+
+-- the history is allowed, and each backend stands in it
+pub record Stands (scenario : Scenario) (history : List Entry) (backends : List Backend) : Type 0 where
+  pub allowed : IsAllowed scenario history
+  pub writer : OneWriter history
+  pub count : length backends ≡ scenario.backends
+  pub each : (i : ℕ) (backend : Backend) → slice_get backends i ≡ Some backend → StandsAt scenario history (i + 1) backend
+
+-- the script has a schedule
+abbrev pub HasSchedule : Scenario → Type 0
+HasSchedule scenario = 0 < length scenario.steps
+
+-- what is left of the schedule, at a history, is the same as these steps
+pub record IsDue (scenario : Scenario) (history : List Entry) (steps : List ℕ) : Type 0 where
+  pub follows : FollowsSchedule scenario history
+  pub left : pass_stopped history (steps_behind scenario history) ≡ pass_stopped history steps
+
+-- a walk by these steps: whatever is due behind them is due then
+pub record Goes (scenario : Scenario) (old : List Entry) (new : List Entry) (are : List Backend) (steps : List ℕ) : Type 0 where
+  pub stands : Stands scenario new are
+  pub due : HasSchedule scenario → (rest : List ℕ) → IsDue scenario old (steps ++ rest) → IsDue scenario new rest
+
+-- the first backends have stopped, and each entry came when its backend was the first that hadn't
+pub record InTurn (scenario : Scenario) (history : List Entry) (n : ℕ) : Type 0 where
+  pub follows : FollowsSchedule scenario history
+  pub stopped : (b : ℕ) → 1 ≤ b → b ≤ n → has_stopped history b ≡ true
+
+-- a walk without a schedule that brings more backends to their stops, one after the other
+pub record GoesOn (scenario : Scenario) (old : List Entry) (n : ℕ) (new : List Entry) (are : List Backend) (m : ℕ) : Type 0 where
+  pub stands : Stands scenario new are
+  pub turn : scenario.steps ≡ [] → InTurn scenario old n → InTurn scenario new m
