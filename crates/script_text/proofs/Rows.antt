@@ -13,6 +13,8 @@ use Rattle.script_text.specs.Tokens.{tokens, behind, after, is_end, ends}
 use Rattle.script_text.specs.Operands.{number_after, number_of, number_within, stat_of, name_of, word_of, text_of, type_of, field_of}
 use Rattle.script_text.specs.Commands.{command_of, short_command, alter_command, long_command, bare_command, savepoint_command, name_command, show_command, table_command, pair_command, regclass_command, lock_command, one_name, two_names, names_after, enable_command, disable_command, create_trigger_command, rename_index_command, weak_mode, strong_mode, enclosed_text, check_behind, referred_behind, key_behind, names_behind, columns_behind, shown_after, field_behind, mode_behind, add_column_command, rename_column_command, default_command, statistics_command, fillfactor_command, foreign_command, check_command, create_table_command, create_index_command, enclosed, valid_behind, columns_at, names_at}
 use Rattle.script_text.specs.LineForms.{ring_of, from_behind, first_of, size_of, backends_of, steps_of, all_turns, addressed}
+use Rattle.std.specs.Fmt.{digits}
+use Rattle.script_text.specs.Spelling.{with_piece, listed, script_spelling}
 use Rattle.script_text.specs.Grammar.{Reading, ring_line, backends_line, steps_line, command_line, body_line, tokens_line, line_after, any_line, lines_from, script_of}
 
 -- a text with an LF behind each line
@@ -126,3 +128,18 @@ others :
     (command_of (tokens (codes "begin ; ;")) ≡ None)
 unfolding lines_of bare counts tokens behind after is_end ends number_after number_of number_within stat_of name_of word_of text_of type_of field_of command_of short_command alter_command long_command bare_command savepoint_command name_command show_command table_command pair_command regclass_command lock_command one_name two_names names_after enable_command disable_command create_trigger_command rename_index_command weak_mode strong_mode enclosed_text check_behind referred_behind key_behind names_behind columns_behind shown_after field_behind mode_behind add_column_command rename_column_command default_command statistics_command fillfactor_command foreign_command check_command create_table_command create_index_command enclosed valid_behind columns_at names_at ring_of from_behind first_of size_of backends_of steps_of all_turns addressed ring_line backends_line steps_line command_line body_line tokens_line line_after any_line lines_from script_of
 others = (refl, refl, refl, refl, refl, refl, refl, refl, refl, refl, refl, refl, refl, refl, refl, refl, refl, refl)
+
+-- the spelling of the script in upper case
+spelled_small : script_spelling (record { size = 4096; from = 0; backends = 1; commands = record { backend = 1; command = CreateTable (codes "t") (record { name = codes "a"; col_type = types.Int4 } ∷ []) } ∷ []; steps = [] })
+  ≡ text (codes "backends 1" ∷ codes "1: create table t (a int4)" ∷ codes "end" ∷ [])
+unfolding with_piece listed script_spelling digits
+spelled_small = refl
+
+-- every kind of gap
+spelled_gaps : script_spelling (record {
+    size = 64; from = 5; backends = 2;
+    commands = record { backend = 2; command = AddForeign (codes "t") (codes "k") (codes "c") (codes "u") (codes "d") false } ∷ record { backend = 1; command = CreateIndex (codes "i") (codes "t") (codes "a" ∷ codes "b" ∷ []) } ∷ record { backend = 1; command = SetFillfactor (codes "t") 70 } ∷ [];
+    steps = (record { backend = 1; count = 5 } ∷ record { backend = 2; count = 1 } ∷ []) ∷ [] })
+  ≡ text (codes "ring 64 from 5" ∷ codes "backends 2" ∷ codes "2: alter table t add constraint k foreign key (c) references u (d) not valid" ∷ codes "1: create index i on t (a, b)" ∷ codes "1: alter table t set (fillfactor = 70)" ∷ codes "steps 1*5 2" ∷ codes "end" ∷ [])
+unfolding with_piece listed script_spelling digits
+spelled_gaps = refl

@@ -9,3 +9,4 @@ pub mod Drafts
 pub mod Reads
 pub mod Loops
 pub mod FirstForm
+pub mod Spelling

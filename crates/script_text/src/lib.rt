@@ -16,6 +16,7 @@ mod line_forms;
 mod lines;
 mod lists;
 mod operands;
+mod pieces;
 mod reading;
 mod built;
 mod first_form;
