@@ -24,9 +24,11 @@ mod script;
 mod steps;
 mod taking;
 mod tokens;
+mod writing;
 
 pub use fault::{LineFault, Rest, ScriptCause, ScriptFault};
 pub use reading::{ScriptRead, read_script};
 pub use built::is_built;
 pub use first_form::{FormFault, read_first_form};
 pub use script::Script;
+pub use writing::write_script;
