@@ -131,15 +131,18 @@ others = (refl, refl, refl, refl, refl, refl, refl, refl, refl, refl, refl, refl
 
 -- the spelling of the script in upper case
 spelled_small : script_spelling (record { size = 4096; from = 0; backends = 1; commands = record { backend = 1; command = CreateTable (codes "t") (record { name = codes "a"; col_type = types.Int4 } ∷ []) } ∷ []; steps = [] })
-  ≡ text (codes "backends 1" ∷ codes "1: create table t (a int4)" ∷ codes "end" ∷ [])
+    ≡ text (codes "backends 1" ∷ codes "1: create table t (a int4)" ∷ codes "end" ∷ [])
 unfolding with_piece listed script_spelling digits
 spelled_small = refl
 
 -- every kind of gap
 spelled_gaps : script_spelling (record {
-    size = 64; from = 5; backends = 2;
-    commands = record { backend = 2; command = AddForeign (codes "t") (codes "k") (codes "c") (codes "u") (codes "d") false } ∷ record { backend = 1; command = CreateIndex (codes "i") (codes "t") (codes "a" ∷ codes "b" ∷ []) } ∷ record { backend = 1; command = SetFillfactor (codes "t") 70 } ∷ [];
-    steps = (record { backend = 1; count = 5 } ∷ record { backend = 2; count = 1 } ∷ []) ∷ [] })
-  ≡ text (codes "ring 64 from 5" ∷ codes "backends 2" ∷ codes "2: alter table t add constraint k foreign key (c) references u (d) not valid" ∷ codes "1: create index i on t (a, b)" ∷ codes "1: alter table t set (fillfactor = 70)" ∷ codes "steps 1*5 2" ∷ codes "end" ∷ [])
+  size = 64;
+  from = 5;
+  backends = 2;
+  commands = record { backend = 2; command = AddForeign (codes "t") (codes "k") (codes "c") (codes "u") (codes "d") false } ∷ record { backend = 1; command = CreateIndex (codes "i") (codes "t") (codes "a" ∷ codes "b" ∷ []) } ∷ record { backend = 1; command = SetFillfactor (codes "t") 70 } ∷ [];
+  steps = (record { backend = 1; count = 5 } ∷ record { backend = 2; count = 1 } ∷ []) ∷ [];
+})
+    ≡ text (codes "ring 64 from 5" ∷ codes "backends 2" ∷ codes "2: alter table t add constraint k foreign key (c) references u (d) not valid" ∷ codes "1: create index i on t (a, b)" ∷ codes "1: alter table t set (fillfactor = 70)" ∷ codes "steps 1*5 2" ∷ codes "end" ∷ [])
 unfolding with_piece listed script_spelling digits
 spelled_gaps = refl

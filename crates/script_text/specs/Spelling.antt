@@ -131,7 +131,7 @@ ring_pieces size from = if (size == 4096) && (from == 0) then [] else codes "rin
 -- the text of a script
 unfoldable pub script_spelling : Scenario → List ℕ
 script_spelling script =
-  with_pieces (with_pieces (with_pieces (with_pieces (with_pieces []
+    with_pieces (with_pieces (with_pieces (with_pieces (with_pieces []
     (ring_pieces script.size script.from))
     (codes "backends" ∷ decimal script.backends ∷ line_end ∷ []))
     (flat_map placed_pieces script.commands))

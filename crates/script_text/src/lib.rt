@@ -9,26 +9,26 @@
 #![tactic(auto)]
 
 mod alterations;
+mod built;
 mod commands;
 mod draft;
 mod fault;
+mod first_form;
 mod line_forms;
 mod lines;
 mod lists;
 mod operands;
 mod pieces;
 mod reading;
-mod built;
-mod first_form;
 mod script;
 mod steps;
 mod taking;
 mod tokens;
 mod writing;
 
-pub use fault::{LineFault, Rest, ScriptCause, ScriptFault};
-pub use reading::{ScriptRead, read_script};
 pub use built::is_built;
+pub use fault::{LineFault, Rest, ScriptCause, ScriptFault};
 pub use first_form::{FormFault, read_first_form};
+pub use reading::{ScriptRead, read_script};
 pub use script::Script;
 pub use writing::write_script;

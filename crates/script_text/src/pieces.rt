@@ -8,7 +8,11 @@ use base_types::{LineBuffer, Name, NoMemory};
 fn needs_blank(text: &[u8], piece: &[u8]) -> bool
     ensures { result ≡ gap text.now piece.now }
 {
-    let last = if text.is_empty() { b'\n' } else { text[text.len() - 1] };
+    let last = if text.is_empty() {
+        b'\n'
+    } else {
+        text[text.len() - 1]
+    };
     let first = if piece.is_empty() { b'\n' } else { piece[0] };
     !matches!(last, b'\n' | b'(' | b'*') && !matches!(first, b'\n' | b')' | b',' | b':' | b'*')
 }
@@ -71,10 +75,10 @@ pub fn number(out: &mut Vec<u8>, number: u64) -> Result<(), NoMemory>
 }
 
 /// Adds a number that may be below 0.
-pub fn signed(out: &mut Vec<u8>, number: i32) -> Result<(), NoMemory>
-    ensures { OnOk result (out.new.items ≡ with_piece out.old.items (signed_decimal number)) }
+pub fn signed(out: &mut Vec<u8>, number: &i32) -> Result<(), NoMemory>
+    ensures { OnOk result (out.new.items ≡ with_piece out.old.items (signed_decimal number.now)) }
 {
     let mut line = LineBuffer::new();
-    line.push_signed(number);
+    line.push_signed(*number);
     piece(out, line.as_bytes())
 }

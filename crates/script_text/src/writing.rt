@@ -1,4 +1,5 @@
 ghost use Rattle.std.specs.Prelude.{◌≡◌, ◌++◌, OnOk, IfOk, [], decimal, flat_map, codes, List, ℕ, ◌∷◌};
+ghost use Rattle.std.specs.Fmt.{signed_decimal};
 ghost use Rattle.base_types.specs.Words.{type_word};
 ghost use Rattle.script_text.specs.Spelling.{with_piece, with_pieces, command_pieces, shown_pieces, mode_words as words_of_mode, valid_pieces, trigger_words as words_of_trigger, listed, column_pieces, name_pieces, placed_pieces, turns_pieces, steps_pieces, ring_pieces, from_pieces, script_spelling};
 
@@ -181,11 +182,24 @@ fn referred(out: &mut Vec<u8>, ref_column: &Name, is_valid: bool) -> Result<(), 
     valid(out, is_valid)
 }
 
+// alter table NAME alter column NAME set statistics STAT
+fn set_statistics(out: &mut Vec<u8>, name: &Name, column: &Name, stat: &i32) -> Result<(), NoMemory>
+    ensures { OnOk result (out.new.items ≡ with_pieces out.old.items (codes "alter table" ∷ name.now ∷ codes "alter column" ∷ column.now ∷ codes "set statistics" ∷ signed_decimal stat.now ∷ [])) }
+{
+    two_names(out, "alter table", name, "alter column", column)?;
+    words(out, "set statistics")?;
+    signed(out, stat)
+}
+
 // A trigger is enabled or disabled.
 fn trigger_words(on: bool) -> &'static str
     ensures { result.now ≡ words_of_trigger on }
 {
-    if on { "enable trigger" } else { "disable trigger" }
+    if on {
+        "enable trigger"
+    } else {
+        "disable trigger"
+    }
 }
 
 // A command.
@@ -236,11 +250,7 @@ fn command(out: &mut Vec<u8>, command: &Command) -> Result<(), NoMemory>
             words(out, "set default")?;
             piece(out, word.as_bytes())
         }
-        Command::SetStatistics { name, column, stat } => {
-            two_names(out, "alter table", name, "alter column", column)?;
-            words(out, "set statistics")?;
-            signed(out, *stat)
-        }
+        Command::SetStatistics { name, column, stat } => { set_statistics(out, name, column, stat) }
         Command::SetFillfactor { name, fill } => {
             named(out, "alter table", name)?;
             words(out, "set (fillfactor =")?;
