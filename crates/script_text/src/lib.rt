@@ -32,3 +32,6 @@ pub use first_form::{FormFault, read_first_form};
 pub use reading::{ScriptRead, read_script};
 pub use script::Script;
 pub use writing::write_script;
+
+#[cfg(test)]
+mod tests;
