@@ -1,5 +1,5 @@
 -- The ranges of what lines say.
-use Rattle.std.proofs.Common.{◌≡◌, ◌<◌, ◌≤◌, ℕ, Bool, true, false, ◌+◌, ◌*◌, ◌^◌, ◌==◌, ◌||◌, ◌⊎◌, inl, inr, cond, Option, Some, None, IfSome, refl, sym, arith}
+use Rattle.std.proofs.Common.{◌≡◌, ◌≤◌, ℕ, Bool, true, false, ◌^◌, ◌==◌, ◌||◌, ◌⊎◌, inl, inr, refl, arith}
 use Rattle.std.proofs.lemmas.Bool.Decides.{nat_tests}
 use Rattle.base_types.specs.Scenario.{IsQueueSize}
 use Rattle.script_text.specs.LineForms.{is_size}

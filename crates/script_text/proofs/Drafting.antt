@@ -1,9 +1,9 @@
 -- The ranges and limits of what lines say so far.
-use Rattle.std.proofs.Common.{◌≡◌, ◌<◌, ◌≤◌, ◌*◌, ◌^◌, ℕ, List, [], ◌∷◌, length, sum_by, refl, sym, ap, arith}
+use Rattle.std.proofs.Common.{◌≡◌, ◌≤◌, ℕ, List, [], ◌∷◌, length, refl, arith}
 use Rattle.std.specs.List.{AllByRecursion}
 use Rattle.base_types.specs.declared.command.Placed.{Placed}
 use Rattle.base_types.specs.declared.command.Turns.{Turns}
-use Rattle.base_types.specs.Scenario.{Scenario, IsQueueSize, IsBackend, AreTurns, step_count}
+use Rattle.base_types.specs.Scenario.{Scenario, IsBackend, AreTurns}
 use Rattle.script_text.specs.Grammar.{blank}
 use Rattle.script_text.specs.Drafts.{IsDraft, IsCounted}
 

@@ -1,5 +1,5 @@
 -- Reading line after line, as a loop does.
-use Rattle.std.proofs.Common.{◌≡◌, ◌+◌, ◌==◌, ℕ, Bool, true, false, Result, Ok, Err, List, [], ◌∷◌, length, refl, sym, ap, ◌∙◌, arith}
+use Rattle.std.proofs.Common.{◌≡◌, ◌+◌, ◌==◌, ℕ, true, false, Result, Ok, Err, List, [], ◌∷◌, length, refl, sym, ◌∙◌, arith}
 use Rattle.script_text.specs.declared.fault.ScriptCause.{ScriptCause}
 use Rattle.script_text.specs.declared.fault.Rest.{Rest}
 use Rattle.script_text.specs.Lines.{lines_of}

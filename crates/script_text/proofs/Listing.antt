@@ -1,32 +1,16 @@
 -- Reading a list item by item, and a text token by token, as loops do.
-use Rattle.std.proofs.Common.{◌≡◌, ◌<◌, ◌≤◌, ◌+◌, ℕ, Bool, true, false, ◌==◌, nat_lt, cond, Option, Some, None, MatchOption, List, [], ◌∷◌, ◌++◌, length, length-append, append_assoc, codes, refl, sym, ap, ◌∙◌, arith}
+use Rattle.std.proofs.Common.{◌≡◌, ◌<◌, ◌+◌, ℕ, true, false, ◌==◌, nat_lt, Option, Some, None, MatchOption, List, [], ◌∷◌, ◌++◌, length, length-append, append_assoc, codes, refl, sym, ap, ◌∙◌, arith}
 use Rattle.std.specs.Option.{option_map}
 use Rattle.std.specs.Str.{bytes_eq}
 use Rattle.std.proofs.lemmas.List.{append-nil}
 use Rattle.std.proofs.lemmas.Bool.Decides.{nat_tests}
-use Rattle.base_types.specs.Names.{short_fault, is_text_byte}
 use Rattle.script_text.specs.Tokens.{◌>>=◌}
 use Rattle.script_text.specs.Operands.{text_of}
-use Rattle.script_text.specs.Commands.{Item, enclosed, enclosed_text}
+use Rattle.script_text.specs.Commands.{enclosed, enclosed_text}
 
 -- the items so far, and those that are read yet
 abbrev pub with_items : {X : Type 0} → List X → Option (List X) → Option (List X)
 with_items front read = option_map (λ xs. front ++ xs) read
-
-regrouped : {X : Type 0} (front : List X) (x : X) (read : Option (List X)) → with_items front (option_map (λ xs. x ∷ xs) read) ≡ with_items (front ++ x ∷ []) read
-regrouped front x None = refl
-regrouped front x (Some xs) = ap Some (simp append_assoc)
-
-pub no_item : {X : Type 0} (all : List (List ℕ) → Option (List X)) (front : List X) (old new : List (List ℕ)) (whole : Option (List X)) → Item all old new None → with_items front (all old) ≡ whole → whole ≡ None
-no_item all front old new whole item so_far = sym so_far ∙ ap (with_items front) item
-
-pub one_item : {X : Type 0} (all : List (List ℕ) → Option (List X)) (front : List X) (old new : List (List ℕ)) (whole : Option (List X)) (x : X) → Item all old new (Some (x, true)) → with_items front (all old) ≡ whole
-    → with_items (front ++ x ∷ []) (all new) ≡ whole
-one_item all front old new whole x item so_far = sym (regrouped front x (all new)) ∙ sym (ap (with_items front) item) ∙ so_far
-
-pub last_item : {X : Type 0} (all : List (List ℕ) → Option (List X)) (front : List X) (old new : List (List ℕ)) (whole : Option (List X)) (x : X) → Item all old new (Some (x, false)) → with_items front (all old) ≡ whole
-    → whole ≡ Some (front ++ x ∷ [])
-last_item all front old new whole x item so_far = sym so_far ∙ ap (with_items front) item
 
 -- the text so far, and what is read yet
 abbrev pub with_text : List ℕ → Option (List ℕ × List (List ℕ)) → Option (List ℕ × List (List ℕ))

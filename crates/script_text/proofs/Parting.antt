@@ -1,8 +1,7 @@
 -- A text's lines, taken from the front by lengths, and which of them count.
-use Rattle.std.proofs.Common.{◌≡◌, ◌<◌, ◌≤◌, ℕ, suc, Bool, true, false, not, cond, ◌&&◌, ◌+◌, ◌==◌, min, List, [], ◌∷◌, length, take, drop, refl, sym, ap, ◌∙◌, add-one, arith}
+use Rattle.std.proofs.Common.{◌≡◌, ◌<◌, ℕ, suc, Bool, true, false, ◌==◌, List, [], ◌∷◌, length, take, drop, refl, ap, ◌∙◌, arith}
 use Rattle.std.specs.List.{prefix_len}
-use Rattle.script_text.specs.Lines.{is_blank, with_byte, lines_of, line_len, counts, begins_comment, front_counts}
-use Rattle.script_text.specs.Tokens.{StartsToken}
+use Rattle.script_text.specs.Lines.{is_blank, with_byte, lines_of, line_len, counts, front_counts}
 use Rattle.script_text.proofs.Splitting.{passes, fails}
 
 at_lf : (b : ℕ) (bs : List ℕ) → (b == 10) ≡ true → lines_of (b ∷ bs) ≡ take (line_len (b ∷ bs)) (b ∷ bs) ∷ lines_of (drop (line_len (b ∷ bs)) (b ∷ bs))

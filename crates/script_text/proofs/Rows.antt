@@ -1,12 +1,10 @@
 -- Worked examples of scripts and of faults.
-use Rattle.std.proofs.Common.{◌≡◌, ℕ, true, false, Result, Ok, Err, Option, Some, None, negsuc, List, [], ◌∷◌, ◌++◌, ◌-◌, length, codes, refl}
+use Rattle.std.proofs.Common.{◌≡◌, ℕ, true, false, Ok, Err, Some, None, negsuc, List, [], ◌∷◌, ◌++◌, codes, refl}
 use Rattle.base_types.specs.declared.command.Command.TheVariants.{Begin, Commit, Rollback, Savepoint, Release, RollbackTo, Show, Columns, Column, Regclass, LockTable, OpenRel, Peek, CloseRel, CreateTable, DropTable, RenameTable, AddColumn, DropColumn, RenameColumn, SetDefault, SetStatistics, SetFillfactor, AddCheck, AddForeign, ValidateConstraint, DropConstraint, SetTrigger, CreateTrigger, CreateIndex, DropIndex, RenameIndex}
 use Rattle.base_types.specs.declared.scan.Field.TheVariants as fields
 use Rattle.base_types.specs.declared.mode.Mode.TheVariants.{ShareRowExclusive}
 use Rattle.base_types.specs.declared.row.ColType.TheVariants as types
-use Rattle.base_types.specs.Scenario.{Scenario}
-use Rattle.script_text.specs.declared.fault.ScriptCause.{ScriptCause}
-use Rattle.script_text.specs.declared.fault.ScriptCause.TheVariants.{BadByte, BadRing, NoBackends, BadCount, NoEnd, BadSteps, TooManySteps, UnknownBackend, LateCommand, BadCommand, TooManyCommands, AfterEnd}
+use Rattle.script_text.specs.declared.fault.ScriptCause.TheVariants.{BadByte, BadRing, NoBackends, BadCount, NoEnd, BadSteps, TooManySteps, UnknownBackend, LateCommand, BadCommand, AfterEnd}
 use Rattle.script_text.specs.declared.fault.Rest.TheVariants.{Refused, Given}
 use Rattle.script_text.specs.Lines.{lines_of, bare, counts}
 use Rattle.script_text.specs.Tokens.{tokens, behind, after, is_end, ends}
@@ -15,7 +13,7 @@ use Rattle.script_text.specs.Commands.{command_of, short_command, alter_command,
 use Rattle.script_text.specs.LineForms.{ring_of, from_behind, first_of, size_of, backends_of, steps_of, all_turns, addressed}
 use Rattle.std.specs.Fmt.{digits}
 use Rattle.script_text.specs.Spelling.{with_piece, listed, script_spelling}
-use Rattle.script_text.specs.Grammar.{Reading, ring_line, backends_line, steps_line, command_line, body_line, tokens_line, line_after, any_line, lines_from, script_of}
+use Rattle.script_text.specs.Grammar.{ring_line, backends_line, steps_line, command_line, body_line, tokens_line, line_after, any_line, lines_from, script_of}
 
 -- a text with an LF behind each line
 abbrev text : List (List ℕ) → List ℕ

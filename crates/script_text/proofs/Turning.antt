@@ -1,8 +1,8 @@
 -- The items of a line of steps.
-use Rattle.std.proofs.Common.{◌≡◌, ◌≤◌, ℕ, Bool, true, false, cond, Option, Some, None, MatchOption, IfSome, List, [], ◌∷◌, ◌++◌, codes, refl, sym, ap, ◌∙◌}
+use Rattle.std.proofs.Common.{◌≡◌, ℕ, Bool, true, false, Option, Some, None, List, [], ◌∷◌, refl, sym, ap, ◌∙◌}
 use Rattle.std.specs.Option.{option_map}
 use Rattle.base_types.specs.declared.command.Turns.{Turns}
-use Rattle.script_text.specs.Tokens.{◌>>=◌, taken}
+use Rattle.script_text.specs.Tokens.{◌>>=◌}
 use Rattle.script_text.specs.LineForms.{all_turns, with_turns, backend_of, count_of, count_behind, is_times, none_left, NextTurns}
 use Rattle.std.proofs.lemmas.List.{append-nil}
 use Rattle.script_text.proofs.Listing.{with_items}

@@ -1,5 +1,5 @@
 -- The forms of commands, over the tokens of a line behind the colon.
-use Rattle.std.specs.Prelude.{◌≡◌, ℕ, Bool, true, false, not, Option, Some, None, List, [], ◌∷◌, ◌++◌, option_map, codes, if◌then◌else◌}
+use Rattle.std.specs.Prelude.{◌≡◌, ℕ, Bool, true, false, Option, Some, None, List, [], ◌∷◌, ◌++◌, option_map, codes, if◌then◌else◌}
 use Rattle.std.specs.Str.{bytes_eq}
 use Rattle.std.specs.Option.{option_or}
 use Rattle.base_types.specs.declared.command.Command.{Command}
@@ -8,7 +8,7 @@ use Rattle.base_types.specs.declared.command.NewColumn.{NewColumn}
 use Rattle.base_types.specs.declared.mode.Mode.{Mode}
 use Rattle.base_types.specs.declared.mode.Mode.TheVariants.{AccessShare, RowShare, RowExclusive, ShareUpdateExclusive, Share, ShareRowExclusive, Exclusive, AccessExclusive}
 use Rattle.base_types.specs.declared.scan.Field.{Field}
-use Rattle.script_text.specs.Tokens.{◌>>=◌, tokens, said, after, taken, is_end, ends, done}
+use Rattle.script_text.specs.Tokens.{◌>>=◌, said, after, taken, is_end, ends, done}
 use Rattle.script_text.specs.Operands.{number_of, stat_of, name_of, word_of, text_of, type_of, field_of}
 
 -- the name behind these words, and the tokens behind it

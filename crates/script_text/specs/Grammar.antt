@@ -1,8 +1,7 @@
 -- The script of a text, or the first line that breaks a rule and the rule that it breaks.
-use Rattle.std.specs.Prelude.{ℕ, Bool, true, false, not, Option, Some, None, Result, Ok, Err, List, [], ◌∷◌, ◌++◌, ◌+◌, ◌==◌, ◌&&◌, ◌||◌, nat_lt, nat_le, length, map, sum_by, codes, if◌then◌else◌}
+use Rattle.std.specs.Prelude.{ℕ, Bool, true, false, not, Option, Some, None, Result, Ok, Err, List, [], ◌∷◌, ◌++◌, ◌+◌, ◌==◌, ◌||◌, nat_lt, nat_le, length, map, sum_by, codes, if◌then◌else◌}
 use Rattle.std.specs.List.{list_any}
 use Rattle.base_types.specs.declared.command.Command.{Command}
-use Rattle.base_types.specs.declared.command.Placed.{Placed}
 use Rattle.base_types.specs.declared.command.Turns.{Turns}
 use Rattle.base_types.specs.Scenario.{Scenario, step_count}
 use Rattle.script_text.specs.declared.fault.ScriptCause.{ScriptCause}

@@ -1,8 +1,8 @@
 -- The forms of the lines that aren't commands, over their tokens.
-use Rattle.std.specs.Prelude.{◌≡◌, ℕ, Bool, true, false, Option, Some, None, List, [], ◌∷◌, ◌+◌, ◌*◌, ◌==◌, ◌||◌, nat_lt, option_map, codes, if◌then◌else◌}
+use Rattle.std.specs.Prelude.{◌≡◌, ℕ, Bool, true, false, Option, Some, None, List, [], ◌∷◌, ◌*◌, ◌==◌, ◌||◌, nat_lt, option_map, codes, if◌then◌else◌}
 use Rattle.std.specs.Str.{bytes_eq}
 use Rattle.base_types.specs.declared.command.Turns.{Turns}
-use Rattle.script_text.specs.Tokens.{◌>>=◌, tokens, said, taken, after}
+use Rattle.script_text.specs.Tokens.{◌>>=◌, said, taken, after}
 use Rattle.script_text.specs.Operands.{number_of, number_within}
 
 -- the first token is this word

@@ -1,5 +1,5 @@
 -- The lines of a text, and which of them count.
-use Rattle.std.specs.Prelude.{ℕ, Bool, true, false, List, [], ◌∷◌, ◌==◌, ◌+◌, ◌||◌, ◌&&◌, not, ◌-◌, length, get_or, take, min, nat_le, if◌then◌else◌}
+use Rattle.std.specs.Prelude.{ℕ, Bool, false, List, [], ◌∷◌, ◌==◌, ◌+◌, ◌||◌, ◌&&◌, not, ◌-◌, length, get_or, take, min, nat_le, if◌then◌else◌}
 use Rattle.std.specs.List.{prefix_len}
 
 -- a blank or a tab

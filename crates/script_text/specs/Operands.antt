@@ -1,5 +1,5 @@
 -- What single tokens mean: numbers, names, words, types and fields.
-use Rattle.std.specs.Prelude.{ℕ, ℤ, pos, neg_ℤ, Bool, true, false, Option, Some, None, List, [], ◌∷◌, ◌==◌, ◌+◌, ◌-◌, ◌*◌, ◌||◌, ◌&&◌, nat_lt, nat_le, length, option_map, is_none, codes, if◌then◌else◌}
+use Rattle.std.specs.Prelude.{ℕ, ℤ, pos, neg_ℤ, Option, Some, None, List, [], ◌∷◌, ◌==◌, ◌+◌, ◌-◌, ◌*◌, ◌||◌, ◌&&◌, nat_lt, nat_le, length, option_map, is_none, codes, if◌then◌else◌}
 use Rattle.std.specs.Str.{bytes_eq}
 use Rattle.base_types.specs.Names.{is_digit, name_fault, short_fault, is_word_byte, is_text_byte}
 use Rattle.base_types.specs.declared.row.ColType.{ColType}

@@ -14,44 +14,15 @@ fn read(alloc: Global, text: &[u8], rest: Rest) -> Result<ScriptRead, ScriptFaul
 fn each_command_is_read_and_written(rt: HostRuntime) -> Result<(), Fail> {
     let alloc = rt.alloc();
     for (given, want) in [
-        ("begin", "begin"),
         ("COMMIT ;", "commit"),
-        ("rollback", "rollback"),
-        ("savepoint s", "savepoint s"),
         ("release savepoint s", "release s"),
         ("release savepoint", "release savepoint"),
         ("rollback to savepoint s", "rollback to s"),
-        ("show t", "show t"),
         ("show t of", "show t of"),
-        ("columns\tt", "columns t"),
-        ("column t c", "column t c"),
         ("regclass 016384", "regclass 16384"),
-        (
-            "lock table t in share row exclusive mode",
-            "lock table t in share row exclusive mode",
-        ),
-        ("open t", "open t"),
-        ("peek t fillfactor", "peek t fillfactor"),
-        ("close t;", "close t"),
-        ("create table t ( )", "create table t ()"),
         (
             "create table t(a int,b boolean)",
             "create table t (a int4, b bool)",
-        ),
-        ("drop table t", "drop table t"),
-        ("alter table t rename to u", "alter table t rename to u"),
-        (
-            "alter table t add column c bigint",
-            "alter table t add column c int8",
-        ),
-        ("alter table t drop column c", "alter table t drop column c"),
-        (
-            "alter table t rename column c to d",
-            "alter table t rename column c to d",
-        ),
-        (
-            "alter table t alter column c set default -5",
-            "alter table t alter column c set default -5",
         ),
         (
             "alter table t alter column c set statistics -01",
@@ -66,33 +37,14 @@ fn each_command_is_read_and_written(rt: HostRuntime) -> Result<(), Fail> {
             "alter table t add constraint k check (a=b*2)",
         ),
         (
-            "alter table t add constraint k check (a) not valid",
-            "alter table t add constraint k check (a) not valid",
-        ),
-        (
             "alter table t add constraint k foreign key(c)references u(d)",
             "alter table t add constraint k foreign key (c) references u (d)",
         ),
         (
-            "alter table t validate constraint k",
-            "alter table t validate constraint k",
-        ),
-        (
-            "alter table t drop constraint k",
-            "alter table t drop constraint k",
-        ),
-        (
-            "alter table t enable trigger g",
-            "alter table t enable trigger g",
-        ),
-        (
             "alter table t disable trigger g",
             "alter table t disable trigger g",
         ),
-        ("create trigger g on t", "create trigger g on t"),
         ("create index i on t(a,b)", "create index i on t (a, b)"),
-        ("drop index i", "drop index i"),
-        ("alter index i rename to j", "alter index i rename to j"),
     ] {
         let text = format!(in alloc; "backends 2\n1: {given}\nend\n")?;
         let wanted = format!(in alloc; "backends 2\n1: {want}\nend\n")?;

@@ -1,4 +1,4 @@
-use Rattle.std.proofs.Common.{◌≡◌, ◌∙◌, sym, true, false, get_or, arith, ◌-◌}
+use Rattle.std.proofs.Common.{◌≡◌, ◌∙◌, sym, true, get_or, ◌-◌}
 use Rattle.base_types.specs.Names.{is_digit}
 use Rattle.script_text.specs.Operands.{number_after}
 use Rattle.script_text.proofs.Numbers.{goes_on, stops, is_done, one_more, is_below_ten}

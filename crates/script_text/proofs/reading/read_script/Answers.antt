@@ -1,7 +1,6 @@
-use Rattle.std.proofs.Common.{◌≡◌, ◌∙◌, ◌∷◌, sym, subst, ap, Result, arith}
+use Rattle.std.proofs.Common.{◌≡◌, ◌∙◌, ◌∷◌, sym, arith}
 use Rattle.script_text.specs.Lines.{lines_of}
-use Rattle.script_text.specs.Drafts.{Reads}
-use Rattle.script_text.specs.Grammar.{Draft, Reading, lines_from, script_of}
+use Rattle.script_text.specs.Grammar.{script_of}
 use Rattle.script_text.proofs.Following.{told, stopped, further, ended, from_blank}
 use Rattle.script_text.proofs.reading.read_script.Goals as goal
 

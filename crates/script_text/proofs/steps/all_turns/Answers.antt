@@ -1,4 +1,4 @@
-use Rattle.std.proofs.Common.{◌≡◌, ◌∙◌, sym}
+use Rattle.std.proofs.Common.{◌∙◌, sym}
 use Rattle.script_text.specs.LineForms.{all_turns}
 use Rattle.script_text.proofs.Turning.{all_taken}
 use Rattle.script_text.proofs.steps.all_turns.Goals as goal

@@ -1,4 +1,4 @@
-use Rattle.std.proofs.Common.{◌≡◌, sym}
+use Rattle.std.proofs.Common.{sym}
 use Rattle.script_text.proofs.Turning.{no_backend}
 use Rattle.script_text.proofs.steps.next_turns.Goals as goal
 

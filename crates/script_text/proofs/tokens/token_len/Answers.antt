@@ -1,4 +1,4 @@
-use Rattle.std.proofs.Common.{◌≡◌, ◌∙◌, sym}
+use Rattle.std.proofs.Common.{◌∙◌, sym}
 use Rattle.script_text.proofs.Splitting.{word_token, mark_token}
 use Rattle.script_text.proofs.tokens.token_len.Goals as goal
 

@@ -1,4 +1,3 @@
-use Rattle.std.proofs.Common.{◌≡◌}
 use Rattle.std.proofs.lemmas.List.{take_rest}
 use Rattle.script_text.proofs.Splitting.{skips}
 use Rattle.script_text.proofs.tokens.without_blanks.Goals as goal

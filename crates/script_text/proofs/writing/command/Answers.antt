@@ -1,4 +1,3 @@
-use Rattle.std.proofs.Common.{◌≡◌}
 use Rattle.script_text.proofs.writing.command.Goals as goal
 
 pub returns-in_ok-words-in-SetDefault : goal.returns-in_ok-words-in-SetDefault

@@ -1,4 +1,4 @@
-use Rattle.std.proofs.Common.{◌≡◌, ◌∙◌, ◌∷◌, List, ℕ, ap, codes}
+use Rattle.std.proofs.Common.{◌∙◌, ◌∷◌, List, ℕ, ap, codes}
 use Rattle.script_text.specs.Spelling.{with_pieces, valid_pieces}
 use Rattle.script_text.proofs.writing.foreign_key.Goals as goal
 
