@@ -45,7 +45,7 @@ digits_shown digits =
     let e : length whole - 8 - 19 ≡ length digits = omega (arith, length-append digits (codes "........")) in
     ap (λ n. take n (drop 19 whole)) e ∙ take-append_seam digits (codes "........")
 
-shown : (m : ℕ) (text : List ℕ) → IsDropped m text → number_of_digits (shown_digits text) ≡ m
+pub shown : (m : ℕ) (text : List ℕ) → IsDropped m text → number_of_digits (shown_digits text) ≡ m
 shown m text d = ap (λ t. number_of_digits (shown_digits t)) d.is ∙ ap number_of_digits (digits_shown (decimal m)) ∙ number_of_decimal m d.most
 
 pub same_number : (text : List ℕ) (r : Option ℕ) → IfSome r (λ n. (n ≡ number_of_digits (shown_digits text)) × (n ≤ 1600)) → IfSome r (λ num. (m : ℕ) → IsDropped m text → m ≡ num)

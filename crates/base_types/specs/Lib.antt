@@ -5,6 +5,7 @@ pub mod Modes
 pub mod Scans
 pub mod Words
 pub mod Fields
+pub mod Commands
 pub mod Scenario
 pub mod Keys
 pub mod Rows

@@ -3,6 +3,7 @@ use Rattle.std.specs.Prelude.{◌≡◌, ◌≤◌, ◌<◌, ◌*◌, ◌^◌, �
 use Rattle.std.specs.List.{flat_map, AllByRecursion}
 use Rattle.base_types.specs.declared.command.Placed.{Placed}
 use Rattle.base_types.specs.declared.command.Turns.{Turns}
+use Rattle.base_types.specs.Commands.{IsCommand}
 
 -- the queue's size and the number of its first message, the number of backends, their commands in the order of lines, and the lines of steps
 pub record Scenario : Type 0 where
@@ -46,5 +47,6 @@ pub record IsScript (scenario : Scenario) : Type 0 where
   pub backends : IsBackend 64 scenario.backends
   pub commands : length scenario.commands ≤ 20000
   pub placed : AllByRecursion (λ p. IsBackend scenario.backends p.backend) scenario.commands
+  pub spelled : AllByRecursion (λ p. IsCommand p.command) scenario.commands
   pub turns : AllByRecursion (λ line. (1 ≤ length line) × AllByRecursion (AreTurns scenario.backends) line) scenario.steps
   pub steps : sum_by step_count scenario.steps ≤ 1000000

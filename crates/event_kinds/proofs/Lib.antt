@@ -1,2 +1,12 @@
 pub mod Changes
 pub mod Added
+pub mod Spelling
+pub mod Leaves
+pub mod Fields
+pub mod Parts
+pub mod RowLaws
+pub mod ItemLaws
+pub mod EventLaws
+pub mod Loops
+pub mod EntryLaws
+pub mod Outputs

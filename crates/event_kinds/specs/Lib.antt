@@ -1,3 +1,7 @@
 pub mod Events
 pub mod Texts
 pub mod Adding
+pub mod Entries
+pub mod Readers
+pub mod Reading
+pub mod Yields

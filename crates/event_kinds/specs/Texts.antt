@@ -1,5 +1,5 @@
 -- The text of each row, scan, event, entry and answer line.
-use Rattle.std.specs.Prelude.{ℕ, Bool, true, false, List, [], ◌++◌, codes, decimal}
+use Rattle.std.specs.Prelude.{ℕ, Bool, true, false, not, ◌==◌, List, [], ◌++◌, codes, decimal}
 use Rattle.std.specs.Fmt.{signed_decimal}
 use Rattle.std.specs.List.{flat_map}
 use Rattle.base_types.specs.declared.ids.Oid.{Oid}
@@ -130,6 +130,10 @@ entries_text history = flat_map (λ entry. ended (entry_text entry)) history
 -- the answer lines
 abbrev pub lines_text : List Line → List ℕ
 lines_text lines = flat_map (λ line. ended (line_text line)) lines
+
+-- a byte that is no line's end
+abbrev pub in_line : ℕ → Bool
+in_line byte = not (byte == 10)
 
 -- a history and its answer lines, and the line `end`
 abbrev pub text_of : List Entry → List Line → List ℕ

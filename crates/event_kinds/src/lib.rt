@@ -2,17 +2,34 @@
 //!
 //! One entry is one atomic action of one backend: it joined the queue, scanned a catalog, asked for a
 //! lock, wrote catalog rows, became visible, and so on. A history is a plain list of entries, oldest
-//! first. An entry's text is one line; different entries have different lines, so that a text says
-//! which history it spells.
+//! first, and an entry's text is one line.
+//!
+//! Texts are made on a [`base_types::LineBuffer`], which takes no memory: [`push_entry_head`] writes
+//! an entry up to its changes, [`push_item`] one change. [`write_entry`] adds a whole entry to a
+//! vector, and want of memory leaves the vector as it was. [`read_entry`] turns it round: it answers
+//! the entry whose text a line is, and `Bad` exactly where no entry has that text. Which entries have
+//! a text is the definition `IsEntry`: numbers of four bytes, names, words and texts of their bytes,
+//! at least one change in a write.
+//!
+//! How a line is read is a function on lists of bytes, put together of few kinds of readers; for each
+//! kind it is proved once that what is read is spelled so, and that what is spelled so is read
+//! (`proofs/Spelling.antt`).
 //!
 //! The promise to the layers above: what is written of an entry is exactly the text of its
-//! definition, byte for byte.
+//! definition, byte for byte, and different histories and answer lines have different texts
+//! ([`texts_differ`]).
 #![tactic(auto)]
 
+mod cursor;
 mod entry;
 mod entry_text;
+mod event_reading;
 mod event_text;
+mod fault;
+mod reading;
+mod row_reading;
 mod row_text;
+mod value;
 
 pub use entry::{Entry, Event, Item, Line};
 pub use entry_text::write_entry;
@@ -20,4 +37,9 @@ pub use event_text::{
     changes_in, push_entry_head, push_event_head, push_item, push_line_head, push_place,
     push_purpose,
 };
+pub use fault::EntryFault;
+pub use reading::{read_entry, texts_differ};
 pub use row_text::{push_key, push_row};
+
+#[cfg(test)]
+mod tests;

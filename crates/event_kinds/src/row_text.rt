@@ -1,9 +1,13 @@
 ghost use Rattle.std.specs.Prelude.{◌≡◌, ◌≤◌, ◌+◌, ◌++◌, length, codes, decimal};
 ghost use Rattle.std.specs.List.{flat_map};
-ghost use Rattle.base_types.specs.Words.{fill_text, nums_text};
+ghost use Rattle.base_types.specs.Words.{type_word, fill_text, nums_text};
+ghost use Rattle.base_types.specs.declared.row.Row.TheVariants as rows;
 ghost use Rattle.event_kinds.specs.Texts.{con_text, row_text, key_text};
 
-use base_types::{ConKind, LineBuffer, Nums, Row, RowKey, live_word, on_word, valid_word};
+use base_types::{
+    ColType, ConKind, IndexState, Kind, LineBuffer, Name, Nums, Oid, Row, RowKey, Word, live_word,
+    on_word, valid_word,
+};
 
 /// Adds the text of a row. Condition: there is room for 400 bytes.
 pub fn push_row(line: &mut LineBuffer, row: &Row)
@@ -17,17 +21,7 @@ pub fn push_row(line: &mut LineBuffer, row: &Row)
             name,
             kind,
             fill,
-        } => {
-            line.push(b"class(");
-            line.push_number(oid.0);
-            line.push(b",");
-            line.push(name.as_bytes());
-            line.push(b",");
-            line.push(kind.word());
-            line.push(b",");
-            push_fill(line, *fill);
-            line.push(b")");
-        }
+        } => push_class(line, *oid, name, *kind, *fill),
         Row::Att {
             rel,
             num,
@@ -36,15 +30,7 @@ pub fn push_row(line: &mut LineBuffer, row: &Row)
             stat,
             live,
         } => {
-            line.push(b"att(");
-            line.push_number(rel.0);
-            line.push(b",");
-            line.push_number(*num);
-            line.push(b",");
-            line.push(name.as_bytes());
-            line.push(b",");
-            line.push(col_type.word());
-            line.push(b",");
+            push_att_front(line, *rel, *num, name, *col_type);
             line.push_signed(*stat);
             line.push(b",");
             line.push(live_word(*live));
@@ -55,33 +41,13 @@ pub fn push_row(line: &mut LineBuffer, row: &Row)
             rel,
             num,
             word,
-        } => {
-            line.push(b"def(");
-            line.push_number(oid.0);
-            line.push(b",");
-            line.push_number(rel.0);
-            line.push(b",");
-            line.push_number(*num);
-            line.push(b",");
-            line.push(word.as_bytes());
-            line.push(b")");
-        }
+        } => push_def(line, *oid, *rel, *num, word),
         Row::Ind {
             index,
             table,
             state,
             nums,
-        } => {
-            line.push(b"ind(");
-            line.push_number(index.0);
-            line.push(b",");
-            line.push_number(table.0);
-            line.push(b",");
-            line.push(state.word());
-            line.push(b",");
-            push_nums(line, nums);
-            line.push(b")");
-        }
+        } => push_ind(line, *index, *table, *state, nums),
         Row::Con {
             oid,
             rel,
@@ -89,28 +55,100 @@ pub fn push_row(line: &mut LineBuffer, row: &Row)
             valid,
             what,
         } => {
-            line.push(b"con(");
-            line.push_number(oid.0);
-            line.push(b",");
-            line.push_number(rel.0);
-            line.push(b",");
-            line.push(name.as_bytes());
-            line.push(b",");
+            push_owned(line, b"con(", *oid, *rel, name);
             push_con(line, *valid, what);
             line.push(b")");
         }
         Row::Trg { oid, rel, name, on } => {
-            line.push(b"trg(");
-            line.push_number(oid.0);
-            line.push(b",");
-            line.push_number(rel.0);
-            line.push(b",");
-            line.push(name.as_bytes());
-            line.push(b",");
+            push_owned(line, b"trg(", *oid, *rel, name);
             line.push(on_word(*on));
             line.push(b")");
         }
     }
+}
+
+// A row of `pg_class`.
+fn push_class(line: &mut LineBuffer, oid: Oid, name: &Name, kind: Kind, fill: Option<u32>)
+    requires { length line.old + 400 ≤ 512 }
+    ensures text { line.new ≡ line.old ++ row_text (rows.Class oid name.now kind fill) }
+    ensures short { length line.new ≤ length line.old + 400 }
+{
+    line.push(b"class(");
+    line.push_number(oid.0);
+    line.push(b",");
+    line.push(name.as_bytes());
+    line.push(b",");
+    line.push(kind.word());
+    line.push(b",");
+    push_fill(line, fill);
+    line.push(b")");
+}
+
+// A row of `pg_attribute` up to its statistics target.
+fn push_att_front(line: &mut LineBuffer, rel: Oid, num: u32, name: &Name, col_type: ColType)
+    requires { length line.old + 200 ≤ 512 }
+    ensures text { line.new ≡ line.old ++ (codes "att(" ++ decimal rel.0 ++ codes "," ++ decimal num ++ codes "," ++ name.now ++ codes "," ++ type_word col_type ++ codes ",") }
+    ensures short { length line.new ≤ length line.old + 200 }
+{
+    line.push(b"att(");
+    line.push_number(rel.0);
+    line.push(b",");
+    line.push_number(num);
+    line.push(b",");
+    line.push(name.as_bytes());
+    line.push(b",");
+    line.push(col_type.word());
+    line.push(b",");
+}
+
+// A row of `pg_attrdef`.
+fn push_def(line: &mut LineBuffer, oid: Oid, rel: Oid, num: u32, word: &Word)
+    requires { length line.old + 400 ≤ 512 }
+    ensures text { line.new ≡ line.old ++ row_text (rows.Def oid rel num word.now) }
+    ensures short { length line.new ≤ length line.old + 400 }
+{
+    line.push(b"def(");
+    line.push_number(oid.0);
+    line.push(b",");
+    line.push_number(rel.0);
+    line.push(b",");
+    line.push_number(num);
+    line.push(b",");
+    line.push(word.as_bytes());
+    line.push(b")");
+}
+
+// A row of `pg_index`.
+fn push_ind(line: &mut LineBuffer, index: Oid, table: Oid, state: IndexState, nums: &Nums)
+    requires { length line.old + 400 ≤ 512 }
+    ensures text { line.new ≡ line.old ++ row_text (rows.Ind index table state nums.now) }
+    ensures short { length line.new ≤ length line.old + 400 }
+{
+    line.push(b"ind(");
+    line.push_number(index.0);
+    line.push(b",");
+    line.push_number(table.0);
+    line.push(b",");
+    line.push(state.word());
+    line.push(b",");
+    push_nums(line, nums);
+    line.push(b")");
+}
+
+// The front of a row that has an oid, a relation and a name.
+fn push_owned(line: &mut LineBuffer, word: &[u8], oid: Oid, rel: Oid, name: &Name)
+    requires room { length line.old + 120 ≤ 512 }
+    requires word { length word.now ≤ 6 }
+    ensures text { line.new ≡ line.old ++ (word.now ++ decimal oid.0 ++ codes "," ++ decimal rel.0 ++ codes "," ++ name.now ++ codes ",") }
+    ensures short { length line.new ≤ length line.old + 120 }
+{
+    line.push(word);
+    line.push_number(oid.0);
+    line.push(b",");
+    line.push_number(rel.0);
+    line.push(b",");
+    line.push(name.as_bytes());
+    line.push(b",");
 }
 
 /// Adds the text of a row's key. Condition: there is room for 32 bytes.

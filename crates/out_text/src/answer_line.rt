@@ -66,84 +66,81 @@ pub fn push_error(line: &mut LineBuffer, error: &CommandError)
     match error {
         CommandError::BlockFailed => line.push(b"25P02 the transaction block has failed"),
         CommandError::NoBlock => line.push(b"25P01 no transaction block"),
-        CommandError::NoSavepoint { name } => push_around(
-            line,
-            b"3B001 savepoint ",
-            name,
-            b" does not exist",
-        ),
+        CommandError::NoSavepoint { name } => push_absent(line, b"3B001 savepoint ", name),
         CommandError::NotOpen { name } => push_around(line, b"55000 ", name, b" is not open"),
         CommandError::NoRelation { name, at } => push_missing(line, b"42P01 relation ", name, *at),
         CommandError::NoIndex { name, at } => push_missing(line, b"42704 index ", name, *at),
-        CommandError::NoConstraint { name } => push_around(
-            line,
-            b"42704 constraint ",
-            name,
-            b" does not exist",
-        ),
-        CommandError::NoTrigger { name } => push_around(
-            line,
-            b"42704 trigger ",
-            name,
-            b" does not exist",
-        ),
+        CommandError::NoConstraint { name } => push_absent(line, b"42704 constraint ", name),
+        CommandError::NoTrigger { name } => push_absent(line, b"42704 trigger ", name),
         CommandError::Locked { rel, holder, mode } => push_locked(line, *rel, *holder, *mode),
         CommandError::NameInUse { name, xid } => push_in_use(line, name, *xid),
-        CommandError::RelationExists { name } => push_around(
-            line,
-            b"42P07 relation ",
-            name,
-            b" already exists",
-        ),
+        CommandError::RelationExists { name } => push_present(line, b"42P07 relation ", name),
         CommandError::NotTable { name } => push_around(line, b"42809 ", name, b" is not a table"),
         CommandError::NotIndex { name } => push_around(line, b"42809 ", name, b" is not an index"),
         CommandError::NoField { name, field } => push_no_field(line, name, *field),
-        CommandError::InUse { rel } => push_between(
-            line,
-            b"55006 relation ",
-            rel.0,
-            b" is open in this session",
-        ),
+        CommandError::InUse { rel } => push_open(line, *rel),
         CommandError::Depends { name } => push_depends(line, name),
-        CommandError::ColumnUsed { name } => push_around(
-            line,
-            b"0A000 column ",
-            name,
-            b" is used by an index or constraint",
-        ),
-        CommandError::ColumnExists { name } => push_around(
-            line,
-            b"42701 column ",
-            name,
-            b" already exists",
-        ),
-        CommandError::NoColumn { name } => push_around(
-            line,
-            b"42703 column ",
-            name,
-            b" does not exist",
-        ),
-        CommandError::ConstraintExists { name } => push_around(
-            line,
-            b"42710 constraint ",
-            name,
-            b" already exists",
-        ),
-        CommandError::TriggerExists { name } => push_around(
-            line,
-            b"42710 trigger ",
-            name,
-            b" already exists",
-        ),
-        CommandError::OutOfRange { value } => push_signed_between(
-            line,
-            b"22023 value ",
-            value,
-            b" is out of range",
-        ),
+        CommandError::ColumnUsed { name } => push_column_used(line, name),
+        CommandError::ColumnExists { name } => push_present(line, b"42701 column ", name),
+        CommandError::NoColumn { name } => push_absent(line, b"42703 column ", name),
+        CommandError::ConstraintExists { name } => push_present(line, b"42710 constraint ", name),
+        CommandError::TriggerExists { name } => push_present(line, b"42710 trigger ", name),
+        CommandError::OutOfRange { value } => push_out_of_range(line, value),
         CommandError::TooManyColumns => line.push(b"54011 too many columns"),
         CommandError::WantOfMemory => line.push(b"53200 want of memory"),
     }
+}
+
+// Nothing has a name.
+fn push_absent(line: &mut LineBuffer, before: &[u8], name: &Name)
+    requires room { length line.old + 150 ≤ 512 }
+    requires before { length before.now ≤ 40 }
+    ensures text { line.new ≡ line.old ++ (before.now ++ name.now ++ codes " does not exist") }
+    ensures short { length line.new ≤ length line.old + 150 }
+{
+    push_around(line, before, name, b" does not exist");
+}
+
+// Something has a name.
+fn push_present(line: &mut LineBuffer, before: &[u8], name: &Name)
+    requires room { length line.old + 150 ≤ 512 }
+    requires before { length before.now ≤ 40 }
+    ensures text { line.new ≡ line.old ++ (before.now ++ name.now ++ codes " already exists") }
+    ensures short { length line.new ≤ length line.old + 150 }
+{
+    push_around(line, before, name, b" already exists");
+}
+
+// A column is in use.
+fn push_column_used(line: &mut LineBuffer, name: &Name)
+    requires { length line.old + 150 ≤ 512 }
+    ensures text { line.new ≡ line.old ++ (codes "0A000 column " ++ name.now ++ codes " is used by an index or constraint") }
+    ensures short { length line.new ≤ length line.old + 150 }
+{
+    push_around(
+        line,
+        b"0A000 column ",
+        name,
+        b" is used by an index or constraint",
+    );
+}
+
+// A relation is open in the session.
+fn push_open(line: &mut LineBuffer, rel: Oid)
+    requires { length line.old + 90 ≤ 512 }
+    ensures text { line.new ≡ line.old ++ (codes "55006 relation " ++ decimal rel.0 ++ codes " is open in this session") }
+    ensures short { length line.new ≤ length line.old + 90 }
+{
+    push_between(line, b"55006 relation ", rel.0, b" is open in this session");
+}
+
+// A number is out of range.
+fn push_out_of_range(line: &mut LineBuffer, value: &i64)
+    requires { length line.old + 100 ≤ 512 }
+    ensures text { line.new ≡ line.old ++ (codes "22023 value " ++ signed_decimal value.now ++ codes " is out of range") }
+    ensures short { length line.new ≤ length line.old + 100 }
+{
+    push_signed_between(line, b"22023 value ", value, b" is out of range");
 }
 
 // A name between two texts.

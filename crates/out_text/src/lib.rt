@@ -17,3 +17,6 @@ mod output;
 
 pub use answer::answer_text;
 pub use output::{put_entry, put_line, put_output};
+
+#[cfg(test)]
+mod tests;

@@ -1,3 +1,12 @@
+mod Rows
+pub mod Splitting
+pub mod Numbers
+pub mod Drafting
+pub mod Following
+pub mod Parting
+pub mod Turning
+pub mod Bounds
+pub mod Listing
 pub mod Loops
 pub mod Digits
 pub mod Limits

@@ -1,4 +1,12 @@
 pub mod Built
+pub mod Lines
+pub mod Tokens
+pub mod Operands
+pub mod Commands
+pub mod LineForms
+pub mod Grammar
+pub mod Drafts
 pub mod Reads
 pub mod Loops
 pub mod FirstForm
+pub mod Spelling

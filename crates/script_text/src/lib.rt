@@ -5,13 +5,42 @@
 //! limits of scripts, so that every one of them can be run: 1 to 64 backends, at most 20,000
 //! commands and 1,000,000 steps, a queue of 64 to 4,096 messages.
 //!
-//! The promise to the layers above: contracts see a script as the scenario that it asks for.
+//! A text of scripts is lines in the first place, and each line that counts is tokens. The grammar
+//! stands in specs/, from the lines of a text (`Lines`) over tokens and what single ones mean
+//! (`Tokens`, `Operands`) and the forms of commands and of the other lines (`Commands`,
+//! `LineForms`) to what each line adds to what was said before it (`Grammar`). [`read_script`]
+//! mirrors it, one function a form, in time that grows with the length of the text.
+//! [`write_script`] writes the one spelling that `Spelling` gives.
+//!
+//! The promise to the layers above: contracts see a script as the scenario that it asks for; each
+//! text of the grammar is read as its script, and any other is refused with the first line that
+//! breaks a rule and the first rule that it breaks.
 #![tactic(auto)]
 
+mod alterations;
 mod built;
+mod commands;
+mod draft;
+mod fault;
 mod first_form;
+mod line_forms;
+mod lines;
+mod lists;
+mod operands;
+mod pieces;
+mod reading;
 mod script;
+mod steps;
+mod taking;
+mod tokens;
+mod writing;
 
 pub use built::is_built;
+pub use fault::{LineFault, Rest, ScriptCause, ScriptFault};
 pub use first_form::{FormFault, read_first_form};
+pub use reading::{ScriptRead, read_script};
 pub use script::Script;
+pub use writing::write_script;
+
+#[cfg(test)]
+mod tests;

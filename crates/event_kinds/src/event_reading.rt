@@ -1,0 +1,246 @@
+ghost use Rattle.std.specs.Prelude.{◌≡◌, codes};
+ghost use Rattle.event_kinds.specs.Readers.{Gives, lit_at};
+
+use crate::cursor::Cursor;
+use crate::{Event, Item};
+use base_types::{Mode, Oid, Purpose, Xid};
+
+// Changes, scans, and all events but a write.
+impl<'a> Cursor<'a> {
+    ghost use Rattle.event_kinds.specs.Reading.{item_at, number_event_at, purpose_at, relation_scan_at, constraint_scan_at, short_event_at, fetch_at, holder_at, lock_event_at, unlock_event_at, scan_event_at, owner_at, clash_event_at};
+
+    // A change of a write.
+    #[tactic(auto, unfolding(crate::specs::Reading::item_at))]
+    pub fn item(&mut self) -> Option<Item>
+        ensures { Gives result self.new (item_at self.old) }
+    {
+        if self.eat(b"+").is_some() {
+            return Some(Item::Add(self.row()?));
+        }
+        if self.eat(b"=").is_some() {
+            return Some(Item::Put(self.row()?));
+        }
+        if self.eat(b"-").is_some() {
+            return Some(Item::Remove(self.key()?));
+        }
+        if self.eat(b"!").is_some() {
+            return Some(Item::Force(Oid(self.number()?)));
+        }
+        None
+    }
+
+    // A scan.
+    #[tactic(auto, unfolding(crate::specs::Reading::purpose_at))]
+    fn purpose(&mut self) -> Option<Purpose>
+        ensures { Gives result self.new (purpose_at self.old) }
+    {
+        if self.eat(b"relname ").is_some() {
+            return Some(Purpose::RelName(self.name()?));
+        }
+        if self.eat(b"reloid ").is_some() {
+            return Some(Purpose::RelOid(Oid(self.number()?)));
+        }
+        if self.eat(b"attname ").is_some() {
+            let rel = Oid(self.number()?);
+            self.eat(b" ")?;
+            return Some(Purpose::AttName(rel, self.name()?));
+        }
+        self.relation_scan()
+    }
+
+    // A scan of one relation's rows.
+    #[tactic(auto, unfolding(crate::specs::Reading::relation_scan_at))]
+    fn relation_scan(&mut self) -> Option<Purpose>
+        ensures { Gives result self.new (relation_scan_at self.old) }
+    {
+        if self.eat(b"attlist ").is_some() {
+            return Some(Purpose::AttList(Oid(self.number()?)));
+        }
+        if self.eat(b"class ").is_some() {
+            return Some(Purpose::Class(Oid(self.number()?)));
+        }
+        if self.eat(b"attribute ").is_some() {
+            return Some(Purpose::Attribute(Oid(self.number()?)));
+        }
+        if self.eat(b"attrdef ").is_some() {
+            return Some(Purpose::AttrDef(Oid(self.number()?)));
+        }
+        if self.eat(b"index ").is_some() {
+            return Some(Purpose::Index(Oid(self.number()?)));
+        }
+        if self.eat(b"trigger ").is_some() {
+            return Some(Purpose::Trigger(Oid(self.number()?)));
+        }
+        if self.eat(b"indexrow ").is_some() {
+            return Some(Purpose::IndexRow(Oid(self.number()?)));
+        }
+        self.constraint_scan()
+    }
+
+    // A scan of one relation's constraints.
+    #[tactic(auto, unfolding(crate::specs::Reading::constraint_scan_at))]
+    fn constraint_scan(&mut self) -> Option<Purpose>
+        ensures { Gives result self.new (constraint_scan_at self.old) }
+    {
+        self.eat(b"constraint ")?;
+        Some(Purpose::Constraint(Oid(self.number()?)))
+    }
+
+    // Events whose texts are one word or a word and a number.
+    #[tactic(auto, unfolding(crate::specs::Reading::short_event_at))]
+    pub fn short_event(&mut self) -> Option<Event>
+        ensures { Gives result self.new (short_event_at self.old) }
+    {
+        if self.eat(b"start").is_some() {
+            return Some(Event::Start);
+        }
+        if self.eat(b"look yes").is_some() {
+            return Some(Event::Look { yes: true });
+        }
+        if self.eat(b"look no").is_some() {
+            return Some(Event::Look { yes: false });
+        }
+        if self.eat(b"fetch ").is_some() {
+            return self.fetch();
+        }
+        self.number_event()
+    }
+
+    // Events whose texts are a word and a number, and those that end a backend.
+    #[tactic(auto, unfolding(crate::specs::Reading::number_event_at))]
+    fn number_event(&mut self) -> Option<Event>
+        ensures { Gives result self.new (number_event_at self.old) }
+    {
+        if self.eat(b"visible ").is_some() {
+            return Some(Event::Visible {
+                xid: Xid(self.number()?),
+            });
+        }
+        if self.eat(b"publish ").is_some() {
+            return Some(Event::Publish {
+                count: self.number()?,
+            });
+        }
+        if self.eat(b"release ").is_some() {
+            return Some(Event::Release {
+                from: self.number()?,
+            });
+        }
+        if self.eat(b"gone ").is_some() {
+            return Some(Event::Gone {
+                from: self.number()?,
+            });
+        }
+        if self.eat(b"fail").is_some() {
+            return Some(Event::Fail);
+        }
+        if self.eat(b"stop").is_some() {
+            return Some(Event::Stop);
+        }
+        None
+    }
+
+    // A fetch, behind its word.
+    #[tactic(auto, unfolding(crate::specs::Reading::fetch_at))]
+    fn fetch(&mut self) -> Option<Event>
+        ensures { Gives result self.new (fetch_at self.old) }
+    {
+        if self.eat(b"reset").is_some() {
+            return Some(Event::FetchReset);
+        }
+        let count = self.number()?;
+        Some(Event::Fetch { count })
+    }
+
+    // Whether a lock was granted, or who holds it.
+    #[tactic(auto, unfolding(crate::specs::Reading::holder_at))]
+    fn holder(&mut self) -> Option<Option<(u32, Mode)>>
+        ensures { Gives result self.new (holder_at self.old) }
+    {
+        if self.eat(b"ok").is_some() {
+            return Some(None);
+        }
+        if self.eat(b"held ").is_some() {
+            let holder = self.number()?;
+            self.eat(b" ")?;
+            let held = self.mode()?;
+            return Some(Some((holder, held)));
+        }
+        None
+    }
+
+    // A lock, behind its word.
+    #[tactic(auto, unfolding(crate::specs::Reading::lock_event_at))]
+    pub fn lock_event(&mut self) -> Option<Event>
+        ensures { Gives result self.new (lock_event_at self.old) }
+    {
+        let rel = Oid(self.number()?);
+        self.eat(b" ")?;
+        let mode = self.mode()?;
+        self.eat(b" ")?;
+        match self.holder()? {
+            None => Some(Event::LockOk { rel, mode }),
+            Some((holder, held)) => Some(Event::LockHeld {
+                rel,
+                mode,
+                holder,
+                held,
+            }),
+        }
+    }
+
+    // An unlock, behind its word.
+    #[tactic(auto, unfolding(crate::specs::Reading::unlock_event_at))]
+    pub fn unlock_event(&mut self) -> Option<Event>
+        ensures { Gives result self.new (unlock_event_at self.old) }
+    {
+        let rel = Oid(self.number()?);
+        self.eat(b" ")?;
+        let mode = self.mode()?;
+        Some(Event::Unlock { rel, mode })
+    }
+
+    // A scan, behind its word.
+    #[tactic(auto, unfolding(crate::specs::Reading::scan_event_at))]
+    pub fn scan_event(&mut self) -> Option<Event>
+        ensures { Gives result self.new (scan_event_at self.old) }
+    {
+        let purpose = self.purpose()?;
+        self.eat(b" rows ")?;
+        let rows = self.number()?;
+        Some(Event::Scan { purpose, rows })
+    }
+
+    // What has a name that was refused: a row, or a running transaction.
+    #[tactic(auto, unfolding(crate::specs::Reading::owner_at))]
+    fn owner(&mut self) -> Option<(bool, u32)>
+        ensures { Gives result self.new (owner_at self.old) }
+    {
+        if self.eat(b"row ").is_some() {
+            return Some((true, self.number()?));
+        }
+        if self.eat(b"running ").is_some() {
+            return Some((false, self.number()?));
+        }
+        None
+    }
+
+    // A clash, behind its word.
+    #[tactic(auto, unfolding(crate::specs::Reading::clash_event_at))]
+    pub fn clash_event(&mut self) -> Option<Event>
+        ensures { Gives result self.new (clash_event_at self.old) }
+    {
+        let name = self.name()?;
+        self.eat(b" ")?;
+        match self.owner()? {
+            (true, oid) => Some(Event::ClashRow {
+                name,
+                rel: Oid(oid),
+            }),
+            (false, xid) => Some(Event::ClashRunning {
+                name,
+                xid: Xid(xid),
+            }),
+        }
+    }
+}

@@ -1,0 +1,141 @@
+use super::*;
+use std::alloc::Global;
+use std::test::Fail;
+
+// What is read of a short text.
+fn read(alloc: Global, text: &[u8], rest: Rest) -> Result<ScriptRead, ScriptFault> {
+    if text.len() > 2_000_000 {
+        return Err(ScriptFault::NoMemory);
+    }
+    read_script(alloc, text, rest)
+}
+
+#[test]
+fn each_command_is_read_and_written(rt: HostRuntime) -> Result<(), Fail> {
+    let alloc = rt.alloc();
+    for (given, want) in [
+        ("COMMIT ;", "commit"),
+        ("release savepoint s", "release s"),
+        ("release savepoint", "release savepoint"),
+        ("rollback to savepoint s", "rollback to s"),
+        ("show t of", "show t of"),
+        ("regclass 016384", "regclass 16384"),
+        (
+            "create table t(a int,b boolean)",
+            "create table t (a int4, b bool)",
+        ),
+        (
+            "alter table t alter column c set statistics -01",
+            "alter table t alter column c set statistics -1",
+        ),
+        (
+            "alter table t set(fillfactor=70)",
+            "alter table t set (fillfactor = 70)",
+        ),
+        (
+            "alter table t add constraint k check (a = b * 2)",
+            "alter table t add constraint k check (a=b*2)",
+        ),
+        (
+            "alter table t add constraint k foreign key(c)references u(d)",
+            "alter table t add constraint k foreign key (c) references u (d)",
+        ),
+        (
+            "alter table t disable trigger g",
+            "alter table t disable trigger g",
+        ),
+        ("create index i on t(a,b)", "create index i on t (a, b)"),
+    ] {
+        let text = format!(in alloc; "backends 2\n1: {given}\nend\n")?;
+        let wanted = format!(in alloc; "backends 2\n1: {want}\nend\n")?;
+        let written = match read(alloc, text.as_bytes(), Rest::Refused) {
+            Ok(read) => write_script(alloc, &read.script)?,
+            Err(_fault) => Vec::new(alloc),
+        };
+        assert_eq!(rt; written.as_slice(), wanted.as_bytes(), "at {given}");
+    }
+    Ok(())
+}
+
+#[test]
+fn the_first_fault_is_named(rt: HostRuntime) -> Result<(), Fail> {
+    let alloc = rt.alloc();
+    for (text, line, cause) in [
+        ("", 1, ScriptCause::NoBackends),
+        ("-- a\n\n \t\n", 4, ScriptCause::NoBackends),
+        ("backends 1\n1: begin\n", 3, ScriptCause::NoEnd),
+        ("backends 1\r\r\nend", 1, ScriptCause::BadByte),
+        ("backends 1\nend\r", 2, ScriptCause::BadByte),
+        ("ring 63\nbackends 1\nend", 1, ScriptCause::BadRing),
+        (
+            "ring 64 from 16777216\nbackends 1\nend",
+            1,
+            ScriptCause::BadRing,
+        ),
+        ("backends 1\nring 64\nend", 2, ScriptCause::BadRing),
+        ("end", 1, ScriptCause::NoBackends),
+        ("backends 65\nend", 1, ScriptCause::BadCount),
+        ("backends 0000000001\nend", 1, ScriptCause::BadCount),
+        ("backends 2\nsteps\nend", 2, ScriptCause::BadSteps),
+        ("backends 2\nsteps 1*0\nend", 2, ScriptCause::BadSteps),
+        ("backends 2\nsteps 3\nend", 2, ScriptCause::BadSteps),
+        (
+            "backends 2\nsteps 1*1000000\nsteps 2\nend",
+            3,
+            ScriptCause::TooManySteps,
+        ),
+        ("backends 2\n+1: begin\nend", 2, ScriptCause::UnknownBackend),
+        ("backends 2\nend;\nend", 2, ScriptCause::UnknownBackend),
+        (
+            "backends 2\nsteps 1\n1: bugin\nend",
+            3,
+            ScriptCause::LateCommand,
+        ),
+        ("backends 2\n1: begin;;\nend", 2, ScriptCause::BadCommand),
+        (
+            "backends 2\n1: create index i on t ()\nend",
+            2,
+            ScriptCause::BadCommand,
+        ),
+        ("backends 2\nend\n1: bugin\nend", 3, ScriptCause::BadCommand),
+        ("backends 2\nend\nend", 3, ScriptCause::AfterEnd),
+    ] {
+        let found = read(alloc, text.as_bytes(), Rest::Refused).err();
+        assert_eq!(rt; found, Some(ScriptFault::Bad { line, cause }), "at {text}");
+    }
+    Ok(())
+}
+
+#[test]
+fn a_script_has_limits(rt: HostRuntime) -> Result<(), Fail> {
+    let alloc = rt.alloc();
+    for (count, faulty) in [(20_000, false), (20_001, true)] {
+        let mut text = Vec::new(alloc);
+        text.extend_from_slice(b"backends 64\n")?;
+        for _ in 0..count {
+            text.extend_from_slice(b"64: begin\n")?;
+        }
+        text.extend_from_slice(b"steps 1*999999 64\nend\n")?;
+        let found = read(alloc, text.as_slice(), Rest::Refused).err();
+        let wanted = ScriptFault::Bad {
+            line: 20_002,
+            cause: ScriptCause::TooManyCommands,
+        };
+        assert_eq!(rt; found, faulty.then_some(wanted), "at {count}");
+    }
+    Ok(())
+}
+
+#[test]
+fn a_rest_stays_behind_the_end(rt: HostRuntime) -> Result<(), Fail> {
+    let alloc = rt.alloc();
+    let text =
+        b"RING 64\nBACKENDS 1\r\n1: CREATE TABLE t (a INT);\nSTEPS 1 * 5 1\nEND\r\nh 1 0 start\n";
+    let found = read(alloc, text.as_slice(), Rest::Given)?;
+    assert_eq!(rt; found.rest_at, 66);
+    assert!(rt; found.has_ring);
+    let written = write_script(alloc, &found.script)?;
+    let wanted = b"ring 64\nbackends 1\n1: create table t (a int4)\nsteps 1*5 1\nend\n";
+    assert_eq!(rt; written.as_slice(), wanted.as_slice());
+    Ok(())
+}
