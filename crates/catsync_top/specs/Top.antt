@@ -1,8 +1,10 @@
 -- What the program does with the bytes that it reads.
-use Rattle.std.specs.Prelude.{◌≡◌, ◌≤◌, ℕ, Option, Some, None, List, [], ◌∷◌, codes, length}
+use Rattle.std.specs.Prelude.{◌≡◌, ◌≤◌, ◌<◌, ⊤, ⊥, ℕ, Bool, true, false, not, ◌&&◌, Option, Some, None, Ok, Err, List, [], ◌∷◌, codes, length}
 use Rattle.std.specs.Io.KnownBytes.{Consumes, IsAtEnd}
-use Rattle.base_types.specs.Scenario.{Scenario}
-use Rattle.script_text.specs.FirstForm.{built_form_of}
+use Rattle.script_text.specs.Built.{is_built}
+use Rattle.script_text.specs.Grammar.{Reading, script_of}
+use Rattle.script_text.specs.declared.fault.Rest.TheVariants.{Refused}
+use Rattle.script_text.specs.declared.fault.ScriptCause.{ScriptCause}
 use Rattle.history_model.specs.Output.{IsOutput}
 use Rattle.catsync_top.specs.declared.status.Status.{Status}
 use Rattle.catsync_top.specs.declared.status.Status.TheVariants as statuses
@@ -15,25 +17,68 @@ AreWalk words = words ≡ codes "walk" ∷ []
 abbrev pub exit_code_of : Status → ℕ
 exit_code_of statuses.Done = 0
 exit_code_of statuses.Usage = 1
+exit_code_of (statuses.BadScript line cause) = 2
+exit_code_of statuses.TooLong = 3
 exit_code_of statuses.ReadFault = 4
 exit_code_of statuses.WriteFault = 5
 exit_code_of statuses.NoMemory = 6
 exit_code_of statuses.NotYet = 9
 
--- the input was read to its end and is a script, and an output of the program for that script was written, or a front of one
-pub record Ran (left rest : Option (List ℕ)) (taken now : Option (List ℕ)) (Writes : Option (List ℕ) → Option (List ℕ) → List ℕ → Type 0) : Type 0 where
-  pub input : List ℕ
+-- all of a script is built: it has no `ring` line, and its commands can be run
+abbrev pub is_ready : Reading → Bool
+is_ready reading = not reading.has_ring && is_built reading.script
+
+-- the input was read to its end, and is no longer than a script may be
+pub record IsInput (left rest : Option (List ℕ)) (input : List ℕ) : Type 0 where
   pub read : Consumes left rest input
   pub ended : IsAtEnd rest
-  pub scenario : Scenario
-  pub spelled : built_form_of input ≡ Some scenario
+  pub short : length input ≤ 1048576
+
+-- the input is a script that can be walked, and an output of the program for that script was written, or a front of one
+pub record Ran (left rest : Option (List ℕ)) (taken now : Option (List ℕ)) (Writes : Option (List ℕ) → Option (List ℕ) → List ℕ → Type 0) : Type 0 where
+  pub input : List ℕ
+  pub whole : IsInput left rest input
+  pub reading : Reading
+  pub spelled : script_of Refused input ≡ Ok reading
+  pub ready : is_ready reading ≡ true
   pub output : List ℕ
-  pub is : IsOutput scenario output
+  pub is : IsOutput reading.script output
   pub written : Writes taken now output
 
--- what was read is longer than any script, or it is the whole input and not a script that can be walked
-pub record IsNotYet (left rest : Option (List ℕ)) : Type 0 where
+-- that line of the input is the first that breaks a rule, and that rule is the first that it breaks
+pub record IsBad (left rest : Option (List ℕ)) (line : ℕ) (cause : ScriptCause) : Type 0 where
+  pub input : List ℕ
+  pub whole : IsInput left rest input
+  pub breaks : script_of Refused input ≡ Err (line, cause)
+
+-- more bytes were read than a script may have
+pub record IsTooLong (left rest : Option (List ℕ)) : Type 0 where
   pub input : List ℕ
   pub read : Consumes left rest input
-  pub ended : length input ≤ 1048576 → IsAtEnd rest
-  pub no_script : length input ≤ 1048576 → built_form_of input ≡ None
+  pub long : 1048576 < length input
+
+-- the input is a script of which not all is built
+pub record IsNotYet (left rest : Option (List ℕ)) : Type 0 where
+  pub input : List ℕ
+  pub whole : IsInput left rest input
+  pub reading : Reading
+  pub spelled : script_of Refused input ≡ Ok reading
+  pub unready : is_ready reading ≡ false
+
+-- the bytes are a script that can be walked
+pub record CanBeWalked (input : List ℕ) : Type 0 where
+  pub short : length input ≤ 1048576
+  pub reading : Reading
+  pub spelled : script_of Refused input ≡ Ok reading
+  pub ready : is_ready reading ≡ true
+
+-- the call did its work, or was refused memory
+abbrev pub IsDoneOrNoMemory : Status → Type 0
+IsDoneOrNoMemory statuses.Done = ⊤
+IsDoneOrNoMemory statuses.NoMemory = ⊤
+IsDoneOrNoMemory status = ⊥
+
+-- what holds of the line and the rule that a refusal of a script names
+abbrev pub IfBadScript : Status → (ℕ → ScriptCause → Type 0) → Type 0
+IfBadScript (statuses.BadScript line cause) holds = holds line cause
+IfBadScript status holds = ⊤

@@ -1,7 +1,9 @@
 use super::*;
 use base_types::NoMemory;
 use edge_io::{MemorySink, MemorySource, OpenGate, Sink, Source, SteadySink, SteadySource};
+use script_text::ScriptCause;
 use std::alloc::Global;
+use std::fmt::Write;
 use std::test::Fail;
 
 // One backend makes a table and shows it.
@@ -133,15 +135,41 @@ fn a_sink_fails_at_each_call_in_turn(rt: HostRuntime) -> Result<(), Fail> {
 #[test]
 fn other_words_and_other_scripts_write_nothing(rt: HostRuntime) -> Result<(), Fail> {
     let alloc = rt.alloc();
-    let rows: [(&[&str], &[u8], Status); 8] = [
+    let rows: [(&[&str], &[u8], Status); 14] = [
         (&[], CREATE_THEN_SHOW, Status::Usage),
         (&[""], CREATE_THEN_SHOW, Status::Usage),
         (&["Walk"], CREATE_THEN_SHOW, Status::Usage),
-        (&["walk "], CREATE_THEN_SHOW, Status::Usage),
         (&["run"], CREATE_THEN_SHOW, Status::Usage),
+        (&["make", "0"], CREATE_THEN_SHOW, Status::Usage),
         (&["walk", "walk"], CREATE_THEN_SHOW, Status::Usage),
-        (&["walk"], b"", Status::NotYet),
-        (&["walk"], b"backends 1\n1: show t\n", Status::NotYet),
+        (&["walk"], b"", bad(1, ScriptCause::NoBackends)),
+        (
+            &["walk"],
+            b"backends 1\n1: create table t (a int4)\n1: show t\n",
+            bad(4, ScriptCause::NoEnd),
+        ),
+        (
+            &["walk"],
+            b"-- none\nbackends 1\n\n1: show 1t\nend\n",
+            bad(4, ScriptCause::BadCommand),
+        ),
+        (&["walk"], b"backends 1\n1: begin\nend\n", Status::NotYet),
+        (&["walk"], b"ring 4096\nbackends 1\nend\n", Status::NotYet),
+        (
+            &["walk"],
+            b"backends 1\n1: show t name\nend\n",
+            Status::NotYet,
+        ),
+        (
+            &["walk"],
+            b"backends 1\n1: create table t (a int4, a int8)\nend\n",
+            Status::NotYet,
+        ),
+        (
+            &["walk"],
+            b"backends 2\n1: create table t ()\n2: create table T ()\nend\n",
+            Status::NotYet,
+        ),
     ];
     for (words, script, expected) in rows {
         let mut source = SteadySource::new(script.to_vec(alloc)?);
@@ -149,6 +177,119 @@ fn other_words_and_other_scripts_write_nothing(rt: HostRuntime) -> Result<(), Fa
         let status = call(alloc, words, &mut source, &mut sink)?;
         assert_eq!(rt; status, expected);
         assert!(rt; sink.sent().is_empty());
+    }
+    Ok(())
+}
+
+// The refusal of a script.
+fn bad(line: u32, cause: ScriptCause) -> Status {
+    Status::BadScript { line, cause }
+}
+
+#[test]
+fn a_script_as_people_write_it(rt: HostRuntime) -> Result<(), Fail> {
+    let alloc = rt.alloc();
+    let script =
+        b"-- One backend makes a table and shows it.\n\nBACKENDS 1\r\n1: CREATE TABLE t (a INTEGER);\n\t1 : Show T ;\nEND";
+    let mut source = SteadySource::new(script.to_vec(alloc)?);
+    let mut sink = SteadySink::with_room(alloc, 4000)?;
+    let status = call(alloc, &["walk"], &mut source, &mut sink)?;
+    assert_eq!(rt; status, Status::Done);
+    assert_eq!(rt; sink.sent(), CREATE_THEN_SHOW_OUTPUT.as_bytes());
+    Ok(())
+}
+
+#[test]
+fn the_most_bytes_and_columns_and_one_more(rt: HostRuntime) -> Result<(), Fail> {
+    let alloc = rt.alloc();
+    for (more, expected) in [(0, Status::Done), (1, Status::TooLong)] {
+        let mut script = b"backends 1\nend\n".to_vec(alloc)?;
+        script.resize(MOST_INPUT + more, b' ')?;
+        let mut source = SteadySource::new(script);
+        let mut sink = SteadySink::with_room(alloc, 4000)?;
+        let status = call(alloc, &["walk"], &mut source, &mut sink)?;
+        assert_eq!(rt; status, expected);
+    }
+    for (columns, expected) in [(1600, Status::Done), (1601, Status::NotYet)] {
+        let mut script = String::from_str(alloc, "backends 1\n1: create table t (c0 int4")?;
+        for column in 1..columns {
+            write!(script, ", c{column} int4")?;
+        }
+        script.push_str(")\nend\n")?;
+        let mut source = SteadySource::new(script.into_bytes());
+        let mut sink = SteadySink::new(alloc);
+        let status = call(alloc, &["walk"], &mut source, &mut sink)?;
+        assert_eq!(rt; status, expected);
+    }
+    Ok(())
+}
+
+#[test]
+fn each_status_has_its_text(rt: HostRuntime) -> Result<(), Fail> {
+    let alloc = rt.alloc();
+    let rows = [
+        (Status::Done, "done"),
+        (Status::Usage, "usage: catsync walk < SCRIPT > OUTPUT"),
+        (
+            bad(7, ScriptCause::BadByte),
+            "line 7: BadByte: the line holds a byte that is neither printable ASCII nor a tab",
+        ),
+        (
+            bad(1, ScriptCause::BadRing),
+            "line 1: BadRing: a ring line must come first and read 'ring N' or 'ring N from M', with N a power of two from 64 to 4096 and M below 262144 times N",
+        ),
+        (
+            bad(1, ScriptCause::NoBackends),
+            "line 1: NoBackends: the first line, but for a ring line, must read 'backends N'",
+        ),
+        (
+            bad(1, ScriptCause::BadCount),
+            "line 1: BadCount: a backends line must read 'backends N' with N from 1 to 64",
+        ),
+        (
+            bad(4, ScriptCause::NoEnd),
+            "line 4: NoEnd: the input ends without an 'end' line",
+        ),
+        (
+            bad(3, ScriptCause::BadSteps),
+            "line 3: BadSteps: a steps line must name backends of the script, as B or B*COUNT with COUNT from 1 to 1000000",
+        ),
+        (
+            bad(3, ScriptCause::TooManySteps),
+            "line 3: TooManySteps: the script has more than 1000000 steps",
+        ),
+        (
+            bad(2, ScriptCause::UnknownBackend),
+            "line 2: UnknownBackend: a command line must begin with a backend of the script and a colon",
+        ),
+        (
+            bad(9, ScriptCause::LateCommand),
+            "line 9: LateCommand: no command may follow a steps line",
+        ),
+        (
+            bad(2, ScriptCause::BadCommand),
+            "line 2: BadCommand: the line has none of the forms of a command",
+        ),
+        (
+            bad(20002, ScriptCause::TooManyCommands),
+            "line 20002: TooManyCommands: the script has more than 20000 commands",
+        ),
+        (
+            bad(3, ScriptCause::AfterEnd),
+            "line 3: AfterEnd: only blank lines and comments may follow the 'end' line",
+        ),
+        (Status::TooLong, "the script has more than 1048576 bytes"),
+        (Status::ReadFault, "reading failed"),
+        (Status::WriteFault, "writing failed"),
+        (Status::NoMemory, "want of memory"),
+        (
+            Status::NotYet,
+            "the script holds a command or a line that isn't built yet",
+        ),
+    ];
+    for (status, text) in rows {
+        let shown = format!(in alloc; "{status}")?;
+        assert_eq!(rt; shown.as_str(), text);
     }
     Ok(())
 }

@@ -1,13 +1,14 @@
-ghost use Rattle.std.specs.Prelude.{◌≡◌, ◌≢◌, ◌↔◌, map, IsTrue};
+ghost use Rattle.std.specs.Prelude.{◌≡◌, ◌≢◌, ◌↔◌, map, IsTrue, IfOk, IsSomeAnd};
 ghost use Rattle.std.specs.String.{string_bytes};
 ghost use Rattle.edge_io.specs.Causes.{Rose};
 ghost use Rattle.edge_io.specs.Taken.{Grows, GrowsByFront};
-ghost use Rattle.catsync_top.specs.Top.{AreWalk, Ran, IsNotYet};
+ghost use Rattle.catsync_top.specs.Top.{AreWalk, Ran, IsBad, IsTooLong, IsNotYet, CanBeWalked, IfBadScript, IsDoneOrNoMemory, is_ready as ready_reading};
 
 use crate::Status;
+use base_types::NoMemory;
 use edge_io::{Gate, ReadRefusal, Sink, Source, read_all};
 use out_text::put_output;
-use script_text::{FormFault, read_first_form};
+use script_text::{Rest, ScriptFault, ScriptRead, is_built, read_script};
 use std::alloc::Global;
 use walk_run::walk;
 
@@ -17,9 +18,14 @@ pub const MOST_INPUT: usize = 1_048_576;
 /// Runs the program: its words, where it reads, where it writes, and the backends' gates, which
 /// `walk` doesn't ask. It takes memory from `alloc`, and none while it writes.
 ///
+/// The order is: words, reading, script, work, writing.
+///
 /// - `Usage`: exactly where the words aren't `walk` alone; nothing is read.
 /// - `ReadFault`, `WriteFault`: only where the source's or the sink's count of faults rose.
-/// - `NotYet`: exactly where the input is longer than [`MOST_INPUT`] or isn't of the form that can be walked.
+/// - `TooLong`: exactly where the source gives more than [`MOST_INPUT`] bytes before its end.
+/// - `BadScript`: exactly where that line is the first that breaks a rule of scripts, and that rule
+///   is the first that it breaks.
+/// - `NotYet`: exactly where the input is a script, with a command or a line that isn't built yet.
 /// - `NoMemory`: at any point before writing.
 /// - `Done`: the input was read to its end, and the whole output was written.
 pub fn catsync<S: Source, K: Sink, G: Gate>(
@@ -39,6 +45,8 @@ pub fn catsync<S: Source, K: Sink, G: Gate>(
     ensures nothing { result ≢ Status.Done → result ≢ Status.WriteFault → K.taken sink.new ≡ K.taken sink.old }
 
     // When each refusal comes.
+    ensures bad_script { IfBadScript result (IsBad (S.left source.old) (S.left source.new)) }
+    ensures too_long { result ≡ Status.TooLong → IsTooLong (S.left source.old) (S.left source.new) }
     ensures not_yet { result ≡ Status.NotYet → IsNotYet (S.left source.old) (S.left source.new) }
     ensures read_fault { result ≡ Status.ReadFault → Rose (S.faults source.old) (S.faults source.new) }
     ensures write_fault { result ≡ Status.WriteFault → Rose (K.faults sink.old) (K.faults sink.new) }
@@ -48,6 +56,9 @@ pub fn catsync<S: Source, K: Sink, G: Gate>(
     ensures sink_steady { result ≢ Status.WriteFault → K.faults sink.new ≡ K.faults sink.old }
     ensures unread { result ≡ Status.Usage → S.left source.new ≡ S.left source.old }
     ensures gates { gates.new ≡ gates.old }
+
+    // A script that can be walked is walked, where neither source nor sink fails.
+    ensures complete { IsSomeAnd (S.left source.old) CanBeWalked → AreWalk (map string_bytes words.now) → (Rose (S.faults source.old) (S.faults source.new) → ⊥) → (Rose (K.faults sink.old) (K.faults sink.new) → ⊥) → IsDoneOrNoMemory result }
 {
     let _ = gates;
     if !is_walk(words) {
@@ -59,20 +70,32 @@ pub fn catsync<S: Source, K: Sink, G: Gate>(
         Err(ReadRefusal::NoMemory) => return Status::NoMemory,
     };
     if input.len() > MOST_INPUT {
-        return Status::NotYet;
+        return Status::TooLong;
     }
-    let script = match read_first_form(alloc, &input) {
-        Ok(script) => script,
-        Err(FormFault::NotYet) => return Status::NotYet,
-        Err(FormFault::NoMemory) => return Status::NoMemory,
+    let read = match read_script(alloc, &input, Rest::Refused) {
+        Ok(read) => read,
+        Err(ScriptFault::Bad { line, cause }) => return Status::BadScript { line, cause },
+        Err(ScriptFault::NoMemory) => return Status::NoMemory,
     };
-    let Ok(world) = walk(alloc, &script) else {
+    match is_ready(alloc, &read) {
+        Ok(true) => {}
+        Ok(false) => return Status::NotYet,
+        Err(NoMemory) => return Status::NoMemory,
+    }
+    let Ok(world) = walk(alloc, &read.script) else {
         return Status::NoMemory;
     };
     match put_output(sink, world.entries.as_slice(), world.lines.as_slice()) {
         Ok(()) => Status::Done,
         Err(_) => Status::WriteFault,
     }
+}
+
+// Whether all of a script is built.
+fn is_ready(alloc: Global, read: &ScriptRead) -> Result<bool, NoMemory>
+    ensures { IfOk result (λ ready. ready ≡ ready_reading (record { script = read.now.script; has_ring = read.now.has_ring; rest_at = read.now.rest_at })) }
+{
+    Ok(!read.has_ring && is_built(alloc, &read.script)?)
 }
 
 // Whether the words are `walk` alone.
