@@ -1,5 +1,6 @@
 ghost use Rattle.std.specs.Prelude.{◌≡◌, ◌≤◌, ◌+◌, ◌++◌, length, codes, decimal};
 ghost use Rattle.base_types.specs.Words.{mode_word};
+ghost use Rattle.event_kinds.specs.declared.entry.Event.TheVariants as events;
 ghost use Rattle.event_kinds.specs.Texts.{item_text, purpose_text, event_head, place_text, entry_head, line_head, changes_of};
 
 use crate::row_text::{push_key, push_row};
@@ -85,6 +86,19 @@ fn push_lock(line: &mut LineBuffer, word: &[u8], rel: Oid, mode: Mode)
     line.push(mode.word());
 }
 
+// A lock that was refused, and who holds it.
+fn push_refused(line: &mut LineBuffer, rel: Oid, mode: Mode, holder: u32, held: Mode)
+    requires { length line.old + 120 ≤ 512 }
+    ensures text { line.new ≡ line.old ++ event_head (events.LockHeld rel mode holder held) }
+    ensures short { length line.new ≤ length line.old + 120 }
+{
+    push_lock(line, b"lock ", rel, mode);
+    line.push(b" held ");
+    line.push_number(holder);
+    line.push(b" ");
+    line.push(held.word());
+}
+
 // A name that was refused, up to what has it.
 fn push_clash(line: &mut LineBuffer, name: &Name, word: &[u8], number: u32)
     requires room { length line.old + 100 ≤ 512 }
@@ -119,13 +133,7 @@ pub fn push_event_head(line: &mut LineBuffer, event: &Event)
             mode,
             holder,
             held,
-        } => {
-            push_lock(line, b"lock ", *rel, *mode);
-            line.push(b" held ");
-            line.push_number(*holder);
-            line.push(b" ");
-            line.push(held.word());
-        }
+        } => push_refused(line, *rel, *mode, *holder, *held),
         Event::Unlock { rel, mode } => push_lock(line, b"unlock ", *rel, *mode),
         Event::Scan { purpose, rows } => {
             line.push(b"scan ");

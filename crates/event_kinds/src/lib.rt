@@ -2,22 +2,30 @@
 //!
 //! One entry is one atomic action of one backend: it joined the queue, scanned a catalog, asked for a
 //! lock, wrote catalog rows, became visible, and so on. A history is a plain list of entries, oldest
-//! first, and an entry's text is one line.
+//! first, and an entry's text is one line. Which entries have a text is the definition `IsEntry`:
+//! numbers of four bytes, names, words and texts of their bytes, at least one change in a write. A
+//! name is read also where it is the one that a dropped column has.
 //!
-//! Texts are made on a [`base_types::LineBuffer`], which takes no memory: [`push_entry_head`] writes
-//! an entry up to its changes, [`push_item`] one change. [`write_entry`] adds a whole entry to a
-//! vector, and want of memory leaves the vector as it was. [`read_entry`] turns it round: it answers
-//! the entry whose text a line is, and `Bad` exactly where no entry has that text. Which entries have
-//! a text is the definition `IsEntry`: numbers of four bytes, names, words and texts of their bytes,
-//! at least one change in a write.
+//! The promise to the layers above: what is written of an entry is exactly the text of its
+//! definition, byte for byte; what is read of a line is the one entry that has it as its text, and
+//! `Bad` comes exactly where no entry has it; and different histories and answer lines have
+//! different texts ([`texts_differ`]).
+//!
+//! [`write_entry`] adds a whole entry to a vector, and [`read_entry`] turns it round. Want of memory
+//! leaves the vector as it was:
+//!
+//! ```text
+//! let entry = read_entry(alloc, b"h 1 2 scan relname t rows 1")?;
+//! let mut out = Vec::new(alloc);
+//! write_entry(&entry, &mut out)?; // out is the line again
+//! ```
+//!
+//! Where no memory may be taken, texts are made on a [`base_types::LineBuffer`]:
+//! [`push_entry_head`] writes an entry up to its changes, and [`push_item`] one change.
 //!
 //! How a line is read is a function on lists of bytes, put together of few kinds of readers; for each
 //! kind it is proved once that what is read is spelled so, and that what is spelled so is read
 //! (`proofs/Spelling.antt`).
-//!
-//! The promise to the layers above: what is written of an entry is exactly the text of its
-//! definition, byte for byte, and different histories and answer lines have different texts
-//! ([`texts_differ`]).
 #![tactic(auto)]
 
 mod cursor;

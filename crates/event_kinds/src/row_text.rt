@@ -29,13 +29,7 @@ pub fn push_row(line: &mut LineBuffer, row: &Row)
             col_type,
             stat,
             live,
-        } => {
-            push_att_front(line, *rel, *num, name, *col_type);
-            line.push_signed(*stat);
-            line.push(b",");
-            line.push(live_word(*live));
-            line.push(b")");
-        }
+        } => push_att(line, *rel, *num, name, *col_type, *stat, *live),
         Row::Def {
             oid,
             rel,
@@ -54,16 +48,8 @@ pub fn push_row(line: &mut LineBuffer, row: &Row)
             name,
             valid,
             what,
-        } => {
-            push_owned(line, b"con(", *oid, *rel, name);
-            push_con(line, *valid, what);
-            line.push(b")");
-        }
-        Row::Trg { oid, rel, name, on } => {
-            push_owned(line, b"trg(", *oid, *rel, name);
-            line.push(on_word(*on));
-            line.push(b")");
-        }
+        } => push_con(line, *oid, *rel, name, *valid, what),
+        Row::Trg { oid, rel, name, on } => push_trg(line, *oid, *rel, name, *on),
     }
 }
 
@@ -84,11 +70,19 @@ fn push_class(line: &mut LineBuffer, oid: Oid, name: &Name, kind: Kind, fill: Op
     line.push(b")");
 }
 
-// A row of `pg_attribute` up to its statistics target.
-fn push_att_front(line: &mut LineBuffer, rel: Oid, num: u32, name: &Name, col_type: ColType)
-    requires { length line.old + 200 ≤ 512 }
-    ensures text { line.new ≡ line.old ++ (codes "att(" ++ decimal rel.0 ++ codes "," ++ decimal num ++ codes "," ++ name.now ++ codes "," ++ type_word col_type ++ codes ",") }
-    ensures short { length line.new ≤ length line.old + 200 }
+// A row of `pg_attribute`.
+fn push_att(
+    line: &mut LineBuffer,
+    rel: Oid,
+    num: u32,
+    name: &Name,
+    col_type: ColType,
+    stat: i32,
+    live: bool,
+)
+    requires { length line.old + 400 ≤ 512 }
+    ensures text { line.new ≡ line.old ++ row_text (rows.Att rel num name.now col_type stat live) }
+    ensures short { length line.new ≤ length line.old + 400 }
 {
     line.push(b"att(");
     line.push_number(rel.0);
@@ -99,6 +93,10 @@ fn push_att_front(line: &mut LineBuffer, rel: Oid, num: u32, name: &Name, col_ty
     line.push(b",");
     line.push(col_type.word());
     line.push(b",");
+    line.push_signed(stat);
+    line.push(b",");
+    line.push(live_word(live));
+    line.push(b")");
 }
 
 // A row of `pg_attrdef`.
@@ -132,6 +130,28 @@ fn push_ind(line: &mut LineBuffer, index: Oid, table: Oid, state: IndexState, nu
     line.push(state.word());
     line.push(b",");
     push_nums(line, nums);
+    line.push(b")");
+}
+
+// A row of `pg_constraint`.
+fn push_con(line: &mut LineBuffer, oid: Oid, rel: Oid, name: &Name, valid: bool, what: &ConKind)
+    requires { length line.old + 400 ≤ 512 }
+    ensures text { line.new ≡ line.old ++ row_text (rows.Con oid rel name.now valid what.now) }
+    ensures short { length line.new ≤ length line.old + 400 }
+{
+    push_owned(line, b"con(", oid, rel, name);
+    push_what(line, valid, what);
+    line.push(b")");
+}
+
+// A row of `pg_trigger`.
+fn push_trg(line: &mut LineBuffer, oid: Oid, rel: Oid, name: &Name, on: bool)
+    requires { length line.old + 400 ≤ 512 }
+    ensures text { line.new ≡ line.old ++ row_text (rows.Trg oid rel name.now on) }
+    ensures short { length line.new ≤ length line.old + 400 }
+{
+    push_owned(line, b"trg(", oid, rel, name);
+    line.push(on_word(on));
     line.push(b")");
 }
 
@@ -198,7 +218,7 @@ fn push_fill(line: &mut LineBuffer, fill: Option<u32>)
 }
 
 // What a constraint's row says behind its name.
-fn push_con(line: &mut LineBuffer, valid: bool, what: &ConKind)
+fn push_what(line: &mut LineBuffer, valid: bool, what: &ConKind)
     requires { length line.old + 80 ≤ 512 }
     ensures text { line.new ≡ line.old ++ con_text valid what.now }
     ensures short { length line.new ≤ length line.old + 80 }
