@@ -46,16 +46,9 @@ fn grants(alloc: Global, count: u32) -> Result<Vec<Entry>, Fail> {
     Ok(history)
 }
 
-// The text of an answer behind a text that stands there already.
-fn answered(alloc: Global, answer: &Answer) -> Result<Vec<u8>, Fail> {
-    let mut out = Vec::from_slice(alloc, b"> ")?;
-    answer_text(answer, &mut out)?;
-    Ok(out)
-}
-
-#[test]
-fn a_history_and_its_lines(rt: HostRuntime) -> Result<(), Fail> {
-    let mut items = Listed::new(rt.alloc());
+// The rows of a table of one column.
+fn table_rows(alloc: Global) -> Result<Listed<Item>, Fail> {
+    let mut items = Listed::new(alloc);
     items.push(Item::Add(Row::Class {
         oid: Oid(16384),
         name: Name::new(b"t")?,
@@ -70,6 +63,18 @@ fn a_history_and_its_lines(rt: HostRuntime) -> Result<(), Fail> {
         stat: -1,
         live: true,
     }))?;
+    Ok(items)
+}
+
+// The text of an answer behind a text that stands there already.
+fn answered(alloc: Global, answer: &Answer) -> Result<Vec<u8>, Fail> {
+    let mut out = Vec::from_slice(alloc, b"> ")?;
+    answer_text(answer, &mut out)?;
+    Ok(out)
+}
+
+#[test]
+fn a_history_and_its_lines(rt: HostRuntime) -> Result<(), Fail> {
     let start = Entry {
         backend: 1,
         command: 0,
@@ -78,7 +83,10 @@ fn a_history_and_its_lines(rt: HostRuntime) -> Result<(), Fail> {
     let write = Entry {
         backend: 1,
         command: 1,
-        event: Event::Write { xid: Xid(1), items },
+        event: Event::Write {
+            xid: Xid(1),
+            items: table_rows(rt.alloc())?,
+        },
     };
     let line = Line {
         backend: 1,
