@@ -1,9 +1,11 @@
 //! Histories, answer lines and answers written out as text.
 //!
 //! An output is the lines of a history in order, the answer lines of the commands, and the line
-//! `end`. It goes to any [`edge_io::Sink`] entry by entry: a head of bounded length, each change of a
-//! write for itself, and the line's end, so that writing takes no memory however long a write is.
-//! After a call that fails the sink has taken a front of the text, and nothing else.
+//! `end`. It goes to any [`edge_io::Sink`] gathered, in pieces of 4,096 bytes and a last one, so
+//! that a long history costs few writes. A line is gathered in parts of bounded length (its head,
+//! each change of a write, its end), so that writing takes no memory however long a write is. All
+//! that was gathered is handed on before `Ok`; after a call that fails the sink has taken a front of
+//! the text, and nothing else.
 //!
 //! An answer's text is added to a vector, and want of memory leaves the vector as it was.
 //!
@@ -13,10 +15,14 @@
 
 mod answer;
 mod answer_line;
+mod entries;
+mod lines;
 mod output;
 
 pub use answer::answer_text;
-pub use output::{put_entry, put_line, put_output};
+pub use entries::put_entry;
+pub use lines::put_line;
+pub use output::put_output;
 
 #[cfg(test)]
 mod tests;

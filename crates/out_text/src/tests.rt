@@ -1,21 +1,54 @@
 use crate::*;
 use base_types::{ColType, Field, Kind, Listed, Mode, Name, Oid, Row, Xid};
-use edge_io::SteadySink;
+use edge_io::{Failed, MEMORY_SINK_ROOM, MemorySink, Sink, SteadySink};
 use event_kinds::{Entry, Event, Item, Line};
 use rel_desc::{Answer, CommandError, Shown, Value};
 use std::alloc::Global;
 use std::test::Fail;
 
-// The text of an answer behind a text that stands there already.
-fn answered(alloc: Global, answer: &Answer) -> Result<Vec<u8>, Fail> {
-    let mut out = Vec::from_slice(alloc, b"> ")?;
-    answer_text(answer, &mut out)?;
-    Ok(out)
+// A sink that counts its calls and its bytes.
+#[derive(Drop)]
+struct CountingSink {
+    calls: u32,
+    bytes: usize,
 }
 
-#[test]
-fn a_history_and_its_lines(rt: HostRuntime) -> Result<(), Fail> {
-    let mut items = Listed::new(rt.alloc());
+impl Sink for CountingSink {
+    ghost use Rattle.std.specs.Prelude.{None};
+
+    ghost taken = { λ _. None };
+
+    ghost faults = { λ _. 0 };
+
+    fn write(&mut self, from: &[u8]) -> Result<usize, Failed> {
+        self.calls = self.calls.saturating_add(1);
+        self.bytes = self.bytes.saturating_add(from.len());
+        Ok(from.len())
+    }
+}
+
+// The line of a lock that was granted.
+const LOCK_LINE: &[u8] = b"h 1 1 lock 16384 as ok\n";
+
+// A history of so many grants of one lock.
+fn grants(alloc: Global, count: u32) -> Result<Vec<Entry>, Fail> {
+    let mut history = Vec::new(alloc);
+    for _ in 0..count {
+        history.push(Entry {
+            backend: 1,
+            command: 1,
+            event: Event::LockOk {
+                rel: Oid(16384),
+                mode: Mode::AccessShare,
+            },
+        })?;
+    }
+    Ok(history)
+}
+
+// The rows of a table of one column.
+fn table_rows(alloc: Global) -> Result<Listed<Item>, Fail> {
+    let mut items = Listed::new(alloc);
     items.push(Item::Add(Row::Class {
         oid: Oid(16384),
         name: Name::new(b"t")?,
@@ -30,6 +63,18 @@ fn a_history_and_its_lines(rt: HostRuntime) -> Result<(), Fail> {
         stat: -1,
         live: true,
     }))?;
+    Ok(items)
+}
+
+// The text of an answer behind a text that stands there already.
+fn answered(alloc: Global, answer: &Answer) -> Result<Vec<u8>, Fail> {
+    let mut out = Vec::from_slice(alloc, b"> ")?;
+    answer_text(answer, &mut out)?;
+    Ok(out)
+}
+
+#[test]
+fn a_history_and_its_lines(rt: HostRuntime) -> Result<(), Fail> {
     let start = Entry {
         backend: 1,
         command: 0,
@@ -38,7 +83,10 @@ fn a_history_and_its_lines(rt: HostRuntime) -> Result<(), Fail> {
     let write = Entry {
         backend: 1,
         command: 1,
-        event: Event::Write { xid: Xid(1), items },
+        event: Event::Write {
+            xid: Xid(1),
+            items: table_rows(rt.alloc())?,
+        },
     };
     let line = Line {
         backend: 1,
@@ -51,6 +99,51 @@ fn a_history_and_its_lines(rt: HostRuntime) -> Result<(), Fail> {
     assert_eq!(rt;
         sink.sent(),
         b"h 1 0 start\nh 1 1 write 1 +class(16384,t,r,-) +att(16384,1,a,int4,-1,l)\nl 1 1 ok\nend\n".as_slice()
+    );
+    Ok(())
+}
+
+#[test]
+fn a_history_costs_few_writes(rt: HostRuntime) -> Result<(), Fail> {
+    let history = grants(rt.alloc(), 200)?;
+    let mut sink = CountingSink { calls: 0, bytes: 0 };
+    put_output(&mut sink, &history, &[])?;
+    assert_eq!(rt; sink.bytes, 200 * LOCK_LINE.len() + 4);
+    assert_eq!(rt; sink.calls, 2);
+    Ok(())
+}
+
+#[test]
+fn a_sink_fails_within_a_history(rt: HostRuntime) -> Result<(), Fail> {
+    let alloc = rt.alloc();
+    let history = grants(alloc, 200)?;
+    let mut sink = MemorySink::new(alloc, MEMORY_SINK_ROOM, [2].to_vec(alloc)?);
+    sink.ready()?;
+    let sent = put_output(&mut sink, &history, &[]);
+    assert_eq!(rt; sent, Err(Failed));
+    assert_eq!(rt; sink.sent().len(), 4096);
+    for (i, byte) in sink.sent().iter().enumerate() {
+        assert_eq!(rt; *byte, LOCK_LINE[i % LOCK_LINE.len()], "at {i}");
+    }
+    Ok(())
+}
+
+#[test]
+fn an_entry_and_a_line_alone(rt: HostRuntime) -> Result<(), Fail> {
+    let alloc = rt.alloc();
+    let mut sink = SteadySink::with_room(alloc, 100)?;
+    let line = Line {
+        backend: 2,
+        command: 7,
+        text: Listed::from_vec(b"ok".to_vec(alloc)?),
+    };
+    for entry in &grants(alloc, 1)? {
+        put_entry(&mut sink, entry)?;
+    }
+    put_line(&mut sink, &line)?;
+    assert_eq!(rt;
+        sink.sent(),
+        b"h 1 1 lock 16384 as ok\nl 2 7 ok\n".as_slice()
     );
     Ok(())
 }
