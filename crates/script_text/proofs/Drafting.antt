@@ -18,6 +18,7 @@ blank_kept = record {
   backends = omega arith;
   commands = omega arith;
   placed = tt;
+  spelled = tt;
   turns = tt;
   steps = omega arith;
 }
@@ -33,6 +34,7 @@ backends_kept asked n none most kept = record {
   backends = most;
   commands = kept.commands;
   placed = each_weaker (λ (p : Placed). IsBackend asked.backends p.backend) (λ (p : Placed). IsBackend n p.backend) asked.commands (λ p h. absurd (omega (arith, h.0, h.1, none))) kept.placed;
+  spelled = kept.spelled;
   turns = each_weaker (λ (line : List Turns). (1 ≤ length line) × AllByRecursion (AreTurns asked.backends) line) (λ (line : List Turns). (1 ≤ length line) × AllByRecursion (AreTurns n) line) asked.steps (λ ts h. (h.0, each_weaker (AreTurns asked.backends) (AreTurns n) ts (λ t g. absurd (omega (arith, g.0.0, g.0.1, none))) h.1)) kept.turns;
   steps = kept.steps;
 }

@@ -7,7 +7,5 @@ pub mod Parting
 pub mod Turning
 pub mod Bounds
 pub mod Listing
-pub mod Loops
-pub mod Digits
-pub mod Limits
+pub mod Made
 pub mod Distinct

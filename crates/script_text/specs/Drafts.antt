@@ -2,6 +2,7 @@
 use Rattle.std.specs.Prelude.{◌≡◌, ◌≤◌, ◌<◌, ◌*◌, length, ⊤, ℕ, Result, Ok, Err, List, sum_by}
 use Rattle.base_types.specs.declared.command.Turns.{Turns}
 use Rattle.std.specs.List.{AllByRecursion}
+use Rattle.base_types.specs.Commands.{IsCommand}
 use Rattle.base_types.specs.Scenario.{Scenario, step_count, IsQueueSize, IsBackend, AreTurns}
 use Rattle.script_text.specs.declared.reading.ScriptRead.{ScriptRead}
 use Rattle.script_text.specs.declared.fault.ScriptFault.{ScriptFault}
@@ -25,6 +26,7 @@ pub record IsDraft (asked : Scenario) : Type 0 where
   pub backends : asked.backends ≤ 64
   pub commands : length asked.commands ≤ 20000
   pub placed : AllByRecursion (λ p. IsBackend asked.backends p.backend) asked.commands
+  pub spelled : AllByRecursion (λ p. IsCommand p.command) asked.commands
   pub turns : AllByRecursion (λ line. (1 ≤ length line) × AllByRecursion (AreTurns asked.backends) line) asked.steps
   pub steps : sum_by step_count asked.steps ≤ 1000000
 

@@ -6,7 +6,4 @@ pub mod Commands
 pub mod LineForms
 pub mod Grammar
 pub mod Drafts
-pub mod Reads
-pub mod Loops
-pub mod FirstForm
 pub mod Spelling

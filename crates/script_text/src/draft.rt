@@ -1,4 +1,5 @@
-ghost use Rattle.std.specs.Prelude.{◌≡◌, IfOk, codes};
+ghost use Rattle.std.specs.Prelude.{◌≡◌, IfOk, IfSome, codes};
+ghost use Rattle.base_types.specs.Commands.{IsCommand};
 ghost use Rattle.script_text.specs.Tokens.{tokens, said};
 ghost use Rattle.script_text.specs.Commands.{command_of};
 ghost use Rattle.script_text.specs.Grammar.{blank, ring_line as after_ring, backends_line as after_backends, steps_line as after_steps, command_line as after_command, body_line as after_body, tokens_line as after_tokens, is_end_line as end_line, before_end, line_after, any_line, stops as stops_here, at_end};
@@ -235,9 +236,10 @@ impl Draft {
 }
 
 // The command of a line's text, if it has the form of one.
-#[tactic(auto, unfolding(crate::specs::Commands::command_of))]
+#[tactic(auto, using(crate::proofs::Made::short_made, crate::proofs::Made::alter_made), unfolding(crate::specs::Commands::command_of))]
 fn command(alloc: Global, line: &[u8]) -> Result<Option<Command>, NoMemory>
-    ensures { IfOk result (λ found. found ≡ command_of (tokens line.now)) }
+    ensures value { IfOk result (λ found. found ≡ command_of (tokens line.now)) }
+    ensures spelled { IfOk result (λ found. IfSome found IsCommand) }
 {
     if let Some(command) = commands::short(line) {
         return Ok(Some(command));

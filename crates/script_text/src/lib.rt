@@ -22,7 +22,6 @@ mod built;
 mod commands;
 mod draft;
 mod fault;
-mod first_form;
 mod line_forms;
 mod lines;
 mod lists;
@@ -37,7 +36,6 @@ mod writing;
 
 pub use built::is_built;
 pub use fault::{LineFault, Rest, ScriptCause, ScriptFault};
-pub use first_form::{FormFault, read_first_form};
 pub use reading::{ScriptRead, read_script};
 pub use script::Script;
 pub use writing::write_script;
