@@ -11,3 +11,5 @@ pub mod Loops
 pub mod Digits
 pub mod Limits
 pub mod Distinct
+pub mod Pieces
+pub mod TokenLaws
