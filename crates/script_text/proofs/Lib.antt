@@ -13,3 +13,5 @@ pub mod Limits
 pub mod Distinct
 pub mod Pieces
 pub mod TokenLaws
+pub mod Joints
+pub mod LineLaws
