@@ -9,7 +9,7 @@ pub mod Bounds
 pub mod Listing
 pub mod Made
 pub mod Distinct
-pub mod Pieces
+pub mod Clean
 pub mod TokenLaws
 pub mod Joints
 pub mod LineLaws
