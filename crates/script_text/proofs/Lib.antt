@@ -13,3 +13,4 @@ pub mod Clean
 pub mod TokenLaws
 pub mod Joints
 pub mod LineLaws
+pub mod LinesBack
