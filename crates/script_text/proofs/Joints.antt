@@ -5,7 +5,7 @@ use Rattle.std.proofs.lemmas.Bool.Decides.{nat_tests}
 use Rattle.script_text.specs.Lines.{is_blank, with_byte}
 use Rattle.script_text.specs.Tokens.{tokens, in_word, goes_on}
 use Rattle.script_text.specs.Spelling.{takes_none_behind, takes_none_before, needs_blank, with_piece, with_pieces}
-use Rattle.script_text.proofs.Pieces.{is_clean, IsClean, IsPiece}
+use Rattle.script_text.proofs.Clean.{is_clean, IsClean, IsPiece}
 use Rattle.script_text.proofs.Splitting.{no_blank}
 
 -- a word goes on from a text into the one behind it

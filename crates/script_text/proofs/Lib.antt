@@ -9,7 +9,8 @@ pub mod Bounds
 pub mod Listing
 pub mod Made
 pub mod Distinct
-pub mod Pieces
+pub mod Clean
 pub mod TokenLaws
 pub mod Joints
 pub mod LineLaws
+pub mod CommandsBack

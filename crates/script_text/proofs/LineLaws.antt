@@ -8,7 +8,7 @@ use Rattle.script_text.specs.Lines.{is_blank, with_byte, lines_of, ends_in, but_
 use Rattle.script_text.specs.Tokens.{tokens}
 use Rattle.script_text.specs.Spelling.{needs_blank, takes_none_behind, with_piece, with_pieces, line_end}
 use Rattle.script_text.specs.Grammar.{Draft, any_line, line_after, tokens_line}
-use Rattle.script_text.proofs.Pieces.{is_clean, IsClean, IsPiece}
+use Rattle.script_text.proofs.Clean.{is_clean, IsClean, IsPiece}
 use Rattle.script_text.proofs.Joints.{ending, ending_is, pieces_clean, pieces_tokens}
 
 -- ---- a text's lines

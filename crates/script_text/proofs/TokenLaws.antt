@@ -15,7 +15,7 @@ use Rattle.script_text.specs.Lines.{is_blank, with_byte}
 use Rattle.script_text.specs.Tokens.{tokens, in_word, is_mark, goes_on}
 use Rattle.script_text.specs.Operands.{number_after, number_of, stat_of}
 use Rattle.script_text.specs.Commands.{enclosed}
-use Rattle.script_text.proofs.Pieces.{is_clean, IsPiece}
+use Rattle.script_text.proofs.Clean.{is_clean, IsPiece}
 
 -- ---- tests of each byte
 
