@@ -14,3 +14,4 @@ pub mod TokenLaws
 pub mod Joints
 pub mod LineLaws
 pub mod LinesBack
+pub mod CommandsBack
