@@ -15,3 +15,4 @@ pub mod Joints
 pub mod LineLaws
 pub mod LinesBack
 pub mod CommandsBack
+pub mod ReadBack
