@@ -9,3 +9,10 @@ pub mod Bounds
 pub mod Listing
 pub mod Made
 pub mod Distinct
+pub mod Clean
+pub mod TokenLaws
+pub mod Joints
+pub mod LineLaws
+pub mod LinesBack
+pub mod CommandsBack
+pub mod ReadBack
