@@ -5,3 +5,4 @@ pub mod Entries
 pub mod Readers
 pub mod Reading
 pub mod Yields
+pub mod Faults

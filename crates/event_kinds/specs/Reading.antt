@@ -61,13 +61,15 @@ modes = AccessShare ∷ RowShare ∷ RowExclusive ∷ ShareUpdateExclusive ∷ S
 abbrev pub col_types : List ColType
 col_types = types.Bool ∷ types.Int2 ∷ types.Int4 ∷ types.Int8 ∷ types.Text ∷ types.Bytea ∷ types.Date ∷ types.Timestamptz ∷ []
 
--- the kinds, the states of an index, and the truth values
+-- the kinds of a relation
 abbrev pub kinds_listed : List Kind
 kinds_listed = Table ∷ Index ∷ []
 
+-- the states of an index
 abbrev pub states : List IndexState
 states = Neither ∷ Valid ∷ []
 
+-- the truth values
 abbrev pub flags : List Bool
 flags = true ∷ false ∷ []
 
@@ -75,34 +77,43 @@ flags = true ∷ false ∷ []
 abbrev pub worded : {X : Type 0} → (X → List ℕ) → List X → List ℕ → Option X
 worded word xs text = find (λ x. bytes_eq (word x) text) xs
 
--- readers of single values
+-- a number
 unfoldable pub number_at : Reader ℕ
 number_at = field_at in_token number_of
 
+-- a number that any byte but a digit ends
 unfoldable pub digits_at : Reader ℕ
 digits_at = field_at is_digit number_of
 
+-- a name
 unfoldable pub name_at : Reader (List ℕ)
 name_at = field_at in_token name_of
 
+-- the word of a default
 unfoldable pub word_at : Reader (List ℕ)
 word_at = field_at in_token word_of
 
+-- the text of a check
 unfoldable pub text_at : Reader (List ℕ)
 text_at = field_at in_token text_of
 
+-- a lock mode
 unfoldable pub mode_at : Reader Mode
 mode_at = field_at in_token (worded mode_word modes)
 
+-- a table or an index
 unfoldable pub kind_at : Reader Kind
 kind_at = field_at in_token (worded kind_word kinds_listed)
 
+-- the type of a column
 unfoldable pub type_at : Reader ColType
 type_at = field_at in_token (worded type_word col_types)
 
+-- the state of an index
 unfoldable pub state_at : Reader IndexState
 state_at = field_at in_token (worded state_word states)
 
+-- a truth value by its letter
 unfoldable pub flag_at : (Bool → List ℕ) → Reader Bool
 flag_at word = field_at in_token (worded word flags)
 
@@ -123,60 +134,73 @@ fill_at = or_at (codes "-") (none_at None) (as_at (λ n. Some n) number_at)
 unfoldable pub nums_at : Reader (List ℕ)
 nums_at = as_at (λ p. p.0 ∷ p.1) (pair_at digits_at (more_at (codes "+") digits_at 31))
 
--- a part and a comma, a parenthesis or a blank
+-- a part and a comma
 abbrev pub comma : {X : Type 0} → Reader X → Reader X
 comma f = then_at f (codes ",")
 
+-- a part and a parenthesis
 abbrev pub closed : {X : Type 0} → Reader X → Reader X
 closed f = then_at f (codes ")")
 
+-- a part and a blank
 abbrev pub blank : {X : Type 0} → Reader X → Reader X
 blank f = then_at f (codes " ")
 
 -- ---- rows
 
--- rows made of their columns
+-- the row of `pg_class` with these columns
 abbrev pub class_of : ℕ × (List ℕ × (Kind × Option ℕ)) → Row
 class_of t = rows.Class (record { 0 = t.0 }) t.1.0 t.1.1.0 t.1.1.1
 
+-- the row of `pg_attribute` with these columns
 abbrev pub att_of : ℕ × (ℕ × (List ℕ × (ColType × (ℤ × Bool)))) → Row
 att_of t = rows.Att (record { 0 = t.0 }) t.1.0 t.1.1.0 t.1.1.1.0 t.1.1.1.1.0 t.1.1.1.1.1
 
+-- the row of `pg_attrdef` with these columns
 abbrev pub def_of : ℕ × (ℕ × (ℕ × List ℕ)) → Row
 def_of t = rows.Def (record { 0 = t.0 }) (record { 0 = t.1.0 }) t.1.1.0 t.1.1.1
 
+-- the row of `pg_index` with these columns
 abbrev pub ind_of : ℕ × (ℕ × (IndexState × List ℕ)) → Row
 ind_of t = rows.Ind (record { 0 = t.0 }) (record { 0 = t.1.0 }) t.1.1.0 t.1.1.1
 
+-- the row of `pg_constraint` with these columns
 abbrev pub con_of : ℕ × (ℕ × (List ℕ × (Bool × ConKind))) → Row
 con_of t = rows.Con (record { 0 = t.0 }) (record { 0 = t.1.0 }) t.1.1.0 t.1.1.1.0 t.1.1.1.1
 
+-- the row of `pg_trigger` with these columns
 abbrev pub trg_of : ℕ × (ℕ × (List ℕ × Bool)) → Row
 trg_of t = rows.Trg (record { 0 = t.0 }) (record { 0 = t.1.0 }) t.1.1.0 t.1.1.1
 
--- a check, and a foreign key
+-- a check and whether it is known to hold
 abbrev pub check_of : Bool × List ℕ → Bool × ConKind
 check_of t = (t.0, kinds.Check t.1)
 
+-- a foreign key and whether it is known to hold
 abbrev pub foreign_of : Bool × (ℕ × (ℕ × ℕ)) → Bool × ConKind
 foreign_of t = (t.0, kinds.Foreign t.1.0 (record { 0 = t.1.1.0 }) t.1.1.1)
 
--- what stands behind each catalog's word
+-- what stands behind `class(`
 unfoldable pub class_at : Reader Row
 class_at = as_at class_of (pair_at (comma number_at) (pair_at (comma name_at) (pair_at (comma kind_at) (closed fill_at))))
 
+-- what stands behind `att(`
 unfoldable pub att_at : Reader Row
 att_at = as_at att_of (pair_at (comma number_at) (pair_at (comma number_at) (pair_at (comma name_at) (pair_at (comma type_at) (pair_at (comma signed_at) (closed (flag_at live_word)))))))
 
+-- what stands behind `def(`
 unfoldable pub def_at : Reader Row
 def_at = as_at def_of (pair_at (comma number_at) (pair_at (comma number_at) (pair_at (comma number_at) (closed word_at))))
 
+-- what stands behind `ind(`
 unfoldable pub ind_at : Reader Row
 ind_at = as_at ind_of (pair_at (comma number_at) (pair_at (comma number_at) (pair_at (comma state_at) (closed nums_at))))
 
+-- what stands behind `c,` in a constraint
 unfoldable pub check_con_at : Reader (Bool × ConKind)
 check_con_at = as_at check_of (pair_at (comma (flag_at valid_word)) text_at)
 
+-- what stands behind `f,` in a constraint
 unfoldable pub foreign_con_at : Reader (Bool × ConKind)
 foreign_con_at = as_at foreign_of (pair_at (comma (flag_at valid_word)) (pair_at (comma number_at) (pair_at (comma number_at) number_at)))
 
@@ -184,12 +208,15 @@ foreign_con_at = as_at foreign_of (pair_at (comma (flag_at valid_word)) (pair_at
 abbrev pub what_cases : List (List ℕ × Reader (Bool × ConKind))
 what_cases = (codes "c,", check_con_at) ∷ (codes "f,", foreign_con_at) ∷ []
 
+-- what a constraint demands
 unfoldable pub what_at : Reader (Bool × ConKind)
 what_at = choose_at what_cases
 
+-- what stands behind `con(`
 unfoldable pub con_at : Reader Row
 con_at = as_at con_of (pair_at (comma number_at) (pair_at (comma number_at) (pair_at (comma name_at) (closed what_at))))
 
+-- what stands behind `trg(`
 unfoldable pub trg_at : Reader Row
 trg_at = as_at trg_of (pair_at (comma number_at) (pair_at (comma number_at) (pair_at (comma name_at) (closed (flag_at on_word)))))
 
@@ -201,22 +228,27 @@ row_cases = (codes "class(", class_at) ∷ (codes "att(", att_at) ∷ (codes "de
 unfoldable pub row_at : Reader Row
 row_at = choose_at row_cases
 
--- keys made of their numbers
+-- the key of a row of `pg_class`
 abbrev pub key_class_of : ℕ → RowKey
 key_class_of n = keys.Class (record { 0 = n })
 
+-- the key of a row of `pg_attribute`
 abbrev pub key_att_of : ℕ × ℕ → RowKey
 key_att_of t = keys.Att (record { 0 = t.0 }) t.1
 
+-- the key of a row of `pg_attrdef`
 abbrev pub key_def_of : ℕ → RowKey
 key_def_of n = keys.Def (record { 0 = n })
 
+-- the key of a row of `pg_index`
 abbrev pub key_ind_of : ℕ → RowKey
 key_ind_of n = keys.Ind (record { 0 = n })
 
+-- the key of a row of `pg_constraint`
 abbrev pub key_con_of : ℕ → RowKey
 key_con_of n = keys.Con (record { 0 = n })
 
+-- the key of a row of `pg_trigger`
 abbrev pub key_trg_of : ℕ → RowKey
 key_trg_of n = keys.Trg (record { 0 = n })
 
@@ -230,15 +262,19 @@ key_at = choose_at key_cases
 
 -- ---- changes
 
+-- the change that adds a row
 abbrev pub add_of : Row → Item
 add_of row = items.Add row
 
+-- the change that puts a row in the place of another
 abbrev pub put_of : Row → Item
 put_of row = items.Put row
 
+-- the change that removes a row
 abbrev pub remove_of : RowKey → Item
 remove_of key = items.Remove key
 
+-- the change that forces a message
 abbrev pub force_of : ℕ → Item
 force_of n = items.Force (record { 0 = n })
 
@@ -250,6 +286,7 @@ item_cases = (codes "+", as_at add_of row_at) ∷ (codes "=", as_at put_of row_a
 unfoldable pub item_at : Reader Item
 item_at = choose_at item_cases
 
+-- a change in front of others
 abbrev pub with_item : Item × List Item → List Item
 with_item p = p.0 ∷ p.1
 
@@ -267,36 +304,47 @@ items_at = choose_at items_cases
 
 -- ---- scans
 
+-- the scan of a relation by its name
 abbrev pub rel_name_of : List ℕ → Purpose
 rel_name_of name = scans.RelName name
 
+-- the scan of a relation by its oid
 abbrev pub rel_oid_of : ℕ → Purpose
 rel_oid_of n = scans.RelOid (record { 0 = n })
 
+-- the scan of a column by its name
 abbrev pub att_name_of : ℕ × List ℕ → Purpose
 att_name_of t = scans.AttName (record { 0 = t.0 }) t.1
 
+-- the scan of all columns, by name
 abbrev pub att_list_of : ℕ → Purpose
 att_list_of n = scans.AttList (record { 0 = n })
 
+-- the scan of a relation's own row
 abbrev pub class_scan_of : ℕ → Purpose
 class_scan_of n = scans.Class (record { 0 = n })
 
+-- the scan of all columns, by number
 abbrev pub attribute_of : ℕ → Purpose
 attribute_of n = scans.Attribute (record { 0 = n })
 
+-- the scan of defaults
 abbrev pub attr_def_of : ℕ → Purpose
 attr_def_of n = scans.AttrDef (record { 0 = n })
 
+-- the scan of constraints
 abbrev pub constraint_of : ℕ → Purpose
 constraint_of n = scans.Constraint (record { 0 = n })
 
+-- the scan of a table's indexes
 abbrev pub index_of : ℕ → Purpose
 index_of n = scans.Index (record { 0 = n })
 
+-- the scan of triggers
 abbrev pub trigger_of : ℕ → Purpose
 trigger_of n = scans.Trigger (record { 0 = n })
 
+-- the scan of an index's own row
 abbrev pub index_row_of : ℕ → Purpose
 index_row_of n = scans.IndexRow (record { 0 = n })
 
@@ -314,44 +362,57 @@ purpose_at = or_at (codes "relname ") (as_at rel_name_of name_at) (or_at (codes 
 
 -- ---- events
 
+-- a fetch of so many messages
 abbrev pub fetch_of : ℕ → Event
 fetch_of n = events.Fetch n
 
+-- a lock, granted or held by another
 abbrev pub lock_of : ℕ × (Mode × Option (ℕ × Mode)) → Event
 lock_of (rel, (mode, None)) = events.LockOk (record { 0 = rel }) mode
 lock_of (rel, (mode, Some held)) = events.LockHeld (record { 0 = rel }) mode held.0 held.1
 
+-- a lock given back
 abbrev pub unlock_of : ℕ × Mode → Event
 unlock_of t = events.Unlock (record { 0 = t.0 }) t.1
 
+-- a scan and how many rows came
 abbrev pub scan_of : Purpose × ℕ → Event
 scan_of t = events.Scan t.0 t.1
 
+-- a write of changes
 abbrev pub write_of : ℕ × List Item → Event
 write_of t = events.Write (record { 0 = t.0 }) t.1
 
+-- a clash with a row, or with a running transaction
 abbrev pub clash_of : List ℕ × (Bool × ℕ) → Event
 clash_of (name, (true, n)) = events.ClashRow name (record { 0 = n })
 clash_of (name, (false, n)) = events.ClashRunning name (record { 0 = n })
 
+-- a transaction committed
 abbrev pub visible_of : ℕ → Event
 visible_of n = events.Visible (record { 0 = n })
 
+-- so many messages put into the queue
 abbrev pub publish_of : ℕ → Event
 publish_of n = events.Publish n
 
+-- locks given back from a command on
 abbrev pub release_of : ℕ → Event
 release_of n = events.Release n
 
+-- writes taken back from a command on
 abbrev pub gone_of : ℕ → Event
 gone_of n = events.Gone n
 
+-- who holds a lock, and in which mode
 abbrev pub held_of : ℕ × Mode → Option (ℕ × Mode)
 held_of t = Some t
 
+-- a row has the name
 abbrev pub of_row : ℕ → Bool × ℕ
 of_row n = (true, n)
 
+-- a running transaction has the name
 abbrev pub of_running : ℕ → Bool × ℕ
 of_running n = (false, n)
 
@@ -391,16 +452,19 @@ number_event_at = choose_at number_event_cases
 unfoldable pub short_event_at : Reader Event
 short_event_at = or_at (codes "start") (none_at events.Start) (or_at (codes "look yes") (none_at (events.Look true)) (or_at (codes "look no") (none_at (events.Look false)) (or_at (codes "fetch ") fetch_at number_event_at)))
 
--- a lock given back, a scan, a write and a clash, behind their words
+-- a lock given back, behind its word
 unfoldable pub unlock_event_at : Reader Event
 unlock_event_at = as_at unlock_of (pair_at (blank number_at) mode_at)
 
+-- a scan, behind its word
 unfoldable pub scan_event_at : Reader Event
 scan_event_at = as_at scan_of (pair_at (then_at purpose_at (codes " rows ")) number_at)
 
+-- a write, behind its word
 unfoldable pub write_event_at : Reader Event
 write_event_at = as_at write_of (pair_at number_at items_at)
 
+-- a clash, behind its word
 unfoldable pub clash_event_at : Reader Event
 clash_event_at = as_at clash_of (pair_at (blank name_at) owner_at)
 
@@ -410,6 +474,7 @@ event_at = or_at (codes "lock ") lock_event_at (or_at (codes "unlock ") unlock_e
 
 -- ---- entries
 
+-- the entry of a backend, a command and an event
 abbrev pub entry_of : ℕ × (ℕ × Event) → Entry
 entry_of t = record { backend = t.0; command = t.1.0; event = t.1.1 }
 

@@ -1,6 +1,6 @@
-ghost use Rattle.std.specs.Prelude.{◌≡◌, ◌++◌, codes, OnOk, OnErr};
+ghost use Rattle.std.specs.Prelude.{◌≡◌, ◌++◌, OnOk, OnErr};
 ghost use Rattle.event_kinds.specs.Adding.{Adds};
-ghost use Rattle.event_kinds.specs.Texts.{item_text, changes_text, entry_text};
+ghost use Rattle.event_kinds.specs.Texts.{changes_text, entry_text};
 
 use crate::event_text::{changes_in, push_entry_head, push_item};
 use crate::{Entry, Item};

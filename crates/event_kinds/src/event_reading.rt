@@ -1,5 +1,4 @@
-ghost use Rattle.std.specs.Prelude.{◌≡◌, codes};
-ghost use Rattle.event_kinds.specs.Readers.{Gives, lit_at};
+ghost use Rattle.event_kinds.specs.Readers.{Gives};
 
 use crate::cursor::Cursor;
 use crate::{Event, Item};

@@ -14,6 +14,11 @@ pub enum EntryFault {
 }
 
 impl fmt::Display for EntryFault {
+    ghost use Rattle.std.specs.Prelude.{Some};
+    ghost use Rattle.event_kinds.specs.Faults.{fault_text};
+
+    ghost output = { λ fault. Some (fault_text fault) };
+
     fn fmt<W: fmt::Write>(&self, f: &mut fmt::Formatter<W>) -> fmt::Result {
         match self {
             EntryFault::Bad => f.write_str("no entry has this text"),

@@ -1,5 +1,5 @@
-ghost use Rattle.std.specs.Prelude.{◌≡◌, List, ⊤, [], ◌∷◌, ◌++◌, length, codes, IfOk, OnOk, OnErr, Err};
-ghost use Rattle.event_kinds.specs.Readers.{Gives, lit_at, more_at, with_front};
+ghost use Rattle.std.specs.Prelude.{◌≡◌, List, [], ◌∷◌, ◌++◌, IfOk, OnOk, OnErr, Err};
+ghost use Rattle.event_kinds.specs.Readers.{with_front};
 ghost use Rattle.event_kinds.specs.Yields.{Yields, YieldsWhole};
 ghost use Rattle.event_kinds.specs.Events.{Item, Entry};
 ghost use Rattle.event_kinds.specs.Entries.{IsEntry, TextsDiffer};
@@ -45,7 +45,7 @@ fn whole_entry(alloc: Global, line: &[u8]) -> Result<Entry, EntryFault>
 
 // What takes memory: the changes of a write.
 impl<'a> Cursor<'a> {
-    ghost use Rattle.event_kinds.specs.Reading.{item_at, rest_items_at, items_at, write_event_at, event_at, placed_at};
+    ghost use Rattle.event_kinds.specs.Reading.{rest_items_at, items_at, write_event_at, event_at, placed_at};
 
     // The backend, the command and the event of an entry.
     #[tactic(auto, unfolding(crate::specs::Reading::placed_at))]

@@ -1,6 +1,6 @@
 ghost use Rattle.std.specs.Prelude.{◌≡◌, ◌≤◌, ◌+◌, ◌++◌, length, codes, decimal};
 ghost use Rattle.std.specs.List.{flat_map};
-ghost use Rattle.base_types.specs.Words.{type_word, fill_text, nums_text};
+ghost use Rattle.base_types.specs.Words.{fill_text, nums_text};
 ghost use Rattle.base_types.specs.declared.row.Row.TheVariants as rows;
 ghost use Rattle.event_kinds.specs.Texts.{con_text, row_text, key_text};
 
