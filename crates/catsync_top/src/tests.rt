@@ -115,7 +115,7 @@ fn a_source_fails_at_each_call_in_turn(rt: HostRuntime) -> Result<(), Fail> {
 fn a_sink_fails_at_each_call_in_turn(rt: HostRuntime) -> Result<(), Fail> {
     let alloc = rt.alloc();
     let output = CREATE_THEN_SHOW_OUTPUT.as_bytes();
-    for per_call in [1, 5000] {
+    for per_call in [1, 5, 5000] {
         for failing in 1..2000 {
             let mut source = SteadySource::new(CREATE_THEN_SHOW.to_vec(alloc)?);
             let mut sink = MemorySink::new(alloc, per_call, [failing].to_vec(alloc)?);
@@ -132,46 +132,61 @@ fn a_sink_fails_at_each_call_in_turn(rt: HostRuntime) -> Result<(), Fail> {
     Ok(())
 }
 
+// Words and scripts that are refused, with nothing written.
+const REFUSED: [(&[&str], &[u8], Status); 14] = [
+    (&[], CREATE_THEN_SHOW, Status::Usage),
+    (&[""], CREATE_THEN_SHOW, Status::Usage),
+    (&["Walk"], CREATE_THEN_SHOW, Status::Usage),
+    (&["run"], CREATE_THEN_SHOW, Status::Usage),
+    (&["make", "0"], CREATE_THEN_SHOW, Status::Usage),
+    (&["walk", "walk"], CREATE_THEN_SHOW, Status::Usage),
+    (
+        &["walk"],
+        b"",
+        Status::BadScript {
+            line: 1,
+            cause: ScriptCause::NoBackends,
+        },
+    ),
+    (
+        &["walk"],
+        b"backends 1\n1: create table t (a int4)\n1: show t\n",
+        Status::BadScript {
+            line: 4,
+            cause: ScriptCause::NoEnd,
+        },
+    ),
+    (
+        &["walk"],
+        b"-- none\nbackends 1\n\n1: show 1t\nend\n",
+        Status::BadScript {
+            line: 4,
+            cause: ScriptCause::BadCommand,
+        },
+    ),
+    (&["walk"], b"backends 1\n1: begin\nend\n", Status::NotYet),
+    (&["walk"], b"ring 4096\nbackends 1\nend\n", Status::NotYet),
+    (
+        &["walk"],
+        b"backends 1\n1: show t name\nend\n",
+        Status::NotYet,
+    ),
+    (
+        &["walk"],
+        b"backends 1\n1: create table t (a int4, a int8)\nend\n",
+        Status::NotYet,
+    ),
+    (
+        &["walk"],
+        b"backends 2\n1: create table t ()\n2: create table T ()\nend\n",
+        Status::NotYet,
+    ),
+];
+
 #[test]
 fn other_words_and_other_scripts_write_nothing(rt: HostRuntime) -> Result<(), Fail> {
     let alloc = rt.alloc();
-    let rows: [(&[&str], &[u8], Status); 14] = [
-        (&[], CREATE_THEN_SHOW, Status::Usage),
-        (&[""], CREATE_THEN_SHOW, Status::Usage),
-        (&["Walk"], CREATE_THEN_SHOW, Status::Usage),
-        (&["run"], CREATE_THEN_SHOW, Status::Usage),
-        (&["make", "0"], CREATE_THEN_SHOW, Status::Usage),
-        (&["walk", "walk"], CREATE_THEN_SHOW, Status::Usage),
-        (&["walk"], b"", bad(1, ScriptCause::NoBackends)),
-        (
-            &["walk"],
-            b"backends 1\n1: create table t (a int4)\n1: show t\n",
-            bad(4, ScriptCause::NoEnd),
-        ),
-        (
-            &["walk"],
-            b"-- none\nbackends 1\n\n1: show 1t\nend\n",
-            bad(4, ScriptCause::BadCommand),
-        ),
-        (&["walk"], b"backends 1\n1: begin\nend\n", Status::NotYet),
-        (&["walk"], b"ring 4096\nbackends 1\nend\n", Status::NotYet),
-        (
-            &["walk"],
-            b"backends 1\n1: show t name\nend\n",
-            Status::NotYet,
-        ),
-        (
-            &["walk"],
-            b"backends 1\n1: create table t (a int4, a int8)\nend\n",
-            Status::NotYet,
-        ),
-        (
-            &["walk"],
-            b"backends 2\n1: create table t ()\n2: create table T ()\nend\n",
-            Status::NotYet,
-        ),
-    ];
-    for (words, script, expected) in rows {
+    for (words, script, expected) in REFUSED {
         let mut source = SteadySource::new(script.to_vec(alloc)?);
         let mut sink = SteadySink::with_room(alloc, 4000)?;
         let status = call(alloc, words, &mut source, &mut sink)?;
@@ -179,11 +194,6 @@ fn other_words_and_other_scripts_write_nothing(rt: HostRuntime) -> Result<(), Fa
         assert!(rt; sink.sent().is_empty());
     }
     Ok(())
-}
-
-// The refusal of a script.
-fn bad(line: u32, cause: ScriptCause) -> Status {
-    Status::BadScript { line, cause }
 }
 
 #[test]
@@ -224,70 +234,81 @@ fn the_most_bytes_and_columns_and_one_more(rt: HostRuntime) -> Result<(), Fail> 
     Ok(())
 }
 
+// What is said of a line that breaks a rule.
+const CAUSES: [(ScriptCause, &str); 12] = [
+    (
+        ScriptCause::BadByte,
+        "BadByte: the line holds a byte that is neither printable ASCII nor a tab",
+    ),
+    (
+        ScriptCause::BadRing,
+        "BadRing: a ring line must come first and read 'ring N' or 'ring N from M', with N a power of two from 64 to 4096 and M below 262144 times N",
+    ),
+    (
+        ScriptCause::NoBackends,
+        "NoBackends: the first line, but for a ring line, must read 'backends N'",
+    ),
+    (
+        ScriptCause::BadCount,
+        "BadCount: a backends line must read 'backends N' with N from 1 to 64",
+    ),
+    (
+        ScriptCause::NoEnd,
+        "NoEnd: the input ends without an 'end' line",
+    ),
+    (
+        ScriptCause::BadSteps,
+        "BadSteps: a steps line must name backends of the script, as B or B*COUNT with COUNT from 1 to 1000000",
+    ),
+    (
+        ScriptCause::TooManySteps,
+        "TooManySteps: the script has more than 1000000 steps",
+    ),
+    (
+        ScriptCause::UnknownBackend,
+        "UnknownBackend: a command line must begin with a backend of the script and a colon",
+    ),
+    (
+        ScriptCause::LateCommand,
+        "LateCommand: no command may follow a steps line",
+    ),
+    (
+        ScriptCause::BadCommand,
+        "BadCommand: the line has none of the forms of a command",
+    ),
+    (
+        ScriptCause::TooManyCommands,
+        "TooManyCommands: the script has more than 20000 commands",
+    ),
+    (
+        ScriptCause::AfterEnd,
+        "AfterEnd: only blank lines and comments may follow the 'end' line",
+    ),
+];
+
+// What is said of the other ends of a call.
+const STATUSES: [(Status, &str); 7] = [
+    (Status::Done, "done"),
+    (Status::Usage, "usage: catsync walk < SCRIPT > OUTPUT"),
+    (Status::TooLong, "the script has more than 1048576 bytes"),
+    (Status::ReadFault, "reading failed"),
+    (Status::WriteFault, "writing failed"),
+    (Status::NoMemory, "want of memory"),
+    (
+        Status::NotYet,
+        "the script holds a command or a line that isn't built yet",
+    ),
+];
+
 #[test]
 fn each_status_has_its_text(rt: HostRuntime) -> Result<(), Fail> {
     let alloc = rt.alloc();
-    let rows = [
-        (Status::Done, "done"),
-        (Status::Usage, "usage: catsync walk < SCRIPT > OUTPUT"),
-        (
-            bad(7, ScriptCause::BadByte),
-            "line 7: BadByte: the line holds a byte that is neither printable ASCII nor a tab",
-        ),
-        (
-            bad(1, ScriptCause::BadRing),
-            "line 1: BadRing: a ring line must come first and read 'ring N' or 'ring N from M', with N a power of two from 64 to 4096 and M below 262144 times N",
-        ),
-        (
-            bad(1, ScriptCause::NoBackends),
-            "line 1: NoBackends: the first line, but for a ring line, must read 'backends N'",
-        ),
-        (
-            bad(1, ScriptCause::BadCount),
-            "line 1: BadCount: a backends line must read 'backends N' with N from 1 to 64",
-        ),
-        (
-            bad(4, ScriptCause::NoEnd),
-            "line 4: NoEnd: the input ends without an 'end' line",
-        ),
-        (
-            bad(3, ScriptCause::BadSteps),
-            "line 3: BadSteps: a steps line must name backends of the script, as B or B*COUNT with COUNT from 1 to 1000000",
-        ),
-        (
-            bad(3, ScriptCause::TooManySteps),
-            "line 3: TooManySteps: the script has more than 1000000 steps",
-        ),
-        (
-            bad(2, ScriptCause::UnknownBackend),
-            "line 2: UnknownBackend: a command line must begin with a backend of the script and a colon",
-        ),
-        (
-            bad(9, ScriptCause::LateCommand),
-            "line 9: LateCommand: no command may follow a steps line",
-        ),
-        (
-            bad(2, ScriptCause::BadCommand),
-            "line 2: BadCommand: the line has none of the forms of a command",
-        ),
-        (
-            bad(20002, ScriptCause::TooManyCommands),
-            "line 20002: TooManyCommands: the script has more than 20000 commands",
-        ),
-        (
-            bad(3, ScriptCause::AfterEnd),
-            "line 3: AfterEnd: only blank lines and comments may follow the 'end' line",
-        ),
-        (Status::TooLong, "the script has more than 1048576 bytes"),
-        (Status::ReadFault, "reading failed"),
-        (Status::WriteFault, "writing failed"),
-        (Status::NoMemory, "want of memory"),
-        (
-            Status::NotYet,
-            "the script holds a command or a line that isn't built yet",
-        ),
-    ];
-    for (status, text) in rows {
+    for (cause, text) in CAUSES {
+        let shown = format!(in alloc; "{}", Status::BadScript { line: 7, cause })?;
+        let said = format!(in alloc; "line 7: {text}")?;
+        assert_eq!(rt; shown.as_str(), said.as_str());
+    }
+    for (status, text) in STATUSES {
         let shown = format!(in alloc; "{status}")?;
         assert_eq!(rt; shown.as_str(), text);
     }
