@@ -1,6 +1,7 @@
 -- The tokens of texts that stand one behind the other.
-use Rattle.std.proofs.Common.{◌≡◌, ◌≤◌, ◌-◌, ℕ, suc, Bool, true, false, not, ◌&&◌, cond, List, [], ◌∷◌, ◌++◌, length, get_or, refl, sym, ap, ◌∙◌, append_assoc, append-nil, arith}
+use Rattle.std.proofs.Common.{◌≡◌, ◌≤◌, ◌-◌, ℕ, suc, Bool, true, false, not, ◌&&◌, cond, inl, inr, List, [], ◌∷◌, ◌++◌, length, get_or, refl, sym, ap, ◌∙◌, append_assoc, append-nil, arith}
 use Rattle.std.specs.List.{AllByRecursion, flat_map}
+use Rattle.std.proofs.lemmas.Bool.{and_cases, and_left, and_right, not-false, cond_both}
 use Rattle.std.proofs.lemmas.Bool.Decides.{nat_tests}
 use Rattle.script_text.specs.Lines.{is_blank, with_byte}
 use Rattle.script_text.specs.Tokens.{tokens, in_word, goes_on}
@@ -36,13 +37,10 @@ with_byte_some : (x : ℕ) (ts : List (List ℕ)) → 1 ≤ length (with_byte x 
 with_byte_some x [] = omega arith
 with_byte_some x (t ∷ ts) = omega arith
 
-either_some : (x : ℕ) (ts : List (List ℕ)) (more : Bool) → 1 ≤ length (cond more (with_byte x ts) ((x ∷ []) ∷ ts))
-either_some x ts true = with_byte_some x ts
-either_some x ts false = omega arith
-
 some_tokens : (x : ℕ) (a : List ℕ) → in_word x ≡ true → 1 ≤ length (tokens (x ∷ a))
 unfolding tokens
-some_tokens x a word = rw (word, no_blank x word) (either_some x (tokens a) (goes_on a))
+some_tokens x a word =
+    rw (word, no_blank x word) (cond_both (goes_on a) (with_byte x (tokens a)) ((x ∷ []) ∷ tokens a) (λ ts. 1 ≤ length ts) (λ more. with_byte_some x (tokens a)) (λ last. omega arith))
 
 -- the tokens of two texts are those of the one and of the other, where no word goes on
 pub parted : (a b : List ℕ) → joins a b ≡ false → tokens (a ++ b) ≡ tokens a ++ tokens b
@@ -67,14 +65,10 @@ joins_not [] b h = refl
 joins_not (x ∷ []) b h = h
 joins_not (x ∷ y ∷ a) b h = joins_not (y ∷ a) b h
 
-and_false : (b : Bool) → b && false ≡ false
-and_false true = refl
-and_false false = refl
-
 -- the tokens of two texts with a blank between them
 pub over_blank : (a b : List ℕ) → tokens (a ++ 32 ∷ b) ≡ tokens a ++ tokens b
 unfolding tokens
-over_blank a b = parted a (32 ∷ b) (joins_not a (32 ∷ b) (and_false (in_word (ending a))))
+over_blank a b = parted a (32 ∷ b) (joins_not a (32 ∷ b) (and_right (in_word (ending a)) false refl))
 
 clean_ending : (a : List ℕ) → 1 ≤ length a → IsClean a → is_clean (ending a) ≡ true
 clean_ending [] some h = absurd (omega arith)
@@ -87,14 +81,12 @@ behind_mark b clean mark = grind (arith, nat_tests)
 before_mark : (b : ℕ) → is_clean b ≡ true → takes_none_before b ≡ true → in_word b ≡ false
 before_mark b clean mark = grind (arith, nat_tests)
 
-apart_by : (behind before : Bool) (x y : Bool) → not behind && not before ≡ false → (behind ≡ true → x ≡ false) → (before ≡ true → y ≡ false) → x && y ≡ false
-apart_by true before x y h k l = rw (k refl) refl
-apart_by false true x y h k l = rw (l refl) (and_false x)
-apart_by false false x y h k l = absurd cc
-
 -- where no blank stands between clean bytes, no word goes on
 apart : (a b : ℕ) → is_clean a ≡ true → is_clean b ≡ true → not (takes_none_behind a) && not (takes_none_before b) ≡ false → in_word a && in_word b ≡ false
-apart a b clean_a clean_b h = apart_by (takes_none_behind a) (takes_none_before b) (in_word a) (in_word b) h (behind_mark a clean_a) (before_mark b clean_b)
+apart a b clean_a clean_b h = elim (and_cases (not (takes_none_behind a)) (not (takes_none_before b)) h) [
+  | inl mark ↦ and_left (in_word a) (in_word b) (behind_mark a clean_a (not-false (takes_none_behind a) mark))
+  | inr mark ↦ and_right (in_word a) (in_word b) (before_mark b clean_b (not-false (takes_none_before b) mark))
+]
 
 piece_by : (text piece : List ℕ) (blank : Bool) → needs_blank text piece ≡ blank → 1 ≤ length text → IsClean text → IsPiece piece → tokens (with_piece text piece) ≡ tokens text ++ tokens piece
 unfolding with_piece
@@ -114,13 +106,9 @@ both_clean : (a b : List ℕ) → IsClean a → IsClean b → IsClean (a ++ b)
 both_clean [] b h k = k
 both_clean (x ∷ a) b h k = (h.0, both_clean a b h.1 k)
 
-with_clean_by : (text piece : List ℕ) (blank : Bool) → IsClean text → IsClean piece → IsClean (cond blank (text ++ 32 ∷ [] ++ piece) (text ++ piece))
-with_clean_by text piece true h k = both_clean (text ++ 32 ∷ []) piece (both_clean text (32 ∷ []) h (refl, tt)) k
-with_clean_by text piece false h k = both_clean text piece h k
-
 with_clean : (text piece : List ℕ) → IsClean text → IsClean piece → IsClean (with_piece text piece)
 unfolding with_piece
-with_clean text piece h k = with_clean_by text piece (needs_blank text piece) h k
+with_clean text piece h k = cond_both (needs_blank text piece) (text ++ 32 ∷ [] ++ piece) (text ++ piece) IsClean (λ blank. both_clean (text ++ 32 ∷ []) piece (both_clean text (32 ∷ []) h (refl, tt)) k) (λ none. both_clean text piece h k)
 
 -- a text with pieces behind it is clean, and has the tokens of each
 pub pieces_clean : (text : List ℕ) (pieces : List (List ℕ)) → IsClean text → AllByRecursion IsPiece pieces → IsClean (with_pieces text pieces)

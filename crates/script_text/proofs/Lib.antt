@@ -13,4 +13,6 @@ pub mod Clean
 pub mod TokenLaws
 pub mod Joints
 pub mod LineLaws
+pub mod LinesBack
 pub mod CommandsBack
+pub mod ReadBack

@@ -1,8 +1,9 @@
 -- The lines of a script's text, and what is read of each.
-use Rattle.std.proofs.Common.{◌≡◌, ◌<◌, ◌≤◌, ◌-◌, ℕ, suc, Bool, true, false, not, ◌&&◌, ◌==◌, cond, List, [], ◌∷◌, ◌++◌, length, get_or, map, refl, sym, ap, ◌∙◌, append_assoc, append-nil, length-append, arith}
+use Rattle.std.proofs.Common.{◌≡◌, ◌<◌, ◌≤◌, ◌-◌, ℕ, suc, Bool, true, false, not, ◌==◌, cond, List, [], ◌∷◌, ◌++◌, length, get_or, map, refl, sym, ap, ◌∙◌, append_assoc, append-nil, length-append, arith}
 use Rattle.std.specs.List.{AllByRecursion, flat_map, list_any}
 use Rattle.std.proofs.Math.Seq.{get_or-append_seam, take-append_seam}
 use Rattle.std.proofs.lemmas.List.Sums.{fold-append}
+use Rattle.std.proofs.lemmas.Bool.{and_right, cond_both}
 use Rattle.std.proofs.lemmas.Bool.Decides.{nat_tests}
 use Rattle.script_text.specs.Lines.{is_blank, with_byte, lines_of, ends_in, but_last, bare, counts, is_bad_byte, small}
 use Rattle.script_text.specs.Tokens.{tokens}
@@ -47,12 +48,8 @@ no_cr_last [] h = refl
 no_cr_last (x ∷ []) h = no_cr_byte x h.0
 no_cr_last (x ∷ y ∷ text) h = let e : length (x ∷ y ∷ text) - 1 ≡ suc (length (y ∷ text) - 1) = omega arith in rw e (no_cr_last (y ∷ text) h.1)
 
-and_false : (b : Bool) → b && false ≡ false
-and_false true = refl
-and_false false = refl
-
 no_cr : (text : List ℕ) → IsClean text → ends_in 13 text ≡ false
-no_cr text h = rw (no_cr_last text h) (and_false (not (length text == 0)))
+no_cr text h = rw (no_cr_last text h) (and_right (not (length text == 0)) false refl)
 
 -- clean bytes and an LF are the bytes
 bare_line : (text : List ℕ) → IsClean text → bare (text ++ 10 ∷ []) ≡ text
@@ -95,13 +92,9 @@ record IsFront (b : ℕ) (text : List ℕ) : Type 0 where
   pub rest : List ℕ
   pub is : text ≡ b ∷ rest
 
-front_by : (b : ℕ) (text piece : List ℕ) (blank : Bool) → IsFront b (cond blank ((b ∷ text) ++ 32 ∷ [] ++ piece) ((b ∷ text) ++ piece))
-front_by b text piece true = record { rest = text ++ 32 ∷ [] ++ piece; is = refl }
-front_by b text piece false = record { rest = text ++ piece; is = refl }
-
 front_stays : (b : ℕ) (text piece : List ℕ) → IsFront b (with_piece (b ∷ text) piece)
 unfolding with_piece
-front_stays b text piece = front_by b text piece (needs_blank (b ∷ text) piece)
+front_stays b text piece = cond_both (needs_blank (b ∷ text) piece) ((b ∷ text) ++ 32 ∷ [] ++ piece) ((b ∷ text) ++ piece) (IsFront b) (λ blank. record { rest = text ++ 32 ∷ [] ++ piece; is = refl }) (λ none. record { rest = text ++ piece; is = refl })
 
 counts_with : (b : ℕ) (text : List ℕ) (pieces : List (List ℕ)) → is_blank b ≡ false → (b == 45) ≡ false → counts (with_pieces (b ∷ text) pieces) ≡ true
 counts_with b text [] blank dash = counts_by b text blank dash
@@ -142,13 +135,9 @@ piece_behind : (text p q : List ℕ) → 1 ≤ length p → with_piece (text ++ 
 unfolding with_piece
 piece_behind text p q some = rw (last_behind text p some) (assoc_by text p q (needs_blank p q))
 
-some_by : (p q : List ℕ) (blank : Bool) → 1 ≤ length p → 1 ≤ length (cond blank (p ++ 32 ∷ [] ++ q) (p ++ q))
-some_by p q true some = simp length-append (omega arith)
-some_by p q false some = simp length-append (omega arith)
-
 some_more : (p q : List ℕ) → 1 ≤ length p → 1 ≤ length (with_piece p q)
 unfolding with_piece
-some_more p q some = some_by p q (needs_blank p q) some
+some_more p q some = cond_both (needs_blank p q) (p ++ 32 ∷ [] ++ q) (p ++ q) (λ t. 1 ≤ length t) (λ blank. simp length-append (omega arith)) (λ none. simp length-append (omega arith))
 
 pieces_behind : (text p : List ℕ) (ps : List (List ℕ)) → 1 ≤ length p → with_pieces (text ++ p) ps ≡ text ++ with_pieces p ps
 pieces_behind text p [] some = refl
@@ -166,7 +155,7 @@ at_line_start text (p ∷ ps) e h = ap (λ (t : List ℕ). with_pieces t ps) (fi
 
 ended_by : (text : List ℕ) → with_piece text line_end ≡ text ++ 10 ∷ []
 unfolding with_piece
-ended_by text = rw (and_false (not (takes_none_behind (get_or text (length text - 1) 10)))) refl
+ended_by text = rw (and_right (not (takes_none_behind (get_or text (length text - 1) 10))) false refl) refl
 
 -- a text that ends in LF has another behind it that does
 pub record IsBehind (text whole added : List ℕ) : Type 0 where

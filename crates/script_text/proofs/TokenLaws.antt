@@ -1,10 +1,11 @@
 -- The tokens of a text that is put together of others, and what single ones mean.
-use Rattle.std.proofs.Common.{◌≡◌, ◌<◌, ◌≤◌, ◌^◌, ◌/◌, ◌%◌, ◌-◌, ◌+◌, ◌*◌, ℕ, ℤ, pos, negsuc, zero, suc, Bool, true, false, not, ◌&&◌, ◌||◌, ◌==◌, cond, List, [], ◌∷◌, ◌++◌, length, Some, codes, decimal, fold, refl, ap, ◌∙◌, arith, rules}
+use Rattle.std.proofs.Common.{◌≡◌, ◌<◌, ◌≤◌, ◌^◌, ◌/◌, ◌%◌, ◌-◌, ◌+◌, ◌*◌, ℕ, ℤ, pos, negsuc, zero, suc, Bool, true, false, not, ◌==◌, cond, List, [], ◌∷◌, ◌++◌, length, Some, codes, decimal, fold, refl, ap, ◌∙◌, arith, rules}
 use Rattle.std.specs.Prelude.{nat_abs, nat_lt}
 use Rattle.std.specs.Fmt.{digits, digits_onto, digit_glyph, signed_decimal}
 use Rattle.std.specs.Str.{bytes_eq}
 use Rattle.std.specs.List.{AllByRecursion, list_all, flat_map}
 use Rattle.std.proofs.Math.Nat.{pow-le-pow_right}
+use Rattle.std.proofs.lemmas.Bool.{and_parts, cond_both}
 use Rattle.std.proofs.lemmas.Bool.Decides.{nat_tests}
 use Rattle.std.proofs.lemmas.List.Sums.{list_all-from_AllPass}
 use Rattle.std.proofs.lemmas.Str.Parse.{IsNumeralModel, numerals_by_fold}
@@ -16,17 +17,14 @@ use Rattle.script_text.specs.Tokens.{tokens, in_word, is_mark, goes_on}
 use Rattle.script_text.specs.Operands.{number_after, number_of, stat_of}
 use Rattle.script_text.specs.Commands.{enclosed}
 use Rattle.script_text.proofs.Clean.{is_clean, IsPiece}
+use Rattle.script_text.proofs.Splitting.{no_blank}
 
 -- ---- tests of each byte
-
-both : (a b : Bool) → a && b ≡ true → (a ≡ true) × (b ≡ true)
-both true b h = (refl, h)
-both false b h = absurd cc
 
 -- what a test says of each byte that passes it holds of each byte of a text that passes
 pub each_byte : (p : ℕ → Bool) (Q : ℕ → Type 0) → ((b : ℕ) → p b ≡ true → Q b) → (text : List ℕ) → list_all p text ≡ true → AllByRecursion Q text
 each_byte p Q says [] h = tt
-each_byte p Q says (b ∷ bs) h = let parts = both (p b) (list_all p bs) h in (says b parts.0, each_byte p Q says bs parts.1)
+each_byte p Q says (b ∷ bs) h = let parts = and_parts (p b) (list_all p bs) h in (says b parts.0, each_byte p Q says bs parts.1)
 
 -- the text is bytes that pass the test, one or more
 record IsWhole (p : ℕ → Bool) (text : List ℕ) : Type 0 where
@@ -45,29 +43,28 @@ whole_text text h = let parts = text_parts text h in record { some = parts.some;
 glyph : (n : ℕ) → is_digit (digit_glyph false (n % 10)) ≡ true
 glyph n = let small : n % 10 < 10 = omega arith in grind (arith, nat_tests)
 
-onto_by : (b : Bool) (xs ys : List ℕ) → list_all is_digit xs ≡ true → list_all is_digit ys ≡ true → list_all is_digit (cond b xs ys) ≡ true
-onto_by true xs ys h k = h
-onto_by false xs ys h k = k
-
 onto_digits : (k n : ℕ) (acc : List ℕ) → list_all is_digit acc ≡ true → list_all is_digit (digits_onto k 10 false n acc) ≡ true
 onto_digits zero n acc h = h
-onto_digits (suc k) n acc h = onto_by (n / 10 == 0) (digit_glyph false (n % 10) ∷ acc) (digits_onto k 10 false (n / 10) (digit_glyph false (n % 10) ∷ acc)) (rw (glyph n) h) (onto_digits k (n / 10) (digit_glyph false (n % 10) ∷ acc) (rw (glyph n) h))
+onto_digits (suc k) n acc h =
+    let ds = digit_glyph false (n % 10) ∷ acc in
+    let pass : list_all is_digit ds ≡ true = rw (glyph n) h in
+    cond_both (n / 10 == 0) ds (digits_onto k 10 false (n / 10) ds) (λ t. list_all is_digit t ≡ true) (λ last. pass) (λ more. onto_digits k (n / 10) ds pass)
 
 pub decimal_digits : (n : ℕ) → list_all is_digit (decimal n) ≡ true
 unfolding digits
 decimal_digits n = onto_digits 64 n [] refl
 
-some_by : (b : Bool) (xs ys : List ℕ) → 1 ≤ length xs → 1 ≤ length ys → 1 ≤ length (cond b xs ys)
-some_by true xs ys h k = h
-some_by false xs ys h k = k
-
 onto_some : (k n : ℕ) (acc : List ℕ) → 1 ≤ length acc → 1 ≤ length (digits_onto k 10 false n acc)
 onto_some zero n acc h = h
-onto_some (suc k) n acc h = some_by (n / 10 == 0) (digit_glyph false (n % 10) ∷ acc) (digits_onto k 10 false (n / 10) (digit_glyph false (n % 10) ∷ acc)) (omega arith) (onto_some k (n / 10) (digit_glyph false (n % 10) ∷ acc) (omega arith))
+onto_some (suc k) n acc h =
+    let ds = digit_glyph false (n % 10) ∷ acc in
+    cond_both (n / 10 == 0) ds (digits_onto k 10 false (n / 10) ds) (λ t. 1 ≤ length t) (λ last. omega arith) (λ more. onto_some k (n / 10) ds (omega arith))
 
 pub decimal_some : (n : ℕ) → 1 ≤ length (decimal n)
 unfolding digits
-decimal_some n = some_by (n / 10 == 0) (digit_glyph false (n % 10) ∷ []) (digits_onto 63 10 false (n / 10) (digit_glyph false (n % 10) ∷ [])) (omega arith) (onto_some 63 (n / 10) (digit_glyph false (n % 10) ∷ []) (omega arith))
+decimal_some n =
+    let ds = digit_glyph false (n % 10) ∷ [] in
+    cond_both (n / 10 == 0) ds (digits_onto 63 10 false (n / 10) ds) (λ t. 1 ≤ length t) (λ last. omega arith) (λ more. onto_some 63 (n / 10) ds (omega arith))
 
 -- ---- byte by byte
 
@@ -94,13 +91,6 @@ text_clean b h = grind (arith, nat_tests)
 
 text_not_blank : (b : ℕ) → is_text_byte b ≡ true → (is_blank b ≡ false) × ((b == 41) ≡ false)
 text_not_blank b h = (grind (arith, nat_tests), grind (arith, nat_tests))
-
-neither : (a b : Bool) → not (a || b) ≡ true → a ≡ false
-neither true b h = absurd cc
-neither false b h = refl
-
-no_blank : (b : ℕ) → in_word b ≡ true → is_blank b ≡ false
-no_blank b h = neither (is_blank b) (is_mark b) h
 
 no_minus : (b : ℕ) → is_digit b ≡ true → (b == 45) ≡ false
 no_minus b h = grind (arith, nat_tests)
@@ -207,7 +197,7 @@ own_digits = numerals_by_fold _ (search rules) (fold digit_more) (search rules)
 read_digits : (n : ℕ) (ds : List ℕ) → list_all is_digit ds ≡ true → number_after n ds ≡ Some (fold digit_more n ds)
 unfolding number_after
 read_digits n [] h = refl
-read_digits n (d ∷ ds) h = let parts = both (is_digit d) (list_all is_digit ds) h in rw parts.0 (read_digits (n * 10 + (d - 48)) ds parts.1)
+read_digits n (d ∷ ds) h = let parts = and_parts (is_digit d) (list_all is_digit ds) h in rw parts.0 (read_digits (n * 10 + (d - 48)) ds parts.1)
 
 fits : (most len : ℕ) → 1 ≤ len → len ≤ most → ((len == 0) ≡ false) × (nat_lt most len ≡ false)
 fits most len some few = (grind (arith, nat_tests), grind (arith, nat_tests))
@@ -226,7 +216,7 @@ number_back n lt = digits_back 9 n (omega arith) (omega arith) lt
 stat_digits : (n : ℕ) (ds : List ℕ) → list_all is_digit ds ≡ true → number_of 9 ds ≡ Some n → stat_of ds ≡ Some (pos n)
 unfolding stat_of number_of
 stat_digits n [] h e = absurd cc
-stat_digits n (d ∷ ds) h e = rw (no_minus d (both (is_digit d) (list_all is_digit ds) h).0, e) refl
+stat_digits n (d ∷ ds) h e = rw (no_minus d (and_parts (is_digit d) (list_all is_digit ds) h).0, e) refl
 
 pub stat_back : (z : ℤ) → nat_abs z < 1000000000 → stat_of (signed_decimal z) ≡ Some z
 unfolding stat_of

@@ -7,3 +7,4 @@ pub mod LineForms
 pub mod Grammar
 pub mod Drafts
 pub mod Spelling
+pub mod ReadBack

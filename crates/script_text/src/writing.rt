@@ -1,6 +1,7 @@
 ghost use Rattle.std.specs.Prelude.{◌≡◌, ◌++◌, OnOk, IfOk, [], decimal, flat_map, codes, List, ℕ, ◌∷◌};
 ghost use Rattle.std.specs.Fmt.{signed_decimal};
 ghost use Rattle.base_types.specs.Words.{type_word};
+ghost use Rattle.script_text.specs.ReadBack.{IsReadBack};
 ghost use Rattle.script_text.specs.Spelling.{with_piece, with_pieces, command_pieces, shown_pieces, mode_words as words_of_mode, valid_pieces, trigger_words as words_of_trigger, listed, column_pieces, name_pieces, placed_pieces, turns_pieces, steps_pieces, ring_pieces, from_pieces, script_spelling};
 
 use crate::pieces::{line_end, named, number, piece, signed, two_names, words};
@@ -392,10 +393,11 @@ fn backends(out: &mut Vec<u8>, backends: u32) -> Result<(), NoMemory>
 
 /// The text of a script: single blanks, small letters, an LF behind each line, no count of 1, the
 /// first form of a command that has two, and a `ring` line only where the queue isn't of 4,096
-/// messages from 0 on.
+/// messages from 0 on. Reading the text gives the script back.
 #[tactic(auto, unfolding(crate::specs::Spelling::script_spelling))]
 pub fn write_script(alloc: Global, script: &Script) -> Result<Vec<u8>, NoMemory>
-    ensures { IfOk result (λ text. text.items ≡ script_spelling script.now) }
+    ensures text { IfOk result (λ text. text.items ≡ script_spelling script.now) }
+    ensures back { IfOk result (λ text. IsReadBack script.now text.items) }
 {
     let mut out = Vec::new(alloc);
     ring(&mut out, script.size(), script.from())?;
