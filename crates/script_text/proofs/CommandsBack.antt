@@ -128,7 +128,7 @@ regclass_back oid h = rw (number_token oid, number_back oid h) refl
 
 add_column_back : (name column : List ℕ) (t : ColType) → IsName name → IsName column → ReadsBack (AddColumn name column t)
 unfolding tokens behind after is_end ends command_of short_command alter_command long_command bare_command savepoint_command name_command show_command table_command pair_command regclass_command lock_command one_name two_names names_after enable_command disable_command create_trigger_command rename_index_command weak_mode strong_mode mode_behind enclosed_text check_behind referred_behind key_behind names_behind columns_behind shown_after field_behind add_column_command rename_column_command default_command statistics_command fillfactor_command foreign_command check_command create_table_command create_index_command valid_behind
-add_column_back name column t h k = let type = type_back t in rw (name_token name h, name_token column k, type.0, name_back name h, name_back column k, type.1) refl
+add_column_back name column t h k = rw (name_token name h, name_token column k, (type_back t).0, name_back name h, name_back column k, (type_back t).1) refl
 
 rename_column_back : (name column to : List ℕ) → IsName name → IsName column → IsName to → ReadsBack (RenameColumn name column to)
 unfolding tokens behind after is_end ends command_of short_command alter_command long_command bare_command savepoint_command name_command show_command table_command pair_command regclass_command lock_command one_name two_names names_after enable_command disable_command create_trigger_command rename_index_command weak_mode strong_mode mode_behind enclosed_text check_behind referred_behind key_behind names_behind columns_behind shown_after field_behind add_column_command rename_column_command default_command statistics_command fillfactor_command foreign_command check_command create_table_command create_index_command valid_behind
