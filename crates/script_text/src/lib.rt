@@ -3,14 +3,16 @@
 //! A script says how large the queue is, how many backends there are, which commands each of them
 //! runs, and, if wanted, whose step comes next at each moment. A [`Script`] keeps the ranges and
 //! limits of scripts, so that every one of them can be run: 1 to 64 backends, at most 20,000
-//! commands and 1,000,000 steps, a queue of 64 to 4,096 messages.
+//! commands and 1,000,000 steps, a queue of 64 to 4,096 messages, and in each command names and
+//! numbers that a line can say.
 //!
 //! A text of scripts is lines in the first place, and each line that counts is tokens. The grammar
 //! stands in specs/, from the lines of a text (`Lines`) over tokens and what single ones mean
 //! (`Tokens`, `Operands`) and the forms of commands and of the other lines (`Commands`,
 //! `LineForms`) to what each line adds to what was said before it (`Grammar`). [`read_script`]
 //! mirrors it, one function a form, in time that grows with the length of the text.
-//! [`write_script`] writes the one spelling that `Spelling` gives.
+//! [`write_script`] writes the one spelling that `Spelling` gives, and reading that gives the script
+//! back (`ReadBack`).
 //!
 //! The promise to the layers above: contracts see a script as the scenario that it asks for; each
 //! text of the grammar is read as its script, and any other is refused with the first line that
