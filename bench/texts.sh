@@ -5,19 +5,9 @@
 set -u
 
 cd "$(dirname "${BASH_SOURCE[0]}")/.." || exit 1
-program=crates/text_bench/out/text_bench
+. bench/common.sh
+need_program text_bench
 lines=${1:-1000000}
-if [ ! -x "$program" ]; then
-    echo "bench: no $program: make it first, by 'rt run' in crates/text_bench" >&2
-    exit 1
-fi
-
-temp=$(mktemp -d) || exit 1
-trap 'rm -rf "$temp"' EXIT
-
-now() {
-    date +%s.%N
-}
 
 # The seconds of a word on an input, and whether it gave back what is wanted.
 measure() {

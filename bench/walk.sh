@@ -4,20 +4,10 @@
 set -u
 
 cd "$(dirname "${BASH_SOURCE[0]}")/.." || exit 1
-program=crates/catsync/out/catsync
+. bench/common.sh
+need_program catsync ' -- walk < ../../examples/two_backends.script'
 commands=${1:-2000}
 tables=$((commands / 2))
-if [ ! -x "$program" ]; then
-    echo "bench: no $program: make it first, by 'rt run -- walk < ../../examples/two_backends.script' in crates/catsync" >&2
-    exit 1
-fi
-
-temp=$(mktemp -d) || exit 1
-trap 'rm -rf "$temp"' EXIT
-
-now() {
-    date +%s.%N
-}
 
 # The walk of one script: its seconds, its entries, and its entries per second.
 measure() {
