@@ -5,11 +5,11 @@ use Rattle.std.specs.List.{filter_map, join_by, list_any}
 use Rattle.base_types.specs.Types.{Oid, Row, Purpose, Kind, Field, ConKind}
 use Rattle.base_types.specs.Scans.{same_oid}
 use Rattle.base_types.specs.Words.{type_word, state_word, valid_word, on_word, fill_text, nums_text}
-use Rattle.base_types.specs.declared.row.Kind.TheVariants.{Table, Index}
+use Rattle.base_types.specs.declared.kind.Kind.TheVariants.{Table, Index}
 use Rattle.base_types.specs.declared.row.ConKind.TheVariants as kinds
 use Rattle.base_types.specs.declared.row.Row.TheVariants as rows
 use Rattle.base_types.specs.declared.scan.Purpose.TheVariants as scans
-use Rattle.base_types.specs.declared.scan.Field.TheVariants as fields
+use Rattle.base_types.specs.declared.field.Field.TheVariants as fields
 
 -- the fields of a kind, in the order in which they are shown
 abbrev pub fields_of : Kind → List Field

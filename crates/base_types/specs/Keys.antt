@@ -4,7 +4,7 @@ use Rattle.std.specs.List.{list_any}
 use Rattle.base_types.specs.Types.{Row, RowKey}
 use Rattle.base_types.specs.Scans.{same_oid}
 use Rattle.base_types.specs.declared.row.Row.TheVariants as rows
-use Rattle.base_types.specs.declared.row.RowKey.TheVariants as keys
+use Rattle.base_types.specs.declared.row_key.RowKey.TheVariants as keys
 
 -- the key of a row
 abbrev pub key_of : Row → RowKey

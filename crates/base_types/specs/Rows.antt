@@ -1,7 +1,7 @@
 -- Of which catalog a row is.
 use Rattle.base_types.specs.Types.{Row}
-use Rattle.base_types.specs.declared.row.Catalog.{Catalog}
-use Rattle.base_types.specs.declared.row.Catalog.TheVariants as catalogs
+use Rattle.base_types.specs.declared.catalog.Catalog.{Catalog}
+use Rattle.base_types.specs.declared.catalog.Catalog.TheVariants as catalogs
 use Rattle.base_types.specs.declared.row.Row.TheVariants as rows
 
 -- the catalog of a row

@@ -2,10 +2,10 @@
 use Rattle.std.specs.Prelude.{ℕ, Bool, true, false, Option, Some, None, List, codes, decimal}
 use Rattle.std.specs.List.{join_by}
 use Rattle.base_types.specs.Types.{Mode, AccessShare, RowShare, RowExclusive, ShareUpdateExclusive, Share, ShareRowExclusive, Exclusive, AccessExclusive, Kind, ColType, IndexState, Field}
-use Rattle.base_types.specs.declared.row.Kind.TheVariants.{Table, Index}
-use Rattle.base_types.specs.declared.row.ColType.TheVariants as types
-use Rattle.base_types.specs.declared.row.IndexState.TheVariants.{Neither, Valid}
-use Rattle.base_types.specs.declared.scan.Field.TheVariants as fields
+use Rattle.base_types.specs.declared.kind.Kind.TheVariants.{Table, Index}
+use Rattle.base_types.specs.declared.col_type.ColType.TheVariants as types
+use Rattle.base_types.specs.declared.index_state.IndexState.TheVariants.{Neither, Valid}
+use Rattle.base_types.specs.declared.field.Field.TheVariants as fields
 
 -- the short word of a lock mode
 abbrev pub mode_word : Mode → List ℕ

@@ -23,14 +23,19 @@
 //! server; [`Name::dropped`] makes it and [`Name::new_or_dropped`] reads it.
 #![tactic(auto)]
 
+mod catalog;
+mod col_type;
 mod command;
 mod dropped;
+mod field;
 mod field_item;
 mod field_rows;
 mod fields;
 mod ids;
+mod index_state;
 mod key;
 mod key_bytes;
+mod kind;
 mod line_buffer;
 mod listed;
 mod lock_modes;
@@ -42,19 +47,25 @@ mod name_bytes;
 mod name_fault;
 mod nums;
 mod row;
+mod row_key;
 mod scan;
 mod scan_rows;
 mod short_text;
 mod words;
 
+pub use catalog::Catalog;
+pub use col_type::ColType;
 pub use command::{Command, NewColumn, Placed, Turns};
 pub use dropped::MOST_COLUMNS;
+pub use field::Field;
 pub use field_item::{item_of, push_nums};
 pub use field_rows::field_text;
 pub use fields::{fields_of, has_field, read_by};
 pub use ids::{FIRST_OID, Oid, Xid};
+pub use index_state::IndexState;
 pub use key::{CacheId, Key, KeyPart};
 pub use key_bytes::key_hash;
+pub use kind::Kind;
 pub use line_buffer::{LINE_ROOM, LineBuffer};
 pub use listed::Listed;
 pub use lock_modes::{conflicts, writers};
@@ -64,8 +75,9 @@ pub use mode_set::ModeSet;
 pub use name::{Name, Text, Word};
 pub use name_fault::NameFault;
 pub use nums::{MOST_INDEX_COLUMNS, Nums};
-pub use row::{Catalog, ColType, ConKind, IndexState, Kind, Row, RowKey};
-pub use scan::{Field, Purpose};
+pub use row::{ConKind, Row};
+pub use row_key::RowKey;
+pub use scan::Purpose;
 pub use scan_rows::{goes_before, put_in_order, selects};
 pub use short_text::{LONGEST_TEXT, ShortText};
 pub use words::{live_word, on_word, valid_word};

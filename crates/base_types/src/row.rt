@@ -1,96 +1,4 @@
-use crate::{Name, Nums, Oid, Text, Word};
-
-/// What a relation is.
-#[derive(Clone, Copy, Debug, PartialEq, Eq)]
-pub enum Kind {
-    Table,
-    Index,
-}
-
-impl Kind {
-    ghost use Rattle.std.specs.Prelude.{◌≡◌, ◌≤◌, length};
-    ghost use Rattle.base_types.specs.Words.{kind_word};
-
-    /// The letter of the kind (`RELKIND_RELATION` and `RELKIND_INDEX`).
-    pub fn word(self) -> &'static [u8]
-        ensures text { result.now ≡ kind_word self }
-        ensures short { length result.now ≤ 1 }
-    {
-        match self {
-            Kind::Table => b"r",
-            Kind::Index => b"i",
-        }
-    }
-}
-
-/// The types that a column may have.
-#[derive(Clone, Copy, Debug, PartialEq, Eq)]
-pub enum ColType {
-    Bool,
-    Int2,
-    Int4,
-    Int8,
-    Text,
-    Bytea,
-    Date,
-    Timestamptz,
-}
-
-impl ColType {
-    ghost use Rattle.std.specs.Prelude.{◌≡◌, ◌≤◌, length};
-    ghost use Rattle.base_types.specs.Words.{type_word};
-
-    /// The name of the type.
-    pub fn word(self) -> &'static [u8]
-        ensures text { result.now ≡ type_word self }
-        ensures short { length result.now ≤ 12 }
-    {
-        match self {
-            ColType::Bool => b"bool",
-            ColType::Int2 => b"int2",
-            ColType::Int4 => b"int4",
-            ColType::Int8 => b"int8",
-            ColType::Text => b"text",
-            ColType::Bytea => b"bytea",
-            ColType::Date => b"date",
-            ColType::Timestamptz => b"timestamptz",
-        }
-    }
-}
-
-/// The catalogs whose rows are kept.
-#[derive(Clone, Copy, Debug, PartialEq, Eq)]
-pub enum Catalog {
-    Class,
-    Attribute,
-    AttrDef,
-    Index,
-    Constraint,
-    Trigger,
-}
-
-/// Whether an index serves queries (`indisvalid`), written `v`, or doesn't, written `n`.
-#[derive(Clone, Copy, Debug, PartialEq, Eq)]
-pub enum IndexState {
-    Neither,
-    Valid,
-}
-
-impl IndexState {
-    ghost use Rattle.std.specs.Prelude.{◌≡◌, ◌≤◌, length};
-    ghost use Rattle.base_types.specs.Words.{state_word};
-
-    /// The letter of the state.
-    pub fn word(self) -> &'static [u8]
-        ensures text { result.now ≡ state_word self }
-        ensures short { length result.now ≤ 1 }
-    {
-        match self {
-            IndexState::Neither => b"n",
-            IndexState::Valid => b"v",
-        }
-    }
-}
+use crate::{Catalog, ColType, IndexState, Kind, Name, Nums, Oid, RowKey, Text, Word};
 
 /// What a constraint demands.
 #[derive(Clone, Copy, Debug, PartialEq, Eq)]
@@ -149,17 +57,6 @@ pub enum Row {
     },
 }
 
-/// What tells a row of a catalog from the others of it.
-#[derive(Clone, Copy, Debug, PartialEq, Eq)]
-pub enum RowKey {
-    Class(Oid),
-    Att(Oid, u32),
-    Def(Oid),
-    Ind(Oid),
-    Con(Oid),
-    Trg(Oid),
-}
-
 impl Row {
     ghost use Rattle.std.specs.Prelude.{◌≡◌};
     ghost use Rattle.base_types.specs.Rows.{catalog_of};
@@ -190,28 +87,6 @@ impl Row {
             Row::Ind { index, .. } => RowKey::Ind(*index),
             Row::Con { oid, .. } => RowKey::Con(*oid),
             Row::Trg { oid, .. } => RowKey::Trg(*oid),
-        }
-    }
-}
-
-impl RowKey {
-    ghost use Rattle.std.specs.Prelude.{◌≡◌};
-    ghost use Rattle.base_types.specs.Keys.{same_key};
-
-    /// Whether two keys are one.
-    pub fn is(&self, other: &RowKey) -> bool
-        ensures { result ≡ same_key self.now other.now }
-    {
-        match (self, other) {
-            (RowKey::Att(rel, num), RowKey::Att(of, other_num)) => {
-                rel.0 == of.0 && num == other_num
-            }
-            (RowKey::Class(oid), RowKey::Class(of))
-            | (RowKey::Def(oid), RowKey::Def(of))
-            | (RowKey::Ind(oid), RowKey::Ind(of))
-            | (RowKey::Con(oid), RowKey::Con(of))
-            | (RowKey::Trg(oid), RowKey::Trg(of)) => oid.0 == of.0,
-            _ => false,
         }
     }
 }

@@ -11,12 +11,12 @@ use Rattle.base_types.specs.Names.{is_digit, IsAnyName, IsWord, IsText}
 use Rattle.base_types.specs.Words.{mode_word, kind_word, type_word, state_word, valid_word, live_word, on_word, fill_text, nums_text}
 use Rattle.base_types.specs.declared.mode.Mode.{Mode}
 use Rattle.base_types.specs.declared.mode.Mode.TheVariants.{AccessShare, RowShare, RowExclusive, ShareUpdateExclusive, Share, ShareRowExclusive, Exclusive, AccessExclusive}
-use Rattle.base_types.specs.declared.row.Kind.{Kind}
-use Rattle.base_types.specs.declared.row.Kind.TheVariants.{Table, Index}
-use Rattle.base_types.specs.declared.row.ColType.{ColType}
-use Rattle.base_types.specs.declared.row.ColType.TheVariants as types
-use Rattle.base_types.specs.declared.row.IndexState.{IndexState}
-use Rattle.base_types.specs.declared.row.IndexState.TheVariants.{Neither, Valid}
+use Rattle.base_types.specs.declared.kind.Kind.{Kind}
+use Rattle.base_types.specs.declared.kind.Kind.TheVariants.{Table, Index}
+use Rattle.base_types.specs.declared.col_type.ColType.{ColType}
+use Rattle.base_types.specs.declared.col_type.ColType.TheVariants as types
+use Rattle.base_types.specs.declared.index_state.IndexState.{IndexState}
+use Rattle.base_types.specs.declared.index_state.IndexState.TheVariants.{Neither, Valid}
 use Rattle.event_kinds.specs.Entries.{IsNumber, AreNums}
 use Rattle.event_kinds.specs.Readers.{Reader, lit_at, pair_at, as_at, check_at, none_at, more_at}
 use Rattle.event_kinds.specs.Reading.{in_token, number_of, name_of, word_of, text_of, worded, modes, col_types, minus, number_at, digits_at, name_at, word_at, text_at, mode_at, kind_at, type_at, state_at, flag_at, signed_at, fill_at, nums_at}

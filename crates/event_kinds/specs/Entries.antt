@@ -7,8 +7,8 @@ use Rattle.base_types.specs.declared.row.ConKind.{ConKind}
 use Rattle.base_types.specs.declared.row.ConKind.TheVariants as kinds
 use Rattle.base_types.specs.declared.row.Row.{Row}
 use Rattle.base_types.specs.declared.row.Row.TheVariants as rows
-use Rattle.base_types.specs.declared.row.RowKey.{RowKey}
-use Rattle.base_types.specs.declared.row.RowKey.TheVariants as keys
+use Rattle.base_types.specs.declared.row_key.RowKey.{RowKey}
+use Rattle.base_types.specs.declared.row_key.RowKey.TheVariants as keys
 use Rattle.base_types.specs.declared.scan.Purpose.{Purpose}
 use Rattle.base_types.specs.declared.scan.Purpose.TheVariants as scans
 use Rattle.event_kinds.specs.Events.{Item, Event, Entry, Line}

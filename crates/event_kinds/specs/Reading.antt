@@ -6,18 +6,18 @@ use Rattle.base_types.specs.Names.{is_digit, is_word_byte, is_text_byte, short_f
 use Rattle.base_types.specs.Words.{mode_word, kind_word, type_word, state_word, valid_word, live_word, on_word}
 use Rattle.base_types.specs.declared.mode.Mode.{Mode}
 use Rattle.base_types.specs.declared.mode.Mode.TheVariants.{AccessShare, RowShare, RowExclusive, ShareUpdateExclusive, Share, ShareRowExclusive, Exclusive, AccessExclusive}
-use Rattle.base_types.specs.declared.row.Kind.{Kind}
-use Rattle.base_types.specs.declared.row.Kind.TheVariants.{Table, Index}
-use Rattle.base_types.specs.declared.row.ColType.{ColType}
-use Rattle.base_types.specs.declared.row.ColType.TheVariants as types
-use Rattle.base_types.specs.declared.row.IndexState.{IndexState}
-use Rattle.base_types.specs.declared.row.IndexState.TheVariants.{Neither, Valid}
+use Rattle.base_types.specs.declared.kind.Kind.{Kind}
+use Rattle.base_types.specs.declared.kind.Kind.TheVariants.{Table, Index}
+use Rattle.base_types.specs.declared.col_type.ColType.{ColType}
+use Rattle.base_types.specs.declared.col_type.ColType.TheVariants as types
+use Rattle.base_types.specs.declared.index_state.IndexState.{IndexState}
+use Rattle.base_types.specs.declared.index_state.IndexState.TheVariants.{Neither, Valid}
 use Rattle.base_types.specs.declared.row.ConKind.{ConKind}
 use Rattle.base_types.specs.declared.row.ConKind.TheVariants as kinds
 use Rattle.base_types.specs.declared.row.Row.{Row}
 use Rattle.base_types.specs.declared.row.Row.TheVariants as rows
-use Rattle.base_types.specs.declared.row.RowKey.{RowKey}
-use Rattle.base_types.specs.declared.row.RowKey.TheVariants as keys
+use Rattle.base_types.specs.declared.row_key.RowKey.{RowKey}
+use Rattle.base_types.specs.declared.row_key.RowKey.TheVariants as keys
 use Rattle.base_types.specs.declared.scan.Purpose.{Purpose}
 use Rattle.base_types.specs.declared.scan.Purpose.TheVariants as scans
 use Rattle.event_kinds.specs.Events.{Item, Event, Entry}

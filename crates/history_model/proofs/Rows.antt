@@ -4,8 +4,8 @@ use Rattle.std.proofs.Common.{◌≡◌, ℕ, true, None, List, [], ◌∷◌, c
 use Rattle.base_types.specs.declared.ids.Oid.{Oid}
 use Rattle.base_types.specs.declared.ids.Xid.{Xid}
 use Rattle.base_types.specs.declared.mode.Mode.TheVariants.{AccessShare, AccessExclusive}
-use Rattle.base_types.specs.declared.row.ColType.TheVariants.{Int4}
-use Rattle.base_types.specs.declared.row.Kind.TheVariants.{Table}
+use Rattle.base_types.specs.declared.col_type.ColType.TheVariants.{Int4}
+use Rattle.base_types.specs.declared.kind.Kind.TheVariants.{Table}
 use Rattle.base_types.specs.declared.row.Row.TheVariants.{Class, Att}
 use Rattle.base_types.specs.declared.scan.Purpose.TheVariants.{RelName, Attribute, AttrDef, Constraint, Trigger}
 use Rattle.base_types.specs.declared.scan.Purpose.TheVariants as scans

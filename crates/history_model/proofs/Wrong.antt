@@ -1,14 +1,14 @@
 -- What the definitions refuse, and at the end what they allow beside it: a worked example up to a place, and one entry there.
 use Rattle.std.proofs.Common.{◌≡◌, ◌++◌, true, false, None, Some, [], ◌∷◌, take, slice_get, codes, negsuc, rules}
 use Rattle.base_types.specs.declared.mode.Mode.TheVariants.{AccessShare, AccessExclusive, ShareUpdateExclusive}
-use Rattle.base_types.specs.declared.row.ColType.TheVariants.{Int4}
-use Rattle.base_types.specs.declared.row.Kind.TheVariants.{Table}
+use Rattle.base_types.specs.declared.col_type.ColType.TheVariants.{Int4}
+use Rattle.base_types.specs.declared.kind.Kind.TheVariants.{Table}
 use Rattle.base_types.specs.declared.row.Row.TheVariants.{Class, Att}
 use Rattle.base_types.specs.declared.scan.Purpose.TheVariants.{RelName, Attribute}
 use Rattle.base_types.specs.declared.scan.Purpose.TheVariants as scans
 use Rattle.event_kinds.specs.declared.entry.Event.TheVariants.{Start, Look, Scan, LockOk, LockHeld, Write, Visible, Release, Stop}
 use Rattle.event_kinds.specs.declared.entry.Item.TheVariants.{Add}
-use Rattle.base_types.specs.declared.scan.Field.TheVariants.{Statistics}
+use Rattle.base_types.specs.declared.field.Field.TheVariants.{Statistics}
 use Rattle.history_model.specs.Held.{held_of, holds}
 use Rattle.history_model.specs.Protected.{is_protected}
 use Rattle.history_model.specs.Legal.{MayFollow}

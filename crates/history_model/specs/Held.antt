@@ -5,9 +5,9 @@ use Rattle.base_types.specs.declared.ids.Oid.{Oid}
 use Rattle.history_model.specs.declared.fact.Grant.{Grant}
 use Rattle.base_types.specs.declared.mode.Mode.{Mode}
 use Rattle.base_types.specs.declared.mode.Mode.TheVariants.{AccessExclusive}
-use Rattle.base_types.specs.declared.row.Kind.{Kind}
+use Rattle.base_types.specs.declared.kind.Kind.{Kind}
 use Rattle.base_types.specs.declared.row.Row.TheVariants.{Class}
-use Rattle.base_types.specs.declared.scan.Field.{Field}
+use Rattle.base_types.specs.declared.field.Field.{Field}
 use Rattle.base_types.specs.Modes.{same_mode, conflicts, writers_of}
 use Rattle.base_types.specs.Scans.{same_oid}
 use Rattle.event_kinds.specs.declared.entry.Entry.{Entry}

@@ -5,7 +5,7 @@ use Rattle.std.specs.List.{flat_map, list_any, range_with_len, list_all}
 use Rattle.base_types.specs.declared.ids.Xid.{Xid}
 use Rattle.base_types.specs.declared.mode.Mode.{Mode}
 use Rattle.base_types.specs.declared.row.Row.TheVariants.{Class, Att, Def, Con, Trg}
-use Rattle.base_types.specs.declared.row.RowKey.{RowKey}
+use Rattle.base_types.specs.declared.row_key.RowKey.{RowKey}
 use Rattle.base_types.specs.Keys.{key_of, are_distinct_keys}
 use Rattle.event_kinds.specs.declared.entry.Entry.{Entry}
 use Rattle.event_kinds.specs.declared.entry.Event.{Event}

@@ -2,12 +2,12 @@
 use Rattle.std.specs.Prelude.{ℕ, Bool, true, false, not, Option, Some, None, List, ◌∷◌, ◌+◌, ◌==◌, ◌&&◌, ◌||◌, if◌then◌else◌, nat_lt, length, take, map, fold, unwrap_or}
 use Rattle.std.specs.List.{flat_map, enumerate_from, range_with_len}
 use Rattle.base_types.specs.declared.ids.Oid.{Oid}
-use Rattle.base_types.specs.declared.row.Kind.{Kind}
+use Rattle.base_types.specs.declared.kind.Kind.{Kind}
 use Rattle.base_types.specs.declared.row.Row.{Row}
 use Rattle.base_types.specs.declared.row.Row.TheVariants as rows
 use Rattle.base_types.specs.declared.command.Command.{Command}
 use Rattle.base_types.specs.declared.command.Command.TheVariants as commands
-use Rattle.base_types.specs.declared.scan.Field.{Field}
+use Rattle.base_types.specs.declared.field.Field.{Field}
 use Rattle.base_types.specs.declared.scan.Purpose.TheVariants.{RelName}
 use Rattle.base_types.specs.Scenario.{Scenario}
 use Rattle.base_types.specs.Fields.{fields_of, read_by}

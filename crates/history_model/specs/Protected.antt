@@ -2,8 +2,8 @@
 use Rattle.std.specs.Prelude.{ℕ, Bool, List, ◌==◌, ◌&&◌, filter, map}
 use Rattle.base_types.specs.declared.ids.Oid.{Oid}
 use Rattle.base_types.specs.declared.mode.Mode.{Mode}
-use Rattle.base_types.specs.declared.row.Kind.{Kind}
-use Rattle.base_types.specs.declared.scan.Field.{Field}
+use Rattle.base_types.specs.declared.kind.Kind.{Kind}
+use Rattle.base_types.specs.declared.field.Field.{Field}
 use Rattle.base_types.specs.Scans.{same_oid}
 use Rattle.base_types.specs.Scenario.{Scenario}
 use Rattle.event_kinds.specs.declared.entry.Entry.{Entry}

@@ -3,7 +3,7 @@ use Rattle.std.specs.Prelude.{ℕ, Bool, List, [], ◌∷◌, ◌++◌, ◌||◌
 use Rattle.std.specs.List.{flat_map}
 use Rattle.base_types.specs.declared.row.Row.{Row}
 use Rattle.base_types.specs.declared.scan.Purpose.{Purpose}
-use Rattle.base_types.specs.declared.scan.Field.{Field}
+use Rattle.base_types.specs.declared.field.Field.{Field}
 use Rattle.base_types.specs.declared.ids.Oid.{Oid}
 use Rattle.base_types.specs.declared.ids.Xid.{Xid}
 use Rattle.history_model.specs.declared.fact.Version.{Version}

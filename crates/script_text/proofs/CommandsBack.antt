@@ -12,10 +12,10 @@ use Rattle.base_types.specs.declared.command.Command.TheVariants.{Begin, Commit,
 use Rattle.base_types.specs.declared.command.NewColumn.{NewColumn}
 use Rattle.base_types.specs.declared.mode.Mode.{Mode}
 use Rattle.base_types.specs.declared.mode.Mode.TheVariants.{AccessShare, RowShare, RowExclusive, ShareUpdateExclusive, Share, ShareRowExclusive, Exclusive, AccessExclusive}
-use Rattle.base_types.specs.declared.row.ColType.{ColType}
-use Rattle.base_types.specs.declared.row.ColType.TheVariants as types
-use Rattle.base_types.specs.declared.scan.Field.{Field}
-use Rattle.base_types.specs.declared.scan.Field.TheVariants as fields
+use Rattle.base_types.specs.declared.col_type.ColType.{ColType}
+use Rattle.base_types.specs.declared.col_type.ColType.TheVariants as types
+use Rattle.base_types.specs.declared.field.Field.{Field}
+use Rattle.base_types.specs.declared.field.Field.TheVariants as fields
 use Rattle.script_text.specs.Tokens.{tokens, behind, after, is_end, ends}
 use Rattle.script_text.specs.Operands.{if_none, name_of, word_of, text_of, type_of, field_of}
 use Rattle.script_text.specs.Commands.{one_name, names_after, two_names, field_behind, shown_after, bare_command, savepoint_command, name_command, show_command, table_command, enable_command, disable_command, create_trigger_command, rename_index_command, pair_command, regclass_command, weak_mode, strong_mode, mode_behind, lock_command, add_column_command, rename_column_command, default_command, statistics_command, fillfactor_command, enclosed_text, valid_behind, check_behind, check_command, referred_behind, key_behind, foreign_command, columns_at, columns_behind, create_table_command, names_at, names_behind, create_index_command, short_command, alter_command, long_command, command_of}

@@ -1,9 +1,9 @@
 -- Worked examples of scripts and of faults.
 use Rattle.std.proofs.Common.{◌≡◌, ℕ, true, false, Ok, Err, Some, None, negsuc, List, [], ◌∷◌, ◌++◌, codes, refl}
 use Rattle.base_types.specs.declared.command.Command.TheVariants.{Begin, Commit, Rollback, Savepoint, Release, RollbackTo, Show, Columns, Column, Regclass, LockTable, OpenRel, Peek, CloseRel, CreateTable, DropTable, RenameTable, AddColumn, DropColumn, RenameColumn, SetDefault, SetStatistics, SetFillfactor, AddCheck, AddForeign, ValidateConstraint, DropConstraint, SetTrigger, CreateTrigger, CreateIndex, DropIndex, RenameIndex}
-use Rattle.base_types.specs.declared.scan.Field.TheVariants as fields
+use Rattle.base_types.specs.declared.field.Field.TheVariants as fields
 use Rattle.base_types.specs.declared.mode.Mode.TheVariants.{ShareRowExclusive}
-use Rattle.base_types.specs.declared.row.ColType.TheVariants as types
+use Rattle.base_types.specs.declared.col_type.ColType.TheVariants as types
 use Rattle.script_text.specs.declared.fault.ScriptCause.TheVariants.{BadByte, BadRing, NoBackends, BadCount, NoEnd, BadSteps, TooManySteps, UnknownBackend, LateCommand, BadCommand, AfterEnd}
 use Rattle.script_text.specs.declared.fault.Rest.TheVariants.{Refused, Given}
 use Rattle.script_text.specs.Lines.{lines_of, bare, counts}

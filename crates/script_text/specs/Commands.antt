@@ -7,7 +7,7 @@ use Rattle.base_types.specs.declared.command.Command.TheVariants.{Begin, Commit,
 use Rattle.base_types.specs.declared.command.NewColumn.{NewColumn}
 use Rattle.base_types.specs.declared.mode.Mode.{Mode}
 use Rattle.base_types.specs.declared.mode.Mode.TheVariants.{AccessShare, RowShare, RowExclusive, ShareUpdateExclusive, Share, ShareRowExclusive, Exclusive, AccessExclusive}
-use Rattle.base_types.specs.declared.scan.Field.{Field}
+use Rattle.base_types.specs.declared.field.Field.{Field}
 use Rattle.script_text.specs.Tokens.{◌>>=◌, said, after, taken, is_end, ends, done}
 use Rattle.script_text.specs.Operands.{number_of, stat_of, name_of, word_of, text_of, type_of, field_of}
 

@@ -2,10 +2,10 @@
 use Rattle.std.specs.Prelude.{ℕ, ℤ, pos, neg_ℤ, Option, Some, None, List, [], ◌∷◌, ◌==◌, ◌+◌, ◌-◌, ◌*◌, ◌||◌, ◌&&◌, nat_lt, nat_le, length, option_map, is_none, codes, if◌then◌else◌}
 use Rattle.std.specs.Str.{bytes_eq}
 use Rattle.base_types.specs.Names.{is_digit, name_fault, short_fault, is_word_byte, is_text_byte}
-use Rattle.base_types.specs.declared.row.ColType.{ColType}
-use Rattle.base_types.specs.declared.scan.Field.{Field}
-use Rattle.base_types.specs.declared.row.ColType.TheVariants as types
-use Rattle.base_types.specs.declared.scan.Field.TheVariants as fields
+use Rattle.base_types.specs.declared.col_type.ColType.{ColType}
+use Rattle.base_types.specs.declared.field.Field.{Field}
+use Rattle.base_types.specs.declared.col_type.ColType.TheVariants as types
+use Rattle.base_types.specs.declared.field.Field.TheVariants as fields
 
 -- the number that digits write behind those of n
 unfoldable pub number_after : ℕ → List ℕ → Option ℕ

@@ -10,7 +10,7 @@ use Rattle.base_types.specs.declared.command.Placed.{Placed}
 use Rattle.base_types.specs.declared.command.Turns.{Turns}
 use Rattle.base_types.specs.declared.mode.Mode.{Mode}
 use Rattle.base_types.specs.declared.mode.Mode.TheVariants.{AccessShare, RowShare, RowExclusive, ShareUpdateExclusive, Share, ShareRowExclusive, Exclusive, AccessExclusive}
-use Rattle.base_types.specs.declared.scan.Field.{Field}
+use Rattle.base_types.specs.declared.field.Field.{Field}
 
 -- no blank stands behind this byte: LF, an opening parenthesis, an asterisk
 abbrev pub takes_none_behind : ℕ → Bool

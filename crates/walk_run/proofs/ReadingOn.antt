@@ -7,7 +7,7 @@ use Rattle.std.proofs.lemmas.Bool.{not-true, not-false}
 use Rattle.std.proofs.Math.Bool.{or-true}
 use Rattle.base_types.specs.declared.ids.Oid.{Oid}
 use Rattle.base_types.specs.declared.mode.Mode.TheVariants.{AccessShare}
-use Rattle.base_types.specs.declared.row.Kind.TheVariants.{Table}
+use Rattle.base_types.specs.declared.kind.Kind.TheVariants.{Table}
 use Rattle.base_types.specs.declared.row.Row.{Row}
 use Rattle.base_types.specs.declared.scan.Purpose.{Purpose}
 use Rattle.base_types.specs.declared.scan.Purpose.TheVariants as scans

@@ -8,7 +8,7 @@ use Rattle.base_types.specs.declared.ids.Xid.{Xid}
 use Rattle.base_types.specs.declared.mode.Mode.TheVariants.{AccessExclusive}
 use Rattle.base_types.specs.declared.command.NewColumn.{NewColumn}
 use Rattle.base_types.specs.declared.row.Row.TheVariants.{Class}
-use Rattle.base_types.specs.declared.row.Kind.TheVariants.{Table}
+use Rattle.base_types.specs.declared.kind.Kind.TheVariants.{Table}
 use Rattle.event_kinds.specs.declared.entry.Item.{Item}
 use Rattle.event_kinds.specs.declared.entry.Item.TheVariants.{Add}
 use Rattle.history_model.specs.Held.{granted_by}

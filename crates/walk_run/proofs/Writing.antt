@@ -8,7 +8,7 @@ use Rattle.std.proofs.Math.Dec.{leb-zero}
 use Rattle.base_types.specs.declared.ids.Oid.{Oid}
 use Rattle.base_types.specs.declared.ids.Xid.{Xid}
 use Rattle.base_types.specs.declared.mode.Mode.TheVariants.{AccessExclusive}
-use Rattle.base_types.specs.declared.row.RowKey.TheVariants as keys
+use Rattle.base_types.specs.declared.row_key.RowKey.TheVariants as keys
 use Rattle.base_types.specs.declared.command.Command.TheVariants.{CreateTable}
 use Rattle.base_types.specs.declared.command.NewColumn.{NewColumn}
 use Rattle.base_types.specs.Keys.{same_key, are_distinct_keys}

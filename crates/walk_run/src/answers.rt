@@ -1,7 +1,7 @@
 ghost use Rattle.std.specs.Prelude.{◌≡◌, IfOk, IsSome};
 ghost use Rattle.std.specs.List.{Contains, find};
 ghost use Rattle.std.specs.Option.{option_copied};
-ghost use Rattle.base_types.specs.declared.scan.Field.{Field};
+ghost use Rattle.base_types.specs.declared.field.Field.{Field};
 ghost use Rattle.base_types.specs.Fields.{read_by as scan_of_field, fields_of as fields_of_kind};
 ghost use Rattle.base_types.specs.Scans.{same_scan as scans_match};
 ghost use Rattle.rel_desc.specs.declared.answer.Answer.TheVariants as answers;

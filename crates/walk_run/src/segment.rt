@@ -1,7 +1,7 @@
 ghost use Rattle.std.specs.Prelude.{◌≡◌, ◌+◌, ◌<◌, ◌≤◌, ◌^◌, ◌++◌, ◌∷◌, ◌==◌, ◌&&◌, [], ℕ, false, not, nat_le, length, map, filter, None, vec_len, vec_capacity, unwrap_or, slice_get, OnOk, OnErr, IfOk};
 ghost use Rattle.base_types.specs.Modes.{conflicts as do_conflict};
 ghost use Rattle.base_types.specs.Scans.{same_oid, scan_of};
-ghost use Rattle.base_types.specs.declared.row.Kind.TheVariants as kinds;
+ghost use Rattle.base_types.specs.declared.kind.Kind.TheVariants as kinds;
 ghost use Rattle.base_types.specs.declared.row.Row.TheVariants as rows;
 ghost use Rattle.history_model.specs.Held.{first_conflict};
 ghost use Rattle.history_model.specs.Plays.{column_row as row_of_column, table_rows as rows_of_table};

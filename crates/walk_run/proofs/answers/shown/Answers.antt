@@ -1,7 +1,7 @@
 use Rattle.std.proofs.Common.{subst, get_or}
 use Rattle.std.specs.List.{Contains}
 use Rattle.std.proofs.lemmas.List.Elements.{All-contains_itself}
-use Rattle.base_types.specs.declared.scan.Field.TheVariants.{Name}
+use Rattle.base_types.specs.declared.field.Field.TheVariants.{Name}
 use Rattle.walk_run.proofs.answers.shown.Goals as goal
 
 pub shown_field-requires : goal.shown_field-requires
