@@ -9,7 +9,7 @@ use Rattle.std.proofs.lemmas.Bool.{eq-eqb, eqb-true}
 use Rattle.base_types.specs.declared.command.Command.{Command}
 use Rattle.base_types.specs.declared.command.Placed.{Placed}
 use Rattle.base_types.specs.Scenario.{Scenario}
-use Rattle.history_model.specs.Plays.{commands_of}
+use Rattle.first_model.specs.Plays.{commands_of}
 use Rattle.walk_run.specs.Reads.{first_own_from}
 use Rattle.walk_run.specs.Stands.{IsOwn, IsAhead}
 

@@ -3,8 +3,8 @@ use Rattle.std.proofs.Common.{◌≡◌, ◌<◌, ◌+◌, ◌∙◌, ℕ, zero,
 use Rattle.std.specs.List.{Contains}
 use Rattle.std.proofs.lemmas.List.{length_push}
 use Rattle.base_types.specs.Scenario.{Scenario, IsBackend}
-use Rattle.history_model.proofs.Settled.{OneWriter-start}
-use Rattle.history_model.proofs.Judged.{lines_of_backend-none}
+use Rattle.first_model.proofs.Settled.{OneWriter-start}
+use Rattle.first_model.proofs.Judged.{lines_of_backend-none}
 use Rattle.walk_run.specs.declared.backend.Backend.{Backend}
 use Rattle.walk_run.specs.declared.backend.Stage.TheVariants as stages
 use Rattle.walk_run.specs.Reads.{first_own_from}

@@ -5,10 +5,10 @@ use Rattle.std.proofs.lemmas.Bool.{and_parts, not-true}
 use Rattle.std.proofs.lemmas.List.{take-append-le, take-append-drop}
 use Rattle.base_types.specs.declared.scan.Purpose.{Purpose}
 use Rattle.event_kinds.specs.declared.entry.Entry.{Entry}
-use Rattle.history_model.specs.Prefixes.{along_from, along_own}
-use Rattle.history_model.specs.Versions.{answer_of}
-use Rattle.history_model.specs.Read.{is_scan_of, place_read, rows_read}
-use Rattle.history_model.proofs.Reading.{place_read-short}
+use Rattle.first_model.specs.Prefixes.{along_from, along_own}
+use Rattle.first_model.specs.Versions.{answer_of}
+use Rattle.first_model.specs.Read.{is_scan_of, place_read, rows_read}
+use Rattle.first_model.proofs.Reading.{place_read-short}
 use Rattle.walk_run.specs.Stands.{own_grants}
 use Rattle.walk_run.proofs.Grants.{own_grants-other}
 

@@ -3,12 +3,12 @@ use Rattle.std.proofs.Common.{◌≡◌, ◌<◌, ◌+◌, ◌*◌, ◌-◌, ◌
 use Rattle.base_types.specs.Scenario.{Scenario}
 use Rattle.event_kinds.specs.declared.entry.Entry.{Entry}
 use Rattle.event_kinds.specs.declared.entry.Event.TheVariants.{Start, Stop}
-use Rattle.history_model.specs.Legal.{FollowsLife, FollowsVisible}
-use Rattle.history_model.specs.Plays.{Place, place_of, commands_of, NextAt, NextOf}
-use Rattle.history_model.specs.Lines.{finished_of}
-use Rattle.history_model.specs.Settled.{OneWriter}
-use Rattle.history_model.proofs.Reading.{running_transaction_of-own, life_of-own, place_of-own}
-use Rattle.history_model.proofs.Judged.{lines_of_backend-none, lines_of_backend-same}
+use Rattle.first_model.specs.Legal.{FollowsLife, FollowsVisible}
+use Rattle.first_model.specs.Plays.{Place, place_of, commands_of, NextAt, NextOf}
+use Rattle.first_model.specs.Lines.{finished_of}
+use Rattle.first_model.specs.Settled.{OneWriter}
+use Rattle.first_model.proofs.Reading.{running_transaction_of-own, life_of-own, place_of-own}
+use Rattle.first_model.proofs.Judged.{lines_of_backend-none, lines_of_backend-same}
 use Rattle.walk_run.specs.declared.backend.Backend.{Backend}
 use Rattle.walk_run.specs.declared.backend.Stage.TheVariants as stages
 use Rattle.walk_run.specs.Entries.{entry_of}

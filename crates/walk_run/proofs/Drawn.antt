@@ -5,11 +5,11 @@ use Rattle.std.proofs.lemmas.Bool.{ne_eqb}
 use Rattle.event_kinds.specs.declared.entry.Entry.{Entry}
 use Rattle.event_kinds.specs.declared.entry.Event.{Event}
 use Rattle.event_kinds.specs.declared.entry.Event.TheVariants.{Start, Write, Visible, Release, Stop}
-use Rattle.history_model.specs.Prefixes.{EachFrom}
-use Rattle.history_model.specs.Transactions.{Running, begun, after_release, running_by, makes_visible, is_committed, has_xid, runs_as, last_xid, last_xid_by}
-use Rattle.history_model.specs.Legal.{MayFollow, IsLegal, AllowsEvent}
-use Rattle.history_model.proofs.Prefixes.{along-keeps}
-use Rattle.history_model.proofs.Reading.{last_xid-more, is_committed-more}
+use Rattle.first_model.specs.Prefixes.{EachFrom}
+use Rattle.first_model.specs.Transactions.{Running, begun, after_release, running_by, makes_visible, is_committed, has_xid, runs_as, last_xid, last_xid_by}
+use Rattle.first_model.specs.Legal.{MayFollow, IsLegal, AllowsEvent}
+use Rattle.first_model.proofs.Prefixes.{along-keeps}
+use Rattle.first_model.proofs.Reading.{last_xid-more, is_committed-more}
 use Rattle.walk_run.specs.Stands.{writes_as, wrote_as}
 
 grows : (event : Event) (last : ℕ) → last ≤ last_xid_by event last

@@ -18,15 +18,15 @@ use Rattle.rel_desc.specs.declared.answer.Answer.{Answer}
 use Rattle.rel_desc.specs.declared.answer.Answer.TheVariants as answers
 use Rattle.rel_desc.specs.declared.error.CommandError.{CommandError}
 use Rattle.rel_desc.specs.Answers.{answer_text}
-use Rattle.history_model.specs.declared.fact.Grant.{Grant}
-use Rattle.history_model.specs.Transactions.{begun, begun_at, after_release, is_committed}
-use Rattle.history_model.specs.Held.{held_by}
-use Rattle.history_model.specs.Legal.{Alive, Stopped, FollowsLife, FollowsVisible, MayRelease, is_ending, life_of}
-use Rattle.history_model.specs.Plays.{Place, place_by, commands_of, NextAt, NextOf, NextOfShow}
-use Rattle.history_model.specs.Lines.{answer_unrefused, error_or, lines_of_backend, judged_at}
-use Rattle.history_model.specs.Settled.{OneWriter}
-use Rattle.history_model.proofs.Reading.{running_transaction_of-own, life_of-own, place_of-own}
-use Rattle.history_model.proofs.Judged.{lines_of_backend-finish}
+use Rattle.first_model.specs.declared.fact.Grant.{Grant}
+use Rattle.first_model.specs.Transactions.{begun, begun_at, after_release, is_committed}
+use Rattle.first_model.specs.Held.{held_by}
+use Rattle.first_model.specs.Legal.{Alive, Stopped, FollowsLife, FollowsVisible, MayRelease, is_ending, life_of}
+use Rattle.first_model.specs.Plays.{Place, place_by, commands_of, NextAt, NextOf, NextOfShow}
+use Rattle.first_model.specs.Lines.{answer_unrefused, error_or, lines_of_backend, judged_at}
+use Rattle.first_model.specs.Settled.{OneWriter}
+use Rattle.first_model.proofs.Reading.{running_transaction_of-own, life_of-own, place_of-own}
+use Rattle.first_model.proofs.Judged.{lines_of_backend-finish}
 use Rattle.walk_run.specs.declared.backend.Backend.{Backend}
 use Rattle.walk_run.specs.declared.backend.Read.{Read}
 use Rattle.walk_run.specs.declared.backend.Stage.{Stage}

@@ -8,17 +8,17 @@ use Rattle.std.proofs.lemmas.Grind.{flat_map-append}
 use Rattle.std.proofs.lemmas.Bool.{ne_eqb}
 use Rattle.std.proofs.lemmas.Bool.Decides.{eqb_tells}
 use Rattle.std.proofs.Math.ListN.{length-set}
-use Rattle.history_model.specs.Settled.{OneWriter}
+use Rattle.first_model.specs.Settled.{OneWriter}
 use Rattle.base_types.specs.declared.command.Turns.{Turns}
 use Rattle.base_types.specs.Scenario.{Scenario, IsBackend, schedule_of}
 use Rattle.event_kinds.specs.declared.entry.Entry.{Entry}
-use Rattle.history_model.specs.Legal.{MayFollow}
-use Rattle.history_model.specs.Plays.{IsNext}
-use Rattle.history_model.specs.Read.{ScansOnlyIfNeeded}
-use Rattle.history_model.specs.Output.{IsAllowed}
-use Rattle.history_model.specs.Schedule.{FollowsSchedule, IsComplete, is_stopped, has_stopped, pass_stopped, steps_behind, turns_by, turns_left}
-use Rattle.history_model.proofs.Prefixes.{EachEntry-more, along-more}
-use Rattle.history_model.proofs.Settled.{OneWriter-more}
+use Rattle.first_model.specs.Legal.{MayFollow}
+use Rattle.first_model.specs.Plays.{IsNext}
+use Rattle.first_model.specs.Read.{ScansOnlyIfNeeded}
+use Rattle.first_model.specs.Output.{IsAllowed}
+use Rattle.first_model.specs.Schedule.{FollowsSchedule, IsComplete, is_stopped, has_stopped, pass_stopped, steps_behind, turns_by, turns_left}
+use Rattle.first_model.proofs.Prefixes.{EachEntry-more, along-more}
+use Rattle.first_model.proofs.Settled.{OneWriter-more}
 use Rattle.walk_run.specs.declared.backend.Backend.{Backend}
 use Rattle.walk_run.specs.declared.backend.Stage.{Stage}
 use Rattle.walk_run.specs.declared.backend.Stage.TheVariants as stages

@@ -11,9 +11,9 @@ use Rattle.event_kinds.specs.declared.entry.Event.{Event}
 use Rattle.event_kinds.specs.declared.entry.Event.TheVariants as events
 use Rattle.event_kinds.specs.declared.entry.Item.{Item}
 use Rattle.event_kinds.specs.declared.entry.Item.TheVariants.{Add}
-use Rattle.history_model.specs.declared.fact.Grant.{Grant}
-use Rattle.history_model.specs.Held.{granted_by, held_by, held_of}
-use Rattle.history_model.proofs.Reading.{held_of-more}
+use Rattle.first_model.specs.declared.fact.Grant.{Grant}
+use Rattle.first_model.specs.Held.{granted_by, held_by, held_of}
+use Rattle.first_model.proofs.Reading.{held_of-more}
 use Rattle.walk_run.specs.Entries.{entry_of}
 use Rattle.walk_run.specs.Stands.{own_grants}
 

@@ -12,13 +12,13 @@ use Rattle.event_kinds.specs.declared.entry.Entry.{Entry}
 use Rattle.event_kinds.specs.declared.entry.Event.{Event}
 use Rattle.event_kinds.specs.declared.entry.Event.TheVariants.{Visible, Write}
 use Rattle.event_kinds.specs.declared.entry.Item.{Item}
-use Rattle.history_model.specs.declared.fact.Version.{Version}
-use Rattle.history_model.specs.declared.fact.Grant.{Grant}
-use Rattle.history_model.specs.Transactions.{is_committed, last_xid, last_xid_by, makes_visible}
-use Rattle.history_model.specs.Versions.{added_by, versions_by}
-use Rattle.history_model.specs.Held.{held_of, held_by}
-use Rattle.history_model.specs.Legal.{next_oid, next_oid_by}
-use Rattle.history_model.proofs.Reading.{versions_of-more, held_of-more, next_oid-more, last_xid-more, is_committed-more}
+use Rattle.first_model.specs.declared.fact.Version.{Version}
+use Rattle.first_model.specs.declared.fact.Grant.{Grant}
+use Rattle.first_model.specs.Transactions.{is_committed, last_xid, last_xid_by, makes_visible}
+use Rattle.first_model.specs.Versions.{added_by, versions_by}
+use Rattle.first_model.specs.Held.{held_of, held_by}
+use Rattle.first_model.specs.Legal.{next_oid, next_oid_by}
+use Rattle.first_model.proofs.Reading.{versions_of-more, held_of-more, next_oid-more, last_xid-more, is_committed-more}
 use Rattle.walk_run.specs.Entries.{entry_of}
 use Rattle.walk_run.specs.Segment.{KeepsFolds}
 use Rattle.walk_run.proofs.Tables.{table_items, table_draws, table_grants}

@@ -3,11 +3,11 @@ use Rattle.std.proofs.Common.{◌≡◌, ℕ, true, false, List, [], ◌∷◌, 
 use Rattle.base_types.specs.declared.scan.Purpose.{Purpose}
 use Rattle.event_kinds.specs.declared.entry.Entry.{Entry}
 use Rattle.event_kinds.specs.declared.entry.Event.{Event}
-use Rattle.history_model.specs.Read.{is_scan_of, is_usable}
-use Rattle.history_model.specs.Settled.{AddsTables, OneWriter}
-use Rattle.history_model.proofs.Reading.{is_usable-own, place_read-kept}
-use Rattle.history_model.proofs.Settled.{IsSettled-more, reads_table-built}
-use Rattle.history_model.proofs.Stays.{StaysRead-more}
+use Rattle.first_model.specs.Read.{is_scan_of, is_usable}
+use Rattle.first_model.specs.Settled.{AddsTables, OneWriter}
+use Rattle.first_model.proofs.Reading.{is_usable-own, place_read-kept}
+use Rattle.first_model.proofs.Settled.{IsSettled-more, reads_table-built}
+use Rattle.first_model.proofs.Stays.{StaysRead-more}
 use Rattle.walk_run.specs.declared.backend.Read.{Read}
 use Rattle.walk_run.specs.Entries.{entry_of}
 use Rattle.walk_run.specs.Stands.{ReadStands, ReadsStand}

@@ -5,10 +5,10 @@ use Rattle.std.proofs.Math.Bool.{and-false}
 use Rattle.event_kinds.specs.declared.entry.Entry.{Entry}
 use Rattle.event_kinds.specs.declared.entry.Event.{Event}
 use Rattle.event_kinds.specs.declared.entry.Event.TheVariants.{Start, Stop}
-use Rattle.history_model.specs.Prefixes.{EachFrom}
-use Rattle.history_model.specs.Legal.{Life, Unstarted, Alive, Stopped, life_of, life_by, FollowsLife, MayFollow, IsLegal, has_written, is_write}
-use Rattle.history_model.specs.Lines.{refusal_of, refusal_by}
-use Rattle.history_model.proofs.Reading.{life_of-own, life_of-other, has_written-more, refusal_of-more}
+use Rattle.first_model.specs.Prefixes.{EachFrom}
+use Rattle.first_model.specs.Legal.{Life, Unstarted, Alive, Stopped, life_of, life_by, FollowsLife, MayFollow, IsLegal, has_written, is_write}
+use Rattle.first_model.specs.Lines.{refusal_of, refusal_by}
+use Rattle.first_model.proofs.Reading.{life_of-own, life_of-other, has_written-more, refusal_of-more}
 
 -- the backend has written nothing in the command, and no lock was refused in it
 pub record IsUntouched (h : List Entry) (b c : ℕ) : Type 0 where

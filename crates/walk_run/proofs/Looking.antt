@@ -16,17 +16,17 @@ use Rattle.event_kinds.specs.declared.entry.Entry.{Entry}
 use Rattle.event_kinds.specs.declared.entry.Event.{Event}
 use Rattle.event_kinds.specs.declared.entry.Event.TheVariants.{Scan, LockOk, LockHeld}
 use Rattle.rel_desc.specs.declared.error.CommandError.TheVariants.{Locked}
-use Rattle.history_model.specs.Transactions.{begun_at, runs_as}
-use Rattle.history_model.specs.Versions.{answer_of}
-use Rattle.history_model.specs.Held.{held_of, holds}
-use Rattle.history_model.specs.Read.{is_scan_of, rows_read, ScansOnlyIfNeeded}
-use Rattle.history_model.specs.Legal.{IsLegal, Alive, AllowsEvent}
-use Rattle.history_model.specs.Plays.{commands_of, relation_found, NextOf}
-use Rattle.history_model.specs.Settled.{OneWriter}
-use Rattle.history_model.proofs.Reading.{place_read-scan, rows_read-scan, rows_read-kept}
-use Rattle.history_model.proofs.Settled.{IsSettled-more}
-use Rattle.history_model.proofs.Stays.{IsQuiet, answer-quiet}
-use Rattle.history_model.proofs.Found.{FindsTable, found_cases, found_settled}
+use Rattle.first_model.specs.Transactions.{begun_at, runs_as}
+use Rattle.first_model.specs.Versions.{answer_of}
+use Rattle.first_model.specs.Held.{held_of, holds}
+use Rattle.first_model.specs.Read.{is_scan_of, rows_read, ScansOnlyIfNeeded}
+use Rattle.first_model.specs.Legal.{IsLegal, Alive, AllowsEvent}
+use Rattle.first_model.specs.Plays.{commands_of, relation_found, NextOf}
+use Rattle.first_model.specs.Settled.{OneWriter}
+use Rattle.first_model.proofs.Reading.{place_read-scan, rows_read-scan, rows_read-kept}
+use Rattle.first_model.proofs.Settled.{IsSettled-more}
+use Rattle.first_model.proofs.Stays.{IsQuiet, answer-quiet}
+use Rattle.first_model.proofs.Found.{FindsTable, found_cases, found_settled}
 use Rattle.walk_run.specs.declared.backend.Backend.{Backend}
 use Rattle.walk_run.specs.declared.backend.Found.{Found}
 use Rattle.walk_run.specs.declared.backend.Read.{Read}

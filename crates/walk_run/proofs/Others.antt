@@ -10,16 +10,16 @@ use Rattle.base_types.specs.Scenario.{Scenario}
 use Rattle.event_kinds.specs.declared.entry.Entry.{Entry}
 use Rattle.event_kinds.specs.declared.entry.Event.{Event}
 use Rattle.event_kinds.specs.declared.entry.Event.TheVariants as events
-use Rattle.history_model.specs.declared.fact.Grant.{Grant}
-use Rattle.history_model.specs.Transactions.{Running, is_committed, makes_visible, last_xid, last_xid_by}
-use Rattle.history_model.specs.Legal.{Life}
-use Rattle.history_model.specs.Plays.{Place}
-use Rattle.history_model.specs.Lines.{judged_at}
-use Rattle.history_model.specs.Settled.{AddsTables, OneWriter}
-use Rattle.history_model.proofs.Reading.{running_transaction_of-other, life_of-other, place_of-other, is_usable-other, judged_at-other, judged_at-short, refusal_of-more, place_read-other, rows_read-other, is_committed-more, is_committed-kept, last_xid-more}
-use Rattle.history_model.proofs.Settled.{IsSettled-more, reads_table-built}
-use Rattle.history_model.proofs.Stays.{StaysRead-more}
-use Rattle.history_model.proofs.Judged.{lines_of_backend-other}
+use Rattle.first_model.specs.declared.fact.Grant.{Grant}
+use Rattle.first_model.specs.Transactions.{Running, is_committed, makes_visible, last_xid, last_xid_by}
+use Rattle.first_model.specs.Legal.{Life}
+use Rattle.first_model.specs.Plays.{Place}
+use Rattle.first_model.specs.Lines.{judged_at}
+use Rattle.first_model.specs.Settled.{AddsTables, OneWriter}
+use Rattle.first_model.proofs.Reading.{running_transaction_of-other, life_of-other, place_of-other, is_usable-other, judged_at-other, judged_at-short, refusal_of-more, place_read-other, rows_read-other, is_committed-more, is_committed-kept, last_xid-more}
+use Rattle.first_model.proofs.Settled.{IsSettled-more, reads_table-built}
+use Rattle.first_model.proofs.Stays.{StaysRead-more}
+use Rattle.first_model.proofs.Judged.{lines_of_backend-other}
 use Rattle.walk_run.specs.declared.backend.Backend.{Backend}
 use Rattle.walk_run.specs.declared.backend.Found.{Found}
 use Rattle.walk_run.specs.declared.backend.Read.{Read}

@@ -17,18 +17,18 @@ use Rattle.event_kinds.specs.declared.entry.Entry.{Entry}
 use Rattle.event_kinds.specs.declared.entry.Event.{Event}
 use Rattle.event_kinds.specs.declared.entry.Event.TheVariants.{Scan, LockOk, LockHeld}
 use Rattle.rel_desc.specs.declared.error.CommandError.{CommandError}
-use Rattle.history_model.specs.declared.fact.Grant.{Grant}
-use Rattle.history_model.specs.Transactions.{Running, begun, running_by, running_transaction_of, has_xid, is_committed, runs_as}
-use Rattle.history_model.specs.Held.{held_by, holds}
-use Rattle.history_model.specs.Read.{is_scan_of, is_usable, ScansOnlyIfNeeded}
-use Rattle.history_model.specs.Legal.{Life, Alive, life_by, FollowsLife, FollowsVisible, is_ending, AllowsEvent}
-use Rattle.history_model.specs.Plays.{Place, place_by, place_of, commands_of, NextOf, NextAt}
-use Rattle.history_model.specs.Lines.{ends_command, is_before_end, judged_at, refusal_by, refusal_of, lines_of_backend, finished_of}
-use Rattle.history_model.specs.Settled.{AddsTables}
-use Rattle.history_model.proofs.Reading.{running_transaction_of-own, life_of-own, place_of-own, is_usable-own, judged_at-own, refusal_of-more, place_read-kept}
-use Rattle.history_model.proofs.Settled.{IsSettled-more}
-use Rattle.history_model.proofs.Stays.{IsQuiet, StaysRead-quiet}
-use Rattle.history_model.proofs.Judged.{lines_of_backend-same}
+use Rattle.first_model.specs.declared.fact.Grant.{Grant}
+use Rattle.first_model.specs.Transactions.{Running, begun, running_by, running_transaction_of, has_xid, is_committed, runs_as}
+use Rattle.first_model.specs.Held.{held_by, holds}
+use Rattle.first_model.specs.Read.{is_scan_of, is_usable, ScansOnlyIfNeeded}
+use Rattle.first_model.specs.Legal.{Life, Alive, life_by, FollowsLife, FollowsVisible, is_ending, AllowsEvent}
+use Rattle.first_model.specs.Plays.{Place, place_by, place_of, commands_of, NextOf, NextAt}
+use Rattle.first_model.specs.Lines.{ends_command, is_before_end, judged_at, refusal_by, refusal_of, lines_of_backend, finished_of}
+use Rattle.first_model.specs.Settled.{AddsTables}
+use Rattle.first_model.proofs.Reading.{running_transaction_of-own, life_of-own, place_of-own, is_usable-own, judged_at-own, refusal_of-more, place_read-kept}
+use Rattle.first_model.proofs.Settled.{IsSettled-more}
+use Rattle.first_model.proofs.Stays.{IsQuiet, StaysRead-quiet}
+use Rattle.first_model.proofs.Judged.{lines_of_backend-same}
 use Rattle.walk_run.specs.declared.backend.Backend.{Backend}
 use Rattle.walk_run.specs.declared.backend.Read.{Read}
 use Rattle.walk_run.specs.declared.backend.Stage.{Stage}

@@ -15,15 +15,15 @@ use Rattle.base_types.specs.Scans.{same_scan, is_build_scan, build_scans}
 use Rattle.base_types.specs.Scenario.{Scenario}
 use Rattle.event_kinds.specs.declared.entry.Entry.{Entry}
 use Rattle.event_kinds.specs.declared.entry.Event.TheVariants.{Scan, LockOk}
-use Rattle.history_model.specs.Transactions.{begun_at}
-use Rattle.history_model.specs.Versions.{answer_of}
-use Rattle.history_model.specs.Read.{is_usable}
-use Rattle.history_model.specs.Legal.{Alive}
-use Rattle.history_model.specs.Plays.{commands_of, owed_of, NextOf, NextOpened}
-use Rattle.history_model.specs.Settled.{IsSettled}
-use Rattle.history_model.proofs.Reading.{is_usable-own, place_read-scan}
-use Rattle.history_model.proofs.Settled.{IsSettled-more}
-use Rattle.history_model.proofs.Stays.{StaysRead-start}
+use Rattle.first_model.specs.Transactions.{begun_at}
+use Rattle.first_model.specs.Versions.{answer_of}
+use Rattle.first_model.specs.Read.{is_usable}
+use Rattle.first_model.specs.Legal.{Alive}
+use Rattle.first_model.specs.Plays.{commands_of, owed_of, NextOf, NextOpened}
+use Rattle.first_model.specs.Settled.{IsSettled}
+use Rattle.first_model.proofs.Reading.{is_usable-own, place_read-scan}
+use Rattle.first_model.proofs.Settled.{IsSettled-more}
+use Rattle.first_model.proofs.Stays.{StaysRead-start}
 use Rattle.walk_run.specs.declared.backend.Backend.{Backend}
 use Rattle.walk_run.specs.declared.backend.Found.{Found}
 use Rattle.walk_run.specs.declared.backend.Read.{Read}

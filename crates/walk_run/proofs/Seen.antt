@@ -8,10 +8,10 @@ use Rattle.base_types.specs.declared.scan.Purpose.{Purpose}
 use Rattle.base_types.specs.Scans.{scan_of, selects, put_in_order}
 use Rattle.event_kinds.specs.declared.entry.Entry.{Entry}
 use Rattle.event_kinds.specs.declared.entry.Event.TheVariants.{Scan}
-use Rattle.history_model.specs.declared.fact.Version.{Version}
-use Rattle.history_model.specs.declared.fact.Grant.{Grant}
-use Rattle.history_model.specs.Transactions.{is_committed, runs_as}
-use Rattle.history_model.specs.Versions.{versions_of, answer_of, sees}
+use Rattle.first_model.specs.declared.fact.Version.{Version}
+use Rattle.first_model.specs.declared.fact.Grant.{Grant}
+use Rattle.first_model.specs.Transactions.{is_committed, runs_as}
+use Rattle.first_model.specs.Versions.{versions_of, answer_of, sees}
 use Rattle.walk_run.specs.declared.segment.Scanned.{Scanned}
 use Rattle.walk_run.specs.Entries.{entry_of}
 use Rattle.walk_run.specs.Segment.{KeepsFolds, Scans}

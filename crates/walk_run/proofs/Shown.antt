@@ -23,16 +23,16 @@ use Rattle.event_kinds.specs.declared.entry.Event.TheVariants as events
 use Rattle.rel_desc.specs.declared.answer.Answer.TheVariants as answers
 use Rattle.rel_desc.specs.declared.answer.Shown.{Shown}
 use Rattle.rel_desc.specs.declared.error.CommandError.TheVariants.{NoRelation}
-use Rattle.history_model.specs.declared.fact.Grant.{Grant}
-use Rattle.history_model.specs.Transactions.{running_transaction_of, begun_at}
-use Rattle.history_model.specs.Versions.{answer_of, fresh_text}
-use Rattle.history_model.specs.Held.{held_of, held_by, protects}
-use Rattle.history_model.specs.Protected.{clear_modes, is_protected}
-use Rattle.history_model.specs.Read.{is_usable, place_read, rows_read}
-use Rattle.history_model.specs.Legal.{is_ending, MayRelease}
-use Rattle.history_model.specs.Plays.{owed_of, NextOpened}
-use Rattle.history_model.specs.Lines.{judged_at, shown_field, answer_found, answer_unrefused, error_or, answer_to}
-use Rattle.history_model.proofs.Reading.{place_read-short, judged_at-short}
+use Rattle.first_model.specs.declared.fact.Grant.{Grant}
+use Rattle.first_model.specs.Transactions.{running_transaction_of, begun_at}
+use Rattle.first_model.specs.Versions.{answer_of, fresh_text}
+use Rattle.first_model.specs.Held.{held_of, held_by, protects}
+use Rattle.first_model.specs.Protected.{clear_modes, is_protected}
+use Rattle.first_model.specs.Read.{is_usable, place_read, rows_read}
+use Rattle.first_model.specs.Legal.{is_ending, MayRelease}
+use Rattle.first_model.specs.Plays.{owed_of, NextOpened}
+use Rattle.first_model.specs.Lines.{judged_at, shown_field, answer_found, answer_unrefused, error_or, answer_to}
+use Rattle.first_model.proofs.Reading.{place_read-short, judged_at-short}
 use Rattle.walk_run.specs.declared.backend.Backend.{Backend}
 use Rattle.walk_run.specs.declared.backend.Found.{Found}
 use Rattle.walk_run.specs.declared.backend.Read.{Read}

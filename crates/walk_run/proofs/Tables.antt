@@ -11,10 +11,10 @@ use Rattle.base_types.specs.declared.row.Row.TheVariants.{Class}
 use Rattle.base_types.specs.declared.kind.Kind.TheVariants.{Table}
 use Rattle.event_kinds.specs.declared.entry.Item.{Item}
 use Rattle.event_kinds.specs.declared.entry.Item.TheVariants.{Add}
-use Rattle.history_model.specs.Held.{granted_by}
-use Rattle.history_model.specs.Legal.{drawn_by}
-use Rattle.history_model.specs.Plays.{column_row, table_rows}
-use Rattle.history_model.specs.Versions.{added_by}
+use Rattle.first_model.specs.Held.{granted_by}
+use Rattle.first_model.specs.Legal.{drawn_by}
+use Rattle.first_model.specs.Plays.{column_row, table_rows}
+use Rattle.first_model.specs.Versions.{added_by}
 
 numbered_more : {X : Type 0} (n : ℕ) (xs : List X) (x : X) (j : ℕ) → n + length xs ≡ j → enumerate_from n (xs ++ x ∷ []) ≡ enumerate_from n xs ++ (j, x) ∷ []
 numbered_more n [] x j e = let same : n ≡ j = omega arith in ap (λ k. (k, x) ∷ []) same

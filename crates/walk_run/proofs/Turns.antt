@@ -9,10 +9,10 @@ use Rattle.base_types.specs.declared.command.Turns.{Turns}
 use Rattle.base_types.specs.Scenario.{Scenario, IsBackend, schedule_of}
 use Rattle.event_kinds.specs.declared.entry.Entry.{Entry}
 use Rattle.event_kinds.specs.declared.entry.Line.{Line}
-use Rattle.history_model.specs.Schedule.{is_stopped, has_stopped, turns_by, turns_left}
-use Rattle.history_model.specs.Lines.{lines_of, lines_of_backend}
-use Rattle.history_model.proofs.Prefixes.{EachEntry-more}
-use Rattle.history_model.proofs.Reading.{life_of-other}
+use Rattle.first_model.specs.Schedule.{is_stopped, has_stopped, turns_by, turns_left}
+use Rattle.first_model.specs.Lines.{lines_of, lines_of_backend}
+use Rattle.first_model.proofs.Prefixes.{EachEntry-more}
+use Rattle.first_model.proofs.Reading.{life_of-other}
 use Rattle.walk_run.specs.declared.backend.Backend.{Backend}
 use Rattle.walk_run.specs.declared.backend.Stage.TheVariants as stages
 use Rattle.walk_run.specs.declared.walking.World.{World}

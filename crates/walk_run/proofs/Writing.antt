@@ -18,15 +18,15 @@ use Rattle.event_kinds.specs.declared.entry.Entry.{Entry}
 use Rattle.event_kinds.specs.declared.entry.Event.TheVariants.{Write, Visible}
 use Rattle.event_kinds.specs.declared.entry.Item.{Item}
 use Rattle.event_kinds.specs.declared.entry.Item.TheVariants.{Add}
-use Rattle.history_model.specs.declared.fact.Grant.{Grant}
-use Rattle.history_model.specs.Transactions.{running_transaction_of, running_by, has_xid, is_committed, last_xid}
-use Rattle.history_model.specs.Held.{held_of, held_by, holds}
-use Rattle.history_model.specs.Legal.{Alive, life_of, IsLegal, IsWriteAllowed, FollowsLife, FollowsVisible, is_ending, changed_key, drawn_by, is_guarded, next_oid}
-use Rattle.history_model.specs.Plays.{Place, commands_of, column_row, NextAt, NextOf}
-use Rattle.history_model.specs.Lines.{finished_of}
-use Rattle.history_model.specs.Settled.{OneWriter}
-use Rattle.history_model.proofs.Reading.{running_transaction_of-own, life_of-own, place_of-own, last_xid-more, is_committed-more}
-use Rattle.history_model.proofs.Judged.{lines_of_backend-same}
+use Rattle.first_model.specs.declared.fact.Grant.{Grant}
+use Rattle.first_model.specs.Transactions.{running_transaction_of, running_by, has_xid, is_committed, last_xid}
+use Rattle.first_model.specs.Held.{held_of, held_by, holds}
+use Rattle.first_model.specs.Legal.{Alive, life_of, IsLegal, IsWriteAllowed, FollowsLife, FollowsVisible, is_ending, changed_key, drawn_by, is_guarded, next_oid}
+use Rattle.first_model.specs.Plays.{Place, commands_of, column_row, NextAt, NextOf}
+use Rattle.first_model.specs.Lines.{finished_of}
+use Rattle.first_model.specs.Settled.{OneWriter}
+use Rattle.first_model.proofs.Reading.{running_transaction_of-own, life_of-own, place_of-own, last_xid-more, is_committed-more}
+use Rattle.first_model.proofs.Judged.{lines_of_backend-same}
 use Rattle.walk_run.specs.declared.backend.Backend.{Backend}
 use Rattle.walk_run.specs.declared.backend.Stage.TheVariants as stages
 use Rattle.walk_run.specs.Entries.{entry_of}

@@ -6,12 +6,12 @@ use Rattle.event_kinds.specs.declared.entry.Entry.{Entry}
 use Rattle.event_kinds.specs.declared.entry.Event.{Event}
 use Rattle.event_kinds.specs.declared.entry.Event.TheVariants.{Release}
 use Rattle.rel_desc.specs.declared.answer.Answer.{Answer}
-use Rattle.history_model.specs.declared.fact.Grant.{Grant}
-use Rattle.history_model.specs.Transactions.{Running}
-use Rattle.history_model.specs.Legal.{Alive, is_ending, MayRelease}
-use Rattle.history_model.specs.Plays.{commands_of, NextOfCommand}
-use Rattle.history_model.specs.Lines.{answer_to}
-use Rattle.history_model.specs.Held.{held_by}
+use Rattle.first_model.specs.declared.fact.Grant.{Grant}
+use Rattle.first_model.specs.Transactions.{Running}
+use Rattle.first_model.specs.Legal.{Alive, is_ending, MayRelease}
+use Rattle.first_model.specs.Plays.{commands_of, NextOfCommand}
+use Rattle.first_model.specs.Lines.{answer_to}
+use Rattle.first_model.specs.Held.{held_by}
 use Rattle.walk_run.specs.declared.backend.Backend.{Backend}
 use Rattle.walk_run.specs.Stands.{IsAt, place_at}
 

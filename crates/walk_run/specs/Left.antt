@@ -5,7 +5,7 @@ use Rattle.base_types.specs.declared.ids.Oid.{Oid}
 use Rattle.base_types.specs.declared.kind.Kind.TheVariants.{Table}
 use Rattle.base_types.specs.Scans.{same_scan, build_scans}
 use Rattle.base_types.specs.Scenario.{Scenario}
-use Rattle.history_model.specs.Plays.{commands_of}
+use Rattle.first_model.specs.Plays.{commands_of}
 use Rattle.walk_run.specs.declared.backend.Backend.{Backend}
 use Rattle.walk_run.specs.declared.backend.Read.{Read}
 use Rattle.walk_run.specs.declared.backend.Stage.{Stage}

@@ -9,13 +9,13 @@ use Rattle.base_types.specs.declared.scan.Purpose.{Purpose}
 use Rattle.event_kinds.specs.declared.entry.Entry.{Entry}
 use Rattle.event_kinds.specs.declared.entry.Event.TheVariants as events
 use Rattle.event_kinds.specs.declared.entry.Item.TheVariants.{Add}
-use Rattle.history_model.specs.declared.fact.Version.{Version}
-use Rattle.history_model.specs.declared.fact.Grant.{Grant}
-use Rattle.history_model.specs.Transactions.{is_committed, last_xid}
-use Rattle.history_model.specs.Versions.{versions_of, answer_of}
-use Rattle.history_model.specs.Held.{held_of, first_conflict}
-use Rattle.history_model.specs.Legal.{next_oid}
-use Rattle.history_model.specs.Plays.{table_rows}
+use Rattle.first_model.specs.declared.fact.Version.{Version}
+use Rattle.first_model.specs.declared.fact.Grant.{Grant}
+use Rattle.first_model.specs.Transactions.{is_committed, last_xid}
+use Rattle.first_model.specs.Versions.{versions_of, answer_of}
+use Rattle.first_model.specs.Held.{held_of, first_conflict}
+use Rattle.first_model.specs.Legal.{next_oid}
+use Rattle.first_model.specs.Plays.{table_rows}
 use Rattle.walk_run.specs.declared.segment.Scanned.{Scanned}
 use Rattle.walk_run.specs.declared.segment.Locked.{Locked}
 use Rattle.walk_run.specs.declared.segment.Locked.TheVariants.{Granted, Refused}

@@ -18,14 +18,14 @@ use Rattle.event_kinds.specs.declared.entry.Entry.{Entry}
 use Rattle.event_kinds.specs.declared.entry.Event.{Event}
 use Rattle.event_kinds.specs.declared.entry.Event.TheVariants as events
 use Rattle.event_kinds.specs.declared.entry.Item.{Item}
-use Rattle.history_model.specs.declared.fact.Grant.{Grant}
-use Rattle.history_model.specs.Transactions.{Running, begun_at, running_transaction_of, is_committed, last_xid}
-use Rattle.history_model.specs.Held.{held_of}
-use Rattle.history_model.specs.Read.{is_usable, place_read, rows_read, ScansOnlyIfNeeded}
-use Rattle.history_model.specs.Legal.{Life, Unstarted, Alive, Stopped, life_of, MayFollow}
-use Rattle.history_model.specs.Plays.{Place, place_of, commands_of, IsNext}
-use Rattle.history_model.specs.Lines.{judged_at, refusal_of, lines_of_backend}
-use Rattle.history_model.specs.Settled.{AddsTables, IsSettled, StaysRead}
+use Rattle.first_model.specs.declared.fact.Grant.{Grant}
+use Rattle.first_model.specs.Transactions.{Running, begun_at, running_transaction_of, is_committed, last_xid}
+use Rattle.first_model.specs.Held.{held_of}
+use Rattle.first_model.specs.Read.{is_usable, place_read, rows_read, ScansOnlyIfNeeded}
+use Rattle.first_model.specs.Legal.{Life, Unstarted, Alive, Stopped, life_of, MayFollow}
+use Rattle.first_model.specs.Plays.{Place, place_of, commands_of, IsNext}
+use Rattle.first_model.specs.Lines.{judged_at, refusal_of, lines_of_backend}
+use Rattle.first_model.specs.Settled.{AddsTables, IsSettled, StaysRead}
 use Rattle.walk_run.specs.Left.{still_to_make}
 use Rattle.walk_run.specs.declared.backend.Backend.{Backend}
 use Rattle.walk_run.specs.declared.backend.Found.{Found}

@@ -3,10 +3,10 @@ use Rattle.std.specs.Prelude.{◌≡◌, ◌≢◌, ◌-◌, slice_set, ◌≤�
 use Rattle.base_types.specs.Scenario.{Scenario}
 use Rattle.event_kinds.specs.declared.entry.Entry.{Entry}
 use Rattle.event_kinds.specs.declared.entry.Line.{Line}
-use Rattle.history_model.specs.Schedule.{FollowsSchedule, IsComplete, has_stopped, pass_stopped, steps_behind}
-use Rattle.history_model.specs.Settled.{OneWriter}
-use Rattle.history_model.specs.Lines.{lines_of}
-use Rattle.history_model.specs.Output.{IsAllowed}
+use Rattle.first_model.specs.Schedule.{FollowsSchedule, IsComplete, has_stopped, pass_stopped, steps_behind}
+use Rattle.first_model.specs.Settled.{OneWriter}
+use Rattle.first_model.specs.Lines.{lines_of}
+use Rattle.first_model.specs.Output.{IsAllowed}
 use Rattle.walk_run.specs.declared.backend.Backend.{Backend}
 use Rattle.walk_run.specs.Stands.{BackendStands, Steps}
 use Rattle.walk_run.specs.Left.{still_to_make}

@@ -1,7 +1,7 @@
 ghost use Rattle.std.specs.Prelude.{◌≡◌, ◌≢◌, ◌≤◌, ◌+◌, ◌↔◌, ◌==◌, [], ℕ, true, List, length, not, slice_get, OnOk, IsTrue};
 ghost use Rattle.std.specs.List.{list_any, find, position};
 ghost use Rattle.base_types.specs.Scans.{same_scan as scans_match, build_scans};
-ghost use Rattle.history_model.specs.Plays.{commands_of};
+ghost use Rattle.first_model.specs.Plays.{commands_of};
 ghost use Rattle.walk_run.specs.Reads.{next_owed_of, found_in, first_own_from};
 
 use crate::answers::{absent, shown};
@@ -73,8 +73,8 @@ pub struct Backend {
 impl Backend {
     ghost use Rattle.walk_run.specs.Stands.{BackendStands, Steps};
     ghost use Rattle.walk_run.specs.Ends.{MayEnd};
-    ghost use Rattle.history_model.specs.Legal.{IsLegal};
-    ghost use Rattle.history_model.specs.Settled.{OneWriter};
+    ghost use Rattle.first_model.specs.Legal.{IsLegal};
+    ghost use Rattle.first_model.specs.Settled.{OneWriter};
     ghost use Rattle.script_text.specs.Built.{is_built};
 
     /// The backend of this number, which hasn't joined.

@@ -3,9 +3,9 @@ ghost use Rattle.base_types.specs.Modes.{conflicts as do_conflict};
 ghost use Rattle.base_types.specs.Scans.{same_oid, scan_of};
 ghost use Rattle.base_types.specs.declared.kind.Kind.TheVariants as kinds;
 ghost use Rattle.base_types.specs.declared.row.Row.TheVariants as rows;
-ghost use Rattle.history_model.specs.Held.{first_conflict};
-ghost use Rattle.history_model.specs.Plays.{column_row as row_of_column, table_rows as rows_of_table};
-ghost use Rattle.history_model.specs.Versions.{added_by};
+ghost use Rattle.first_model.specs.Held.{first_conflict};
+ghost use Rattle.first_model.specs.Plays.{column_row as row_of_column, table_rows as rows_of_table};
+ghost use Rattle.first_model.specs.Versions.{added_by};
 ghost use Rattle.std.specs.List.{flat_map};
 ghost use Rattle.walk_run.specs.Entries.{entry_of};
 
@@ -14,7 +14,7 @@ use base_types::{
     selects,
 };
 use event_kinds::{Entry, Event, Item};
-use history_model::{Grant, Version};
+use first_model::{Grant, Version};
 use std::alloc::Global;
 use std::marker::Model;
 
@@ -62,7 +62,7 @@ impl Model for Segment {
 
 impl Segment {
     ghost use Rattle.walk_run.specs.Segment.{Enters, Scans, Locks, Writes};
-    ghost use Rattle.history_model.specs.Transactions.{last_xid, xid_for, runs_as};
+    ghost use Rattle.first_model.specs.Transactions.{last_xid, xid_for, runs_as};
 
     /// A segment with an empty history.
     pub fn new(alloc: Global) -> Result<Segment, NoMemory>

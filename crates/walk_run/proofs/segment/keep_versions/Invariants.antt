@@ -1,6 +1,6 @@
 use Rattle.std.proofs.Common.{◌≡◌, ◌≤◌, ◌+◌, ◌++◌, take, vec_len, vec_capacity}
 use Rattle.std.specs.List.{flat_map}
-use Rattle.history_model.specs.Versions.{added_by}
+use Rattle.first_model.specs.Versions.{added_by}
 use Rattle.walk_run.proofs.segment.keep_versions.Given as goal
 
 abbrev pub invariant-loop-item : goal.invariant-loop-item

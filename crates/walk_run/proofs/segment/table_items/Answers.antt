@@ -1,6 +1,6 @@
 use Rattle.std.proofs.Common.{◌≡◌, ◌+◌, ◌++◌, ◌∷◌, [], ◌∙◌, ap, sym}
 use Rattle.event_kinds.specs.declared.entry.Item.TheVariants.{Add}
-use Rattle.history_model.specs.Plays.{column_row}
+use Rattle.first_model.specs.Plays.{column_row}
 use Rattle.walk_run.proofs.Tables.{table_more}
 use Rattle.walk_run.proofs.segment.table_items.Goals as goal
 

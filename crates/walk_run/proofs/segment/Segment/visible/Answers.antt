@@ -1,6 +1,6 @@
 use Rattle.std.proofs.Common.{◌≤◌, ◌≡◌, ◌^◌, ◌++◌, ◌∷◌, [], ap, arith, length}
 use Rattle.event_kinds.specs.declared.entry.Event.TheVariants.{Visible}
-use Rattle.history_model.specs.Transactions.{last_xid}
+use Rattle.first_model.specs.Transactions.{last_xid}
 use Rattle.walk_run.specs.Entries.{entry_of}
 use Rattle.walk_run.proofs.Keeps.{keeps_visible}
 use Rattle.walk_run.proofs.segment.Segment.visible.Goals as goal

@@ -2,7 +2,7 @@ use Rattle.std.proofs.Common.{◌≡◌, ◌<◌, ◌^◌, ◌++◌, ◌∷◌, 
 use Rattle.std.specs.List.{flat_map}
 use Rattle.base_types.specs.declared.ids.Xid.{Xid}
 use Rattle.event_kinds.specs.declared.entry.Event.TheVariants.{Write}
-use Rattle.history_model.specs.Versions.{added_by}
+use Rattle.first_model.specs.Versions.{added_by}
 use Rattle.walk_run.specs.Entries.{entry_of}
 use Rattle.walk_run.proofs.Keeps.{keeps_write_at}
 use Rattle.walk_run.proofs.Tables.{table_items}

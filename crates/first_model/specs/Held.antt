@@ -2,7 +2,7 @@
 use Rattle.std.specs.Prelude.{ℕ, Bool, not, Option, List, [], ◌∷◌, ◌++◌, ◌==◌, ◌&&◌, nat_le, fold, filter}
 use Rattle.std.specs.List.{flat_map, find, list_any, list_all}
 use Rattle.base_types.specs.declared.ids.Oid.{Oid}
-use Rattle.history_model.specs.declared.fact.Grant.{Grant}
+use Rattle.first_model.specs.declared.fact.Grant.{Grant}
 use Rattle.base_types.specs.declared.mode.Mode.{Mode}
 use Rattle.base_types.specs.declared.mode.Mode.TheVariants.{AccessExclusive}
 use Rattle.base_types.specs.declared.kind.Kind.{Kind}

@@ -3,11 +3,11 @@ use Rattle.std.specs.Prelude.{ℕ, List, ◌≡◌}
 use Rattle.base_types.specs.Scenario.{Scenario}
 use Rattle.event_kinds.specs.declared.entry.Entry.{Entry}
 use Rattle.event_kinds.specs.Texts.{text_of}
-use Rattle.history_model.specs.Legal.{IsLegal}
-use Rattle.history_model.specs.Read.{IsEconomical}
-use Rattle.history_model.specs.Plays.{Plays}
-use Rattle.history_model.specs.Schedule.{FollowsSchedule, IsComplete}
-use Rattle.history_model.specs.Lines.{lines_of}
+use Rattle.first_model.specs.Legal.{IsLegal}
+use Rattle.first_model.specs.Read.{IsEconomical}
+use Rattle.first_model.specs.Plays.{Plays}
+use Rattle.first_model.specs.Schedule.{FollowsSchedule, IsComplete}
+use Rattle.first_model.specs.Lines.{lines_of}
 
 -- a history that the script allows: legal, played by its commands, and with no needless scan
 pub record IsAllowed (scenario : Scenario) (history : List Entry) : Type 0 where

@@ -5,7 +5,7 @@ use Rattle.std.specs.List.{list_any}
 use Rattle.event_kinds.specs.declared.entry.Entry.{Entry}
 use Rattle.event_kinds.specs.declared.entry.Event.{Event}
 use Rattle.event_kinds.specs.declared.entry.Event.TheVariants.{Start, Write, Visible, Release, Stop}
-use Rattle.history_model.specs.Prefixes.{along_own}
+use Rattle.first_model.specs.Prefixes.{along_own}
 
 -- a running transaction: its first command, its Xid once it has written, and the commands in which it wrote
 pub record Running : Type 0 where

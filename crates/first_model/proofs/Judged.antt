@@ -11,9 +11,9 @@ use Rattle.event_kinds.specs.declared.entry.Event.{Event}
 use Rattle.event_kinds.specs.declared.entry.Event.TheVariants as events
 use Rattle.rel_desc.specs.declared.error.CommandError.{CommandError}
 use Rattle.rel_desc.specs.Answers.{answer_text}
-use Rattle.history_model.specs.Plays.{commands_of, place_of, place_by}
-use Rattle.history_model.specs.Lines.{ends_command, is_before_end, judged_at, refusal_by, refusal_of, answer_unrefused, error_or, answer_to, line_of, finished_of, lines_of_backend}
-use Rattle.history_model.proofs.Reading.{judged_at-own, judged_at-other, judged_at-short, refusal_of-more, place_of-own, place_of-other}
+use Rattle.first_model.specs.Plays.{commands_of, place_of, place_by}
+use Rattle.first_model.specs.Lines.{ends_command, is_before_end, judged_at, refusal_by, refusal_of, answer_unrefused, error_or, answer_to, line_of, finished_of, lines_of_backend}
+use Rattle.first_model.proofs.Reading.{judged_at-own, judged_at-other, judged_at-short, refusal_of-more, place_of-own, place_of-other}
 
 -- where a command is judged, and the error of its entries, stay the same
 record IsJudgedSame (history : List Entry) (e : Entry) (b c : ℕ) : Type 0 where

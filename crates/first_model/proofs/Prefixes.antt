@@ -1,7 +1,7 @@
 -- Laws of what holds of each entry and of folds along a history: one more entry, and a front.
 use Rattle.std.proofs.Common.{◌≡◌, ℕ, true, false, List, [], ◌∷◌, ◌++◌, ◌==◌, if◌then◌else◌, refl, ap, ◌∙◌, append_assoc, append-nil, subst, rules}
 use Rattle.event_kinds.specs.declared.entry.Entry.{Entry}
-use Rattle.history_model.specs.Prefixes.{EachFrom, EachEntry, along_from, along, along_own}
+use Rattle.first_model.specs.Prefixes.{EachFrom, EachEntry, along_from, along, along_own}
 
 EachFrom-more : (P : List Entry → Entry → Type 0) (before history : List Entry) (e : Entry) → EachFrom P before history → P (before ++ history) e → EachFrom P before (history ++ e ∷ [])
 EachFrom-more P before [] e held here = search rules

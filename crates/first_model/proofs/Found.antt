@@ -12,12 +12,12 @@ use Rattle.base_types.specs.declared.scan.Purpose.{Purpose}
 use Rattle.base_types.specs.declared.scan.Purpose.TheVariants as scans
 use Rattle.base_types.specs.Scans.{selects, put_in_order, goes_before}
 use Rattle.event_kinds.specs.declared.entry.Entry.{Entry}
-use Rattle.history_model.specs.declared.fact.Version.{Version}
-use Rattle.history_model.specs.Transactions.{is_committed, runs_as}
-use Rattle.history_model.specs.Versions.{versions_of, sees, rows_of, answer_of}
-use Rattle.history_model.specs.Legal.{next_oid}
-use Rattle.history_model.specs.Plays.{relation_found}
-use Rattle.history_model.specs.Settled.{relation_number, IsTableRow, OneWriter, IsSettled}
+use Rattle.first_model.specs.declared.fact.Version.{Version}
+use Rattle.first_model.specs.Transactions.{is_committed, runs_as}
+use Rattle.first_model.specs.Versions.{versions_of, sees, rows_of, answer_of}
+use Rattle.first_model.specs.Legal.{next_oid}
+use Rattle.first_model.specs.Plays.{relation_found}
+use Rattle.first_model.specs.Settled.{relation_number, IsTableRow, OneWriter, IsSettled}
 
 -- a scan by the backend gives the row: a version that it sees has it, and the scan selects it
 pub record IsGiven (history : List Entry) (b : ℕ) (p : Purpose) (row : Row) : Type 0 where

@@ -6,7 +6,7 @@ use Rattle.base_types.specs.declared.scan.Purpose.{Purpose}
 use Rattle.base_types.specs.declared.field.Field.{Field}
 use Rattle.base_types.specs.declared.ids.Oid.{Oid}
 use Rattle.base_types.specs.declared.ids.Xid.{Xid}
-use Rattle.history_model.specs.declared.fact.Version.{Version}
+use Rattle.first_model.specs.declared.fact.Version.{Version}
 use Rattle.base_types.specs.Scans.{scan_of}
 use Rattle.base_types.specs.Fields.{field_text, read_by}
 use Rattle.event_kinds.specs.declared.entry.Entry.{Entry}
@@ -14,8 +14,8 @@ use Rattle.event_kinds.specs.declared.entry.Event.{Event}
 use Rattle.event_kinds.specs.declared.entry.Event.TheVariants.{Write}
 use Rattle.event_kinds.specs.declared.entry.Item.{Item}
 use Rattle.event_kinds.specs.declared.entry.Item.TheVariants.{Add}
-use Rattle.history_model.specs.Prefixes.{along}
-use Rattle.history_model.specs.Transactions.{is_committed, runs_as}
+use Rattle.first_model.specs.Prefixes.{along}
+use Rattle.first_model.specs.Transactions.{is_committed, runs_as}
 
 -- the version that a change adds
 abbrev pub added_by : Xid → ℕ → Item → List Version

@@ -9,13 +9,13 @@ use Rattle.base_types.specs.declared.scan.Purpose.TheVariants as scans
 use Rattle.event_kinds.specs.declared.entry.Event.TheVariants.{Start, Look, Scan, LockOk, LockHeld, Write, Visible, Release, Stop}
 use Rattle.event_kinds.specs.declared.entry.Item.TheVariants.{Add}
 use Rattle.base_types.specs.declared.field.Field.TheVariants.{Statistics}
-use Rattle.history_model.specs.Held.{held_of, holds}
-use Rattle.history_model.specs.Protected.{is_protected}
-use Rattle.history_model.specs.Legal.{MayFollow}
-use Rattle.history_model.specs.Plays.{IsNext}
-use Rattle.history_model.specs.Read.{ScansOnlyIfNeeded}
-use Rattle.history_model.specs.Schedule.{turns_left, IsComplete}
-use Rattle.history_model.proofs.Rows.{oid, xid, entry, create_then_show, create_then_show_history, two_backends, two_backends_history}
+use Rattle.first_model.specs.Held.{held_of, holds}
+use Rattle.first_model.specs.Protected.{is_protected}
+use Rattle.first_model.specs.Legal.{MayFollow}
+use Rattle.first_model.specs.Plays.{IsNext}
+use Rattle.first_model.specs.Read.{ScansOnlyIfNeeded}
+use Rattle.first_model.specs.Schedule.{turns_left, IsComplete}
+use Rattle.first_model.proofs.Rows.{oid, xid, entry, create_then_show, create_then_show_history, two_backends, two_backends_history}
 
 -- a lock granted against a conflicting holder
 pub lock_against_holder : MayFollow (take 5 two_backends_history) (entry 2 1 (LockOk (oid 16384) AccessShare)) → ⊥

@@ -21,11 +21,11 @@ use Rattle.rel_desc.specs.declared.answer.Answer.{Answer}
 use Rattle.rel_desc.specs.declared.answer.Answer.TheVariants as answers
 use Rattle.rel_desc.specs.declared.answer.Shown.{Shown}
 use Rattle.rel_desc.specs.Answers.{answer_text}
-use Rattle.history_model.specs.Prefixes.{along_own}
-use Rattle.history_model.specs.Versions.{fresh_text}
-use Rattle.history_model.specs.Protected.{is_protected}
-use Rattle.history_model.specs.Read.{place_read, rows_read}
-use Rattle.history_model.specs.Plays.{commands_of, place_of}
+use Rattle.first_model.specs.Prefixes.{along_own}
+use Rattle.first_model.specs.Versions.{fresh_text}
+use Rattle.first_model.specs.Protected.{is_protected}
+use Rattle.first_model.specs.Read.{place_read, rows_read}
+use Rattle.first_model.specs.Plays.{commands_of, place_of}
 
 -- the event belongs to the end of a command
 abbrev pub ends_command : Event → Bool

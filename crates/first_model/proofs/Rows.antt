@@ -19,11 +19,11 @@ use Rattle.event_kinds.specs.declared.entry.Event.{Event}
 use Rattle.event_kinds.specs.declared.entry.Event.TheVariants.{Start, Scan, LockOk, LockHeld, Write, Visible, Release, Stop}
 use Rattle.event_kinds.specs.declared.entry.Item.TheVariants.{Add}
 use Rattle.event_kinds.specs.Texts.{text_of}
-use Rattle.history_model.specs.Legal.{IsLegal}
-use Rattle.history_model.specs.Read.{IsEconomical}
-use Rattle.history_model.specs.Plays.{Plays}
-use Rattle.history_model.specs.Schedule.{FollowsSchedule, IsComplete}
-use Rattle.history_model.specs.Lines.{lines_of}
+use Rattle.first_model.specs.Legal.{IsLegal}
+use Rattle.first_model.specs.Read.{IsEconomical}
+use Rattle.first_model.specs.Plays.{Plays}
+use Rattle.first_model.specs.Schedule.{FollowsSchedule, IsComplete}
+use Rattle.first_model.specs.Lines.{lines_of}
 
 abbrev pub oid : ℕ → Oid
 oid n = record { 0 = n }

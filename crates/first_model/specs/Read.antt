@@ -6,8 +6,8 @@ use Rattle.base_types.specs.Scans.{same_scan, is_build_scan}
 use Rattle.event_kinds.specs.declared.entry.Entry.{Entry}
 use Rattle.event_kinds.specs.declared.entry.Event.{Event}
 use Rattle.event_kinds.specs.declared.entry.Event.TheVariants.{Scan}
-use Rattle.history_model.specs.Prefixes.{along_own, EachEntry}
-use Rattle.history_model.specs.Versions.{answer_of}
+use Rattle.first_model.specs.Prefixes.{along_own, EachEntry}
+use Rattle.first_model.specs.Versions.{answer_of}
 
 -- the event is this scan
 abbrev pub is_scan_of : Purpose → Event → Bool

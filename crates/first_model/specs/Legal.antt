@@ -12,12 +12,12 @@ use Rattle.event_kinds.specs.declared.entry.Event.{Event}
 use Rattle.event_kinds.specs.declared.entry.Event.TheVariants.{Start, Scan, LockOk, LockHeld, Write, Visible, Release, Stop}
 use Rattle.event_kinds.specs.declared.entry.Item.{Item}
 use Rattle.event_kinds.specs.declared.entry.Item.TheVariants as items
-use Rattle.history_model.specs.Prefixes.{EachEntry, along_own}
-use Rattle.history_model.specs.Transactions.{running_transaction_of, is_committed, runs_as, xid_for}
-use Rattle.history_model.specs.Versions.{answer_of}
-use Rattle.history_model.specs.declared.fact.Grant.{Grant}
+use Rattle.first_model.specs.Prefixes.{EachEntry, along_own}
+use Rattle.first_model.specs.Transactions.{running_transaction_of, is_committed, runs_as, xid_for}
+use Rattle.first_model.specs.Versions.{answer_of}
+use Rattle.first_model.specs.declared.fact.Grant.{Grant}
 use Rattle.base_types.specs.declared.mode.Mode.TheVariants.{AccessExclusive}
-use Rattle.history_model.specs.Held.{held_of, holds, first_conflict}
+use Rattle.first_model.specs.Held.{held_of, holds, first_conflict}
 
 -- a backend before its start, between start and stop with the command of its last entry, and after its stop
 pub data Life : Type 0 where

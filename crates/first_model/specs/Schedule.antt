@@ -4,8 +4,8 @@ use Rattle.std.specs.List.{range_with_len}
 use Rattle.base_types.specs.declared.command.Turns.{Turns}
 use Rattle.base_types.specs.Scenario.{Scenario, schedule_of}
 use Rattle.event_kinds.specs.declared.entry.Entry.{Entry}
-use Rattle.history_model.specs.Prefixes.{EachEntry, along}
-use Rattle.history_model.specs.Legal.{Life, Stopped, life_of}
+use Rattle.first_model.specs.Prefixes.{EachEntry, along}
+use Rattle.first_model.specs.Legal.{Life, Stopped, life_of}
 
 -- a life has ended
 abbrev pub is_stopped : Life → Bool

@@ -18,13 +18,13 @@ use Rattle.event_kinds.specs.declared.entry.Entry.{Entry}
 use Rattle.event_kinds.specs.declared.entry.Event.{Event}
 use Rattle.event_kinds.specs.declared.entry.Event.TheVariants as events
 use Rattle.event_kinds.specs.declared.entry.Item.TheVariants.{Add}
-use Rattle.history_model.specs.declared.fact.Version.{Version}
-use Rattle.history_model.specs.Transactions.{is_committed, runs_as}
-use Rattle.history_model.specs.Versions.{versions_of, versions_by, added_by, sees, answer_of}
-use Rattle.history_model.specs.Legal.{next_oid, next_oid_by, drawn_by}
-use Rattle.history_model.specs.Plays.{table_rows, column_row}
-use Rattle.history_model.specs.Settled.{relation_number, IsTableRow, AddsTables, OneWriter, IsSettled, reads_table}
-use Rattle.history_model.proofs.Reading.{versions_of-more, next_oid-more, is_committed-kept}
+use Rattle.first_model.specs.declared.fact.Version.{Version}
+use Rattle.first_model.specs.Transactions.{is_committed, runs_as}
+use Rattle.first_model.specs.Versions.{versions_of, versions_by, added_by, sees, answer_of}
+use Rattle.first_model.specs.Legal.{next_oid, next_oid_by, drawn_by}
+use Rattle.first_model.specs.Plays.{table_rows, column_row}
+use Rattle.first_model.specs.Settled.{relation_number, IsTableRow, AddsTables, OneWriter, IsSettled, reads_table}
+use Rattle.first_model.proofs.Reading.{versions_of-more, next_oid-more, is_committed-kept}
 
 -- nothing is written yet
 pub OneWriter-start : OneWriter []

@@ -13,11 +13,11 @@ use Rattle.event_kinds.specs.declared.entry.Event.{Event}
 use Rattle.event_kinds.specs.declared.entry.Event.TheVariants as events
 use Rattle.event_kinds.specs.declared.entry.Item.{Item}
 use Rattle.event_kinds.specs.declared.entry.Item.TheVariants.{Add}
-use Rattle.history_model.specs.declared.fact.Version.{Version}
-use Rattle.history_model.specs.Transactions.{is_committed}
-use Rattle.history_model.specs.Versions.{versions_of, answer_of}
-use Rattle.history_model.specs.Legal.{next_oid}
-use Rattle.history_model.specs.Plays.{table_rows}
+use Rattle.first_model.specs.declared.fact.Version.{Version}
+use Rattle.first_model.specs.Transactions.{is_committed}
+use Rattle.first_model.specs.Versions.{versions_of, answer_of}
+use Rattle.first_model.specs.Legal.{next_oid}
+use Rattle.first_model.specs.Plays.{table_rows}
 
 -- the number of the relation that a table's row is of
 abbrev pub relation_number : Row → ℕ

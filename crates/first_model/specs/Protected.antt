@@ -7,7 +7,7 @@ use Rattle.base_types.specs.declared.field.Field.{Field}
 use Rattle.base_types.specs.Scans.{same_oid}
 use Rattle.base_types.specs.Scenario.{Scenario}
 use Rattle.event_kinds.specs.declared.entry.Entry.{Entry}
-use Rattle.history_model.specs.Held.{held_of, protects}
+use Rattle.first_model.specs.Held.{held_of, protects}
 
 -- the modes that a backend holds clear on a relation: a grant is clear as it is given, while no message can be on its way
 abbrev pub clear_modes : Scenario → List Entry → ℕ → Oid → List Mode

@@ -9,14 +9,14 @@ use Rattle.std.proofs.lemmas.List.Folds.{list_any-append}
 use Rattle.base_types.specs.declared.scan.Purpose.{Purpose}
 use Rattle.base_types.specs.Scenario.{Scenario}
 use Rattle.event_kinds.specs.declared.entry.Entry.{Entry}
-use Rattle.history_model.specs.Transactions.{running_transaction_of, running_by, makes_visible, is_committed, last_xid, last_xid_by}
-use Rattle.history_model.specs.Versions.{versions_of, versions_by, answer_of}
-use Rattle.history_model.specs.Held.{held_of, held_by}
-use Rattle.history_model.specs.Read.{read_at, is_scan_of, is_usable, usable_by, place_read, rows_read}
-use Rattle.history_model.specs.Legal.{Unstarted, life_of, life_by, next_oid, next_oid_by, has_written, is_write}
-use Rattle.history_model.specs.Plays.{place_of, place_by}
-use Rattle.history_model.specs.Lines.{judged_at, is_before_end, refusal_of, refusal_by}
-use Rattle.history_model.proofs.Prefixes.{along-more, along_own-own, along_own-other, along-keeps}
+use Rattle.first_model.specs.Transactions.{running_transaction_of, running_by, makes_visible, is_committed, last_xid, last_xid_by}
+use Rattle.first_model.specs.Versions.{versions_of, versions_by, answer_of}
+use Rattle.first_model.specs.Held.{held_of, held_by}
+use Rattle.first_model.specs.Read.{read_at, is_scan_of, is_usable, usable_by, place_read, rows_read}
+use Rattle.first_model.specs.Legal.{Unstarted, life_of, life_by, next_oid, next_oid_by, has_written, is_write}
+use Rattle.first_model.specs.Plays.{place_of, place_by}
+use Rattle.first_model.specs.Lines.{judged_at, is_before_end, refusal_of, refusal_by}
+use Rattle.first_model.proofs.Prefixes.{along-more, along_own-own, along_own-other, along-keeps}
 
 -- the versions after one more entry
 pub versions_of-more : (history : List Entry) (e : Entry) → versions_of (history ++ e ∷ []) ≡ versions_by history e.backend e.command e.event (versions_of history)

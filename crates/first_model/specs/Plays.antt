@@ -19,9 +19,9 @@ use Rattle.event_kinds.specs.declared.entry.Entry.{Entry}
 use Rattle.event_kinds.specs.declared.entry.Event.{Event}
 use Rattle.event_kinds.specs.declared.entry.Event.TheVariants.{Start, Scan, LockOk, LockHeld, Write, Visible, Release, Stop}
 use Rattle.event_kinds.specs.declared.entry.Item.TheVariants.{Add}
-use Rattle.history_model.specs.Prefixes.{EachEntry, along_own}
-use Rattle.history_model.specs.Legal.{next_oid}
-use Rattle.history_model.specs.Read.{is_usable, rows_read}
+use Rattle.first_model.specs.Prefixes.{EachEntry, along_own}
+use Rattle.first_model.specs.Legal.{next_oid}
+use Rattle.first_model.specs.Read.{is_usable, rows_read}
 
 -- the commands of a backend, in order
 abbrev pub commands_of : Scenario → ℕ → List Command

@@ -12,12 +12,12 @@ use Rattle.base_types.specs.Scans.{scan_of}
 use Rattle.event_kinds.specs.declared.entry.Entry.{Entry}
 use Rattle.event_kinds.specs.declared.entry.Event.{Event}
 use Rattle.event_kinds.specs.declared.entry.Event.TheVariants.{Scan, LockOk, LockHeld}
-use Rattle.history_model.specs.declared.fact.Version.{Version}
-use Rattle.history_model.specs.Transactions.{Running, running_transaction_of, running_by, has_xid, makes_visible, is_committed, runs_as}
-use Rattle.history_model.specs.Versions.{versions_of, versions_by, sees, answer_of}
-use Rattle.history_model.proofs.Reading.{versions_of-more, is_committed-more, running_transaction_of-own, running_transaction_of-other}
-use Rattle.history_model.specs.Settled.{AddsTables, OneWriter, IsSettled, reads_table, StaysRead}
-use Rattle.history_model.proofs.Settled.{answer-more}
+use Rattle.first_model.specs.declared.fact.Version.{Version}
+use Rattle.first_model.specs.Transactions.{Running, running_transaction_of, running_by, has_xid, makes_visible, is_committed, runs_as}
+use Rattle.first_model.specs.Versions.{versions_of, versions_by, sees, answer_of}
+use Rattle.first_model.proofs.Reading.{versions_of-more, is_committed-more, running_transaction_of-own, running_transaction_of-other}
+use Rattle.first_model.specs.Settled.{AddsTables, OneWriter, IsSettled, reads_table, StaysRead}
+use Rattle.first_model.proofs.Settled.{answer-more}
 
 -- the event is a scan or a lock, which change no answer
 abbrev pub IsQuiet : Event → Type 0
