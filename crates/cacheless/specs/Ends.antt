@@ -1,0 +1,70 @@
+-- How a command ends.
+use Rattle.std.specs.Prelude.{ℕ, Bool, true, false, Option, Some, None, List, zero, if◌then◌else◌, nat_le, unwrap_or, length}
+use Rattle.std.specs.Option.{option_map_or}
+use Rattle.base_types.specs.declared.command.Command.TheVariants as commands
+use Rattle.event_kinds.specs.declared.entry.Event.TheVariants as events
+use Rattle.ddl_effect.specs.Blocks.{Block, Outside, Inside, Failed, innermost}
+use Rattle.history_model.specs.Transactions.{is_visible}
+use Rattle.history_model.specs.Sent.{has_write_from, unsent_in}
+use Rattle.cacheless.specs.Types.{Command, Event}
+use Rattle.cacheless.specs.Facts.{Facts}
+use Rattle.cacheless.specs.Session.{Session, number_of, Unsettled, Well, Badly, outcome_of}
+
+-- with no entry, by a commit of the transaction with this first command, or by taking back the commands from this one on
+pub data End : Type 0 where
+  Ends : End
+  Commits : (first : ℕ) → End
+  TakesBack : (from : ℕ) → End
+
+-- the running transaction as a whole is taken back, if one runs
+abbrev pub end_of_all : Facts → End
+end_of_all facts = option_map_or (λ t. TakesBack t.first) facts.running Ends
+
+-- the end of a block, by `commit` or by `rollback`: a failed block is always taken back
+abbrev pub end_of_block : Facts → Block → Bool → End
+end_of_block facts Outside commits = Ends
+end_of_block facts Inside true = option_map_or (λ t. Commits t.first) facts.running Ends
+end_of_block facts Inside false = end_of_all facts
+end_of_block facts Failed commits = end_of_all facts
+
+-- the end of a command that came out well: outside a block it is a transaction of its own
+abbrev pub end_well : Facts → Command → Session → End
+end_well facts commands.Begin s = Ends
+end_well facts commands.Commit s = end_of_block facts s.blocks.block true
+end_well facts commands.Rollback s = end_of_block facts s.blocks.block false
+end_well facts command s = elim s.blocks.block [ Outside ↦ Commits (number_of s) | block ↦ Ends ]
+
+-- the end of a command that failed: its level is taken back, unless the blocks refused it
+abbrev pub end_badly : Session → End
+end_badly s = elim s.blocked [ true ↦ Ends | false ↦ TakesBack (innermost (number_of s) s.blocks.levels) ]
+
+-- the end of a command
+abbrev pub end_of : Facts → Command → Session → End
+end_of facts command s = elim (outcome_of s.left) [ Well ↦ end_well facts command s | Badly ↦ end_badly s | Unsettled ↦ Ends ]
+
+-- the Xid of the running transaction
+abbrev pub xid_of : Facts → ℕ
+xid_of facts = option_map_or (λ t. unwrap_or t.xid 0) facts.running 0
+
+-- while messages are unsent a publish of 64 at most, and then the release
+abbrev pub next_sent : ℕ → ℕ → Event
+next_sent first zero = events.Release first
+next_sent first unsent = events.Publish (if nat_le unsent 64 then unsent else 64)
+
+-- the next entry of a commit: the visibility step if a write stands, the publishes, the release
+abbrev pub next_of_commit : Facts → ℕ → Event
+next_of_commit facts first = elim (has_write_from first facts.lists) [ true ↦ elim (is_visible facts.running) [ true ↦ next_sent first (length (unsent_in facts.lists facts.running)) | false ↦ events.Visible (record { 0 = xid_of facts }) ] | false ↦ events.Release first ]
+
+-- the next entry of taking back: `gone` if a write stands, the release
+abbrev pub next_of_taking_back : Facts → ℕ → Event
+next_of_taking_back facts from = elim (has_write_from from facts.lists) [ true ↦ events.Gone from | false ↦ events.Release from ]
+
+-- the next entry of an end, if it has one
+abbrev pub next_of_end : Facts → End → Option Event
+next_of_end facts Ends = None
+next_of_end facts (Commits first) = Some (next_of_commit facts first)
+next_of_end facts (TakesBack from) = Some (next_of_taking_back facts from)
+
+-- the next entry of the end of a command, if one is left
+abbrev pub end_left : Facts → Command → Session → Option Event
+end_left facts command s = elim s.ended [ true ↦ None | false ↦ next_of_end facts (end_of facts command s) ]

@@ -1,0 +1,13 @@
+pub mod Types
+pub mod Facts
+pub mod Locks
+pub mod Session
+pub mod Owed
+pub mod Ends
+pub mod Settled
+pub mod Sessions
+pub mod Plays
+pub mod Protected
+pub mod Lines
+pub mod Schedule
+pub mod Output

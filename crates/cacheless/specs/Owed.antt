@@ -1,0 +1,69 @@
+-- What a backend has to do before its next act.
+use Rattle.std.specs.Prelude.{ℕ, Bool, true, false, not, Option, Some, None, List, [], ◌∷◌, ◌++◌, ◌==◌, ◌&&◌, ◌||◌, if◌then◌else◌, map, filter, take, is_none}
+use Rattle.std.specs.List.{flat_map, list_any}
+use Rattle.base_types.specs.Scans.{same_scan, build_scans}
+use Rattle.base_types.specs.declared.scan.Purpose.TheVariants as scans
+use Rattle.event_kinds.specs.declared.entry.Event.TheVariants as events
+use Rattle.ddl_effect.specs.Plans.{Plan, Do, Lookup, Column, rests_on}
+use Rattle.ddl_effect.specs.Blocks.{Outside, ends_block, refused_by}
+use Rattle.history_model.specs.Writes.{is_empty}
+use Rattle.cacheless.specs.Types.{Purpose, Command, Event, Opening}
+use Rattle.cacheless.specs.Facts.{Facts}
+use Rattle.cacheless.specs.Session.{Session, Badly, outcome_of}
+
+-- a look at the has-messages word, a fetch, or a scan
+pub data Owes : Type 0 where
+  OwesLook : Owes
+  OwesFetch : Owes
+  OwesScan : (scan : Purpose) → Owes
+
+-- what has to come right after an event
+abbrev pub owed_after : Option Event → List Owes
+owed_after (Some (events.LockOk rel mode)) = OwesLook ∷ []
+owed_after (Some (events.Look true)) = OwesFetch ∷ []
+owed_after (Some (events.Fetch count)) = elim (count == 32) [ true ↦ OwesLook ∷ [] | false ↦ [] ]
+owed_after last = []
+
+-- a command outside a block begins a transaction, unless it only ends blocks or the blocks refuse it
+abbrev pub begins : Command → Session → Bool
+begins command s = elim s.blocks.block [ Outside ↦ not (ends_block command) && not s.ended && is_none (refused_by Outside command) | block ↦ false ]
+
+-- a transaction starts with a look
+abbrev pub owed_at_start : Facts → Command → Session → List Owes
+owed_at_start facts command s = elim (begins command s && is_none facts.running) [ true ↦ OwesLook ∷ [] | false ↦ [] ]
+
+-- those of these scans that aren't usable
+abbrev pub unusable : Facts → List Purpose → List Purpose
+unusable facts wanted = filter (λ scan. not (facts.usable scan)) wanted
+
+-- the scans that the opened descriptors lack
+abbrev pub builds_owed : Facts → List Opening → List Purpose
+builds_owed facts opened = flat_map (λ o. unusable facts (build_scans o.kind o.rel)) opened
+
+-- the scans that the next act lacks: that of a name or of a column is made for each act anew
+abbrev pub act_owed : Facts → Bool → Plan → List Purpose
+act_owed facts read (Do (Lookup name mode) rest) = if read then [] else scans.RelName name ∷ []
+act_owed facts read (Do (Column rel name) rest) = if read then [] else scans.AttName rel name ∷ []
+act_owed facts read (Do act rest) = unusable facts (rests_on act)
+act_owed facts read plan = []
+
+-- the scans that are owed: none once the command has failed
+abbrev pub scans_owed : Facts → Session → List Purpose
+scans_owed facts s = elim (outcome_of s.left) [ Badly ↦ [] | other ↦ builds_owed facts s.opened ++ act_owed facts s.read s.left ]
+
+-- all that has to come before the next act
+abbrev pub owed_of : Facts → Command → Session → List Owes
+owed_of facts command s = owed_at_start facts command s ++ owed_after facts.last ++ map OwesScan (scans_owed facts s)
+
+-- of each descriptor the first scan that it lacks, and the first that the next act lacks
+abbrev pub scans_next : Facts → Session → List Purpose
+scans_next facts s = elim (outcome_of s.left) [ Badly ↦ [] | other ↦ flat_map (λ o. take 1 (unusable facts (build_scans o.kind o.rel))) s.opened ++ take 1 (act_owed facts s.read s.left) ]
+
+-- a scan may be made now
+abbrev pub is_next_scan : Purpose → Facts → Session → Bool
+is_next_scan scan facts s = list_any (same_scan scan) (scans_next facts s)
+
+-- an accept of messages isn't over: a look, a fetch, or a scan for an opened descriptor is owed
+abbrev pub owes_accept : Facts → Option Command → Session → Bool
+owes_accept facts None s = not (is_empty (owed_after facts.last))
+owes_accept facts (Some command) s = not (is_empty (owed_at_start facts command s ++ owed_after facts.last)) || elim (outcome_of s.left) [ Badly ↦ false | other ↦ not (is_empty (builds_owed facts s.opened)) ]

@@ -1,0 +1,119 @@
+-- The order in which backends do what their commands say.
+use Rattle.std.specs.Prelude.{ℕ, Bool, true, false, Option, Some, None, List, [], ◌∷◌, ◌≡◌, ◌+◌, ◌==◌, ◌&&◌, nat_lt, nat_le, ⊤, length, is_some, slice_get}
+use Rattle.std.specs.Option.{option_map_or}
+use Rattle.std.specs.List.{list_any, flat_map}
+use Rattle.std.specs.Str.{bytes_eq}
+use Rattle.base_types.specs.Scenario.{IsBackend}
+use Rattle.base_types.specs.declared.row.Row.TheVariants as rows
+use Rattle.base_types.specs.declared.scan.Purpose.TheVariants as scans
+use Rattle.event_kinds.specs.declared.entry.Event.TheVariants as events
+use Rattle.event_kinds.specs.declared.entry.Item.TheVariants as items
+use Rattle.ddl_effect.specs.Plans.{Lookup, Lock, Write, Plan, Do}
+use Rattle.ddl_effect.specs.Commands.{commands_of}
+use Rattle.ddl_effect.specs.Drawing.{changes_of}
+use Rattle.history_model.specs.Prefixes.{EachEntry}
+use Rattle.history_model.specs.Changes.{items_of}
+use Rattle.history_model.specs.Drawn.{next_oid}
+use Rattle.cacheless.specs.Types.{Oid, Mode, Draft, Command, Scenario, Entry, Event, Item}
+use Rattle.cacheless.specs.Facts.{Facts, facts_of}
+use Rattle.cacheless.specs.Session.{Session, Counts, number_of}
+use Rattle.cacheless.specs.Owed.{Owes, OwesFetch, owed_after, owed_of, is_next_scan}
+use Rattle.cacheless.specs.Ends.{TakesBack, end_of, end_left, end_of_all, next_of_end}
+use Rattle.cacheless.specs.Settled.{class_oid}
+use Rattle.cacheless.specs.Sessions.{session_of}
+
+-- 1 if the running transaction started in this command
+abbrev pub started_in : ℕ → Facts → ℕ
+started_in number facts = option_map_or (λ t. elim (t.first == number) [ true ↦ 1 | false ↦ 0 ]) facts.running 0
+
+-- there was a look for each scan and grant of the command and for the start of its transaction, and one more
+abbrev pub has_looked : Facts → Session → Bool
+has_looked facts s = nat_lt (s.counts.scans + s.counts.grants + started_in (number_of s) facts) s.counts.looks
+
+-- no fetch has to come first, and the looks of the command stay within their bound
+abbrev pub may_look : Facts → Session → Bool
+may_look facts s = elim (owed_after facts.last) [ OwesFetch ∷ owed ↦ false | owed ↦ nat_le (s.counts.looks + 1) (s.counts.scans + s.counts.grants + 3) ]
+
+-- the next act asks for this lock
+abbrev pub IsLock : Facts → Plan → Oid → Mode → Type 0
+IsLock facts (Do (Lookup name wanted) rest) rel mode = (class_oid (facts.rows (scans.RelName name)) ≡ Some rel) × (mode ≡ wanted)
+IsLock facts (Do (Lock wanted_rel wanted) rest) rel mode = (rel ≡ wanted_rel) × (mode ≡ wanted)
+IsLock facts plan rel mode = ⊥
+
+-- the items of a draft, where the first new oid is this one
+abbrev pub drafted : ℕ → Draft → List Item
+drafted next draft = items_of (changes_of next draft) draft.forced
+
+-- the next act writes these items
+abbrev pub IsWrite : ℕ → Plan → List Item → Type 0
+IsWrite next (Do (Write draft) rest) items = items ≡ drafted next draft
+IsWrite next plan items = ⊥
+
+-- the names in the relations' rows of a write
+abbrev pub names_of : Item → List (List ℕ)
+names_of (items.Add (rows.Class oid name kind fill)) = name ∷ []
+names_of (items.Put (rows.Class oid name kind fill)) = name ∷ []
+names_of item = []
+
+-- the next act writes a relation of this name
+abbrev pub IsClash : ℕ → Plan → List ℕ → Type 0
+IsClash next (Do (Write draft) rest) name = list_any (bytes_eq name) (flat_map names_of (drafted next draft)) ≡ true
+IsClash next plan name = ⊥
+
+-- what has to come before the next entry of the end: taking back waits for no scan
+abbrev pub owed_at_end : Facts → Command → Session → List Owes
+owed_at_end facts command s = elim (end_of facts command s) [ TakesBack from ↦ owed_after facts.last | end ↦ owed_of facts command s ]
+
+-- the next entry of the command's end
+abbrev pub IsEnd : Facts → Command → Session → Event → Type 0
+IsEnd facts command s event = (owed_at_end facts command s ≡ []) × (end_left facts command s ≡ Some event)
+
+-- what may come next in a command, where the next new oid is this one
+abbrev pub MayPlay : ℕ → Facts → Command → Session → Event → Type 0
+MayPlay next facts command s (events.Look some_wait) = may_look facts s ≡ true
+MayPlay next facts command s (events.Scan scan count) = (owed_after facts.last ≡ []) × (is_next_scan scan facts s ≡ true) × (has_looked facts s ≡ true)
+MayPlay next facts command s (events.LockOk rel mode) = (owed_of facts command s ≡ []) × IsLock facts s.left rel mode
+MayPlay next facts command s (events.LockHeld rel mode holder held) = (owed_of facts command s ≡ []) × IsLock facts s.left rel mode
+MayPlay next facts command s (events.Write xid items) = (owed_of facts command s ≡ []) × IsWrite next s.left items
+MayPlay next facts command s (events.ClashRow name rel) = (owed_of facts command s ≡ []) × IsClash next s.left name
+MayPlay next facts command s (events.ClashRunning name xid) = (owed_of facts command s ≡ []) × IsClash next s.left name
+MayPlay next facts command s (events.Visible xid) = IsEnd facts command s (events.Visible xid)
+MayPlay next facts command s (events.Publish count) = IsEnd facts command s (events.Publish count)
+MayPlay next facts command s (events.Gone from) = IsEnd facts command s (events.Gone from)
+MayPlay next facts command s (events.Release from) = IsEnd facts command s (events.Release from)
+MayPlay next facts command s event = ⊥
+
+-- the next entry of taking back what still runs after the last command
+abbrev pub IsLastEnd : Facts → Event → Type 0
+IsLastEnd facts event = (owed_after facts.last ≡ []) × (next_of_end facts (end_of_all facts) ≡ Some event)
+
+-- after the last command a transaction that still runs is taken back, and the stop follows
+abbrev pub MayPlayLast : Facts → Session → Event → Type 0
+MayPlayLast facts s (events.Look some_wait) = (is_some facts.running ≡ true) × (may_look facts s ≡ true)
+MayPlayLast facts s (events.Gone from) = IsLastEnd facts (events.Gone from)
+MayPlayLast facts s (events.Release from) = IsLastEnd facts (events.Release from)
+MayPlayLast facts s events.Stop = facts.running ≡ None
+MayPlayLast facts s event = ⊥
+
+-- what may come next in a session
+abbrev pub MayPlayIn : ℕ → Facts → Option Command → Session → Event → Type 0
+MayPlayIn next facts None s event = MayPlayLast facts s event
+MayPlayIn next facts (Some command) s event = MayPlay next facts command s event
+
+-- the event is a start
+abbrev pub IsStart : Event → Type 0
+IsStart events.Start = ⊤
+IsStart event = ⊥
+
+-- what may come next: the start, or what the session says, with the number of its command
+abbrev pub MayPlayAt : Scenario → List Entry → ℕ → Option Session → ℕ → Event → Type 0
+MayPlayAt scenario before b None c event = IsStart event
+MayPlayAt scenario before b (Some s) c event = (c ≡ number_of s) × MayPlayIn (next_oid before) (facts_of before b) (slice_get (commands_of scenario b) (length s.finished)) s event
+
+-- an entry is what a backend of the script may do next
+abbrev pub IsNext : Scenario → List Entry → Entry → Type 0
+IsNext scenario before e = IsBackend scenario.backends e.backend × MayPlayAt scenario before e.backend (session_of scenario before e.backend) e.command e.event
+
+-- the backends do what their commands say, in order
+abbrev pub Plays : Scenario → List Entry → Type 0
+Plays scenario history = EachEntry (IsNext scenario) history

@@ -1,0 +1,110 @@
+-- Where a backend stands in its commands.
+use Rattle.std.specs.Prelude.{ℕ, Bool, true, false, Option, Some, None, List, [], ◌∷◌, ◌++◌, ◌+◌, length, is_some}
+use Rattle.std.specs.Option.{option_map_or}
+use Rattle.ddl_effect.specs.Plans.{Plan, Done, Fails, Absent, Do, NotBuilt}
+use Rattle.ddl_effect.specs.Commands.{plan_of}
+use Rattle.ddl_effect.specs.Blocks.{Block, Blocks, refused_by}
+use Rattle.cacheless.specs.Types.{Oid, Command, CommandError, Opening, OwnLock}
+
+-- a finished command: the block as it began, the error that the blocks or an entry showed, the relations with which its lookups ended, and the number of the entry where it is judged
+pub record Finished : Type 0 where
+  pub block : Block
+  pub refused : Option CommandError
+  pub found : List (Option Oid)
+  pub judged : ℕ
+
+-- how many looks, scans and grants the running command has made
+pub record Counts : Type 0 where
+  pub looks : ℕ
+  pub scans : ℕ
+  pub grants : ℕ
+
+-- a backend between its start and its stop:
+--   blocks     the transaction blocks before the running command
+--   finished   the finished commands in order
+--   left       what is left of the running command
+--   refused    the error that the blocks or an entry showed
+--   blocked    that error is the blocks'
+--   opened     the descriptors that the command has opened, until its write
+--   read       the scan of a name or a column on which the next act rests is made
+--   found      the relations with which its lookups ended
+--   ended      its release is made
+--   counts     its looks, scans and grants
+--   locks      the locks that the backend holds
+--   judged     the number of the backend's last entry but for those that end the running command
+--   last       the number of the backend's last entry
+pub record Session : Type 0 where
+  pub blocks : Blocks
+  pub finished : List Finished
+  pub left : Plan
+  pub refused : Option CommandError
+  pub blocked : Bool
+  pub opened : List Opening
+  pub read : Bool
+  pub found : List (Option Oid)
+  pub ended : Bool
+  pub counts : Counts
+  pub locks : List OwnLock
+  pub judged : ℕ
+  pub last : ℕ
+
+-- the number of the running command
+abbrev pub number_of : Session → ℕ
+number_of s = length s.finished + 1
+
+-- the first command of those that are left
+abbrev pub first_of : List Command → Option Command
+first_of [] = None
+first_of (command ∷ rest) = Some command
+
+-- why the blocks refuse a command, if there is one and they do
+abbrev pub refused_first : Block → Option Command → Option CommandError
+refused_first block None = None
+refused_first block (Some command) = refused_by block command
+
+-- the plan of a command that the blocks admit, or their error
+abbrev pub plan_admitted : Option CommandError → Command → Plan
+plan_admitted (Some error) command = Fails error
+plan_admitted None command = plan_of [] command
+
+-- the plan of a command, if there is one
+abbrev pub plan_first : Block → Option Command → Plan
+plan_first block None = Done
+plan_first block (Some command) = plan_admitted (refused_by block command) command
+
+-- at the beginning of a command, or after the last one
+abbrev pub at_command : Blocks → List Finished → List OwnLock → ℕ → Option Command → Session
+at_command blocks finished locks last command = record {
+  blocks = blocks;
+  finished = finished;
+  left = plan_first blocks.block command;
+  refused = refused_first blocks.block command;
+  blocked = is_some (refused_first blocks.block command);
+  opened = [];
+  read = false;
+  found = [];
+  ended = false;
+  counts = record { looks = 0; scans = 0; grants = 0 };
+  locks = locks;
+  judged = last;
+  last = last;
+}
+
+-- how a plan comes out
+pub data Outcome : Type 0 where
+  Unsettled : Outcome
+  Well : Outcome
+  Badly : Outcome
+
+-- how the plan that is left comes out
+abbrev pub outcome_of : Plan → Outcome
+outcome_of Done = Well
+outcome_of (Fails error) = Badly
+outcome_of (Absent name) = Badly
+outcome_of (Do act rest) = Unsettled
+outcome_of NotBuilt = Unsettled
+
+-- a command has come out
+abbrev pub is_settled : Outcome → Bool
+is_settled Unsettled = false
+is_settled outcome = true

@@ -1,0 +1,87 @@
+-- The session of a backend: a fold over its entries.
+use Rattle.std.specs.Prelude.{ℕ, Bool, true, false, Option, Some, None, List, [], ◌∷◌, ◌++◌, ◌+◌, ◌||◌, if◌then◌else◌, map, length, drop}
+use Rattle.std.specs.Option.{option_map}
+use Rattle.base_types.specs.Scans.{same_scan}
+use Rattle.base_types.specs.declared.scan.Purpose.TheVariants as scans
+use Rattle.event_kinds.specs.declared.entry.Event.TheVariants as events
+use Rattle.rel_desc.specs.declared.error.CommandError.TheVariants as errors
+use Rattle.ddl_effect.specs.Plans.{Lookup, Column, Write, Plan, Fails, Do}
+use Rattle.ddl_effect.specs.Commands.{commands_of}
+use Rattle.ddl_effect.specs.Blocks.{no_block}
+use Rattle.history_model.specs.Prefixes.{along_own}
+use Rattle.cacheless.specs.Types.{Purpose, Command, CommandError, Scenario, Entry, Event}
+use Rattle.cacheless.specs.Facts.{Facts, facts_of}
+use Rattle.cacheless.specs.Locks.{locks_by, cleared}
+use Rattle.cacheless.specs.Session.{Session, Counts, first_of, at_command}
+use Rattle.cacheless.specs.Owed.{owes_accept}
+use Rattle.cacheless.specs.Settled.{settled}
+
+-- the error that an entry shows ends the command
+abbrev pub refused_with : CommandError → Session → Session
+refused_with error s = record s { left = Fails error; refused = Some error }
+
+-- the next act looks a name or a column up by this scan
+abbrev pub is_wanted : Purpose → Plan → Bool
+is_wanted scan (Do (Lookup name mode) rest) = same_scan scan (scans.RelName name)
+is_wanted scan (Do (Column rel name) rest) = same_scan scan (scans.AttName rel name)
+is_wanted scan plan = false
+
+-- the write of the command is made, and its descriptors are closed
+abbrev pub written : Plan → Session → Session
+written (Do (Write draft) rest) s = record s { left = rest []; opened = []; read = false }
+written plan s = s
+
+-- the counts after an event
+abbrev pub counts_by : Event → Counts → Counts
+counts_by (events.Look some_wait) old = record old { looks = old.looks + 1 }
+counts_by (events.Scan scan rows) old = record old { scans = old.scans + 1 }
+counts_by (events.LockOk rel mode) old = record old { grants = old.grants + 1 }
+counts_by event old = old
+
+-- what an event changes of the running command
+abbrev pub noted : Event → Session → Session
+noted (events.Scan scan rows) s = record s { read = is_wanted scan s.left || s.read }
+noted (events.LockHeld rel mode holder held) s = refused_with (errors.Locked rel holder held) s
+noted (events.ClashRow name rel) s = refused_with (errors.RelationExists name) s
+noted (events.ClashRunning name xid) s = refused_with (errors.NameInUse name xid) s
+noted (events.Write xid items) s = written s.left s
+noted (events.Release from) s = record s { ended = true }
+noted event s = s
+
+-- the event belongs to the end of a command
+abbrev pub ends_command : Event → Bool
+ends_command (events.Visible xid) = true
+ends_command (events.Publish count) = true
+ends_command (events.Release from) = true
+ends_command (events.Gone from) = true
+ends_command event = false
+
+-- the session with an event in this entry, before anything else is done
+abbrev pub placed_at : ℕ → ℕ → Event → Session → Session
+placed_at at command event s = record (noted event s) {
+  counts = counts_by event s.counts;
+  locks = locks_by command event s.locks;
+  judged = if ends_command event then s.judged else at;
+  last = at;
+}
+
+-- where no accept is left to end, all locks are clear
+abbrev pub accepted : Facts → Option Command → Session → Session
+accepted facts command s = elim (owes_accept facts command s) [ true ↦ s | false ↦ record s { locks = map cleared s.locks } ]
+
+-- the commands from the running one on
+abbrev pub commands_left : Scenario → ℕ → Session → List Command
+commands_left scenario b s = drop (length s.finished) (commands_of scenario b)
+
+-- the session before anything else is done, by the facts after the entry, which has this number
+abbrev pub entered : Facts → List Command → ℕ → ℕ → Event → Session → Session
+entered facts commands at command event s = accepted facts (first_of commands) (placed_at at command event s)
+
+-- the session after an entry of the backend
+abbrev pub session_by : Scenario → Facts → ℕ → ℕ → ℕ → Event → Option Session → Option Session
+session_by scenario facts b at command events.Start old = let commands = commands_of scenario b in Some (settled facts commands (at_command no_block [] [] at (first_of commands)))
+session_by scenario facts b at command event old = option_map (λ s. let commands = commands_left scenario b s in settled facts commands (entered facts commands at command event s)) old
+
+-- where a backend stands in its commands, once it has started
+abbrev pub session_of : Scenario → List Entry → ℕ → Option Session
+session_of scenario history b = along_own b (λ before old e. session_by scenario (facts_of (before ++ e ∷ []) b) b (length before + 1) e.command e.event old) None history

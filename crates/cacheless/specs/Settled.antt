@@ -1,0 +1,87 @@
+-- Acts and commands that need no entry are passed over at once.
+use Rattle.std.specs.Prelude.{ℕ, Bool, true, false, Option, Some, None, List, [], ◌∷◌, ◌++◌, ◌&&◌, is_none}
+use Rattle.base_types.specs.declared.row.Row.TheVariants as rows
+use Rattle.base_types.specs.declared.scan.Purpose.TheVariants as scans
+use Rattle.ddl_effect.specs.Plans.{Act, Lookup, Open, Column, Read, Lock, Write, Plan, Do}
+use Rattle.ddl_effect.specs.Blocks.{Blocks, blocks_well, blocks_badly}
+use Rattle.history_model.specs.Writes.{is_empty}
+use Rattle.cacheless.specs.Types.{Oid, Mode, Row, Command, Opening, OwnLock}
+use Rattle.cacheless.specs.Facts.{Facts}
+use Rattle.cacheless.specs.Locks.{has_lock}
+use Rattle.cacheless.specs.Session.{Session, Finished, number_of, first_of, at_command, Well, outcome_of, is_settled}
+use Rattle.cacheless.specs.Owed.{owed_at_start, owed_after, builds_owed, act_owed, owed_of}
+use Rattle.cacheless.specs.Ends.{end_left}
+
+-- the relation that a lookup found
+abbrev pub class_oid : List Row → Option Oid
+class_oid (rows.Class oid name kind fill ∷ more) = Some oid
+class_oid given = None
+
+-- what is given once the lock is held
+abbrev pub if_locked : Bool → List Row → Option (List Row)
+if_locked true given = Some given
+if_locked false given = None
+
+-- what a lookup gives: its rows, once the relation that they name is locked
+abbrev pub looked_up : List OwnLock → Mode → List Row → Option (List Row)
+looked_up locks mode (rows.Class oid name kind fill ∷ more) = if_locked (has_lock locks oid mode) (rows.Class oid name kind fill ∷ more)
+looked_up locks mode given = Some given
+
+-- what an act gives that is done here and leaves no entry
+abbrev pub gives : Facts → List OwnLock → Act → Option (List Row)
+gives facts locks (Lookup name mode) = looked_up locks mode (facts.rows (scans.RelName name))
+gives facts locks (Open rel kind) = Some []
+gives facts locks (Column rel name) = Some (facts.rows (scans.AttName rel name))
+gives facts locks (Read scan) = Some (facts.rows scan)
+gives facts locks (Lock rel mode) = if_locked (has_lock locks rel mode) []
+gives facts locks (Write draft) = None
+
+-- the descriptor that an act opens
+abbrev pub opened_by : Act → List Opening
+opened_by (Open rel kind) = record { rel = rel; kind = kind } ∷ []
+opened_by act = []
+
+-- the relation with which a lookup ended, if the act is one
+abbrev pub found_by : Act → List Row → List (Option Oid)
+found_by (Lookup name mode) given = class_oid given ∷ []
+found_by act given = []
+
+-- the session after an act that gave these rows
+abbrev pub act_done : Act → List Row → Plan → Session → Session
+act_done act given rest s = record s { left = rest; opened = s.opened ++ opened_by act; read = false; found = s.found ++ found_by act given }
+
+-- what the next act gives, if no scan is owed and it needs no entry
+abbrev pub done_here : Facts → Session → Act → Plan → Option (List Row)
+done_here facts s act plan = elim (is_empty (builds_owed facts s.opened ++ act_owed facts s.read plan)) [ true ↦ gives facts s.locks act | false ↦ None ]
+
+-- the session after the acts of a plan that need no entry
+abbrev pub acted_on : Facts → Plan → Session → Session
+acted_on facts (Do act rest) s = elim (done_here facts s act (Do act rest)) [ None ↦ s | Some given ↦ acted_on facts (rest given) (act_done act given (rest given) s) ]
+acted_on facts plan s = s
+
+-- the same for the running command, if no look and no fetch is owed
+abbrev pub acted : Facts → Command → Session → Session
+acted facts command s = elim (is_empty (owed_at_start facts command s ++ owed_after facts.last)) [ true ↦ acted_on facts s.left s | false ↦ s ]
+
+-- the running command is finished: it has come out, nothing of its end is left, and nothing is owed
+abbrev pub is_finished : Facts → Command → Session → Bool
+is_finished facts command s = is_settled (outcome_of s.left) && is_none (end_left facts command s) && is_empty (owed_of facts command s)
+
+-- the blocks after the running command
+abbrev pub blocks_after : Command → Session → Blocks
+blocks_after command s = elim (outcome_of s.left) [ Well ↦ blocks_well (number_of s) command s.blocks | outcome ↦ blocks_badly s.blocks ]
+
+-- what is kept of the running command
+abbrev pub finished_as : Session → Finished
+finished_as s = record { block = s.blocks.block; refused = s.refused; found = s.found; judged = s.judged }
+
+-- the session at the next command
+abbrev pub next_session : Command → Option Command → Session → Session
+next_session command next s = at_command (blocks_after command s) (s.finished ++ finished_as s ∷ []) s.locks s.last next
+
+-- acts that need no entry are done, and commands that are finished are passed over
+abbrev pub settled : Facts → List Command → Session → Session
+settled facts [] s = s
+settled facts (command ∷ rest) s =
+    let now = acted facts command s in
+    elim (is_finished facts command now) [ true ↦ settled facts rest (next_session command (first_of rest) now) | false ↦ now ]

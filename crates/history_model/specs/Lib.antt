@@ -1,0 +1,16 @@
+pub mod Types
+pub mod Changes
+pub mod Prefixes
+pub mod Lives
+pub mod Transactions
+pub mod Versions
+pub mod Messages
+pub mod Sent
+pub mod Log
+pub mod Held
+pub mod Drawn
+pub mod Names
+pub mod Writes
+pub mod Legal
+pub mod Read
+pub mod Orderly

@@ -1,0 +1,60 @@
+-- What the commands keep, though a legal history need not.
+use Rattle.std.specs.Prelude.{ℕ, Bool, true, false, List, ◌≡◌, ◌<◌, ⊤}
+use Rattle.std.specs.Option.{option_map_or}
+use Rattle.std.specs.List.{list_any, list_all}
+use Rattle.base_types.specs.Keys.{key_of, same_key}
+use Rattle.base_types.specs.Scans.{same_oid}
+use Rattle.base_types.specs.declared.row.Row.TheVariants as rows
+use Rattle.history_model.specs.Types.{Oid, Row, RowKey, Item, Add, Put, Entry, Event, LockOk, LockHeld, Write}
+use Rattle.history_model.specs.Prefixes.{EachEntry}
+use Rattle.history_model.specs.Versions.{versions_of, old_row}
+use Rattle.history_model.specs.Drawn.{next_oid}
+use Rattle.history_model.specs.Legal.{MayFollow}
+
+-- a version has the key
+abbrev pub has_key : List Entry → RowKey → Bool
+has_key history key = list_any (λ v. same_key (key_of v.row) key) (versions_of history)
+
+-- no version has the key of a row that a change adds
+abbrev pub is_fresh : List Entry → Item → Bool
+is_fresh before (Add row) = elim (has_key before (key_of row)) [ true ↦ false | false ↦ true ]
+is_fresh before item = true
+
+-- the relation of which a row is
+abbrev pub main_rel : Row → Oid
+main_rel (rows.Class oid name kind fill) = oid
+main_rel (rows.Att rel num name col_type stat live) = rel
+main_rel (rows.Def oid rel num word) = rel
+main_rel (rows.Ind index table state nums) = index
+main_rel (rows.Con oid rel name valid what) = rel
+main_rel (rows.Trg oid rel name on) = rel
+
+-- a row that a change replaces stays one of its relation
+abbrev pub keeps_relation : List Entry → ℕ → Item → Bool
+keeps_relation before b (Put row) = option_map_or (λ old. same_oid (main_rel old) (main_rel row)) (old_row before b (Put row)) true
+keeps_relation before b item = true
+
+-- the rows that a write adds have new keys, and those that it replaces stay rows of their relations
+pub record IsOrderlyWrite (before : List Entry) (b : ℕ) (items : List Item) : Type 0 where
+  pub fresh : list_all (is_fresh before) items ≡ true
+  pub keeps : list_all (keeps_relation before b) items ≡ true
+
+-- a lock is asked for on a relation whose oid has been drawn, and a write is orderly
+abbrev pub IsOrderlyEvent : List Entry → ℕ → Event → Type 0
+IsOrderlyEvent before b (LockOk rel mode) = rel.0 < next_oid before
+IsOrderlyEvent before b (LockHeld rel mode holder held) = rel.0 < next_oid before
+IsOrderlyEvent before b (Write xid items) = IsOrderlyWrite before b items
+IsOrderlyEvent before b event = ⊤
+
+-- an entry keeps order after the entries before it
+abbrev pub IsOrderly : List Entry → Entry → Type 0
+IsOrderly before e = IsOrderlyEvent before e.backend e.event
+
+-- an entry may follow those before it, and keeps order
+pub record MayComeNext (before : List Entry) (e : Entry) : Type 0 where
+  pub follows : MayFollow before e
+  pub orderly : IsOrderly before e
+
+-- a history is legal and orderly
+abbrev pub IsSound : List Entry → Type 0
+IsSound history = EachEntry MayComeNext history

@@ -1,0 +1,72 @@
+-- Which writes a history allows.
+use Rattle.std.specs.Prelude.{ℕ, Bool, true, false, not, Option, Some, None, List, [], ◌∷◌, ◌≡◌, ◌==◌, ◌&&◌, ◌||◌, length}
+use Rattle.std.specs.Option.{option_map_or}
+use Rattle.std.specs.List.{flat_map, filter_map, list_any, list_all, range_with_len}
+use Rattle.base_types.specs.Keys.{key_of, same_key, are_distinct_keys}
+use Rattle.base_types.specs.Scans.{same_oid}
+use Rattle.base_types.specs.declared.row.ConKind.TheVariants as demands
+use Rattle.base_types.specs.declared.row.Row.TheVariants as rows
+use Rattle.base_types.specs.declared.scan.Purpose.TheVariants as scans
+use Rattle.history_model.specs.Types.{Oid, Xid, AccessExclusive, Row, RowKey, Item, Add, Put, Remove, Force, Entry, Event, Write}
+use Rattle.history_model.specs.Transactions.{xid_for}
+use Rattle.history_model.specs.Versions.{ended_key, added_row, old_row, row_with, answer_of}
+use Rattle.history_model.specs.Held.{held_of, holds}
+use Rattle.history_model.specs.Drawn.{drawn_by, made_by, next_oid}
+use Rattle.history_model.specs.Names.{new_names, users_of}
+
+-- the key of the row that a change is of
+abbrev pub changed_key : Item → List RowKey
+changed_key (Add row) = key_of row ∷ []
+changed_key (Put row) = key_of row ∷ []
+changed_key (Remove key) = key ∷ []
+changed_key (Force rel) = []
+
+-- the backend sees a row with the key
+abbrev pub has_row : List Entry → ℕ → RowKey → Bool
+has_row history b key = option_map_or (λ row. true) (row_with history b key) false
+
+-- the event is a write
+abbrev pub is_write : Event → Bool
+is_write (Write xid items) = true
+is_write event = false
+
+-- the backend has a write in the command
+abbrev pub has_written : List Entry → ℕ → ℕ → Bool
+has_written history b c = list_any (λ e. (e.backend == b) && (e.command == c) && is_write e.event) history
+
+-- the list has no element
+abbrev pub is_empty : {X : Type 0} → List X → Bool
+is_empty [] = true
+is_empty (x ∷ xs) = false
+
+-- neither a running transaction of another backend has the name in use, nor has a relation that the backend sees
+abbrev pub is_free : List Entry → ℕ → List ℕ → Bool
+is_free history b name = is_empty (users_of history b name) && is_empty (answer_of history b (scans.RelName name))
+
+-- the relations that a row names
+abbrev pub relations_of : Row → List Oid
+relations_of (rows.Class oid name kind fill) = oid ∷ []
+relations_of (rows.Att rel num name col_type stat live) = rel ∷ []
+relations_of (rows.Def oid rel num word) = rel ∷ []
+relations_of (rows.Ind index table state nums) = index ∷ table ∷ []
+relations_of (rows.Con oid rel name valid (demands.Foreign num refrel refnum)) = rel ∷ refrel ∷ []
+relations_of (rows.Con oid rel name valid what) = rel ∷ []
+relations_of (rows.Trg oid rel name on) = rel ∷ []
+
+-- the rows that a change names: the old one and the new one
+abbrev pub rows_named : Item → Option Row → List Row
+rows_named item old = filter_map (λ row. row) (old ∷ added_row item ∷ [])
+
+-- a change is guarded: on each relation that its rows name, but those that the write makes, the backend holds AccessExclusive
+abbrev pub is_guarded : List Entry → ℕ → List Oid → Item → Bool
+is_guarded before b made item = list_all (λ rel. list_any (same_oid rel) made || holds (held_of before) b rel AccessExclusive) (flat_map relations_of (rows_named item (old_row before b item)))
+
+-- a write has its transaction's Xid or the next one, draws the next oids in order, changes no key twice, replaces and takes away rows that are seen, is the only one of its command, and has no new name that is in use and no change that isn't guarded
+pub record IsWriteAllowed (before : List Entry) (b c : ℕ) (xid : Xid) (items : List Item) : Type 0 where
+  pub xid_is : xid.0 ≡ xid_for before b
+  pub oids : flat_map drawn_by items ≡ range_with_len (next_oid before) (length (flat_map drawn_by items))
+  pub keys : are_distinct_keys (flat_map changed_key items) ≡ true
+  pub there : list_all (has_row before b) (filter_map ended_key items) ≡ true
+  pub only : has_written before b c ≡ false
+  pub free : list_all (is_free before b) (new_names before b items) ≡ true
+  pub guarded : list_all (is_guarded before b (flat_map made_by items)) items ≡ true

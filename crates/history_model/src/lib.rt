@@ -1,0 +1,15 @@
+//! What a history of entries means, whichever commands the backends run.
+//!
+//! A history is the list of all entries, oldest first. What it "has" is a fold over it: the versions
+//! of catalog rows, the transaction that a backend runs, the messages that its commit will send, the
+//! log of all messages, the locks that are held, and the scans that a backend may still rely on.
+//! What may come next is a relation of an entry and the entries before it, and a history is legal
+//! where that holds of each of its entries. Nothing here is a cache, a queue or an index.
+//!
+//! specs/ is to be read in this order: Prefixes, Lives, Transactions, Versions, Messages, Sent, Log,
+//! Held, Drawn, Names, Writes, Legal, Read, Orderly.
+#![tactic(auto)]
+
+mod grant;
+
+pub use grant::Grant;
