@@ -1,0 +1,9 @@
+pub mod Given
+pub mod TwoCreators
+pub mod NewOids
+pub mod CreateThenShow
+pub mod FailedBlock
+pub mod RefusedLock
+pub mod RefusedCommands
+pub mod WrongEntries
+pub mod WrongPlays
