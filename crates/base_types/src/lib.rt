@@ -24,6 +24,7 @@
 #![tactic(auto)]
 
 mod catalog;
+mod change;
 mod col_type;
 mod command;
 mod dropped;
@@ -54,6 +55,7 @@ mod short_text;
 mod words;
 
 pub use catalog::Catalog;
+pub use change::Change;
 pub use col_type::ColType;
 pub use command::{Command, NewColumn, Placed, Turns};
 pub use dropped::MOST_COLUMNS;

@@ -1,3 +1,5 @@
+pub mod Reading
+pub mod Settling
 pub mod Given
 pub mod TwoCreators
 pub mod NewOids

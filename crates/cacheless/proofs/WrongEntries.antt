@@ -1,7 +1,7 @@
 -- What no history allows, and at the end what it allows beside it: a worked example up to a place, and one entry there.
 use Rattle.std.proofs.Common.{◌≡◌, ◌++◌, ℕ, Bool, true, false, None, Some, List, [], ◌∷◌, slice_get, codes, negsuc, arith}
 use Rattle.base_types.specs.declared.mode.Mode.TheVariants.{AccessShare, AccessExclusive}
-use Rattle.base_types.specs.declared.kind.Kind.TheVariants.{Table}
+use Rattle.base_types.specs.declared.kind.Kind.TheVariants.{Table, Index}
 use Rattle.base_types.specs.declared.row.Row.TheVariants.{Class}
 use Rattle.base_types.specs.declared.row_key.RowKey.TheVariants as keys
 use Rattle.base_types.specs.declared.scan.Purpose.TheVariants as scans
@@ -116,6 +116,10 @@ unseen_row_replaced h = search arith
 -- a row is taken away that isn't there
 pub unseen_row_removed : MayFollow oids.looked (entry 1 4 (Write (xid 2) (Remove (keys.Class (oid 16384)) ∷ []))) → ⊥
 unseen_row_removed h = search arith
+
+-- a table made an index
+pub kind_changed : MayFollow show.locked (entry 1 2 (Write (xid 2) (Put (Class (oid 16384) (codes "t") Index None) ∷ []))) → ⊥
+kind_changed h = search arith
 
 -- locks are released while the writes under them aren't taken back
 pub release_before_gone : MayFollow oids.written (entry 1 3 (Release 1)) → ⊥

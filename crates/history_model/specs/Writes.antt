@@ -7,7 +7,7 @@ use Rattle.base_types.specs.Scans.{same_oid}
 use Rattle.base_types.specs.declared.row.ConKind.TheVariants as demands
 use Rattle.base_types.specs.declared.row.Row.TheVariants as rows
 use Rattle.base_types.specs.declared.scan.Purpose.TheVariants as scans
-use Rattle.history_model.specs.Types.{Oid, Xid, AccessExclusive, Row, RowKey, Item, Add, Put, Remove, Force, Entry, Event, Write}
+use Rattle.history_model.specs.Types.{Oid, Xid, AccessExclusive, Table, Index, Row, RowKey, Item, Add, Put, Remove, Force, Entry, Event, Write}
 use Rattle.history_model.specs.Transactions.{xid_for}
 use Rattle.history_model.specs.Versions.{ended_key, added_row, old_row, row_with, answer_of}
 use Rattle.history_model.specs.Held.{held_of, holds}
@@ -61,12 +61,24 @@ rows_named item old = filter_map (λ row. row) (old ∷ added_row item ∷ [])
 abbrev pub is_guarded : List Entry → ℕ → List Oid → Item → Bool
 is_guarded before b made item = list_all (λ rel. list_any (same_oid rel) made || holds (held_of before) b rel AccessExclusive) (flat_map relations_of (rows_named item (old_row before b item)))
 
--- a write has its transaction's Xid or the next one, draws the next oids in order, changes no key twice, replaces and takes away rows that are seen, is the only one of its command, and has no new name that is in use and no change that isn't guarded
+-- two rows of relations are of one kind
+abbrev pub same_kind : Row → Row → Bool
+same_kind (rows.Class a name Table fill) (rows.Class b other Index fill') = false
+same_kind (rows.Class a name Index fill) (rows.Class b other Table fill') = false
+same_kind a b = true
+
+-- a change leaves the kind of a relation
+abbrev pub keeps_kind : List Entry → ℕ → Item → Bool
+keeps_kind before b (Put row) = option_map_or (λ old. same_kind old row) (old_row before b (Put row)) true
+keeps_kind before b item = true
+
+-- a write has its transaction's Xid or the next one, draws the next oids in order, changes no key twice, replaces and takes away rows that are seen, leaves the kinds of relations, is the only one of its command, and has no new name that is in use and no change that isn't guarded
 pub record IsWriteAllowed (before : List Entry) (b c : ℕ) (xid : Xid) (items : List Item) : Type 0 where
   pub xid_is : xid.0 ≡ xid_for before b
   pub oids : flat_map drawn_by items ≡ range_with_len (next_oid before) (length (flat_map drawn_by items))
   pub keys : are_distinct_keys (flat_map changed_key items) ≡ true
   pub there : list_all (has_row before b) (filter_map ended_key items) ≡ true
+  pub kinds : list_all (keeps_kind before b) items ≡ true
   pub only : has_written before b c ≡ false
   pub free : list_all (is_free before b) (new_names before b items) ≡ true
   pub guarded : list_all (is_guarded before b (flat_map made_by items)) items ≡ true

@@ -1,0 +1,80 @@
+-- What a backend does without an entry leaves where its commands settle; and where it waits for an entry, they are settled.
+use Rattle.std.proofs.Common.{◌≡◌, ◌∙◌, Bool, true, false, ◌&&◌, Some, None, List, [], ◌∷◌, ◌++◌, refl, sym, ap, is_none}
+use Rattle.std.proofs.Math.Bool.{and-false}
+use Rattle.base_types.specs.declared.row.Row.{Row}
+use Rattle.base_types.specs.declared.command.Command.{Command}
+use Rattle.event_kinds.specs.declared.entry.Event.{Event}
+use Rattle.ddl_effect.specs.Plans.{Plan, Done, Fails, Absent, NotBuilt, Do, Act}
+use Rattle.history_model.specs.Writes.{is_empty}
+use Rattle.cacheless.specs.Facts.{Facts}
+use Rattle.cacheless.specs.Session.{Session, outcome_of, is_settled, first_of}
+use Rattle.cacheless.specs.Owed.{owed_at_start, owed_after, owed_of}
+use Rattle.cacheless.specs.Ends.{end_left}
+use Rattle.cacheless.specs.Settled.{done_here, acted_on, acted, act_done, is_finished, next_session, settled}
+
+-- an act that is done here
+pub settled-act : (facts : Facts) (command : Command) (rest : List Command) (s : Session) (act : Act) (plan : List Row → Plan) (given : List Row)
+    → s.left ≡ Do act plan → is_empty (owed_at_start facts command s ++ owed_after facts.last) ≡ true → done_here facts s act (Do act plan) ≡ Some given
+    → settled facts (command ∷ rest) s ≡ settled facts (command ∷ rest) (act_done act given (plan given) s)
+settled-act facts command rest s act plan given left free done = ap (λ now. elim (is_finished facts command now) [ true ↦ settled facts rest (next_session command (first_of rest) now) | false ↦ now ]) same
+  where
+    same : acted facts command s ≡ acted facts command (act_done act given (plan given) s)
+    same =
+        ap (λ t. elim t [ true ↦ acted_on facts s.left s | false ↦ s ]) free ∙ ap (λ p. acted_on facts p s) left
+        ∙ ap (λ o. elim o [ None ↦ s | Some rows ↦ acted_on facts (plan rows) (act_done act rows (plan rows) s) ]) done
+        ∙ sym (ap (λ t. elim t [ true ↦ acted_on facts (plan given) (act_done act given (plan given) s) | false ↦ act_done act given (plan given) s ]) free)
+
+-- a command that is finished
+pub settled-finish : (facts : Facts) (command : Command) (rest : List Command) (s : Session) → acted facts command s ≡ s → is_finished facts command s ≡ true
+    → settled facts (command ∷ rest) s ≡ settled facts rest (next_session command (first_of rest) s)
+settled-finish facts command rest s stays finished = ap (λ now. elim (is_finished facts command now) [ true ↦ settled facts rest (next_session command (first_of rest) now) | false ↦ now ]) stays ∙ simp finished
+
+-- a command that waits for an entry
+pub settled-waits : (facts : Facts) (command : Command) (rest : List Command) (s : Session) → acted facts command s ≡ s → is_finished facts command s ≡ false
+    → settled facts (command ∷ rest) s ≡ s
+settled-waits facts command rest s stays finished = ap (λ now. elim (is_finished facts command now) [ true ↦ settled facts rest (next_session command (first_of rest) now) | false ↦ now ]) stays ∙ simp finished
+
+acted_on-out : (facts : Facts) (p : Plan) (s : Session) → is_settled (outcome_of p) ≡ true → acted_on facts p s ≡ s
+acted_on-out facts Done s out = refl
+acted_on-out facts (Fails error) s out = refl
+acted_on-out facts (Absent name) s out = refl
+acted_on-out facts NotBuilt s out = refl
+acted_on-out facts (Do act rest) s out = absurd (cc)
+
+-- a command that has come out has no act to do
+pub acted-out : (facts : Facts) (command : Command) (s : Session) → is_settled (outcome_of s.left) ≡ true → acted facts command s ≡ s
+acted-out facts command s out = elim (is_empty (owed_at_start facts command s ++ owed_after facts.last)) as (λ t. elim t [ true ↦ acted_on facts s.left s | false ↦ s ] ≡ s) [ true ↦ acted_on-out facts s.left s out | false ↦ refl ]
+
+is_empty-more : {X : Type 0} (xs ys : List X) → is_empty xs ≡ false → is_empty (xs ++ ys) ≡ false
+is_empty-more [] ys h = cc
+is_empty-more (x ∷ xs) ys h = refl
+
+-- a look or a fetch is owed
+pub waits-owed : (facts : Facts) (command : Command) (rest : List Command) (s : Session) → is_empty (owed_at_start facts command s ++ owed_after facts.last) ≡ false
+    → settled facts (command ∷ rest) s ≡ s
+waits-owed facts command rest s owed = settled-waits facts command rest s
+    (ap (λ t. elim t [ true ↦ acted_on facts s.left s | false ↦ s ]) owed)
+    (ap (λ t. is_settled (outcome_of s.left) && is_none (end_left facts command s) && t) (is_empty-more _ _ owed) ∙ and-false (is_settled (outcome_of s.left) && is_none (end_left facts command s)))
+
+-- the next act isn't done here
+pub waits-act : (facts : Facts) (command : Command) (rest : List Command) (s : Session) (act : Act) (plan : List Row → Plan)
+    → s.left ≡ Do act plan → done_here facts s act (Do act plan) ≡ None → settled facts (command ∷ rest) s ≡ s
+waits-act facts command rest s act plan left none = settled-waits facts command rest s stays (ap (λ p. is_settled (outcome_of p) && is_none (end_left facts command s) && is_empty (owed_of facts command s)) left)
+  where
+    stays : acted facts command s ≡ s
+    stays = elim (is_empty (owed_at_start facts command s ++ owed_after facts.last)) as (λ t. elim t [ true ↦ acted_on facts s.left s | false ↦ s ] ≡ s) [
+      true ↦ ap (λ p. acted_on facts p s) left ∙ ap (λ o. elim o [ None ↦ s | Some rows ↦ acted_on facts (plan rows) (act_done act rows (plan rows) s) ]) none
+      | false ↦ refl
+    ]
+
+-- the end isn't made
+pub waits-end : (facts : Facts) (command : Command) (rest : List Command) (s : Session) (event : Event)
+    → is_settled (outcome_of s.left) ≡ true → end_left facts command s ≡ Some event → settled facts (command ∷ rest) s ≡ s
+waits-end facts command rest s event out left = settled-waits facts command rest s (acted-out facts command s out)
+    (ap (λ o. is_settled (outcome_of s.left) && is_none o && is_empty (owed_of facts command s)) left ∙ ap (λ t. t && is_empty (owed_of facts command s)) (and-false (is_settled (outcome_of s.left))))
+
+-- a command that has come out, whose end is made and which owes nothing
+pub finishes : (facts : Facts) (command : Command) (rest : List Command) (s : Session)
+    → is_settled (outcome_of s.left) ≡ true → end_left facts command s ≡ None → is_empty (owed_of facts command s) ≡ true
+    → settled facts (command ∷ rest) s ≡ settled facts rest (next_session command (first_of rest) s)
+finishes facts command rest s out none free = settled-finish facts command rest s (acted-out facts command s out) (simp (out, none, free))
