@@ -1,0 +1,209 @@
+-- What a running transaction has touched it holds a lock on that no other may hold.
+use Rattle.std.proofs.Common.{◌≡◌, ◌≤◌, ◌<◌, ◌+◌, ◌∙◌, ◌⊎◌, inl, inr, ℕ, Bool, true, false, not, Option, Some, None, List, [], ◌∷◌, ◌++◌, ◌==◌, ◌||◌, ◌&&◌, cond, if◌then◌else◌, refl, sym, ap, subst, map, filter, fold, arith, rules}
+use Rattle.std.specs.Prelude.{nat_le, ⊤}
+use Rattle.std.specs.List.{AllByRecursion, list_any, flat_map}
+use Rattle.std.specs.Option.{option_map_or, IfSome}
+use Rattle.std.proofs.lemmas.Bool.{eqb-true, eq-eqb, both_ways, or_cases, and_parts, and_from, and_left, leb-true, leb-false, le-leb, lt-leb, not_from_false, false_from_ne_true}
+use Rattle.base_types.specs.declared.ids.Oid.{Oid}
+use Rattle.base_types.specs.declared.mode.Mode.{Mode}
+use Rattle.base_types.specs.declared.mode.Mode.TheVariants.{ShareUpdateExclusive, ShareRowExclusive, AccessExclusive}
+use Rattle.base_types.specs.declared.row.Row.{Row}
+use Rattle.base_types.specs.declared.row.Row.TheVariants as rows
+use Rattle.base_types.specs.declared.row_key.RowKey.{RowKey}
+use Rattle.base_types.specs.declared.row_key.RowKey.TheVariants as keys
+use Rattle.base_types.specs.Keys.{key_of, same_key}
+use Rattle.base_types.specs.Modes.{conflicts, same_mode}
+use Rattle.base_types.specs.Scans.{same_oid}
+use Rattle.event_kinds.specs.declared.entry.Entry.{Entry}
+use Rattle.event_kinds.specs.declared.entry.Event.{Event}
+use Rattle.event_kinds.specs.declared.entry.Event.TheVariants as events
+use Rattle.event_kinds.specs.declared.entry.Item.{Item}
+use Rattle.event_kinds.specs.declared.entry.Item.TheVariants as items
+use Rattle.base_types.specs.declared.ids.Xid.{Xid}
+use Rattle.history_model.specs.Prefixes.{EachEntry, along_own}
+use Rattle.history_model.specs.Transactions.{Running, running_transaction_of, running_by, begun, after_release, has_xid, runs_as}
+use Rattle.row_visibility.specs.declared.version.Version.{Version}
+use Rattle.row_visibility.specs.declared.version.Stamp.{Stamp}
+use Rattle.history_model.specs.Versions.{versions_of, versions_by, change_by, end_by, ends, ended_key, version_of, added_row, is_back, end_back, sees}
+use Rattle.history_model.specs.declared.grant.Grant.{Grant}
+use Rattle.history_model.specs.Held.{held_of, held_by}
+use Rattle.history_model.specs.Sent.{Written, lists_of, ends_transaction as ends_at, has_write_from}
+use Rattle.history_model.specs.Orderly.{main_rel}
+use Rattle.history_model.proofs.Every.{every-weaker, every, every-append, every-map, every-filter, every-both, every-swap, any-weaker, any-filter, any-left, any-right, any-sides}
+use Rattle.history_model.proofs.Lawful.{IsLawful}
+use Rattle.history_model.proofs.Reading.{running_transaction_of-own as running-own, held_of-more as held-more, versions_of-more as versions-more}
+use Rattle.history_model.proofs.Runs.{Draws, runs-before, Runs, Runs-more}
+use Rattle.history_model.proofs.Touched.{entry_of, OfStamps, stamps-weaker, stamps-both, stamps-write, stamps-gone, is_of, Touch, Touched}
+use Rattle.history_model.proofs.Exclude.{Agree, AllAgree, LocksWell}
+
+oid_eq : (a b : Oid) → same_oid a b ≡ true → a ≡ b
+oid_eq a b is = let e : a.0 ≡ b.0 = eqb-true a.0 b.0 is in ap {B = Oid} (λ n. record { 0 = n }) e
+
+pub key_eq : (a b : RowKey) → same_key a b ≡ true → a ≡ b
+key_eq (keys.Class a) (keys.Class b) is = ap keys.Class (oid_eq a b is)
+key_eq (keys.Att a num) (keys.Att b other) is = let parts = and_parts (same_oid a b) (num == other) is in ap (λ o. keys.Att o num) (oid_eq a b parts.0) ∙ ap (keys.Att b) (eqb-true num other parts.1)
+key_eq (keys.Def a) (keys.Def b) is = ap keys.Def (oid_eq a b is)
+key_eq (keys.Ind a) (keys.Ind b) is = ap keys.Ind (oid_eq a b is)
+key_eq (keys.Con a) (keys.Con b) is = ap keys.Con (oid_eq a b is)
+key_eq (keys.Trg a) (keys.Trg b) is = ap keys.Trg (oid_eq a b is)
+key_eq a b is = absurd (cc)
+
+pub key_refl : (a : RowKey) → same_key a a ≡ true
+key_refl (keys.Class a) = eq-eqb a.0 a.0 refl
+key_refl (keys.Att a num) = and_from (same_oid a a) (num == num) (eq-eqb a.0 a.0 refl) (eq-eqb num num refl)
+key_refl (keys.Def a) = eq-eqb a.0 a.0 refl
+key_refl (keys.Ind a) = eq-eqb a.0 a.0 refl
+key_refl (keys.Con a) = eq-eqb a.0 a.0 refl
+key_refl (keys.Trg a) = eq-eqb a.0 a.0 refl
+
+-- the modes under which rows are changed: each conflicts with each
+abbrev pub is_changing : Mode → Bool
+is_changing ShareUpdateExclusive = true
+is_changing ShareRowExclusive = true
+is_changing AccessExclusive = true
+is_changing mode = false
+
+changing_conflict : (a b : Mode) → is_changing a ≡ true → is_changing b ≡ true → conflicts a b ≡ true
+changing_conflict ShareUpdateExclusive ShareUpdateExclusive is also = refl
+changing_conflict ShareUpdateExclusive ShareRowExclusive is also = refl
+changing_conflict ShareUpdateExclusive AccessExclusive is also = refl
+changing_conflict ShareRowExclusive ShareUpdateExclusive is also = refl
+changing_conflict ShareRowExclusive ShareRowExclusive is also = refl
+changing_conflict ShareRowExclusive AccessExclusive is also = refl
+changing_conflict AccessExclusive ShareUpdateExclusive is also = refl
+changing_conflict AccessExclusive ShareRowExclusive is also = refl
+changing_conflict AccessExclusive AccessExclusive is also = refl
+changing_conflict a b is also = absurd (cc)
+
+-- a grant of this command or below that guards the changes of rows of the relation
+abbrev pub guards : ℕ → ℕ → Oid → Grant → Bool
+guards a c rel g = ((g.backend == a) && nat_le g.command c) && (same_oid g.rel rel && is_changing g.mode)
+
+abbrev pub IsGuarded : List Grant → ℕ → ℕ → Oid → Type 0
+IsGuarded held a c rel = list_any (guards a c rel) held ≡ true
+
+-- a stamp's backend, while the transaction runs, guards the row
+abbrev pub Guard : List Entry → Stamp → Row → Type 0
+Guard history s row = (a : ℕ) → runs_as history a s.xid.0 ≡ true → IsGuarded (held_of history) a s.command (main_rel row)
+
+abbrev pub Guards : List Entry → Type 0
+Guards history = AllByRecursion (OfStamps (Guard history)) (versions_of history)
+
+-- the rows that a change adds and ends are guarded
+abbrev pub IsGuardedItem : List Entry → ℕ → (Oid → Type 0) → Item → Type 0
+IsGuardedItem before b P item = IfSome (added_row item) (λ row. P (main_rel row)) × AllByRecursion (λ v. ends before b item v ≡ true → P (main_rel v.row)) (versions_of before)
+
+-- what is needed of a write and a release
+abbrev pub GuardsLawfully : List Entry → ℕ → ℕ → Event → Type 0
+GuardsLawfully before b c (events.Write xid changes) = AllByRecursion (IsGuardedItem before b (IsGuarded (held_by b c (events.Write xid changes) (held_of before)) b c)) changes
+GuardsLawfully before b c (events.Release from) = ends_at from (running_transaction_of before b) ≡ false → has_write_from from (lists_of before b) ≡ false
+GuardsLawfully before b c event = ⊤
+
+pub any_with : {X : Type 0} (p : X → Bool) (Q : X → Type 0) (C : Type 0) → ((x : X) → p x ≡ true → Q x → C) → (xs : List X) → list_any p xs ≡ true → AllByRecursion Q xs → C
+any_with p Q C of [] some all = absurd (cc)
+any_with p Q C of (x ∷ xs) some all = by_place (or_cases (p x) (list_any p xs) some) (λ rest. any_with p Q C of xs rest all.1)
+  where
+    by_place : (p x ≡ true) ⊎ (list_any p xs ≡ true) → (list_any p xs ≡ true → C) → C
+    by_place (inl here) rest = of x here all.0
+    by_place (inr there) rest = rest there
+
+-- two backends don't guard one relation
+pub one_guard : (held : List Grant) (a b c c' : ℕ) (rel : Oid) → AllAgree held held → IsGuarded held a c rel → IsGuarded held b c' rel → a ≡ b
+one_guard held a b c c' rel agree guard other = any_with (guards a c rel) (λ g. AllByRecursion (Agree g) held) (a ≡ b) (λ g is all. any_with (guards b c' rel) (Agree g) (a ≡ b) (λ k also agrees. both g k is also agrees) held other all) held guard agree
+  where
+    both : (g k : Grant) → guards a c rel g ≡ true → guards b c' rel k ≡ true → Agree g k → a ≡ b
+    both g k is also agrees =
+        let p = and_parts ((g.backend == a) && nat_le g.command c) (same_oid g.rel rel && is_changing g.mode) is in
+        let q = and_parts ((k.backend == b) && nat_le k.command c') (same_oid k.rel rel && is_changing k.mode) also in
+        let p1 = and_parts (g.backend == a) (nat_le g.command c) p.0 in
+        let q1 = and_parts (k.backend == b) (nat_le k.command c') q.0 in
+        let p2 = and_parts (same_oid g.rel rel) (is_changing g.mode) p.1 in
+        let q2 = and_parts (same_oid k.rel rel) (is_changing k.mode) q.1 in
+        let one : g.rel.0 ≡ k.rel.0 = eqb-true g.rel.0 rel.0 p2.0 ∙ sym (eqb-true k.rel.0 rel.0 q2.0) in
+        by_backends (g.backend == k.backend) refl (eqb-true g.backend a p1.0) (eqb-true k.backend b q1.0) (eq-eqb g.rel.0 k.rel.0 one) (changing_conflict g.mode k.mode p2.1 q2.1)
+      where
+        by_backends : (t : Bool) → (g.backend == k.backend) ≡ t → g.backend ≡ a → k.backend ≡ b → same_oid g.rel k.rel ≡ true → conflicts g.mode k.mode ≡ true → a ≡ b
+        by_backends true same ga kb one clash = sym ga ∙ eqb-true g.backend k.backend same ∙ kb
+        by_backends false differ ga kb one clash = absurd (both_ways _ (agrees one differ) clash)
+
+-- a guard after an event, while its transaction runs on
+guard_kept : (history : List Entry) (b c' : ℕ) (event : Event) (a x c : ℕ) (key : Oid) → GuardsLawfully history b c' event → ((a == b) ≡ true → has_xid x (running_by c' event (running_transaction_of history b)) ≡ true)
+    → ((a == b) ≡ true → list_any (is_of c) (lists_of history b) ≡ true) → IsGuarded (held_of history) a c key → IsGuarded (held_by b c' event (held_of history)) a c key
+guard_kept history b c' (events.LockOk rel mode) a x c key lawful runs there guard = any-left (guards a c key) (held_of history) _ guard
+guard_kept history b c' (events.Write xid changes) a x c key lawful runs there guard = any-left (guards a c key) (held_of history) _ guard
+guard_kept history b c' (events.Release from) a x c key lawful runs there guard = any-filter (guards a c key) (λ g. not ((g.backend == b) && nat_le from g.command)) stays (held_of history) guard
+  where
+    runs_on : (r : Option Running) → has_xid x (after_release from (begun c' r)) ≡ true → ends_at from r ≡ false
+    runs_on None is = refl
+    runs_on (Some t) is = by_end (t.first == from) is
+      where
+        by_end : (f : Bool) → has_xid x (if f then None else Some t) ≡ true → f ≡ false
+        by_end true h = absurd (cc)
+        by_end false h = refl
+
+    below : (a == b) ≡ true → nat_le from c ≡ false
+    below own = false_from_ne_true (nat_le from c) (λ above. both_ways _ (lawful (runs_on (running_transaction_of history b) (runs own)))
+        (any-weaker (is_of c) (λ w. nat_le from w.command) (λ w is. ap (nat_le from) (eqb-true w.command c is) ∙ above) (lists_of history b) (there own)))
+
+    stays : (g : Grant) → guards a c key g ≡ true → not ((g.backend == b) && nat_le from g.command) ≡ true
+    stays g is =
+        let p = and_parts ((g.backend == a) && nat_le g.command c) (same_oid g.rel key && is_changing g.mode) is in
+        let q = and_parts (g.backend == a) (nat_le g.command c) p.0 in
+        by_owner (g.backend == b) refl (eqb-true g.backend a q.0) (leb-true g.command c q.1)
+      where
+        by_owner : (t : Bool) → (g.backend == b) ≡ t → g.backend ≡ a → g.command ≤ c → not (t && nat_le from g.command) ≡ true
+        by_owner false other ga low = refl
+        by_owner true own ga low =
+            let short : c < from = leb-false from c (below (eq-eqb a b (sym ga ∙ eqb-true g.backend b own))) in
+            not_from_false (nat_le from g.command) (lt-leb from g.command (omega arith))
+guard_kept history b c' event a x c key lawful runs there guard = guard
+
+pub Guard-kept : (history : List Entry) (e : Entry) (s : Stamp) (row : Row) → IsLawful history e → GuardsLawfully history e.backend e.command e.event → Touch history s row → Guard history s row → Guard (history ++ e ∷ []) s row
+Guard-kept history e s row lawful guarding touch guard a is = of (runs-before history e a s.xid.0 lawful is)
+  where
+    of : (runs_as history a s.xid.0 ≡ true) ⊎ Draws history e a s.xid.0 → IsGuarded (held_of (history ++ e ∷ [])) a s.command (main_rel row)
+    of (inr drew) = absurd (omega (arith, touch.bound, drew.new))
+    of (inl had) = subst (λ held. IsGuarded held a s.command (main_rel row)) (sym (held-more history e))
+        (guard_kept history e.backend e.command e.event a s.xid.0 s.command (main_rel row) guarding
+        (λ own. subst (λ o. has_xid s.xid.0 (running_by e.command e.event (running_transaction_of history o)) ≡ true) (eqb-true a e.backend own) (sym (ap (has_xid s.xid.0) (running-own history e a (eq-eqb e.backend a (sym (eqb-true a e.backend own))))) ∙ is))
+        (λ own. subst (λ o. list_any (is_of s.command) (lists_of history o) ≡ true) (eqb-true a e.backend own) (touch.written a had)) (guard a had))
+
+guards_by : (history : List Entry) (b c : ℕ) (event : Event) → IsLawful history (entry_of b c event) → GuardsLawfully history b c event → Runs history → Touched history → Guards history
+    → AllByRecursion (OfStamps (Guard (history ++ entry_of b c event ∷ []))) (versions_by history b c event (versions_of history))
+guards_by history b c (events.Write xid changes) lawful guarding r touched guards' =
+    stamps-write (Guard after) (λ row. P (main_rel row)) history b (record { xid = xid; command = c }) new changes (versions_of history) guarding
+    (both (versions_of history) touched guards')
+  where
+    e : Entry
+    e = entry_of b c (events.Write xid changes)
+
+    after : List Entry
+    after = history ++ e ∷ []
+
+    P : Oid → Type 0
+    P = IsGuarded (held_by b c (events.Write xid changes) (held_of history)) b c
+
+    after_well : Runs after
+    after_well = Runs-more history e r lawful
+
+    runs : runs_as after b xid.0 ≡ true
+    runs = ap (has_xid xid.0) (running-own history e b (eq-eqb b b refl)) ∙ eq-eqb xid.0 xid.0 refl
+
+    new : (row : Row) → P (main_rel row) → Guard after (record { xid = xid; command = c }) row
+    new row guard a is = subst (λ o. IsGuarded (held_of after) o c (main_rel row)) (after_well.one b a xid.0 runs is) (subst (λ held. IsGuarded held b c (main_rel row)) (sym (held-more history e)) guard)
+
+    both : (vs : List Version) → AllByRecursion (OfStamps (Touch history)) vs → AllByRecursion (OfStamps (Guard history)) vs → AllByRecursion (OfStamps (Guard after)) vs
+    both vs ts gs = every-weaker (λ v. OfStamps (Touch history) v × OfStamps (Guard history) v) (OfStamps (Guard after)) (λ v held. stamps-both (Touch history) (Guard history) (Guard after) (λ s row. Guard-kept history e s row lawful guarding) v held.0 held.1) vs
+        (every-both (OfStamps (Touch history)) (OfStamps (Guard history)) vs ts gs)
+guards_by history b c (events.Gone from) lawful guarding r touched guards' =
+    stamps-gone (λ s row. Touch history s row × Guard history s row) (Guard (history ++ entry_of b c (events.Gone from) ∷ [])) (is_back history b from) (λ s row stays held. Guard-kept history (entry_of b c (events.Gone from)) s row lawful guarding held.0 held.1) (versions_of history)
+    (every-weaker (λ v. OfStamps (Touch history) v × OfStamps (Guard history) v) (OfStamps (λ s row. Touch history s row × Guard history s row)) (λ v held. stamps-both (Touch history) (Guard history) (λ s row. Touch history s row × Guard history s row) (λ s row t g. (t, g)) v held.0 held.1) (versions_of history)
+    (every-both (OfStamps (Touch history)) (OfStamps (Guard history)) (versions_of history) touched guards'))
+guards_by history b c event lawful guarding r touched guards' =
+    every-weaker (λ v. OfStamps (Touch history) v × OfStamps (Guard history) v) (OfStamps (Guard (history ++ entry_of b c event ∷ [])))
+    (λ v held. stamps-both (Touch history) (Guard history) (Guard (history ++ entry_of b c event ∷ [])) (λ s row. Guard-kept history (entry_of b c event) s row lawful guarding) v held.0 held.1) (versions_of history)
+    (every-both (OfStamps (Touch history)) (OfStamps (Guard history)) (versions_of history) touched guards')
+
+-- after one more entry
+pub Guards-more : (history : List Entry) (e : Entry) → IsLawful history e → GuardsLawfully history e.backend e.command e.event → Runs history → Touched history → Guards history → Guards (history ++ e ∷ [])
+Guards-more history e lawful guarding r touched guards' = subst (AllByRecursion (OfStamps (Guard (history ++ e ∷ [])))) (sym (versions-more history e)) (guards_by history e.backend e.command e.event lawful guarding r touched guards')

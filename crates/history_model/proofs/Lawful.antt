@@ -1,0 +1,29 @@
+-- What the laws need of each entry; that the histories which the commands make have it is shown beside them.
+use Rattle.std.proofs.Common.{◌≡◌, ◌⊎◌, ℕ, true, false, None, List, []}
+use Rattle.std.specs.Prelude.{⊤}
+use Rattle.std.specs.List.{AllByRecursion}
+use Rattle.std.specs.Option.{IfSome}
+use Rattle.row_visibility.specs.declared.version.Version.{Version}
+use Rattle.event_kinds.specs.declared.entry.Entry.{Entry}
+use Rattle.event_kinds.specs.declared.entry.Event.{Event}
+use Rattle.event_kinds.specs.declared.entry.Event.TheVariants as events
+use Rattle.event_kinds.specs.declared.entry.Item.{Item}
+use Rattle.history_model.specs.Transactions.{running_transaction_of, is_visible, runs_as, xid_for}
+use Rattle.history_model.specs.Versions.{versions_of, ends}
+use Rattle.history_model.specs.Sent.{lists_of, ends_transaction}
+
+-- an item ends no version that a running transaction has ended
+abbrev pub EndsOnce : List Entry → ℕ → Item → Type 0
+EndsOnce before b item = AllByRecursion (λ v. ends before b item v ≡ true → IfSome v.ended (λ s. (other : ℕ) → runs_as before other s.xid.0 ≡ false)) (versions_of before)
+
+-- by events
+abbrev pub IsLawfulEvent : List Entry → ℕ → ℕ → Event → Type 0
+IsLawfulEvent before b c events.Start = (running_transaction_of before b ≡ None) × (lists_of before b ≡ [])
+IsLawfulEvent before b c (events.Write xid changes) = (is_visible (running_transaction_of before b) ≡ false) × (xid.0 ≡ xid_for before b) × AllByRecursion (EndsOnce before b) changes
+IsLawfulEvent before b c (events.Visible xid) = (is_visible (running_transaction_of before b) ≡ false) × (runs_as before b xid.0 ≡ true)
+IsLawfulEvent before b c (events.Gone from) = is_visible (running_transaction_of before b) ≡ false
+IsLawfulEvent before b c (events.Release from) = ends_transaction from (running_transaction_of before b) ≡ true → (lists_of before b ≡ []) ⊎ (is_visible (running_transaction_of before b) ≡ true)
+IsLawfulEvent before b c event = ⊤
+
+abbrev pub IsLawful : List Entry → Entry → Type 0
+IsLawful before e = IsLawfulEvent before e.backend e.command e.event

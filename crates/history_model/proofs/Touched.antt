@@ -1,0 +1,208 @@
+-- What a running transaction has touched is covered by its messages.
+use Rattle.std.proofs.Common.{◌≡◌, ◌≤◌, ◌<◌, ◌+◌, ◌∙◌, ◌⊎◌, inl, inr, ℕ, Bool, true, false, not, Option, Some, None, List, [], ◌∷◌, ◌++◌, ◌==◌, ◌||◌, ◌&&◌, cond, if◌then◌else◌, refl, sym, ap, subst, map, filter, fold, arith, rules}
+use Rattle.std.specs.Prelude.{nat_le, nat_lt, ⊤}
+use Rattle.std.specs.List.{AllByRecursion, list_any, flat_map}
+use Rattle.std.specs.Option.{option_map_or, IfSome}
+use Rattle.std.proofs.lemmas.Bool.{eqb-true, eq-eqb, both_ways, or_cases, cases_Bool, and_parts, and_from, or_left, or_right, not_from_false, not-true, leb-false, lt-ltb}
+use Rattle.base_types.specs.declared.row.Row.{Row}
+use Rattle.base_types.specs.declared.scan.Purpose.{Purpose}
+use Rattle.base_types.specs.Scans.{selects}
+use Rattle.event_kinds.specs.declared.entry.Entry.{Entry}
+use Rattle.event_kinds.specs.declared.entry.Event.{Event}
+use Rattle.event_kinds.specs.declared.entry.Event.TheVariants as events
+use Rattle.event_kinds.specs.declared.entry.Item.{Item}
+use Rattle.base_types.specs.declared.ids.Xid.{Xid}
+use Rattle.history_model.specs.Prefixes.{EachEntry, along_own}
+use Rattle.history_model.specs.Transactions.{Running, running_transaction_of, running_by, begun, after_release, has_xid, runs_as, last_xid}
+use Rattle.row_visibility.specs.declared.version.Version.{Version}
+use Rattle.row_visibility.specs.declared.version.Stamp.{Stamp}
+use Rattle.history_model.specs.Versions.{versions_of, versions_by, change_by, end_by, ends, version_of, added_row, is_back, end_back}
+use Rattle.history_model.specs.Sent.{Written, written_by, lists_of, lists_by, ends_transaction}
+use Rattle.history_model.proofs.Reading.{running_transaction_of-own as running-own, running_transaction_of-other as running-other, versions_of-more as versions-more, lists_of-own as lists-own, lists_of-other as lists-other}
+use Rattle.history_model.proofs.Every.{every-weaker, every, every-append, every-map, every-filter, every-both, every-swap, any-weaker, any-filter, any-left, any-right, any-sides, any-flat}
+use Rattle.history_model.proofs.Lawful.{IsLawful, IsLawfulEvent, EndsOnce}
+use Rattle.history_model.proofs.Runs.{last_xid-rises, writes_as, Draws, runs-before, Runs, Runs-more}
+
+-- both stamps of a version, with its row
+abbrev pub OfStamps : (Stamp → Row → Type 0) → Version → Type 0
+OfStamps P v = P v.by v.row × IfSome v.ended (λ s. P s v.row)
+
+if_some-weaker : {X : Type 0} (P Q : X → Type 0) → ((x : X) → P x → Q x) → (o : Option X) → IfSome o P → IfSome o Q
+if_some-weaker P Q weaker None held = tt
+if_some-weaker P Q weaker (Some x) held = weaker x held
+
+pub stamps-weaker : (P Q : Stamp → Row → Type 0) → ((s : Stamp) (row : Row) → P s row → Q s row) → (v : Version) → OfStamps P v → OfStamps Q v
+stamps-weaker P Q weaker v held = (weaker v.by v.row held.0, if_some-weaker (λ s. P s v.row) (λ s. Q s v.row) (λ s. weaker s v.row) v.ended held.1)
+
+if_some-both : {X : Type 0} (P Q R : X → Type 0) → ((x : X) → P x → Q x → R x) → (o : Option X) → IfSome o P → IfSome o Q → IfSome o R
+if_some-both P Q R join None p q = tt
+if_some-both P Q R join (Some x) p q = join x p q
+
+pub stamps-both : (P Q R : Stamp → Row → Type 0) → ((s : Stamp) (row : Row) → P s row → Q s row → R s row) → (v : Version) → OfStamps P v → OfStamps Q v → OfStamps R v
+stamps-both P Q R join v p q = (join v.by v.row p.0 q.0, if_some-both (λ s. P s v.row) (λ s. Q s v.row) (λ s. R s v.row) (λ s. join s v.row) v.ended p.1 q.1)
+
+-- a write of this command
+abbrev pub is_of : ℕ → Written → Bool
+is_of c w = w.command == c
+
+-- the lists have the write of a command
+abbrev pub HasWrite : List Written → ℕ → Type 0
+HasWrite lists c = list_any (is_of c) lists ≡ true
+
+-- a stamp: its Xid is drawn, and while it runs the lists have the write
+pub record Touch (history : List Entry) (s : Stamp) (row : Row) : Type 0 where
+  pub bound : s.xid.0 ≤ last_xid history
+  pub written : (a : ℕ) → runs_as history a s.xid.0 ≡ true → HasWrite (lists_of history a) s.command
+
+abbrev pub Touched : List Entry → Type 0
+Touched history = AllByRecursion (OfStamps (Touch history)) (versions_of history)
+
+HasWrite-below : (lists : List Written) (from c : ℕ) → nat_le from c ≡ false → HasWrite lists c → HasWrite (filter (λ w. nat_lt w.command from) lists) c
+HasWrite-below lists from c below has = any-filter (is_of c) (λ w. nat_lt w.command from) (λ w is. ap (λ k. nat_lt k from) (eqb-true w.command c is) ∙ lt-ltb c from (leb-false from c below)) lists has
+
+-- the event takes back what was done in the command
+abbrev pub takes_back : ℕ → Event → Bool
+takes_back c (events.Gone from) = nat_le from c
+takes_back c event = false
+
+released_not : (x from c : ℕ) (old : Option Running) (lists : List Written) → has_xid x (after_release from (begun c old)) ≡ true
+    → elim (option_map_or (λ t. t.first == from) old false) [ true ↦ [] | false ↦ lists ] ≡ lists
+released_not x from c None lists is = refl
+released_not x from c (Some t) lists is = by_end (t.first == from) is
+  where
+    by_end : (f : Bool) → has_xid x (if f then None else Some t) ≡ true → elim f [ true ↦ [] | false ↦ lists ] ≡ lists
+    by_end true h = absurd (cc)
+    by_end false h = refl
+
+lists-keep : (history : List Entry) (b x c' : ℕ) (event : Event) (lists : List Written) (c : ℕ)
+    → has_xid x (running_by c' event (running_transaction_of history b)) ≡ true → takes_back c event ≡ false → HasWrite lists c → HasWrite (lists_by history b c' event lists) c
+lists-keep history b x c' (events.Write xid changes) lists c runs spared has = any-left (is_of c) lists (written_by history b c' changes ∷ []) has
+lists-keep history b x c' (events.Gone from) lists c runs spared has = HasWrite-below lists from c spared has
+lists-keep history b x c' (events.Release from) lists c runs spared has = subst (λ ws. HasWrite ws c) (sym (released_not x from c' (running_transaction_of history b) lists runs)) has
+lists-keep history b x c' event lists c runs spared has = has
+
+-- an old stamp after one more entry, unless the entry takes back what it did
+pub Touch-kept : (history : List Entry) (e : Entry) (s : Stamp) (row : Row) → IsLawful history e
+    → (runs_as history e.backend s.xid.0 ≡ true → takes_back s.command e.event ≡ false) → Touch history s row → Touch (history ++ e ∷ []) s row
+Touch-kept history e s row lawful spared touch = record {
+  bound = omega (arith, touch.bound, last_xid-rises history e);
+  written = λ a is. written_of a is (runs-before history e a s.xid.0 lawful is);
+}
+  where
+    by_owner : (a : ℕ) (t : Bool) → (e.backend == a) ≡ t → runs_as (history ++ e ∷ []) a s.xid.0 ≡ true → runs_as history a s.xid.0 ≡ true → HasWrite (lists_of (history ++ e ∷ []) a) s.command
+    by_owner a true own is had = subst (λ ws. HasWrite ws s.command) (sym (lists-own history e a own))
+        (lists-keep history a s.xid.0 e.command e.event (lists_of history a) s.command (sym (ap (has_xid s.xid.0) (running-own history e a own)) ∙ is)
+        (spared (subst (λ o. runs_as history o s.xid.0 ≡ true) (sym (eqb-true e.backend a own)) had)) (touch.written a had))
+    by_owner a false other is had = subst (λ ws. HasWrite ws s.command) (sym (lists-other history e a other)) (touch.written a had)
+
+    written_of : (a : ℕ) → runs_as (history ++ e ∷ []) a s.xid.0 ≡ true → (runs_as history a s.xid.0 ≡ true) ⊎ Draws history e a s.xid.0 → HasWrite (lists_of (history ++ e ∷ []) a) s.command
+    written_of a is (inl had) = by_owner a (e.backend == a) refl is had
+    written_of a is (inr drew) = absurd (omega (arith, touch.bound, drew.new))
+
+abbrev pub entry_of : ℕ → ℕ → Event → Entry
+entry_of b c event = record { backend = b; command = c; event = event }
+
+-- a version in the middle of a write: both stamps have T, and the row of each that a change that is left ends is named
+abbrev InWrite : (Stamp → Row → Type 0) → (Row → Type 0) → List Entry → ℕ → List Item → Version → Type 0
+InWrite T N before b items v = OfStamps T v × AllByRecursion (λ item. ends before b item v ≡ true → N v.row) items
+
+write_end : (T : Stamp → Row → Type 0) (N : Row → Type 0) (before : List Entry) (b : ℕ) (stamp : Stamp) → ((row : Row) → N row → T stamp row)
+    → (item : Item) (items : List Item) (v : Version) → InWrite T N before b (item ∷ items) v → InWrite T N before b items (end_by (ends before b item) stamp v)
+write_end T N before b stamp new item items v held = by_test (ends before b item v) refl
+  where
+    by_test : (t : Bool) → ends before b item v ≡ t → InWrite T N before b items (elim t [ true ↦ record { row = v.row; by = v.by; ended = Some stamp } | false ↦ v ])
+    by_test true is = ((held.0.0, new v.row (held.1.0 is)), every (λ other. ends before b other (record { row = v.row; by = v.by; ended = Some stamp }) ≡ true → N v.row) (λ other ends'. held.1.0 is) items)
+    by_test false is = (held.0, held.1.1)
+
+write_add : (T : Stamp → Row → Type 0) (N : Row → Type 0) (before : List Entry) (b : ℕ) (stamp : Stamp) → ((row : Row) → N row → T stamp row)
+    → (items : List Item) (o : Option Row) → IfSome o N → AllByRecursion (InWrite T N before b items) (version_of stamp o)
+write_add T N before b stamp new items None named = tt
+write_add T N before b stamp new items (Some row) named =
+    (((new row named, tt), every (λ other. ends before b other (record { row = row; by = stamp; ended = None }) ≡ true → N row) (λ other ends'. named) items), tt)
+
+write_fold : (T : Stamp → Row → Type 0) (N : Row → Type 0) (before : List Entry) (b : ℕ) (stamp : Stamp) → ((row : Row) → N row → T stamp row)
+    → (items : List Item) (vs : List Version) → AllByRecursion (λ item. IfSome (added_row item) N) items → AllByRecursion (InWrite T N before b items) vs
+    → AllByRecursion (OfStamps T) (fold (change_by before b stamp) vs items)
+write_fold T N before b stamp new [] vs lawful held = every-weaker (InWrite T N before b []) (OfStamps T) (λ v h. h.0) vs held
+write_fold T N before b stamp new (item ∷ items) vs lawful held =
+    write_fold T N before b stamp new items (change_by before b stamp vs item) lawful.1
+    (every-append (InWrite T N before b items) (map (end_by (ends before b item) stamp) vs) (version_of stamp (added_row item))
+    (every-map (InWrite T N before b items) (end_by (ends before b item) stamp) vs (every-weaker (InWrite T N before b (item ∷ items)) (λ v. InWrite T N before b items (end_by (ends before b item) stamp v)) (write_end T N before b stamp new item items) vs held))
+    (write_add T N before b stamp new items (added_row item) lawful.0))
+
+-- what holds of all stamps after a write, and after what is taken back
+pub stamps-write : (T : Stamp → Row → Type 0) (N : Row → Type 0) (before : List Entry) (b : ℕ) (stamp : Stamp) → ((row : Row) → N row → T stamp row) → (items : List Item) (vs : List Version)
+    → AllByRecursion (λ item. IfSome (added_row item) N × AllByRecursion (λ v. ends before b item v ≡ true → N v.row) vs) items → AllByRecursion (OfStamps T) vs → AllByRecursion (OfStamps T) (fold (change_by before b stamp) vs items)
+stamps-write T N before b stamp new items vs named held =
+    write_fold T N before b stamp new items vs (every-weaker Named (λ item. IfSome (added_row item) N) (λ item l. l.0) items named)
+    (every-both (OfStamps T) (λ v. AllByRecursion (λ item. ends before b item v ≡ true → N v.row) items) vs held
+    (every-swap (λ item v. ends before b item v ≡ true → N v.row) items vs (every-weaker Named (λ item. AllByRecursion (λ v. ends before b item v ≡ true → N v.row) vs) (λ item l. l.1) items named)))
+  where
+    Named : Item → Type 0
+    Named item = IfSome (added_row item) N × AllByRecursion (λ v. ends before b item v ≡ true → N v.row) vs
+
+pub stamps-gone : (T T' : Stamp → Row → Type 0) (back : Stamp → Bool) → ((s : Stamp) (row : Row) → back s ≡ false → T s row → T' s row) → (vs : List Version) → AllByRecursion (OfStamps T) vs
+    → AllByRecursion (OfStamps T') (map (end_back back) (filter (λ v. not (back v.by)) vs))
+stamps-gone T T' back kept vs held =
+    every-map (OfStamps T') (end_back back) (filter (λ v. not (back v.by)) vs)
+    (every-filter (λ v. OfStamps T' (end_back back v)) (λ v. not (back v.by)) vs (every-weaker (OfStamps T) (λ v. not (back v.by) ≡ true → OfStamps T' (end_back back v)) (λ v h is. (kept v.by v.row (not-true (back v.by) is) h.0, of_ended v.row v.ended h.1)) vs held))
+  where
+    by_test : (row : Row) (s : Stamp) (t : Bool) → back s ≡ t → T s row → IfSome (elim t [ true ↦ None | false ↦ Some s ]) (λ x. T' x row)
+    by_test row s true is touch = tt
+    by_test row s false is touch = kept s row is touch
+
+    of_ended : (row : Row) (o : Option Stamp) → IfSome o (λ s. T s row) → IfSome (elim (option_map_or back o false) [ true ↦ None | false ↦ o ]) (λ s. T' s row)
+    of_ended row None touch = tt
+    of_ended row (Some s) touch = by_test row s (back s) refl touch
+
+touched_by : (history : List Entry) (b c : ℕ) (event : Event) → IsLawful history (entry_of b c event) → Runs history → Touched history
+    → AllByRecursion (OfStamps (Touch (history ++ entry_of b c event ∷ []))) (versions_by history b c event (versions_of history))
+touched_by history b c (events.Write xid changes) lawful r touched =
+    stamps-write (Touch after) (λ row. ⊤) history b stamp (λ row named. new row) changes (versions_of history)
+    (every (λ item. IfSome (added_row item) (λ row. ⊤) × AllByRecursion (λ v. ends history b item v ≡ true → ⊤) (versions_of history)) (λ item. (some_all (added_row item), every (λ v. ends history b item v ≡ true → ⊤) (λ v is. tt) (versions_of history))) changes)
+    (every-weaker (OfStamps (Touch history)) (OfStamps (Touch after)) (λ v. stamps-weaker (Touch history) (Touch after) (λ s row. Touch-kept history (entry_of b c (events.Write xid changes)) s row lawful (λ runs. refl)) v) (versions_of history) touched)
+  where
+    after : List Entry
+    after = history ++ entry_of b c (events.Write xid changes) ∷ []
+
+    stamp : Stamp
+    stamp = record { xid = xid; command = c }
+
+    some_all : (o : Option Row) → IfSome o (λ row. ⊤)
+    some_all None = tt
+    some_all (Some row) = tt
+
+    own : (b == b) ≡ true
+    own = eq-eqb b b refl
+
+    runs : runs_as after b xid.0 ≡ true
+    runs = ap (has_xid xid.0) (running-own history (entry_of b c (events.Write xid changes)) b own) ∙ eq-eqb xid.0 xid.0 refl
+
+    after_well : Runs after
+    after_well = Runs-more history (entry_of b c (events.Write xid changes)) r lawful
+
+    has : HasWrite (lists_of after b) c
+    has = subst (λ ws. HasWrite ws c) (sym (lists-own history (entry_of b c (events.Write xid changes)) b own)) (any-right (is_of c) (lists_of history b) (written_by history b c changes ∷ []) (or_left (c == c) false (eq-eqb c c refl)))
+
+    new : (row : Row) → Touch after stamp row
+    new row = record {
+      bound = after_well.bound b xid.0 runs;
+      written = λ a is. subst (λ o. HasWrite (lists_of after o) c) (after_well.one b a xid.0 runs is) has;
+    }
+touched_by history b c (events.Gone from) lawful r touched =
+    stamps-gone (Touch history) (Touch after) (is_back history b from) kept (versions_of history) touched
+  where
+    after : List Entry
+    after = history ++ entry_of b c (events.Gone from) ∷ []
+
+    second : (x y : Bool) → x ≡ true → (x && y) ≡ false → y ≡ false
+    second true y is none = none
+    second false y is none = absurd (cc)
+
+    kept : (s : Stamp) (row : Row) → is_back history b from s ≡ false → Touch history s row → Touch after s row
+    kept s row stays touch = Touch-kept history (entry_of b c (events.Gone from)) s row lawful (λ runs. second (runs_as history b s.xid.0) (nat_le from s.command) runs stays) touch
+touched_by history b c event lawful r touched =
+    every-weaker (OfStamps (Touch history)) (OfStamps (Touch (history ++ entry_of b c event ∷ []))) (λ v. stamps-weaker (Touch history) (Touch (history ++ entry_of b c event ∷ [])) (λ s row. Touch-kept history (entry_of b c event) s row lawful (λ runs. refl)) v) (versions_of history) touched
+
+pub Touched-more : (history : List Entry) (e : Entry) → Runs history → Touched history → IsLawful history e → Touched (history ++ e ∷ [])
+Touched-more history e r touched lawful = subst (AllByRecursion (OfStamps (Touch (history ++ e ∷ [])))) (sym (versions-more history e)) (touched_by history e.backend e.command e.event lawful r touched)
