@@ -1,4 +1,5 @@
 pub mod Padding
+pub mod Added
 pub mod Names
 pub mod Placing
 pub mod Joining

@@ -1,5 +1,6 @@
 pub mod Padded
 pub mod Types
+pub mod Adding
 pub mod Names
 pub mod Modes
 pub mod Scans

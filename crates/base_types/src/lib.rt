@@ -23,6 +23,7 @@
 //! server; [`Name::dropped`] makes it and [`Name::new_or_dropped`] reads it.
 #![tactic(auto)]
 
+mod adding;
 mod catalog;
 mod col_type;
 mod command;
@@ -53,6 +54,7 @@ mod scan_rows;
 mod short_text;
 mod words;
 
+pub use adding::{add_text, whole_or_nothing};
 pub use catalog::Catalog;
 pub use col_type::ColType;
 pub use command::{Command, NewColumn, Placed, Turns};
