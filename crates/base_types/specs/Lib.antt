@@ -1,6 +1,6 @@
+pub mod Adding
 pub mod Padded
 pub mod Types
-pub mod Adding
 pub mod Names
 pub mod Modes
 pub mod Scans
@@ -8,7 +8,5 @@ pub mod Words
 pub mod Fields
 pub mod Commands
 pub mod Scenario
-pub mod Keys
-pub mod Rows
-pub mod Parts
-pub mod Hashes
+pub mod RowKeys
+pub mod CacheKeys

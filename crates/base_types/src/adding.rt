@@ -3,7 +3,7 @@ ghost use Rattle.base_types.specs.Adding.{Adds};
 
 use crate::NoMemory;
 
-/// Adds a text, or nothing.
+/// Adds a text at the end of `out`; out of memory, it may add a prefix of the text.
 pub fn add_text(text: &[u8], out: &mut Vec<u8>) -> Result<(), NoMemory>
     ensures { Adds out.old.items out.new.items result text.now }
 {
@@ -11,7 +11,8 @@ pub fn add_text(text: &[u8], out: &mut Vec<u8>) -> Result<(), NoMemory>
     Ok(())
 }
 
-/// Takes back what was added after the first `before` bytes, if memory was refused.
+/// The result of adding to `out`, which had `before` bytes until then: after an error it has those
+/// alone.
 pub fn whole_or_nothing(
     out: &mut Vec<u8>,
     before: usize,

@@ -6,7 +6,7 @@ use Rattle.std.proofs.lemmas.Bool.Decides.{nat_tests}
 use Rattle.std.proofs.lemmas.Slice.Eq.{bytes_eq-Decides}
 use Rattle.base_types.specs.Names.{IsName, IsWord, IsText, is_word_byte, is_text_byte, name_fault, short_fault}
 use Rattle.base_types.specs.Words.{type_word, field_word}
-use Rattle.base_types.specs.Commands.{IsCommand, IsSome}
+use Rattle.base_types.specs.Commands.{IsCommand, IsNonEmpty}
 use Rattle.base_types.specs.declared.command.Command.{Command}
 use Rattle.base_types.specs.declared.command.Command.TheVariants.{Begin, Commit, Rollback, Savepoint, Release, RollbackTo, Show, Columns, Column, Regclass, LockTable, OpenRel, Peek, CloseRel, CreateTable, DropTable, RenameTable, AddColumn, DropColumn, RenameColumn, SetDefault, SetStatistics, SetFillfactor, AddCheck, AddForeign, ValidateConstraint, DropConstraint, SetTrigger, CreateTrigger, CreateIndex, DropIndex, RenameIndex}
 use Rattle.base_types.specs.declared.command.NewColumn.{NewColumn}
@@ -194,7 +194,7 @@ unfolding tokens listed
 table_back name [] h k = no_columns_back name h
 table_back name (c ∷ columns) h k = rw (name_token name h, name_token c.name k.0) (created name c.name (behind_column c columns) (c ∷ columns) (name_back name h) (not_closing c.name k.0) (columns_back c columns k.0 k.1))
 
-index_back : (name on_table : List ℕ) (columns : List (List ℕ)) → IsName name → IsName on_table → IsSome columns → AllByRecursion IsName columns → ReadsBack (CreateIndex name on_table columns)
+index_back : (name on_table : List ℕ) (columns : List (List ℕ)) → IsName name → IsName on_table → IsNonEmpty columns → AllByRecursion IsName columns → ReadsBack (CreateIndex name on_table columns)
 unfolding tokens listed
 index_back name on_table [] h k some l = absurd some
 index_back name on_table (n ∷ columns) h k some l = rw (name_token name h, name_token on_table k, name_token n l.0) (indexed name on_table (n ∷ behind_name columns) (n ∷ columns) (name_back name h) (name_back on_table k) (names_back n columns l.0 l.1))

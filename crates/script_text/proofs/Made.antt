@@ -8,7 +8,7 @@ use Rattle.std.proofs.lemmas.Option.{none-some, same_Some}
 use Rattle.std.proofs.lemmas.Bool.Decides.{nat_tests}
 use Rattle.std.proofs.Math.Nat.{pow-le-pow_right}
 use Rattle.base_types.specs.Names.{IsName, IsWord, IsText, is_digit, is_word_byte, is_text_byte, name_fault, short_fault}
-use Rattle.base_types.specs.Commands.{IsCommand, IsShortNumber, IsSome}
+use Rattle.base_types.specs.Commands.{IsCommand, IsShortNumber, IsNonEmpty}
 use Rattle.base_types.specs.declared.command.Command.{Command}
 use Rattle.base_types.specs.declared.command.Command.TheVariants.{Begin, Commit, Rollback, Savepoint, Release, RollbackTo, Show, Columns, Column, Peek, OpenRel, CloseRel, DropTable, DropIndex, RenameTable, DropColumn, ValidateConstraint, DropConstraint}
 use Rattle.base_types.specs.declared.command.NewColumn.{NewColumn}
@@ -262,13 +262,13 @@ unfolding alter_command
 alter_read ts = either (add_column_read ts) (either (rename_column_read ts) (either (default_read ts) (either (statistics_read ts) (either (fillfactor_read ts) (either (check_read ts) (foreign_read ts))))))
 
 -- what holds of an item and of the others holds of the list, which isn't empty
-items_read : {X : Type 0} (item : X) (mark : List ℕ) (ts : List (List ℕ)) (others : Option (List X)) (P : X → Type 0) → P item → Gives others (λ xs. IsSome xs × AllByRecursion P xs)
-    → Gives (items_behind item mark ts others) (λ xs. IsSome xs × AllByRecursion P xs)
+items_read : {X : Type 0} (item : X) (mark : List ℕ) (ts : List (List ℕ)) (others : Option (List X)) (P : X → Type 0) → P item → Gives others (λ xs. IsNonEmpty xs × AllByRecursion P xs)
+    → Gives (items_behind item mark ts others) (λ xs. IsNonEmpty xs × AllByRecursion P xs)
 items_read item mark ts others P here more =
     one_of (bytes_eq mark (codes ",")) (mapped (λ xs. item ∷ xs) _ more (λ xs h. (tt, (here, h.1))))
-    (one_of (bytes_eq mark (codes ")")) (chosen (is_end ts) (item ∷ []) (λ xs. IsSome xs × AllByRecursion P xs) (tt, (here, tt))) (nothing _))
+    (one_of (bytes_eq mark (codes ")")) (chosen (is_end ts) (item ∷ []) (λ xs. IsNonEmpty xs × AllByRecursion P xs) (tt, (here, tt))) (nothing _))
 
-columns_read : (ts : List (List ℕ)) → Gives (columns_at ts) (λ xs. IsSome xs × AllByRecursion (λ (column : NewColumn). IsName column.name) xs)
+columns_read : (ts : List (List ℕ)) → Gives (columns_at ts) (λ xs. IsNonEmpty xs × AllByRecursion (λ (column : NewColumn). IsName column.name) xs)
 unfolding columns_at
 columns_read [] = nothing _
 columns_read (a ∷ []) = nothing _
@@ -283,13 +283,13 @@ create_table_read : (ts : List (List ℕ)) → Gives (create_table_command ts) I
 unfolding create_table_command
 create_table_read ts = then_from (name_behind (codes "create table") ts) (λ r h. then_from (enclosed_columns_read r.1) (λ xs k. given _ IsCommand (h, k)))
 
-listed_read : (ts : List (List ℕ)) → Gives (names_at ts) (λ xs. IsSome xs × AllByRecursion IsName xs)
+listed_read : (ts : List (List ℕ)) → Gives (names_at ts) (λ xs. IsNonEmpty xs × AllByRecursion IsName xs)
 unfolding names_at
 listed_read [] = nothing _
 listed_read (a ∷ []) = nothing _
 listed_read (a ∷ mark ∷ ts) = then_from (name_read a) (λ name h. items_read name mark ts (names_at ts) IsName h (listed_read ts))
 
-enclosed_names_read : (ts : List (List ℕ)) → Gives (names_behind ts) (λ xs. IsSome xs × AllByRecursion IsName xs)
+enclosed_names_read : (ts : List (List ℕ)) → Gives (names_behind ts) (λ xs. IsNonEmpty xs × AllByRecursion IsName xs)
 unfolding names_behind
 enclosed_names_read ts = then_each (said (codes "(") ts) listed_read
 

@@ -1,4 +1,3 @@
-pub mod SameScan
 pub mod Behind
 pub mod Shown
 pub mod Seen

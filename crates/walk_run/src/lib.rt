@@ -14,9 +14,8 @@
 
 mod answers;
 mod backend;
-mod scans;
 mod segment;
 mod walking;
 
-pub use segment::{Locked, Scanned, Segment};
+pub use segment::{Locked, Segment};
 pub use walking::{World, walk};
