@@ -1,5 +1,8 @@
-ghost use Rattle.std.specs.Prelude.{◌≡◌, ◌≤◌, ◌+◌, ◌++◌, ◌∷◌, [], length, Some, codes, decimal};
+ghost use Rattle.std.specs.Prelude.{◌≡◌, ◌<◌, ◌≤◌, ◌+◌, ◌^◌, ◌++◌, ◌∷◌, [], length, Some, IfSome, codes, decimal};
+ghost use Rattle.std.specs.List.{All};
+ghost use Rattle.base_types.specs.declared.nums.TheConstants.{MOST_INDEX_COLUMNS};
 ghost use Rattle.std.specs.Fmt.{signed_decimal};
+ghost use Rattle.base_types.specs.Names.{IsInLine};
 ghost use Rattle.base_types.specs.Words.{fill_text, nums_text, state_word, type_word, on_word as word_of_on, valid_word as word_of_valid};
 ghost use Rattle.base_types.specs.Fields.{item_of as item_in, constraint_text, referring_item as item_from};
 
@@ -10,7 +13,8 @@ use crate::{
 
 /// What a row adds to a field of the relation.
 pub fn item_of(field: Field, rel: Oid, row: &Row) -> Option<LineBuffer>
-    ensures { result ≡ item_in field rel row.now }
+    ensures text { result ≡ item_in field rel row.now }
+    ensures in_line { IfSome result IsInLine }
 {
     match (field, row) {
         (Field::Name, Row::Class { name, .. }) => Some(name_item(name)),
@@ -69,17 +73,21 @@ pub fn item_of(field: Field, rel: Oid, row: &Row) -> Option<LineBuffer>
     }
 }
 
+#[tactic(auto, using(crate::proofs::InLine::name_in_line))]
 fn name_item(name: &Name) -> LineBuffer
     ensures text { result ≡ name.now }
     ensures short { length result ≤ 63 }
+    ensures in_line { IsInLine result }
 {
     let mut line = LineBuffer::new();
     line.push(name.as_bytes());
     line
 }
 
+#[tactic(auto, using(crate::proofs::InLine::joined_in_line, crate::proofs::InLine::type_in_line))]
 fn column_item(name: &Name, col_type: ColType) -> LineBuffer
-    ensures { result ≡ name.now ++ codes ":" ++ type_word col_type }
+    ensures text { result ≡ name.now ++ codes ":" ++ type_word col_type }
+    ensures in_line { IsInLine result }
 {
     let mut line = name_item(name);
     line.push(b":");
@@ -87,8 +95,10 @@ fn column_item(name: &Name, col_type: ColType) -> LineBuffer
     line
 }
 
+#[tactic(auto, using(crate::proofs::InLine::joined_in_line, crate::proofs::InLine::decimal_in_line, crate::proofs::InLine::word_in_line))]
 fn default_item(num: u32, word: &Word) -> LineBuffer
-    ensures { result ≡ decimal num ++ codes "=" ++ word.now }
+    ensures text { result ≡ decimal num ++ codes "=" ++ word.now }
+    ensures in_line { IsInLine result }
 {
     let mut line = LineBuffer::new();
     line.push_number(num);
@@ -97,8 +107,10 @@ fn default_item(num: u32, word: &Word) -> LineBuffer
     line
 }
 
+#[tactic(auto, using(crate::proofs::InLine::joined_in_line, crate::proofs::InLine::decimal_in_line, crate::proofs::InLine::signed_in_line))]
 fn statistics_item(num: u32, stat: i32) -> LineBuffer
-    ensures { result ≡ decimal num ++ codes ":" ++ signed_decimal stat }
+    ensures text { result ≡ decimal num ++ codes ":" ++ signed_decimal stat }
+    ensures in_line { IsInLine result }
 {
     let mut line = LineBuffer::new();
     line.push_number(num);
@@ -107,16 +119,20 @@ fn statistics_item(num: u32, stat: i32) -> LineBuffer
     line
 }
 
+#[tactic(auto, using(crate::proofs::InLine::fill_in_line))]
 fn fill_item(fill: Option<u32>) -> LineBuffer
-    ensures { result ≡ fill_text fill }
+    ensures text { result ≡ fill_text fill }
+    ensures in_line { IsInLine result }
 {
     let mut line = LineBuffer::new();
     push_fill(&mut line, fill);
     line
 }
 
+#[tactic(auto, using(crate::proofs::InLine::joined_in_line, crate::proofs::InLine::decimal_in_line, crate::proofs::InLine::valid_in_line, crate::proofs::InLine::text_in_line))]
 fn constraint_item(name: &Name, valid: bool, what: &ConKind) -> LineBuffer
-    ensures { result ≡ name.now ++ constraint_text valid what.now }
+    ensures text { result ≡ name.now ++ constraint_text valid what.now }
+    ensures in_line { IsInLine result }
 {
     let mut line = name_item(name);
     match what {
@@ -133,19 +149,29 @@ fn constraint_item(name: &Name, valid: bool, what: &ConKind) -> LineBuffer
         } => {
             line.push(b":fk:");
             line.push(valid_word(valid));
-            line.push(b":");
-            line.push_number(*num);
-            line.push(b":");
-            line.push_number(refrel.0);
-            line.push(b":");
-            line.push_number(*refnum);
+            push_after_colon(&mut line, *num);
+            push_after_colon(&mut line, refrel.0);
+            push_after_colon(&mut line, *refnum);
         }
     }
     line
 }
 
+#[tactic(auto, using(crate::proofs::InLine::joined_in_line, crate::proofs::InLine::decimal_in_line))]
+fn push_after_colon(line: &mut LineBuffer, number: u32)
+    requires { length line.old + 11 ≤ LINE_ROOM }
+    ensures text { line.new ≡ line.old ++ codes ":" ++ decimal number }
+    ensures short { length line.new ≤ length line.old + 11 }
+    ensures in_line { IsInLine line.old → IsInLine line.new }
+{
+    line.push(b":");
+    line.push_number(number);
+}
+
+#[tactic(auto, using(crate::proofs::InLine::joined_in_line, crate::proofs::InLine::decimal_in_line))]
 fn referring_item(rel: Oid, oid: Oid, of: Oid, what: &ConKind) -> Option<LineBuffer>
-    ensures { result ≡ item_from rel oid of what.now }
+    ensures text { result ≡ item_from rel oid of what.now }
+    ensures in_line { IfSome result IsInLine }
 {
     match what {
         ConKind::Foreign { refrel, refnum, .. } if refrel.0 == rel.0 => {
@@ -161,8 +187,10 @@ fn referring_item(rel: Oid, oid: Oid, of: Oid, what: &ConKind) -> Option<LineBuf
     }
 }
 
+#[tactic(auto, using(crate::proofs::InLine::joined_in_line, crate::proofs::InLine::decimal_in_line, crate::proofs::InLine::state_in_line, crate::proofs::InLine::nums_in_line))]
 fn index_item(index: Oid, state: IndexState, nums: &Nums) -> LineBuffer
-    ensures { result ≡ decimal index.0 ++ codes ":" ++ state_word state ++ codes ":" ++ nums_text nums.now }
+    ensures text { result ≡ decimal index.0 ++ codes ":" ++ state_word state ++ codes ":" ++ nums_text nums.now }
+    ensures in_line { IsInLine result }
 {
     let mut line = LineBuffer::new();
     line.push_number(index.0);
@@ -173,8 +201,10 @@ fn index_item(index: Oid, state: IndexState, nums: &Nums) -> LineBuffer
     line
 }
 
+#[tactic(auto, using(crate::proofs::InLine::joined_in_line, crate::proofs::InLine::on_in_line))]
 fn trigger_item(name: &Name, on: bool) -> LineBuffer
-    ensures { result ≡ name.now ++ codes ":" ++ word_of_on on }
+    ensures text { result ≡ name.now ++ codes ":" ++ word_of_on on }
+    ensures in_line { IsInLine result }
 {
     let mut line = name_item(name);
     line.push(b":");
@@ -182,8 +212,10 @@ fn trigger_item(name: &Name, on: bool) -> LineBuffer
     line
 }
 
+#[tactic(auto, using(crate::proofs::InLine::joined_in_line, crate::proofs::InLine::decimal_in_line, crate::proofs::InLine::nums_in_line))]
 fn columns_item(table: Oid, nums: &Nums) -> LineBuffer
-    ensures { result ≡ decimal table.0 ++ codes ":" ++ nums_text nums.now }
+    ensures text { result ≡ decimal table.0 ++ codes ":" ++ nums_text nums.now }
+    ensures in_line { IsInLine result }
 {
     let mut line = LineBuffer::new();
     line.push_number(table.0);
@@ -192,8 +224,10 @@ fn columns_item(table: Oid, nums: &Nums) -> LineBuffer
     line
 }
 
+#[tactic(auto, using(crate::proofs::InLine::state_in_line))]
 fn state_item(state: IndexState) -> LineBuffer
-    ensures { result ≡ state_word state }
+    ensures text { result ≡ state_word state }
+    ensures in_line { IsInLine result }
 {
     let mut line = LineBuffer::new();
     line.push(state.word());
@@ -205,6 +239,7 @@ pub fn push_fill(line: &mut LineBuffer, fill: Option<u32>)
     requires { length line.old + 10 ≤ LINE_ROOM }
     ensures text { line.new ≡ line.old ++ fill_text fill }
     ensures short { length line.new ≤ length line.old + 10 }
+    ensures number { IfSome fill (λ number. number < 2 ^ 32) }
 {
     match fill {
         Some(fill) => line.push_number(fill),
@@ -217,6 +252,8 @@ pub fn push_nums(line: &mut LineBuffer, nums: &Nums)
     requires { length line.old + 352 ≤ LINE_ROOM }
     ensures text { line.new ≡ line.old ++ nums_text nums.now }
     ensures short { length line.new ≤ length line.old + 352 }
+    ensures some { (0 < length nums.now) × (length nums.now ≤ MOST_INDEX_COLUMNS) }
+    ensures numbers { All (λ number. number < 2 ^ 32) nums.now }
 {
     let [first, rest @ ..] = nums.as_slice() else {
         return
@@ -232,6 +269,7 @@ fn push_next(line: &mut LineBuffer, num: u32)
     requires { length line.old + 11 ≤ LINE_ROOM }
     ensures text { line.new ≡ line.old ++ (codes "+" ++ decimal num) }
     ensures short { length line.new ≤ length line.old + 11 }
+    ensures number { num < 2 ^ 32 }
 {
     line.push(b"+");
     line.push_number(num);
