@@ -1,5 +1,4 @@
 ghost use Rattle.std.specs.Prelude.{◌≡◌};
-ghost use Rattle.base_types.specs.Names.{IsInLine};
 
 use std::marker::Model;
 
@@ -11,6 +10,7 @@ pub struct Value {
 
 impl Model for Value {
     ghost use Rattle.std.specs.Prelude.{List, ℕ};
+    ghost use Rattle.base_types.specs.Names.{IsInLine};
 
     ghost Value = { List ℕ };
 
@@ -20,6 +20,8 @@ impl Model for Value {
 }
 
 impl Value {
+    ghost use Rattle.base_types.specs.Names.{IsInLine};
+
     /// The value with this text, as [`base_types::field_text`] gives it. Condition: no byte of it
     /// ends a line.
     pub fn new(text: Vec<u8>) -> Value
