@@ -16,10 +16,11 @@ use Rattle.base_types.specs.declared.col_type.ColType.{ColType}
 use Rattle.base_types.specs.declared.col_type.ColType.TheVariants as types
 use Rattle.base_types.specs.declared.field.Field.{Field}
 use Rattle.base_types.specs.declared.field.Field.TheVariants as fields
-use Rattle.script_text.specs.Tokens.{tokens, behind, after, is_end, ends}
+use Rattle.script_text.specs.Tokens.{tokens, behind, is_end}
 use Rattle.script_text.specs.Operands.{if_none, name_of, word_of, text_of, type_of, field_of}
-use Rattle.script_text.specs.Commands.{one_name, names_after, two_names, field_behind, shown_after, bare_command, savepoint_command, name_command, show_command, table_command, enable_command, disable_command, create_trigger_command, rename_index_command, pair_command, regclass_command, weak_mode, strong_mode, mode_behind, lock_command, add_column_command, rename_column_command, default_command, statistics_command, fillfactor_command, enclosed_text, valid_behind, check_behind, check_command, referred_behind, key_behind, foreign_command, columns_at, columns_behind, create_table_command, names_at, names_behind, create_index_command, short_command, alter_command, long_command, command_of}
+use Rattle.script_text.specs.Commands.{columns_at, names_at, command_of}
 use Rattle.script_text.specs.Spelling.{command_pieces, column_pieces, name_pieces, valid_pieces, shown_pieces, mode_words, trigger_words, listed}
+use Rattle.script_text.proofs.OnLiterals.{command_forms}
 use Rattle.script_text.proofs.Clean.{is_clean, IsPiece}
 use Rattle.script_text.proofs.TokenLaws.{each_byte, name_token, name_piece, word_token, word_piece, text_piece, number_token, number_piece, stat_token, stat_piece, enclosed_tokens, number_back, stat_back}
 
@@ -80,37 +81,37 @@ not_closing name h = not_closing_by name (bytes_eq name (codes ")")) refl h
 -- ---- commands of names alone
 
 bare_back : ReadsBack Begin × ReadsBack Commit × ReadsBack Rollback
-unfolding tokens behind after is_end ends command_of short_command bare_command savepoint_command name_command show_command table_command pair_command regclass_command lock_command one_name two_names names_after enable_command disable_command create_trigger_command rename_index_command weak_mode strong_mode mode_behind shown_after field_behind
+unfolding command_forms
 bare_back = (refl, refl, refl)
 
 one_back : (name : List ℕ) → IsName name
     → ReadsBack (Savepoint name) × ReadsBack (Release name) × ReadsBack (RollbackTo name) × ReadsBack (Columns name) × ReadsBack (OpenRel name) × ReadsBack (CloseRel name) × ReadsBack (DropTable name) × ReadsBack (DropIndex name)
-unfolding tokens behind after is_end ends command_of short_command bare_command savepoint_command name_command show_command table_command pair_command regclass_command lock_command one_name two_names names_after enable_command disable_command create_trigger_command rename_index_command weak_mode strong_mode mode_behind shown_after field_behind
+unfolding command_forms
 one_back name h = rw (name_token name h, name_back name h) (refl, refl, refl, refl, refl, refl, refl, refl)
 
 two_back : (name other : List ℕ) → IsName name → IsName other
     → ReadsBack (Column name other) × ReadsBack (RenameTable name other) × ReadsBack (DropColumn name other) × ReadsBack (ValidateConstraint name other) × ReadsBack (DropConstraint name other)
-unfolding tokens behind after is_end ends command_of short_command bare_command savepoint_command name_command show_command table_command pair_command regclass_command lock_command one_name two_names names_after enable_command disable_command create_trigger_command rename_index_command weak_mode strong_mode mode_behind shown_after field_behind
+unfolding command_forms
 two_back name other h k = rw (name_token name h, name_token other k, name_back name h, name_back other k) (refl, refl, refl, refl, refl)
 
 pair_back : (name other : List ℕ) → IsName name → IsName other
     → ReadsBack (SetTrigger name other true) × ReadsBack (SetTrigger name other false) × ReadsBack (RenameIndex name other)
-unfolding tokens behind after is_end ends command_of short_command bare_command savepoint_command name_command show_command table_command pair_command regclass_command lock_command one_name two_names names_after enable_command disable_command create_trigger_command rename_index_command weak_mode strong_mode mode_behind shown_after field_behind
+unfolding command_forms
 pair_back name other h k = rw (name_token name h, name_token other k, name_back name h, name_back other k) (refl, refl, refl)
 
 trigger_back : (name trigger : List ℕ) → IsName name → IsName trigger → ReadsBack (CreateTrigger name trigger)
-unfolding tokens behind after is_end ends command_of short_command bare_command savepoint_command name_command show_command table_command pair_command regclass_command lock_command one_name two_names names_after enable_command disable_command create_trigger_command rename_index_command weak_mode strong_mode mode_behind shown_after field_behind
+unfolding command_forms
 trigger_back name trigger h k = rw (name_token name h, name_token trigger k, name_back trigger k, name_back name h) refl
 
 -- ---- commands with a field, a lock mode or a number
 
 shown_back : (name : List ℕ) (field : Option Field) → IsName name → ReadsBack (Show name field) × ReadsBack (Peek name field)
-unfolding tokens behind after is_end ends command_of short_command bare_command savepoint_command name_command show_command table_command pair_command regclass_command lock_command one_name two_names names_after enable_command disable_command create_trigger_command rename_index_command weak_mode strong_mode mode_behind shown_after field_behind
+unfolding command_forms
 shown_back name None h = rw (name_token name h, name_back name h) (refl, refl)
 shown_back name (Some f) h = let field = field_back f in rw (name_token name h, field.0, name_back name h, field.2, field.1) (refl, refl)
 
 lock_back : (name : List ℕ) (mode : Mode) → IsName name → ReadsBack (LockTable name mode)
-unfolding tokens behind after is_end ends command_of short_command bare_command savepoint_command name_command show_command table_command pair_command regclass_command lock_command one_name two_names names_after enable_command disable_command create_trigger_command rename_index_command weak_mode strong_mode mode_behind shown_after field_behind
+unfolding command_forms
 lock_back name AccessShare h = rw (name_token name h, name_back name h) refl
 lock_back name RowShare h = rw (name_token name h, name_back name h) refl
 lock_back name RowExclusive h = rw (name_token name h, name_back name h) refl
@@ -121,38 +122,38 @@ lock_back name Exclusive h = rw (name_token name h, name_back name h) refl
 lock_back name AccessExclusive h = rw (name_token name h, name_back name h) refl
 
 regclass_back : (oid : ℕ) → oid < 1000000000 → ReadsBack (Regclass (record { 0 = oid }))
-unfolding tokens behind after is_end ends command_of short_command bare_command savepoint_command name_command show_command table_command pair_command regclass_command lock_command one_name two_names names_after enable_command disable_command create_trigger_command rename_index_command weak_mode strong_mode mode_behind shown_after field_behind
+unfolding command_forms
 regclass_back oid h = rw (number_token oid, number_back oid h) refl
 
 -- ---- alterations of a table
 
 add_column_back : (name column : List ℕ) (t : ColType) → IsName name → IsName column → ReadsBack (AddColumn name column t)
-unfolding tokens behind after is_end ends command_of short_command alter_command long_command bare_command savepoint_command name_command show_command table_command pair_command regclass_command lock_command one_name two_names names_after enable_command disable_command create_trigger_command rename_index_command weak_mode strong_mode mode_behind enclosed_text check_behind referred_behind key_behind names_behind columns_behind shown_after field_behind add_column_command rename_column_command default_command statistics_command fillfactor_command foreign_command check_command create_table_command create_index_command valid_behind
+unfolding command_forms
 add_column_back name column t h k = rw (name_token name h, name_token column k, (type_back t).0, name_back name h, name_back column k, (type_back t).1) refl
 
 rename_column_back : (name column to : List ℕ) → IsName name → IsName column → IsName to → ReadsBack (RenameColumn name column to)
-unfolding tokens behind after is_end ends command_of short_command alter_command long_command bare_command savepoint_command name_command show_command table_command pair_command regclass_command lock_command one_name two_names names_after enable_command disable_command create_trigger_command rename_index_command weak_mode strong_mode mode_behind enclosed_text check_behind referred_behind key_behind names_behind columns_behind shown_after field_behind add_column_command rename_column_command default_command statistics_command fillfactor_command foreign_command check_command create_table_command create_index_command valid_behind
+unfolding command_forms
 rename_column_back name column to h k l = rw (name_token name h, name_token column k, name_token to l, name_back name h, name_back column k, name_back to l) refl
 
 default_back : (name column word : List ℕ) → IsName name → IsName column → IsWord word → ReadsBack (SetDefault name column word)
-unfolding tokens behind after is_end ends command_of short_command alter_command long_command bare_command savepoint_command name_command show_command table_command pair_command regclass_command lock_command one_name two_names names_after enable_command disable_command create_trigger_command rename_index_command weak_mode strong_mode mode_behind enclosed_text check_behind referred_behind key_behind names_behind columns_behind shown_after field_behind add_column_command rename_column_command default_command statistics_command fillfactor_command foreign_command check_command create_table_command create_index_command valid_behind
+unfolding command_forms
 default_back name column word h k l = rw (name_token name h, name_token column k, word_token word l, name_back name h, name_back column k, word_back word l) refl
 
 statistics_back : (name column : List ℕ) (stat : ℤ) → IsName name → IsName column → nat_abs stat < 1000000000 → ReadsBack (SetStatistics name column stat)
-unfolding tokens behind after is_end ends command_of short_command alter_command long_command bare_command savepoint_command name_command show_command table_command pair_command regclass_command lock_command one_name two_names names_after enable_command disable_command create_trigger_command rename_index_command weak_mode strong_mode mode_behind enclosed_text check_behind referred_behind key_behind names_behind columns_behind shown_after field_behind add_column_command rename_column_command default_command statistics_command fillfactor_command foreign_command check_command create_table_command create_index_command valid_behind
+unfolding command_forms
 statistics_back name column stat h k l = rw (name_token name h, name_token column k, stat_token stat, name_back name h, name_back column k, stat_back stat l) refl
 
 fillfactor_back : (name : List ℕ) (fill : ℕ) → IsName name → fill < 1000000000 → ReadsBack (SetFillfactor name fill)
-unfolding tokens behind after is_end ends command_of short_command alter_command long_command bare_command savepoint_command name_command show_command table_command pair_command regclass_command lock_command one_name two_names names_after enable_command disable_command create_trigger_command rename_index_command weak_mode strong_mode mode_behind enclosed_text check_behind referred_behind key_behind names_behind columns_behind shown_after field_behind add_column_command rename_column_command default_command statistics_command fillfactor_command foreign_command check_command create_table_command create_index_command valid_behind
+unfolding command_forms
 fillfactor_back name fill h k = rw (name_token name h, number_token fill, name_back name h, number_back fill k) refl
 
 check_back : (name constraint text : List ℕ) (valid : Bool) → IsName name → IsName constraint → IsText text → ReadsBack (AddCheck name constraint text valid)
-unfolding tokens behind after is_end ends command_of short_command alter_command long_command bare_command savepoint_command name_command show_command table_command pair_command regclass_command lock_command one_name two_names names_after enable_command disable_command create_trigger_command rename_index_command weak_mode strong_mode mode_behind enclosed_text check_behind referred_behind key_behind names_behind columns_behind shown_after field_behind add_column_command rename_column_command default_command statistics_command fillfactor_command foreign_command check_command create_table_command create_index_command valid_behind
+unfolding command_forms
 check_back name constraint text true h k l = rw (name_token name h, name_token constraint k, name_back name h, name_back constraint k, enclosed_tokens text [] l, text_back text l) refl
 check_back name constraint text false h k l = rw (name_token name h, name_token constraint k, name_back name h, name_back constraint k, enclosed_tokens text (codes "not" ∷ codes "valid" ∷ []) l, text_back text l) refl
 
 foreign_back : (name constraint column refers ref_column : List ℕ) (valid : Bool) → IsName name → IsName constraint → IsName column → IsName refers → IsName ref_column → ReadsBack (AddForeign name constraint column refers ref_column valid)
-unfolding tokens behind after is_end ends command_of short_command alter_command long_command bare_command savepoint_command name_command show_command table_command pair_command regclass_command lock_command one_name two_names names_after enable_command disable_command create_trigger_command rename_index_command weak_mode strong_mode mode_behind enclosed_text check_behind referred_behind key_behind names_behind columns_behind shown_after field_behind add_column_command rename_column_command default_command statistics_command fillfactor_command foreign_command check_command create_table_command create_index_command valid_behind
+unfolding command_forms
 foreign_back name constraint column refers ref_column true h k l m n = rw (name_token name h, name_token constraint k, name_token column l, name_token refers m, name_token ref_column n, name_back name h, name_back constraint k, name_back column l, name_back refers m, name_back ref_column n) refl
 foreign_back name constraint column refers ref_column false h k l m n = rw (name_token name h, name_token constraint k, name_token column l, name_token refers m, name_token ref_column n, name_back name h, name_back constraint k, name_back column l, name_back refers m, name_back ref_column n) refl
 
@@ -177,16 +178,16 @@ names_back name (n ∷ names) h k = rw (name_token n k.0, name_back name h, name
 
 created : (name first : List ℕ) (ts : List (List ℕ)) (columns : List NewColumn) → name_of name ≡ Some name → bytes_eq first (codes ")") ≡ false → columns_at (first ∷ ts) ≡ Some columns
     → command_of (codes "create" ∷ codes "table" ∷ name ∷ codes "(" ∷ first ∷ ts) ≡ Some (CreateTable name columns)
-unfolding tokens behind after is_end ends command_of short_command alter_command long_command bare_command savepoint_command name_command show_command table_command pair_command regclass_command lock_command one_name two_names names_after enable_command disable_command create_trigger_command rename_index_command weak_mode strong_mode mode_behind enclosed_text check_behind referred_behind key_behind names_behind columns_behind shown_after field_behind add_column_command rename_column_command default_command statistics_command fillfactor_command foreign_command check_command create_table_command create_index_command valid_behind
+unfolding command_forms
 created name first ts columns h k read = rw (h, k, read) refl
 
 indexed : (name on_table : List ℕ) (ts columns : List (List ℕ)) → name_of name ≡ Some name → name_of on_table ≡ Some on_table → names_at ts ≡ Some columns
     → command_of (codes "create" ∷ codes "index" ∷ name ∷ codes "on" ∷ on_table ∷ codes "(" ∷ ts) ≡ Some (CreateIndex name on_table columns)
-unfolding tokens behind after is_end ends command_of short_command alter_command long_command bare_command savepoint_command name_command show_command table_command pair_command regclass_command lock_command one_name two_names names_after enable_command disable_command create_trigger_command rename_index_command weak_mode strong_mode mode_behind enclosed_text check_behind referred_behind key_behind names_behind columns_behind shown_after field_behind add_column_command rename_column_command default_command statistics_command fillfactor_command foreign_command check_command create_table_command create_index_command valid_behind
+unfolding command_forms
 indexed name on_table ts columns h k read = rw (h, k, read) refl
 
 no_columns_back : (name : List ℕ) → IsName name → ReadsBack (CreateTable name [])
-unfolding tokens behind after is_end ends command_of short_command alter_command long_command bare_command savepoint_command name_command show_command table_command pair_command regclass_command lock_command one_name two_names names_after enable_command disable_command create_trigger_command rename_index_command weak_mode strong_mode mode_behind enclosed_text check_behind referred_behind key_behind names_behind columns_behind shown_after field_behind add_column_command rename_column_command default_command statistics_command fillfactor_command foreign_command check_command create_table_command create_index_command valid_behind listed
+unfolding command_forms listed
 no_columns_back name h = rw (name_token name h, name_back name h) refl
 
 table_back : (name : List ℕ) (columns : List NewColumn) → IsName name → AllByRecursion (λ c. IsName c.name) columns → ReadsBack (CreateTable name columns)

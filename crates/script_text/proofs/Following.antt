@@ -3,7 +3,7 @@ use Rattle.std.proofs.Common.{◌≡◌, ◌+◌, ◌==◌, ℕ, true, false, Re
 use Rattle.script_text.specs.declared.fault.ScriptCause.{ScriptCause}
 use Rattle.script_text.specs.declared.fault.Rest.{Rest}
 use Rattle.script_text.specs.Lines.{lines_of}
-use Rattle.script_text.specs.Grammar.{Draft, Reading, any_line, stops, at_end, blank, lines_from, script_of}
+use Rattle.script_text.specs.Grammar.{Draft, Reading, any_line, place_after, stops, at_end, blank, lines_from, script_of}
 use Rattle.script_text.specs.declared.fault.LineFault.{LineFault}
 use Rattle.script_text.specs.declared.fault.LineFault.TheVariants.{Breaks, NoMemory}
 use Rattle.script_text.specs.Drafts.{Takes, Reads, fault_at}
@@ -22,17 +22,17 @@ told rest draft next number place text line others (Breaks cause) whole first ta
 told rest draft next number place text line others NoMemory whole first takes so_far = tt
 
 pub stopped : (rest : Rest) (draft next : Draft) (number place : ℕ) (text line : List ℕ) (others : List (List ℕ)) (whole : Result Reading (ℕ × ScriptCause)) → lines_of text ≡ line ∷ others → any_line draft line ≡ Ok next → stops rest next ≡ true
-    → lines_from rest draft number place (lines_of text) ≡ whole → whole ≡ at_end next number (place + length line)
+    → lines_from rest draft number place (lines_of text) ≡ whole → whole ≡ at_end next number (place_after draft place line)
 unfolding lines_from
 stopped rest draft next number place text line others whole first taken stop so_far =
-    let step : lines_from rest draft number place (lines_of text) ≡ at_end next number (place + length line) = rw (first, taken, stop) refl in
+    let step : lines_from rest draft number place (lines_of text) ≡ at_end next number (place_after draft place line) = rw (first, taken, stop) refl in
     sym so_far ∙ step
 
 pub further : (rest : Rest) (draft next : Draft) (number place : ℕ) (text line : List ℕ) (others : List (List ℕ)) (whole : Result Reading (ℕ × ScriptCause)) → lines_of text ≡ line ∷ others → any_line draft line ≡ Ok next → stops rest next ≡ false
-    → lines_from rest draft number place (lines_of text) ≡ whole → lines_from rest next (number + 1) (place + length line) others ≡ whole
+    → lines_from rest draft number place (lines_of text) ≡ whole → lines_from rest next (number + 1) (place_after draft place line) others ≡ whole
 unfolding lines_from
 further rest draft next number place text line others whole first taken stop so_far =
-    let step : lines_from rest draft number place (lines_of text) ≡ lines_from rest next (number + 1) (place + length line) others = rw (first, taken, stop) refl in
+    let step : lines_from rest draft number place (lines_of text) ≡ lines_from rest next (number + 1) (place_after draft place line) others = rw (first, taken, stop) refl in
     sym step ∙ so_far
 
 pub ended : (rest : Rest) (draft : Draft) (number place : ℕ) (text : List ℕ) (whole : Result Reading (ℕ × ScriptCause)) → (length text == 0) ≡ true → lines_from rest draft number place (lines_of text) ≡ whole → whole ≡ at_end draft number place

@@ -39,16 +39,16 @@ no_lines draft = record {
       rw (numbers, places) refl;
 }
 
-one_line : (draft next : Draft) (number place : ℕ) (line : List ℕ) (lines : List (List ℕ)) → any_line draft line ≡ Ok next → lines_from Refused draft number place (line ∷ lines) ≡ lines_from Refused next (number + 1) (place + length line) lines
+one_line : (draft next : Draft) (number place : ℕ) (line : List ℕ) (lines : List (List ℕ)) → draft.has_end ≡ false → any_line draft line ≡ Ok next → lines_from Refused draft number place (line ∷ lines) ≡ lines_from Refused next (number + 1) (place + length line) lines
 unfolding lines_from
-one_line draft next number place line lines e = rw e refl
+one_line draft next number place line lines open_yet e = rw (e, open_yet) refl
 
-line_leads : (draft next : Draft) (pieces : List (List ℕ)) → AllByRecursion IsPiece pieces → IsPlain pieces → tokens_line draft (flat_map tokens pieces) ≡ Ok next → Leads draft (line_text pieces) next
-line_leads draft next pieces h plain e = record {
+line_leads : (draft next : Draft) (pieces : List (List ℕ)) → AllByRecursion IsPiece pieces → IsPlain pieces → draft.has_end ≡ false → tokens_line draft (flat_map tokens pieces) ≡ Ok next → Leads draft (line_text pieces) next
+line_leads draft next pieces h plain open_yet e = record {
   count = 1;
   reads = λ number place rest. ap (λ (text : List ℕ). lines_from Refused draft number place (lines_of text)) (append_assoc (with_pieces [] pieces) (10 ∷ []) rest)
       ∙ ap (lines_from Refused draft number place) (line_in_front (with_pieces [] pieces) rest (pieces_clean [] pieces tt h))
-      ∙ one_line draft next number place (line_text pieces) (lines_of rest) (line_read draft pieces h plain ∙ e);
+      ∙ one_line draft next number place (line_text pieces) (lines_of rest) open_yet (line_read draft pieces h plain ∙ e);
 }
 
 then_leads : (first next last : Draft) (a b : List ℕ) → Leads first a next → Leads next b last → Leads first (a ++ b) last
@@ -137,7 +137,7 @@ queue_by size from true e h below = let parts = standard size from e in rw (part
 queue_by size from false e h below =
     let line = line_behind [] (ring_line size from) refl (ring_clean size from) in
     let leads : Leads blank (line_text (ring_line size from)) (with_ring blank (size, from)) =
-    line_leads blank (with_ring blank (size, from)) (ring_line size from) (ring_clean size from) (refl, refl) (ring_back size from h below) in
+    line_leads blank (with_ring blank (size, from)) (ring_line size from) (ring_clean size from) (refl, refl) refl (ring_back size from h below) in
     rw e (record { leads = rw line.is leads; ends = line.ends })
 
 -- the line of the queue, where there is one
@@ -150,7 +150,7 @@ backends_clean n = (word_piece 98 (codes "ackends") refl, (number_piece n, tt))
 backends_reached : (s : Scenario) (text : List ℕ) → IsScript s → IsReached text (queue_of s.size s.from) → IsReached (with_pieces text (backends_line s.backends ++ line_end ∷ [])) (up_to s [] [])
 backends_reached s text h so_far =
     goes_on text _ (line_text (backends_line s.backends)) (queue_of s.size s.from) (up_to s [] []) so_far (line_behind text (backends_line s.backends) so_far.ends (backends_clean s.backends))
-    (line_leads (queue_of s.size s.from) (up_to s [] []) (backends_line s.backends) (backends_clean s.backends) (refl, refl) (backends_back (queue_of s.size s.from) s.backends refl h.backends))
+    (line_leads (queue_of s.size s.from) (up_to s [] []) (backends_line s.backends) (backends_clean s.backends) (refl, refl) refl (backends_back (queue_of s.size s.from) s.backends refl h.backends))
 
 -- ---- commands
 
@@ -166,7 +166,7 @@ commands_lead : (s : Scenario) (before placed : List Placed) → s.backends ≤ 
 commands_lead s before [] most few h k = rw (append-nil before) (no_lines (up_to s before []))
 commands_lead s before (p ∷ ps) most few h k =
     let first : Leads (up_to s before []) (line_text (placed_line p)) (up_to s (before ++ p ∷ []) []) =
-    line_leads (up_to s before []) (up_to s (before ++ p ∷ []) []) (placed_line p) (placed_clean p k.0) (number_plain p.backend (codes ":" ∷ command_pieces p.command))
+    line_leads (up_to s before []) (up_to s (before ++ p ∷ []) []) (placed_line p) (placed_clean p k.0) (number_plain p.backend (codes ":" ∷ command_pieces p.command)) refl
     (placed_back (up_to s before []) p.backend p.command (command_pieces p.command) most h.0 refl refl (omega arith) (commands.command_back p.command k.0)) in
     let others : Leads (up_to s (before ++ p ∷ []) []) (flat_map (λ p. line_text (placed_line p)) ps) (up_to s ((before ++ p ∷ []) ++ ps) []) =
     commands_lead s (before ++ p ∷ []) ps most (omega (arith, length-append before (p ∷ []))) h.1 k.1 in
@@ -196,7 +196,7 @@ steps_lead s before [] some few h = rw (append-nil before) (no_lines (up_to s s.
 steps_lead s before (line ∷ lines) some few h =
     let total = sum_by-cons step_count line lines in
     let first : Leads (up_to s s.commands before) (line_text (steps_line line)) (up_to s s.commands (before ++ line ∷ [])) =
-    line_leads (up_to s s.commands before) (up_to s s.commands (before ++ line ∷ [])) (steps_line line) (line_clean line) (refl, refl)
+    line_leads (up_to s s.commands before) (up_to s s.commands (before ++ line ∷ [])) (steps_line line) (line_clean line) (refl, refl) refl
     (steps_back (up_to s s.commands before) line some.0 some.1 refl h.0.0 h.0.1 (omega (arith, total))) in
     let others : Leads (up_to s s.commands (before ++ line ∷ [])) (flat_map (λ line. line_text (steps_line line)) lines) (up_to s s.commands ((before ++ line ∷ []) ++ lines)) =
     steps_lead s (before ++ line ∷ []) lines some (omega (arith, total, sum_by_push step_count before line)) h.1 in
@@ -221,7 +221,7 @@ end_reached : (s : Scenario) (text : List ℕ) → IsScript s → IsReached text
 end_reached s text h so_far =
     let before = up_to s s.commands s.steps in
     goes_on text _ (line_text (codes "end" ∷ [])) before (with_end before) so_far (line_behind text (codes "end" ∷ []) so_far.ends end_clean)
-    (line_leads before (with_end before) (codes "end" ∷ []) end_clean (refl, refl) (end_back before (not_zero s.backends h.backends.0) refl))
+    (line_leads before (with_end before) (codes "end" ∷ []) end_clean (refl, refl) refl (end_back before (not_zero s.backends h.backends.0) refl))
 
 -- reading what is written gives the script
 pub read_back : (s : Scenario) → IsScript s → IsReadBack s (script_spelling s)

@@ -105,7 +105,7 @@ line_after draft line = if list_any is_bad_byte line then Err BadByte else token
 unfoldable pub any_line : Draft → List ℕ → Result Draft ScriptCause
 any_line draft line = if counts (bare line) then line_after draft (bare line) else Ok draft
 
--- what was read: the script, whether it has a `ring` line, and the place behind what was read
+-- what was read: the script, whether it has a `ring` line, and the place right after the `end` line's line feed
 pub record Reading : Type 0 where
   pub script : Scenario
   pub has_ring : Bool
@@ -120,15 +120,19 @@ abbrev pub stops : Rest → Draft → Bool
 stops Given draft = draft.has_end
 stops Refused draft = false
 
+-- the place right after a line, and after the `end` line that came before it if one did
+abbrev pub place_after : Draft → ℕ → List ℕ → ℕ
+place_after draft place line = if draft.has_end then place else place + length line
+
 -- what comes of a line: its fault, the end of reading, or what the lines behind it give
 abbrev pub line_taken : Rest → ℕ → ℕ → Result Draft ScriptCause → (Draft → Result Reading (ℕ × ScriptCause)) → Result Reading (ℕ × ScriptCause)
 line_taken rest number place (Err cause) others = Err (number, cause)
 line_taken rest number place (Ok next) others = if stops rest next then at_end next number place else others next
 
--- the lines from the one with this number on, which stands at this place of the text
+-- the lines from the one with this number on, where the lines before it, up to the `end` line, end at this place
 unfoldable pub lines_from : Rest → Draft → ℕ → ℕ → List (List ℕ) → Result Reading (ℕ × ScriptCause)
 lines_from rest draft number place [] = at_end draft number place
-lines_from rest draft number place (line ∷ lines) = line_taken rest number (place + length line) (any_line draft line) (λ next. lines_from rest next (number + 1) (place + length line) lines)
+lines_from rest draft number place (line ∷ lines) = line_taken rest number (place_after draft place line) (any_line draft line) (λ next. lines_from rest next (number + 1) (place_after draft place line) lines)
 
 -- the script of a text
 unfoldable pub script_of : Rest → List ℕ → Result Reading (ℕ × ScriptCause)

@@ -1,8 +1,8 @@
-ghost use Rattle.std.specs.Prelude.{◌≡◌, IfOk, IfSome, codes};
+ghost use Rattle.std.specs.Prelude.{◌≡◌, ◌≤◌, ◌<◌, ◌+◌, ◌^◌, length, IfOk, IfSome, codes};
 ghost use Rattle.base_types.specs.Commands.{IsCommand};
 ghost use Rattle.script_text.specs.Tokens.{tokens, said};
 ghost use Rattle.script_text.specs.Commands.{command_of};
-ghost use Rattle.script_text.specs.Grammar.{blank, ring_line as after_ring, backends_line as after_backends, steps_line as after_steps, command_line as after_command, body_line as after_body, tokens_line as after_tokens, is_end_line as end_line, before_end, line_after, any_line, stops as stops_here, at_end};
+ghost use Rattle.script_text.specs.Grammar.{blank, ring_line as after_ring, backends_line as after_backends, steps_line as after_steps, command_line as after_command, body_line as after_body, tokens_line as after_tokens, is_end_line as end_line, before_end, line_after, any_line, place_after as end_of_line, stops as stops_here, at_end};
 ghost use Rattle.script_text.specs.Drafts.{Takes, Reads};
 
 use crate::fault::{LineFault, Rest, ScriptCause, ScriptFault};
@@ -193,6 +193,20 @@ impl Draft {
             return Ok(());
         }
         self.counting_line(alloc, line)
+    }
+
+    /// The place right after a line that begins at this place, and the place itself after the
+    /// `end` line.
+    pub fn place_after(&self, place: usize, line: &[u8]) -> usize
+        requires { place + length line.now < 2 ^ 64 }
+        ensures value { result ≡ end_of_line self.now place line.now }
+        ensures most { result ≤ place + length line.now }
+    {
+        if self.has_end {
+            place
+        } else {
+            place + line.len()
+        }
     }
 
     /// Reading stops here: behind the `end` line, where a rest is given.

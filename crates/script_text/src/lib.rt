@@ -20,7 +20,6 @@
 #![tactic(auto)]
 
 mod alterations;
-mod built;
 mod commands;
 mod draft;
 mod fault;
@@ -36,11 +35,8 @@ mod taking;
 mod tokens;
 mod writing;
 
-pub use built::is_built;
 pub use fault::{LineFault, Rest, ScriptCause, ScriptFault};
 pub use reading::{ScriptRead, read_script};
 pub use script::Script;
 pub use writing::write_script;
 
-#[cfg(test)]
-mod tests;

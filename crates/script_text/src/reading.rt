@@ -14,7 +14,8 @@ pub struct ScriptRead {
     pub script: Script,
     /// A `ring` line stood in front.
     pub has_ring: bool,
-    /// The place behind the `end` line's LF, or the length of the input.
+    /// The place right after the `end` line's line feed; the length of the input where that line
+    /// has none.
     pub rest_at: usize,
 }
 
@@ -31,10 +32,10 @@ pub fn read_script(alloc: Global, bytes: &[u8], rest: Rest) -> Result<ScriptRead
     let mut place = 0usize;
     'lines: while !left.is_empty() {
         let (line, others) = left.split_at(lines::line_len(left));
+        place = draft.place_after(place, line);
         if let Err(fault) = draft.line(alloc, line) {
             return Err(fault.at_line(number));
         }
-        place += line.len();
         if draft.stops(rest) {
             return draft.finish(number, place);
         }

@@ -1,3 +1,4 @@
+pub mod Distinct
 pub mod SameScan
 pub mod Behind
 pub mod Shown

@@ -35,7 +35,7 @@ lines-preserved c =
     let first : lines_of left ≡ line ∷ lines_of others = rw (c.split_at.ensures.front, c.split_at.ensures.back) c.line_len.ensures.first in
     record {
       read = further c.args.rest c.lines.draft c.line.new.self c.lines.number c.lines.place left line (lines_of others) (script_of c.args.rest c.args.bytes.now) first c.in_default.ensures (sym c.stops.ensures ∙ c.if-stops.false) c.lines.invariant.read;
-      places = omega (arith, c.lines.invariant.places, c.split_at.ensures.front_len, c.split_at.ensures.back_len);
+      places = omega (arith, c.place_after.ensures.most, c.lines.invariant.places, c.split_at.ensures.front_len, c.split_at.ensures.back_len);
       numbers = omega (arith, c.lines.invariant.numbers, c.split_at.ensures.back_len, c.line_len.ensures.some);
     }
 

@@ -6,7 +6,7 @@ use Rattle.script_text.proofs.reading.read_script.Given as goal
 abbrev pub invariant-lines : goal.invariant-lines
 invariant-lines l = record {
   read : lines_from l.rest l.draft l.number l.place (lines_of l.left) ≡ script_of l.rest l.bytes;
-  places : l.place + length l.left ≡ length l.bytes;
+  places : l.place + length l.left ≤ length l.bytes;
   numbers : l.number + length l.left ≤ length l.bytes + 1;
 }
 

@@ -1,9 +1,9 @@
 ghost use Rattle.std.specs.Prelude.{◌≡◌, ◌++◌, ◌&&◌, nat_le, length, IfOk, OnOk, map};
 ghost use Rattle.std.specs.List.{list_all, flat_map};
-ghost use Rattle.script_text.specs.Built.{are_distinct as names_differ, created_by, is_built_command as built_command, is_built as built_scenario};
+ghost use Rattle.walk_run.specs.Built.{are_distinct as names_differ, created_by, is_built_command as built_command, is_built as built_scenario};
 
-use crate::Script;
 use base_types::{Command, Name, NewColumn, NoMemory, Placed};
+use script_text::Script;
 use std::alloc::{AllocError, Global};
 use std::collections::BTreeSet;
 

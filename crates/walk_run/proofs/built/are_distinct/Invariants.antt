@@ -4,8 +4,8 @@ use Rattle.std.specs.Str.{bytes_eq}
 use Rattle.std.specs.Ordering.{nat_cmp}
 use Rattle.std.specs.Cmp.Lexicographic.{slice_cmp}
 use Rattle.std.specs.BTreeSet.{contains}
-use Rattle.script_text.specs.Built.{are_distinct}
-use Rattle.script_text.proofs.built.are_distinct.Given as goal
+use Rattle.walk_run.specs.Built.{are_distinct}
+use Rattle.walk_run.proofs.built.are_distinct.Given as goal
 
 abbrev pub invariant-loop-name : goal.invariant-loop-name
 invariant-loop-name l = record {

@@ -6,14 +6,12 @@ use Rattle.base_types.specs.declared.mode.Mode.TheVariants.{ShareRowExclusive}
 use Rattle.base_types.specs.declared.col_type.ColType.TheVariants as types
 use Rattle.script_text.specs.declared.fault.ScriptCause.TheVariants.{BadByte, BadRing, NoBackends, BadCount, NoEnd, BadSteps, TooManySteps, UnknownBackend, LateCommand, BadCommand, AfterEnd}
 use Rattle.script_text.specs.declared.fault.Rest.TheVariants.{Refused, Given}
-use Rattle.script_text.specs.Lines.{lines_of, bare, counts}
-use Rattle.script_text.specs.Tokens.{tokens, behind, after, is_end, ends}
-use Rattle.script_text.specs.Operands.{number_after, number_of, number_within, stat_of, name_of, word_of, text_of, type_of, field_of}
-use Rattle.script_text.specs.Commands.{command_of, short_command, alter_command, long_command, bare_command, savepoint_command, name_command, show_command, table_command, pair_command, regclass_command, lock_command, one_name, two_names, names_after, enable_command, disable_command, create_trigger_command, rename_index_command, weak_mode, strong_mode, enclosed_text, check_behind, referred_behind, key_behind, names_behind, columns_behind, shown_after, field_behind, mode_behind, add_column_command, rename_column_command, default_command, statistics_command, fillfactor_command, foreign_command, check_command, create_table_command, create_index_command, enclosed, valid_behind, columns_at, names_at}
-use Rattle.script_text.specs.LineForms.{ring_of, from_behind, first_of, size_of, backends_of, steps_of, all_turns, addressed}
+use Rattle.script_text.specs.Tokens.{tokens, behind, after}
+use Rattle.script_text.specs.Commands.{command_of}
 use Rattle.std.specs.Fmt.{digits}
 use Rattle.script_text.specs.Spelling.{with_piece, listed, script_spelling}
-use Rattle.script_text.specs.Grammar.{ring_line, backends_line, steps_line, command_line, body_line, tokens_line, line_after, any_line, lines_from, script_of}
+use Rattle.script_text.specs.Grammar.{script_of}
+use Rattle.script_text.proofs.OnLiterals.{whole_scripts}
 
 -- a text with an LF behind each line
 abbrev text : List (List ℕ) → List ℕ
@@ -23,7 +21,7 @@ text (line ∷ lines) = line ++ 10 ∷ text lines
 -- upper case, a CR, a semicolon, and a last line with no LF
 upper_case : script_of Refused (text ((codes "BACKENDS 1" ++ 13 ∷ []) ∷ codes "1: CREATE TABLE t (a INT);" ∷ []) ++ codes "end")
     ≡ Ok (record { script = record { size = 4096; from = 0; backends = 1; commands = record { backend = 1; command = CreateTable (codes "t") (record { name = codes "a"; col_type = types.Int4 } ∷ []) } ∷ []; steps = [] }; has_ring = false; rest_at = 42 })
-unfolding lines_of bare counts tokens behind after is_end ends number_after number_of number_within stat_of name_of word_of text_of type_of field_of command_of short_command alter_command long_command bare_command savepoint_command name_command show_command table_command pair_command regclass_command lock_command one_name two_names names_after enable_command disable_command create_trigger_command rename_index_command weak_mode strong_mode enclosed_text check_behind referred_behind key_behind names_behind columns_behind shown_after field_behind mode_behind add_column_command rename_column_command default_command statistics_command fillfactor_command foreign_command check_command create_table_command create_index_command enclosed valid_behind columns_at names_at ring_of from_behind first_of size_of backends_of steps_of all_turns addressed ring_line backends_line steps_line command_line body_line tokens_line line_after any_line lines_from script_of
+unfolding whole_scripts
 upper_case = refl
 
 -- faults, each with its line
@@ -50,13 +48,20 @@ faults :
     (script_of Refused (text (codes "backends 2" ∷ codes "end" ∷ codes "1: bugin" ∷ [])) ≡ Err (3, BadCommand)) ×
     (script_of Refused (codes "backends 1" ++ 13 ∷ 13 ∷ 10 ∷ []) ≡ Err (1, BadByte)) ×
     (script_of Refused (codes "backends 1" ++ 10 ∷ codes "end" ++ 13 ∷ []) ≡ Err (2, BadByte))
-unfolding lines_of bare counts tokens behind after is_end ends number_after number_of number_within stat_of name_of word_of text_of type_of field_of command_of short_command alter_command long_command bare_command savepoint_command name_command show_command table_command pair_command regclass_command lock_command one_name two_names names_after enable_command disable_command create_trigger_command rename_index_command weak_mode strong_mode enclosed_text check_behind referred_behind key_behind names_behind columns_behind shown_after field_behind mode_behind add_column_command rename_column_command default_command statistics_command fillfactor_command foreign_command check_command create_table_command create_index_command enclosed valid_behind columns_at names_at ring_of from_behind first_of size_of backends_of steps_of all_turns addressed ring_line backends_line steps_line command_line body_line tokens_line line_after any_line lines_from script_of
+unfolding whole_scripts
 faults = (refl, refl, refl, refl, refl, refl, refl, refl, refl, refl, refl, refl, refl, refl, refl, refl, refl, refl, refl, refl, refl, refl)
+
+-- the place is that after the `end` line, whatever is asked of the rest
+place_of_the_rest :
+    (script_of Refused (text (codes "backends 1" ∷ codes "end" ∷ codes "-- x" ∷ [])) ≡ Ok (record { script = record { size = 4096; from = 0; backends = 1; commands = []; steps = [] }; has_ring = false; rest_at = 15 })) ×
+    (script_of Given (text (codes "backends 1" ∷ codes "end" ∷ codes "-- x" ∷ [])) ≡ Ok (record { script = record { size = 4096; from = 0; backends = 1; commands = []; steps = [] }; has_ring = false; rest_at = 15 }))
+unfolding whole_scripts
+place_of_the_rest = (refl, refl)
 
 -- a rest, at its place, and a ring line
 rest_is_left : script_of Given (text (codes "ring 64 from 16777215" ∷ codes "backends 02" ∷ codes "steps 1 * 3 2" ∷ codes "end" ∷ codes "h 1 0 start" ∷ []))
     ≡ Ok (record { script = record { size = 64; from = 16777215; backends = 2; commands = []; steps = (record { backend = 1; count = 3 } ∷ record { backend = 2; count = 1 } ∷ []) ∷ [] }; has_ring = true; rest_at = 52 })
-unfolding lines_of bare counts tokens behind after is_end ends number_after number_of number_within stat_of name_of word_of text_of type_of field_of command_of short_command alter_command long_command bare_command savepoint_command name_command show_command table_command pair_command regclass_command lock_command one_name two_names names_after enable_command disable_command create_trigger_command rename_index_command weak_mode strong_mode enclosed_text check_behind referred_behind key_behind names_behind columns_behind shown_after field_behind mode_behind add_column_command rename_column_command default_command statistics_command fillfactor_command foreign_command check_command create_table_command create_index_command enclosed valid_behind columns_at names_at ring_of from_behind first_of size_of backends_of steps_of all_turns addressed ring_line backends_line steps_line command_line body_line tokens_line line_after any_line lines_from script_of
+unfolding whole_scripts
 rest_is_left = refl
 
 -- the forms of commands
@@ -101,7 +106,7 @@ forms :
     (command_of (tokens (codes "create index i on t (a, b)")) ≡ Some (CreateIndex (codes "i") (codes "t") (codes "a" ∷ codes "b" ∷ []))) ×
     (command_of (tokens (codes "drop index i")) ≡ Some (DropIndex (codes "i"))) ×
     (command_of (tokens (codes "alter index i rename to j")) ≡ Some (RenameIndex (codes "i") (codes "j")))
-unfolding lines_of bare counts tokens behind after is_end ends number_after number_of number_within stat_of name_of word_of text_of type_of field_of command_of short_command alter_command long_command bare_command savepoint_command name_command show_command table_command pair_command regclass_command lock_command one_name two_names names_after enable_command disable_command create_trigger_command rename_index_command weak_mode strong_mode enclosed_text check_behind referred_behind key_behind names_behind columns_behind shown_after field_behind mode_behind add_column_command rename_column_command default_command statistics_command fillfactor_command foreign_command check_command create_table_command create_index_command enclosed valid_behind columns_at names_at ring_of from_behind first_of size_of backends_of steps_of all_turns addressed ring_line backends_line steps_line command_line body_line tokens_line line_after any_line lines_from script_of
+unfolding whole_scripts
 forms = (refl, refl, refl, refl, refl, refl, refl, refl, refl, refl, refl, refl, refl, refl, refl, refl, refl, refl, refl, refl, refl, refl, refl, refl, refl, refl, refl, refl, refl, refl, refl, refl, refl, refl, refl, refl, refl, refl, refl, refl)
 
 -- what is no command
@@ -124,7 +129,7 @@ others :
     (command_of (tokens (codes "lock table t in shared mode")) ≡ None) ×
     (command_of (tokens (codes "create index i on t (a,)")) ≡ None) ×
     (command_of (tokens (codes "begin ; ;")) ≡ None)
-unfolding lines_of bare counts tokens behind after is_end ends number_after number_of number_within stat_of name_of word_of text_of type_of field_of command_of short_command alter_command long_command bare_command savepoint_command name_command show_command table_command pair_command regclass_command lock_command one_name two_names names_after enable_command disable_command create_trigger_command rename_index_command weak_mode strong_mode enclosed_text check_behind referred_behind key_behind names_behind columns_behind shown_after field_behind mode_behind add_column_command rename_column_command default_command statistics_command fillfactor_command foreign_command check_command create_table_command create_index_command enclosed valid_behind columns_at names_at ring_of from_behind first_of size_of backends_of steps_of all_turns addressed ring_line backends_line steps_line command_line body_line tokens_line line_after any_line lines_from script_of
+unfolding whole_scripts
 others = (refl, refl, refl, refl, refl, refl, refl, refl, refl, refl, refl, refl, refl, refl, refl, refl, refl, refl)
 
 -- the spelling of the script in upper case

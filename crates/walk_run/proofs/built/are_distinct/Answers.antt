@@ -1,8 +1,8 @@
 use Rattle.std.proofs.Common.{◌≡◌, ◌∙◌, sym, take, true, false}
 use Rattle.std.specs.List.{list_any}
 use Rattle.std.specs.Str.{bytes_eq}
-use Rattle.script_text.proofs.Distinct.{distinct_more, repeated_at, seen_more, was_there, was_new}
-use Rattle.script_text.proofs.built.are_distinct.Goals as goal
+use Rattle.walk_run.proofs.Distinct.{distinct_more, repeated_at, seen_more, was_there, was_new}
+use Rattle.walk_run.proofs.built.are_distinct.Goals as goal
 
 pub returns-then-not-branch : goal.returns-then-not-branch
 returns-then-not-branch c =
