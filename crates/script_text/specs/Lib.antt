@@ -1,4 +1,4 @@
-pub mod Lines
+pub mod TextLines
 pub mod Tokens
 pub mod Operands
 pub mod Commands
