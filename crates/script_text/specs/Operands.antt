@@ -3,7 +3,7 @@ use Rattle.std.specs.Prelude.{ℕ, ℤ, Bool, false, pos, neg_ℤ, Option, Some,
 use Rattle.std.specs.List.{list_all, find}
 use Rattle.std.specs.Str.{bytes_eq}
 use Rattle.base_types.specs.Names.{is_digit, number_of_digits, name_fault, short_fault, is_word_byte, is_text_byte}
-use Rattle.base_types.specs.Words.{type_word, field_word, col_types, fields}
+use Rattle.base_types.specs.Words.{type_word, field_word, col_types, all_fields}
 use Rattle.base_types.specs.declared.mode.Mode.{Mode}
 use Rattle.base_types.specs.declared.mode.Mode.TheVariants.{AccessShare, RowShare, RowExclusive, ShareUpdateExclusive, Share, ShareRowExclusive, Exclusive, AccessExclusive}
 use Rattle.base_types.specs.declared.col_type.ColType.{ColType}
@@ -58,7 +58,7 @@ type_of text = find (λ col_type. bytes_eq text (type_word col_type) || is_other
 
 -- a field of a descriptor
 unfoldable pub field_of : List ℕ → Option Field
-field_of text = find (λ field. bytes_eq text (field_word field)) fields
+field_of text = find (λ field. bytes_eq text (field_word field)) all_fields
 
 -- how `lock table` says a lock mode
 abbrev pub lock_words : Mode → List ℕ

@@ -1,5 +1,4 @@
 pub mod Distinct
-pub mod SameScan
 pub mod Behind
 pub mod Shown
 pub mod Seen

@@ -15,10 +15,9 @@
 mod answers;
 mod backend;
 mod built;
-mod scans;
 mod segment;
 mod walking;
 
 pub use built::is_built;
-pub use segment::{Locked, Scanned, Segment};
+pub use segment::{Locked, Segment};
 pub use walking::{World, walk};

@@ -7,6 +7,10 @@ use Rattle.base_types.specs.declared.key.CacheId.TheVariants.{RelName, RelOid, A
 use Rattle.base_types.specs.declared.key.KeyPart.{KeyPart}
 use Rattle.base_types.specs.declared.key.KeyPart.TheVariants as parts
 
+-- the part of a key that fills the places after its last one: the oid 0
+abbrev pub no_part : KeyPart
+no_part = parts.Oid (record { 0 = 0 })
+
 -- the number of a catalog cache
 abbrev pub cache_number : CacheId → ℕ
 cache_number RelName = 1

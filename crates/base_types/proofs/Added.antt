@@ -3,7 +3,7 @@ use Rattle.std.proofs.Common.{◌≡◌, ℕ, ◌+◌, ◌<◌, List, [], ◌∷
 use Rattle.std.proofs.lemmas.List.{take_more}
 use Rattle.std.proofs.lemmas.Grind.{flat_map-append}
 use Rattle.std.specs.List.{flat_map}
-use Rattle.event_kinds.specs.Adding.{Extends, Adds}
+use Rattle.base_types.specs.Adding.{Extends, Adds}
 
 -- what begins with a longer list begins with its front
 pub extends_more : (old mid new first : List ℕ) → mid ≡ old ++ first → Extends mid new → Extends old new

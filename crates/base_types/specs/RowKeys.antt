@@ -1,10 +1,21 @@
--- The keys of rows.
+-- The catalog of a row, and the key that identifies the row there.
 use Rattle.std.specs.Prelude.{Bool, true, false, not, List, [], ◌∷◌, ◌==◌, ◌&&◌}
 use Rattle.std.specs.List.{list_any}
 use Rattle.base_types.specs.Types.{Row, RowKey}
 use Rattle.base_types.specs.Scans.{same_oid}
+use Rattle.base_types.specs.declared.catalog.Catalog.{Catalog}
+use Rattle.base_types.specs.declared.catalog.Catalog.TheVariants as catalogs
 use Rattle.base_types.specs.declared.row.Row.TheVariants as rows
 use Rattle.base_types.specs.declared.row_key.RowKey.TheVariants as keys
+
+-- the catalog of a row
+abbrev pub catalog_of : Row → Catalog
+catalog_of (rows.Class oid name kind fill) = catalogs.Class
+catalog_of (rows.Att rel num name col_type stat live) = catalogs.Attribute
+catalog_of (rows.Def oid rel num word) = catalogs.AttrDef
+catalog_of (rows.Ind index table state nums) = catalogs.Index
+catalog_of (rows.Con oid rel name valid what) = catalogs.Constraint
+catalog_of (rows.Trg oid rel name on) = catalogs.Trigger
 
 -- the key of a row
 abbrev pub key_of : Row → RowKey
