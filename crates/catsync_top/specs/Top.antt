@@ -1,7 +1,7 @@
 -- What the program does with the bytes that it reads.
 use Rattle.std.specs.Prelude.{◌≡◌, ◌≤◌, ◌<◌, ⊤, ℕ, Bool, true, false, not, ◌&&◌, Option, Some, None, Ok, Err, List, [], ◌∷◌, codes, length}
 use Rattle.std.specs.Io.KnownBytes.{Consumes, IsAtEnd}
-use Rattle.script_text.specs.Built.{is_built}
+use Rattle.walk_run.specs.Built.{is_built}
 use Rattle.script_text.specs.Grammar.{Reading, script_of}
 use Rattle.script_text.specs.declared.fault.Rest.TheVariants.{Refused}
 use Rattle.script_text.specs.declared.fault.ScriptCause.{ScriptCause}

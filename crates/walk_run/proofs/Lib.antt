@@ -1,3 +1,4 @@
+pub mod Distinct
 pub mod Behind
 pub mod Shown
 pub mod Seen

@@ -74,7 +74,7 @@ impl Backend {
     ghost use Rattle.walk_run.specs.Ends.{MayEnd};
     ghost use Rattle.history_model.specs.Legal.{IsLegal};
     ghost use Rattle.history_model.specs.Settled.{OneWriter};
-    ghost use Rattle.script_text.specs.Built.{is_built};
+    ghost use Rattle.walk_run.specs.Built.{is_built};
 
     /// The backend of this number, which hasn't joined.
     pub fn new(alloc: Global, id: u32, commands: &[Placed]) -> Backend

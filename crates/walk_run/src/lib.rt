@@ -14,8 +14,10 @@
 
 mod answers;
 mod backend;
+mod built;
 mod segment;
 mod walking;
 
+pub use built::is_built;
 pub use segment::{Locked, Segment};
 pub use walking::{World, walk};
