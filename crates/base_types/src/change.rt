@@ -1,7 +1,7 @@
 use crate::{Row, RowKey};
 
 /// A change of one row of a catalog.
-#[derive(Clone, Copy, Debug, PartialEq, Eq)]
+#[derive(Clone, Copy)]
 pub enum Change {
     Insert(Row),
     /// The row with the same key is replaced.

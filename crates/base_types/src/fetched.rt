@@ -1,6 +1,6 @@
 /// What a backend gets from the queue of invalidation messages (`SIGetDataEntries` in
 /// `src/backend/storage/ipc/sinvaladt.c`).
-#[derive(Clone, Copy, Debug, PartialEq, Eq)]
+#[derive(Clone, Copy)]
 pub enum Fetched {
     /// So many messages.
     Messages(u32),

@@ -5,7 +5,7 @@ use std::error::Error;
 use std::fmt;
 
 /// Want of memory, the one refusal that no clause ties to its cause.
-#[derive(Clone, Copy, Debug, PartialEq, Eq)]
+#[derive(Clone, Copy, Debug)]
 pub struct NoMemory;
 
 impl fmt::Display for NoMemory {

@@ -4,7 +4,7 @@ use crate::{LONGEST_TEXT, LineBuffer, MOST_COLUMNS, NameFault, ShortText};
 use std::marker::Model;
 
 /// A name of SQL, folded to small letters: 1 to 63 bytes, or the name that a dropped column has.
-#[derive(Clone, Copy, Debug, PartialEq, Eq)]
+#[derive(Clone, Copy)]
 pub struct Name {
     text: ShortText,
 }
@@ -80,7 +80,7 @@ impl Name {
 }
 
 /// The word of a column's default.
-#[derive(Clone, Copy, Debug, PartialEq, Eq)]
+#[derive(Clone, Copy)]
 pub struct Word {
     text: ShortText,
 }
@@ -127,7 +127,7 @@ impl Word {
 }
 
 /// The text of a check, without its blanks.
-#[derive(Clone, Copy, Debug, PartialEq, Eq)]
+#[derive(Clone, Copy)]
 pub struct Text {
     text: ShortText,
 }

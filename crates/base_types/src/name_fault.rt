@@ -1,5 +1,5 @@
 /// Why bytes are no name, word or text: what is tested first comes first.
-#[derive(Clone, Copy, Debug, PartialEq, Eq)]
+#[derive(Clone, Copy, Debug)]
 pub enum NameFault {
     /// There are no bytes.
     Empty,

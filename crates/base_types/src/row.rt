@@ -1,14 +1,14 @@
 use crate::{Catalog, ColType, IndexState, Kind, Name, Nums, Oid, RowKey, Text, Word};
 
 /// What a constraint demands.
-#[derive(Clone, Copy, Debug, PartialEq, Eq)]
+#[derive(Clone, Copy)]
 pub enum ConKind {
     Check(Text),
     Foreign { num: u32, refrel: Oid, refnum: u32 },
 }
 
 /// A row of a catalog, with the columns that the caches read.
-#[derive(Clone, Copy, Debug, PartialEq, Eq)]
+#[derive(Clone, Copy)]
 pub enum Row {
     /// `pg_class`: `fill` is the fillfactor, where one is set.
     Class {

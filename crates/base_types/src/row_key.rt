@@ -1,7 +1,7 @@
 use crate::Oid;
 
 /// What tells a row of a catalog from the others of it.
-#[derive(Clone, Copy, Debug, PartialEq, Eq)]
+#[derive(Clone, Copy)]
 pub enum RowKey {
     Class(Oid),
     Att(Oid, u32),
