@@ -61,19 +61,6 @@ name_parts text h =
     let digit = untaken (begins_with_digit text) _ _ long.1 in
     record { some = not_empty (length text) empty.0; short = not_long (length text) long.0; bytes = each_passes is_name_byte text (no_place (first_refused is_name_byte text) digit.1) }
 
-pub name_front : (text : List ℕ) → IsName text → begins_with_digit text ≡ false
-name_front text h =
-    let empty = untaken (length text == 0) _ _ h in
-    let long = untaken (nat_lt 63 (length text)) _ _ empty.1 in
-    (untaken (begins_with_digit text) _ _ long.1).0
-
--- a byte that the test refuses stands nowhere
-pub stands_nowhere : (allowed : ℕ → Bool) (text : List ℕ) (byte : ℕ) → AllPass allowed text → allowed byte ≡ false → (k d : ℕ) → k < length text → get_or text k d ≡ byte → ⊥
-stands_nowhere allowed text byte passes refused k d within is =
-    let here : allowed (get_or text k d) ≡ true = passes k d within in
-    let there : allowed (get_or text k d) ≡ false = ap allowed is ∙ refused in
-    cc
-
 or_more : (a b c : Bool) → b ≡ true → a || b || c ≡ true
 or_more true b c h = refl
 or_more false true c h = refl

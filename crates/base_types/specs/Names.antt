@@ -24,7 +24,7 @@ is_word_byte byte = is_name_byte byte || (byte == 45)
 abbrev pub is_text_byte : ℕ → Bool
 is_text_byte byte = is_word_byte byte || (nat_le 60 byte && nat_le byte 62) || (nat_le 42 byte && nat_le byte 43)
 
--- the fault of a byte that may not stand, if there is one
+-- the fault of a byte that is not allowed, if there is one
 abbrev pub bad_byte : Option ℕ → Option NameFault
 bad_byte None = None
 bad_byte (Some at) = Some (BadByte at)

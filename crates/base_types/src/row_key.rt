@@ -1,6 +1,6 @@
 use crate::Oid;
 
-/// What tells a row of a catalog from the others of it.
+/// What identifies a row within its catalog.
 #[derive(Clone, Copy)]
 pub enum RowKey {
     Class(Oid),
