@@ -1,8 +1,5 @@
 -- Texts added one after the other, and a loop that adds a text for each item.
-use Rattle.std.proofs.Common.{◌≡◌, ℕ, ◌+◌, ◌<◌, List, [], ◌∷◌, ◌++◌, length, take, get_or, Result, Ok, Err, sym, ap, ◌∙◌, append_assoc, append-nil}
-use Rattle.std.proofs.lemmas.List.{take_more}
-use Rattle.std.proofs.lemmas.Grind.{flat_map-append}
-use Rattle.std.specs.List.{flat_map}
+use Rattle.std.proofs.Common.{◌≡◌, ℕ, List, ◌++◌, Result, Err, ap, ◌∙◌, append_assoc}
 use Rattle.base_types.specs.Adding.{Extends, Adds}
 
 -- what begins with a list begins with each prefix of it

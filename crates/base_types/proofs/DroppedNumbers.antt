@@ -1,5 +1,5 @@
 -- The number in a dropped column's name.
-use Rattle.std.proofs.Common.{IfSome, IfNone, Option, Some, None, ◌≡◌, ◌<◌, ◌≤◌, ◌+◌, ◌-◌, ◌∙◌, ℕ, true, fold, List, [], ◌∷◌, ◌++◌, length, take, drop, get_or, codes, decimal, ap, sym, subst, arith, rules}
+use Rattle.std.proofs.Common.{◌≡◌, ◌<◌, ◌≤◌, ◌+◌, ◌-◌, ◌∙◌, ℕ, true, fold, List, [], ◌∷◌, ◌++◌, length, take, drop, get_or, codes, decimal, ap, sym, subst, arith, rules}
 use Rattle.std.specs.Str.{all_ascii_digits}
 use Rattle.std.proofs.lemmas.List.{take_more, take-append-drop, length-append}
 use Rattle.std.proofs.Math.Seq.{take-append_seam}

@@ -1,5 +1,5 @@
 -- What the bytes of a name, a word or a check's text are.
-use Rattle.std.proofs.Common.{◌||◌, ◌++◌, ◌∙◌, inl, inr, nat_le, get_or, codes, decimal, ap, sym, subst, rules, ◌≡◌, ◌<◌, ◌≤◌, ℕ, Bool, true, false, not, ◌&&◌, ◌==◌, ◌+◌, nat_lt, cond, Option, Some, None, List, [], ◌∷◌, length, refl, arith}
+use Rattle.std.proofs.Common.{◌||◌, ◌++◌, inl, inr, nat_le, codes, decimal, ap, sym, subst, rules, ◌≡◌, ◌<◌, ◌≤◌, ℕ, Bool, true, false, not, ◌&&◌, ◌==◌, ◌+◌, nat_lt, cond, Option, Some, None, List, [], ◌∷◌, length, refl, arith}
 use Rattle.std.specs.List.{position_from, list_all, AllPass}
 use Rattle.std.proofs.lemmas.List.Sums.{AllPass-from_list_all}
 use Rattle.std.proofs.lemmas.List.Elements.{All-append, All-weaker}
