@@ -1,6 +1,6 @@
 -- Which bytes make a name, a word or the text of a check, and what is wrong with others.
-use Rattle.std.specs.Prelude.{◌≡◌, ℕ, Bool, false, Option, Some, None, List, [], ◌∷◌, ◌==◌, ◌&&◌, ◌||◌, ◌⊎◌, ◌++◌, ◌<◌, ◌≤◌, ◌+◌, ◌*◌, ◌-◌, not, nat_le, nat_lt, length, fold, codes, decimal, if◌then◌else◌}
-use Rattle.std.specs.List.{position_from}
+use Rattle.std.specs.Prelude.{◌≡◌, ℕ, Bool, true, false, Option, Some, None, List, [], ◌∷◌, ◌==◌, ◌&&◌, ◌||◌, ◌⊎◌, ◌++◌, ◌<◌, ◌≤◌, ◌+◌, ◌*◌, ◌-◌, not, nat_le, nat_lt, length, fold, codes, decimal, if◌then◌else◌}
+use Rattle.std.specs.List.{position_from, list_all}
 use Rattle.base_types.specs.declared.dropped.TheConstants.{MOST_COLUMNS}
 use Rattle.base_types.specs.declared.short_text.TheConstants.{LONGEST_TEXT}
 use Rattle.base_types.specs.declared.name_fault.NameFault.{NameFault}
@@ -85,3 +85,11 @@ digit_more number byte = number * 10 + (byte - 48)
 -- the number that digits write
 abbrev pub number_of_digits : List ℕ → ℕ
 number_of_digits digits = fold digit_more 0 digits
+
+-- a byte that is no line's end
+abbrev pub in_line : ℕ → Bool
+in_line byte = not (byte == 10)
+
+-- the bytes hold no line's end
+abbrev pub IsInLine : List ℕ → Type 0
+IsInLine text = list_all in_line text ≡ true

@@ -1,5 +1,6 @@
 ghost use Rattle.std.specs.Prelude.{◌≡◌, ◌++◌, codes, OnOk, IfOk, if◌then◌else◌};
 ghost use Rattle.base_types.specs.Fields.{field_text as text_of};
+ghost use Rattle.base_types.specs.Names.{IsInLine};
 
 use crate::{Field, NoMemory, Oid, Row, item_of};
 use std::alloc::Global;
@@ -8,6 +9,7 @@ use std::alloc::Global;
 /// blank between each two, or a dash where there is no item.
 pub fn field_text(alloc: Global, field: Field, rel: Oid, rows: &[Row]) -> Result<Vec<u8>, NoMemory>
     ensures ok { IfOk result (λ text. text.items ≡ text_of field rel rows.now) }
+    ensures in_line { IfOk result (λ text. IsInLine text.items) }
 {
     let mut text = Vec::new(alloc);
     let mut some = false;

@@ -3,8 +3,8 @@ ghost use Rattle.std.specs.Fmt.{signed_decimal};
 ghost use Rattle.base_types.specs.Words.{mode_word, field_word};
 ghost use Rattle.rel_desc.specs.Answers.{relation_word, column_text, as_of_text, regclass_text, error_text};
 
+use crate::{Column, CommandError};
 use base_types::{Field, Kind, LineBuffer, Mode, Name, Oid, Xid};
-use rel_desc::{Column, CommandError};
 
 /// Adds the word and the number of a relation.
 pub fn push_relation(line: &mut LineBuffer, kind: Kind, rel: Oid)

@@ -1,4 +1,4 @@
-use Rattle.out_text.proofs.answer_line.push_error.Goals as goal
+use Rattle.rel_desc.proofs.answer_parts.push_error.Goals as goal
 
 pub returns-in-NoRelation-clause-text : goal.returns-in-NoRelation-clause-text
 returns-in-NoRelation-clause-text c = rw c.in-NoRelation.is c.push_missing.ensures.text

@@ -3,9 +3,9 @@ ghost use Rattle.std.specs.List.{flat_map};
 ghost use Rattle.base_types.specs.Adding.{Adds};
 ghost use Rattle.rel_desc.specs.Answers.{answer_text as text_of_answer, relation_word, shown_text, shown_list, column_text, columns_text, as_of_text};
 
-use crate::answer_line::{push_as_of, push_column, push_error, push_regclass, push_relation};
-use base_types::{Kind, LineBuffer, NoMemory, Oid};
-use rel_desc::{Answer, Column, Shown, Value};
+use crate::answer_parts::{push_as_of, push_column, push_error, push_regclass, push_relation};
+use crate::{Answer, Column, Shown, Value};
+use base_types::{Kind, LineBuffer, NoMemory, Oid, add_text, whole_or_nothing};
 
 /// Adds the text of an answer to `out`; want of memory leaves `out` as it was.
 pub fn answer_text(answer: &Answer, out: &mut Vec<u8>) -> Result<(), NoMemory>
@@ -13,11 +13,8 @@ pub fn answer_text(answer: &Answer, out: &mut Vec<u8>) -> Result<(), NoMemory>
     ensures err { OnErr result (out.new.items ≡ out.old.items) }
 {
     let before = out.len();
-    let result = add_answer(answer, out);
-    if result.is_err() {
-        out.truncate(before);
-    }
-    result
+    let added = add_answer(answer, out);
+    whole_or_nothing(out, before, added)
 }
 
 // The text of an answer, or a front of it.
@@ -25,8 +22,8 @@ fn add_answer(answer: &Answer, out: &mut Vec<u8>) -> Result<(), NoMemory>
     ensures { Adds out.old.items out.new.items result (text_of_answer answer.now) }
 {
     match answer {
-        Answer::Ok => add(b"ok", out),
-        Answer::RolledBack => add(b"rolled back", out),
+        Answer::Ok => add_text(b"ok", out),
+        Answer::RolledBack => add_text(b"rolled back", out),
         Answer::Shown { kind, rel, fields } => add_relation(*kind, *rel, fields.as_slice(), out),
         Answer::One(shown) => add_shown(shown, out),
         Answer::Columns(columns) => add_columns(columns.as_slice(), out),
@@ -36,20 +33,20 @@ fn add_answer(answer: &Answer, out: &mut Vec<u8>) -> Result<(), NoMemory>
             line.push_number(*num);
             line.push(b" ");
             line.push(col_type.word());
-            add(line.as_bytes(), out)
+            add_text(line.as_bytes(), out)
         }
         Answer::Regclass { rel, name, at } => {
             let mut line = LineBuffer::new();
             line.push(b"regclass ");
             push_regclass(&mut line, *rel, name);
             push_as_of(&mut line, Some(*at));
-            add(line.as_bytes(), out)
+            add_text(line.as_bytes(), out)
         }
         Answer::Error(error) => {
             let mut line = LineBuffer::new();
             line.push(b"error ");
             push_error(&mut line, error);
-            add(line.as_bytes(), out)
+            add_text(line.as_bytes(), out)
         }
     }
 }
@@ -60,7 +57,7 @@ fn add_relation(kind: Kind, rel: Oid, fields: &[Shown], out: &mut Vec<u8>) -> Re
 {
     let mut head = LineBuffer::new();
     push_relation(&mut head, kind, rel);
-    add(head.as_bytes(), out)?;
+    add_text(head.as_bytes(), out)?;
     add_fields(fields, out)
 }
 
@@ -78,7 +75,7 @@ fn add_fields(fields: &[Shown], out: &mut Vec<u8>) -> Result<(), NoMemory>
 fn add_next(shown: &Shown, out: &mut Vec<u8>) -> Result<(), NoMemory>
     ensures { Adds out.old.items out.new.items result (codes "; " ++ shown_text shown.now) }
 {
-    add(b"; ", out)?;
+    add_text(b"; ", out)?;
     add_shown(shown, out)
 }
 
@@ -89,7 +86,7 @@ fn add_shown(shown: &Shown, out: &mut Vec<u8>) -> Result<(), NoMemory>
     let mut head = LineBuffer::new();
     head.push(shown.field.word());
     head.push(b" ");
-    add(head.as_bytes(), out)?;
+    add_text(head.as_bytes(), out)?;
     add_value(&shown.value, shown.at, out)
 }
 
@@ -97,10 +94,10 @@ fn add_shown(shown: &Shown, out: &mut Vec<u8>) -> Result<(), NoMemory>
 fn add_value(value: &Value, at: Option<u64>, out: &mut Vec<u8>) -> Result<(), NoMemory>
     ensures { Adds out.old.items out.new.items result (value.now ++ as_of_text at) }
 {
-    add(value.text(), out)?;
+    add_text(value.text(), out)?;
     let mut line = LineBuffer::new();
     push_as_of(&mut line, at);
-    add(line.as_bytes(), out)
+    add_text(line.as_bytes(), out)
 }
 
 // A list of columns, or a dash.
@@ -108,7 +105,7 @@ fn add_columns(columns: &[Column], out: &mut Vec<u8>) -> Result<(), NoMemory>
     ensures { Adds out.old.items out.new.items result (codes "columns " ++ columns_text columns.now) }
 {
     match columns.split_first() {
-        None => add(b"columns -", out),
+        None => add_text(b"columns -", out),
         Some((first, others)) => add_some_columns(first, others, out),
     }
 }
@@ -120,7 +117,7 @@ fn add_some_columns(first: &Column, others: &[Column], out: &mut Vec<u8>) -> Res
     let mut line = LineBuffer::new();
     line.push(b"columns ");
     push_column(&mut line, first);
-    add(line.as_bytes(), out)?;
+    add_text(line.as_bytes(), out)?;
     add_other_columns(others, out)
 }
 
@@ -132,15 +129,7 @@ fn add_other_columns(columns: &[Column], out: &mut Vec<u8>) -> Result<(), NoMemo
         let mut line = LineBuffer::new();
         line.push(b" ");
         push_column(&mut line, column);
-        add(line.as_bytes(), out)?;
+        add_text(line.as_bytes(), out)?;
     }
-    Ok(())
-}
-
-// A text, or nothing.
-fn add(text: &[u8], out: &mut Vec<u8>) -> Result<(), NoMemory>
-    ensures { Adds out.old.items out.new.items result text.now }
-{
-    out.extend_from_slice(text)?;
     Ok(())
 }

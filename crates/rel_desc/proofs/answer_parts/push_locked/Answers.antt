@@ -1,7 +1,7 @@
 use Rattle.std.proofs.Common.{ap, ◌++◌, ◌∙◌, codes, decimal}
 use Rattle.base_types.specs.Words.{mode_word}
-use Rattle.out_text.proofs.Parts.{pushed_twice}
-use Rattle.out_text.proofs.answer_line.push_locked.Goals as goal
+use Rattle.rel_desc.proofs.Parts.{pushed_twice}
+use Rattle.rel_desc.proofs.answer_parts.push_locked.Goals as goal
 
 pub returns-clause-text : goal.returns-clause-text
 returns-clause-text c =
