@@ -78,7 +78,7 @@ impl Row {
     }
 
     /// What identifies the row within its catalog.
-    // used by the cache of rows that a scan keeps, which is not built yet
+    // used by the writers of rows, which are not built yet
     pub fn key(&self) -> RowKey
         ensures { result ≡ key_of self.now }
     {
