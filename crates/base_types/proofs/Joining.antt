@@ -11,7 +11,7 @@ use Rattle.base_types.proofs.InLine.{joined_in_line}
 abbrev pub with_plus : ℕ → List ℕ
 with_plus n = codes "+" ++ decimal n
 
--- so many further column numbers stand behind the first
+-- so many further column numbers come after the first
 pub record HasNums (first : List ℕ) (rest : List ℕ) (i : ℕ) (line : List ℕ) : Type 0 where
   pub text : line ≡ first ++ flat_map with_plus (take i rest)
   pub short : length line ≤ length first + 11 * i

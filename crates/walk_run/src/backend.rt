@@ -16,14 +16,14 @@ use script_text::Script;
 use std::alloc::Global;
 
 /// A relation that a lookup found.
-#[derive(Clone, Copy, Debug, PartialEq, Eq)]
+#[derive(Clone, Copy)]
 pub struct Found {
     pub rel: Oid,
     pub kind: Kind,
 }
 
 /// What a backend has done for its command at hand.
-#[derive(Clone, Copy, Debug)]
+#[derive(Clone, Copy)]
 pub enum Stage {
     /// It hasn't joined.
     Unstarted,
