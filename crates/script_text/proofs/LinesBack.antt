@@ -131,7 +131,7 @@ backends_tokens n = rw (number_token n) refl
 pub backends_back : (draft : Draft) (n : ℕ) → draft.asked.backends ≡ 0 → IsBackend 64 n → tokens_line draft (flat_map tokens (codes "backends" ∷ decimal n ∷ [])) ≡ Ok (with_backends draft n)
 backends_back draft n none h = ap (tokens_line draft) (backends_tokens n) ∙ backends_by draft n (decimal n) none (within_back 1 64 n h.0 h.1 (omega arith))
 
--- ---- the lines behind it
+-- ---- the lines after it
 
 -- the end
 pub end_back : (draft : Draft) → (draft.asked.backends == 0) ≡ false → draft.has_end ≡ false → tokens_line draft (flat_map tokens (codes "end" ∷ [])) ≡ Ok (with_end draft)
@@ -182,7 +182,7 @@ alone_by : (b c : ℕ) (one : Bool) (rest : List (List ℕ)) → let ts = flat_m
 alone_by b c true rest = rw (one_tokens b rest) (count_from b (flat_map tokens rest))
 alone_by b c false rest = rw (many_tokens b c rest) (count_from b (codes "*" ∷ decimal c ∷ flat_map tokens rest))
 
--- no count stands in front of other steps
+-- other steps don't begin with a count
 alone : (turns : List Turns) → let ts = flat_map tokens (flat_map turns_pieces turns) in count_part ts ≡ Some (1, ts)
 unfolding count_part
 alone [] = refl

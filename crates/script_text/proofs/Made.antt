@@ -104,7 +104,7 @@ unfolding stat_of
 stat_read [] = nothing _
 stat_read (byte ∷ bytes) = stat_by (byte ∷ bytes) bytes (byte == 45)
 
--- the token behind words
+-- the token after words
 taken_read : {X : Type 0} (of : List ℕ → Option X) (P : X → Type 0) → ((text : List ℕ) → Gives (of text) P) → (ts : List (List ℕ)) → Gives (taken of ts) (λ r. P r.0)
 taken_read of P each [] = nothing _
 taken_read of P each (t ∷ ts) = mapped (λ x. (x, ts)) (λ r. P r.0) (each t) (λ x h. h)

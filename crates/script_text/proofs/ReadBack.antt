@@ -25,7 +25,7 @@ use Rattle.script_text.proofs.CommandsBack as commands
 
 -- ---- texts of whole lines
 
--- reading goes on behind the text, in the draft that its lines lead to
+-- reading goes on after the text, in the draft that its lines lead to
 record Leads (draft : Draft) (text : List ℕ) (next : Draft) : Type 0 where
   pub count : ℕ
   pub reads : (number place : ℕ) (rest : List ℕ) → lines_from Refused draft number place (text_lines (text ++ rest)) ≡ lines_from Refused next (number + count) (place + length text) (text_lines rest)

@@ -1,4 +1,4 @@
--- The tokens of a text that is put together of others, and what single ones mean.
+-- The tokens of a text made of other texts, and what single ones mean.
 use Rattle.std.proofs.Common.{◌≡◌, ◌<◌, ◌≤◌, ◌^◌, ◌/◌, ◌%◌, ◌-◌, ◌+◌, ◌*◌, ℕ, ℤ, pos, negsuc, zero, suc, Bool, true, false, not, ◌==◌, cond, List, [], ◌∷◌, ◌++◌, length, Some, codes, decimal, fold, refl, ap, ◌∙◌, arith, rules}
 use Rattle.std.specs.Prelude.{nat_abs, nat_lt}
 use Rattle.std.specs.Fmt.{digits, digits_onto, digit_glyph, signed_decimal}
@@ -100,7 +100,7 @@ small_enough most n few lt = let top : 10 ^ most ≤ 10 ^ 10 = pow-le-pow_right 
 
 -- ---- one token
 
--- a byte in front of a longer token
+-- a byte before a longer token
 pub longer : (b : ℕ) (bs : List ℕ) → in_word b ≡ true → goes_on bs ≡ true → tokens (b ∷ bs) ≡ with_byte b (tokens bs)
 unfolding tokens
 longer b bs word more = rw (word, no_blank b word, more) refl

@@ -7,7 +7,7 @@ use Rattle.script_text.specs.LineForms.{all_turns, with_turns, backend_of, count
 use Rattle.std.proofs.lemmas.List.{append-nil}
 use Rattle.script_text.proofs.Listing.{with_items}
 
--- an item in front of what reads the others
+-- an item, and then what reads the others
 abbrev pub item_then : Option ℕ → Option (ℕ × List (List ℕ)) → (List (List ℕ) → Option (List Turns)) → Option (List Turns)
 item_then backend count others = backend >>= λ b. count >>= λ c. option_map (λ turns. record { backend = b; count = c.0 } ∷ turns) (others c.1)
 

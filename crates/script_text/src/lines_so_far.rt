@@ -82,7 +82,7 @@ impl LinesSoFar {
         }
     }
 
-    // Reading stops here: behind the `end` line, where a rest is given.
+    // Reading stops here: after the `end` line, where a rest is given.
     pub(crate) fn stops(&self, rest: Rest) -> bool
         ensures { result ≡ stops_here rest self.now }
     {
@@ -92,7 +92,8 @@ impl LinesSoFar {
         }
     }
 
-    // What was read, at the end of the input or of reading: the line and the place behind it.
+    // What was read, at the end of the input or of reading. `line` is the number of the line after the
+    // last one, and `place` that of the rest.
     pub(crate) fn finish(self, line: u32, place: usize) -> Result<ScriptRead, ScriptFault>
         ensures { Reads result (at_end self line place) }
     {
@@ -180,7 +181,7 @@ impl LinesSoFar {
         Ok(())
     }
 
-    // A body line, behind which no `end` line came before.
+    // A line after that of the backends, where no `end` line came before it.
     fn before_end(&mut self, alloc: Global, line: &[u8]) -> Result<(), LineFault>
         ensures { Takes self.new result (before_end self.old (after_body self.old (tokens line.now))) }
     {
@@ -197,7 +198,7 @@ impl LinesSoFar {
         }
     }
 
-    // A line behind that of the backends.
+    // A line after that of the backends.
     #[tactic(auto, unfolding(crate::specs::Grammar::body_line))]
     fn body_line(&mut self, alloc: Global, line: &[u8]) -> Result<(), LineFault>
         ensures { Takes self.new result (after_body self.old (tokens line.now)) }

@@ -81,7 +81,9 @@ pub(crate) fn check_text(text: &[u8]) -> Option<Text>
 pub(crate) fn col_type(text: &[u8]) -> Option<ColType>
     ensures { result ≡ type_of text.now }
 {
-    ColType::ALL.into_iter().find(|col_type| is_type(text, *col_type))
+    ColType::ALL
+        .into_iter()
+        .find(|col_type| is_type(text, *col_type))
 }
 
 // The field of a descriptor with this name.
