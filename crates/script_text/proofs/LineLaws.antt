@@ -10,7 +10,7 @@ use Rattle.script_text.specs.Tokens.{tokens}
 use Rattle.script_text.specs.Spelling.{needs_blank, takes_none_after, with_piece, with_pieces, line_end}
 use Rattle.script_text.specs.Grammar.{Draft, any_line, line_after, tokens_line}
 use Rattle.script_text.proofs.Clean.{is_clean, IsClean, IsPiece}
-use Rattle.script_text.proofs.Joints.{ending, ending_is, pieces_clean, pieces_tokens}
+use Rattle.script_text.proofs.JoinedTokens.{ending, ending_is, pieces_clean, pieces_tokens}
 
 -- ---- a text's lines
 

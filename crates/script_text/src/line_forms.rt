@@ -48,7 +48,7 @@ pub(crate) fn addressed(line: &[u8], backends: u32) -> Option<(u32, &[u8])>
 }
 
 // A size of the queue.
-#[tactic(auto, using(crate::proofs::Bounds::queue_size), unfolding(crate::specs::LineForms::size_of))]
+#[tactic(auto, using(crate::proofs::QueueSizes::queue_size), unfolding(crate::specs::LineForms::size_of))]
 fn size(text: &[u8]) -> Option<u32>
     ensures value { result ≡ size_of text.now }
     ensures size { IfSome result IsQueueSize }

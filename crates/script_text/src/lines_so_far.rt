@@ -68,8 +68,8 @@ impl LinesSoFar {
         self.counting_line(alloc, line)
     }
 
-    // The place right after a line that begins at this place, and the place itself after the
-    // `end` line.
+    // The place right after a line that begins at this place; the place itself, where the `end`
+    // line came before.
     pub(crate) fn place_after(&self, place: usize, line: &[u8]) -> usize
         requires { place + length line.now < 2 ^ 64 }
         ensures value { result ≡ end_of_line self.now place line.now }
@@ -92,8 +92,8 @@ impl LinesSoFar {
         }
     }
 
-    // What was read, at the end of the input or of reading. `line` is the number of the line after the
-    // last one, and `place` that of the rest.
+    // What was read, at the end of the input or of reading. A line that is missing is missed at
+    // `line`, and the rest begins at `place`.
     pub(crate) fn finish(self, line: u32, place: usize) -> Result<ScriptRead, ScriptFault>
         ensures { Reads result (at_end self line place) }
     {
@@ -252,7 +252,7 @@ impl LinesSoFar {
 }
 
 // The command of a line's text, if it has the form of one.
-#[tactic(auto, using(crate::proofs::Made::short_made, crate::proofs::Made::alter_made), unfolding(crate::specs::Commands::command_of))]
+#[tactic(auto, using(crate::proofs::ReadCommands::short_made, crate::proofs::ReadCommands::alter_made), unfolding(crate::specs::Commands::command_of))]
 fn command(alloc: Global, line: &[u8]) -> Result<Option<Command>, NoMemory>
     ensures value { IfOk result (λ found. found ≡ command_of (tokens line.now)) }
     ensures spelled { IfOk result (λ found. IfSome found IsCommand) }

@@ -11,7 +11,7 @@ use base_types::{ColType, Field, Mode, Name, Text, Word, is_digit, number_up_to}
 const TEN_DIGITS: u64 = 9_999_999_999;
 
 // The number of a text of at most so many digits, 10 or fewer; `None` for any other text.
-#[tactic(auto, using(crate::proofs::Numbers::few_digits), unfolding(crate::specs::Operands::number_of))]
+#[tactic(auto, using(crate::proofs::DigitBounds::few_digits), unfolding(crate::specs::Operands::number_of))]
 pub(crate) fn number(text: &[u8], most: usize) -> Option<u64>
     requires { most ≤ 10 }
     ensures value { result ≡ number_of most text.now }

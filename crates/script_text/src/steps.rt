@@ -63,7 +63,7 @@ fn all_turns(
 }
 
 // Takes a backend of so many, and how many steps it has.
-#[tactic(auto, using(crate::proofs::Turning::no_backend, crate::proofs::Turning::no_count, crate::proofs::Turning::both))]
+#[tactic(auto, using(crate::proofs::StepItems::no_backend, crate::proofs::StepItems::no_count, crate::proofs::StepItems::both))]
 fn next_turns(tokens: &mut Tokens, backends: u32) -> Option<Turns>
     requires { none_left tokens.old ≡ false }
     ensures item { NextTurns backends tokens.old tokens.new result }

@@ -7,7 +7,7 @@ use base_types::NoMemory;
 use std::alloc::Global;
 
 // The length of a text's first line with its line feed.
-#[tactic(auto, using(crate::proofs::Parting::first_line))]
+#[tactic(auto, using(crate::proofs::LineLengths::first_line))]
 pub(crate) fn line_len(text: &[u8]) -> usize
     requires { 0 < length text.now }
     ensures first { text_lines text.now ≡ take result text.now ∷ text_lines (drop result text.now) }
@@ -38,7 +38,7 @@ pub(crate) fn bare(line: &[u8]) -> &[u8]
 }
 
 // A line counts: it has more than blanks and isn't a comment.
-#[tactic(auto, using(crate::proofs::Parting::counts_after_blanks))]
+#[tactic(auto, using(crate::proofs::LineLengths::counts_after_blanks))]
 pub(crate) fn counts(line: &[u8]) -> bool
     ensures { result ≡ line_counts line.now }
 {

@@ -1,7 +1,7 @@
 use Rattle.std.proofs.Common.{◌≡◌, ◌∙◌, ◌∷◌, sym, arith}
 use Rattle.script_text.specs.TextLines.{text_lines}
 use Rattle.script_text.specs.Grammar.{script_of}
-use Rattle.script_text.proofs.Following.{told, stopped, further, ended, from_empty}
+use Rattle.script_text.proofs.LineByLine.{told, stopped, further, ended, from_empty}
 use Rattle.script_text.proofs.reading.read_script.Goals as goal
 
 pub lines-init : goal.lines-init

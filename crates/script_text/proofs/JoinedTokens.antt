@@ -7,7 +7,7 @@ use Rattle.script_text.specs.TextLines.{is_blank, with_byte}
 use Rattle.script_text.specs.Tokens.{tokens, in_word, goes_on}
 use Rattle.script_text.specs.Spelling.{takes_none_after, takes_none_before, needs_blank, with_piece, with_pieces}
 use Rattle.script_text.proofs.Clean.{is_clean, IsClean, IsPiece}
-use Rattle.script_text.proofs.Splitting.{no_blank}
+use Rattle.script_text.proofs.TokenLengths.{no_blank}
 
 -- a word goes on from a text into the one after it
 abbrev pub joins : List ℕ → List ℕ → Bool
@@ -43,7 +43,7 @@ some_tokens x a word =
     rw (word, no_blank x word) (cond_both (goes_on a) (with_byte x (tokens a)) ((x ∷ []) ∷ tokens a) (λ ts. 1 ≤ length ts) (λ more. with_byte_some x (tokens a)) (λ last. omega arith))
 
 -- the tokens of two texts are those of the one and of the other, where no word goes on
-pub parted : (a b : List ℕ) → joins a b ≡ false → tokens (a ++ b) ≡ tokens a ++ tokens b
+parted : (a b : List ℕ) → joins a b ≡ false → tokens (a ++ b) ≡ tokens a ++ tokens b
 unfolding tokens
 parted [] b h = refl
 parted (x ∷ []) b h = last_by x (tokens b) (is_blank x) (in_word x) (goes_on b) h
@@ -66,7 +66,7 @@ joins_not (x ∷ []) b h = h
 joins_not (x ∷ y ∷ a) b h = joins_not (y ∷ a) b h
 
 -- the tokens of two texts with a blank between them
-pub over_blank : (a b : List ℕ) → tokens (a ++ 32 ∷ b) ≡ tokens a ++ tokens b
+over_blank : (a b : List ℕ) → tokens (a ++ 32 ∷ b) ≡ tokens a ++ tokens b
 unfolding tokens
 over_blank a b = parted a (32 ∷ b) (joins_not a (32 ∷ b) (and_right (in_word (ending a)) false refl))
 

@@ -2,7 +2,7 @@
 use Rattle.std.proofs.Common.{◌≡◌, ◌<◌, ℕ, suc, Bool, true, false, ◌==◌, List, [], ◌∷◌, length, take, drop, refl, ap, ◌∙◌, arith}
 use Rattle.std.specs.List.{prefix_len}
 use Rattle.script_text.specs.TextLines.{is_blank, with_byte, text_lines, line_len, counts, rest_counts}
-use Rattle.script_text.proofs.Splitting.{passes, fails}
+use Rattle.script_text.proofs.TokenLengths.{passes, fails}
 
 at_lf : (b : ℕ) (bs : List ℕ) → (b == 10) ≡ true → text_lines (b ∷ bs) ≡ take (line_len (b ∷ bs)) (b ∷ bs) ∷ text_lines (drop (line_len (b ∷ bs)) (b ∷ bs))
 unfolding text_lines

@@ -14,8 +14,8 @@ use Rattle.base_types.specs.declared.command.Command.TheVariants.{Begin, Commit,
 use Rattle.base_types.specs.declared.command.NewColumn.{NewColumn}
 use Rattle.script_text.specs.Tokens.{◌>>=◌, said, taken, after, is_end, ends, done}
 use Rattle.script_text.specs.Operands.{number_of, stat_of, if_none, plain_name_of, word_of, check_text_of, type_of}
-use Rattle.script_text.specs.Commands.{name_after, one_name, names_after, two_names, optional_field, shown_after, bare_command, savepoint_command, name_command, show_command, table_command, enable_command, disable_command, create_trigger_command, rename_index_command, pair_command, regclass_command, lock_mode, lock_command, add_column_command, rename_column_command, default_command, statistics_command, fillfactor_command, enclosed, enclosed_text, validity, check_part, check_command, referred_part, key_part, foreign_command, items_after, columns_at, enclosed_columns, create_table_command, names_at, enclosed_names, create_index_command, short_command, alter_command, long_command, command_of}
-use Rattle.script_text.proofs.Numbers.{few_digits, at_most}
+use Rattle.script_text.specs.Commands.{name_after, one_name, names_after, two_names, optional_field, shown_after, bare_command, savepoint_command, name_command, show_command, table_command, enable_command, disable_command, create_trigger_command, rename_index_command, pair_command, regclass_command, lock_mode, lock_command, add_column_command, rename_column_command, default_command, statistics_command, fillfactor_command, enclosed, enclosed_text, validity, check_part, check_command, referred_part, key_part, foreign_command, items_after, columns_at, enclosed_columns, create_table_command, names_at, enclosed_names, create_index_command, short_command, alter_command, long_command}
+use Rattle.script_text.proofs.DigitBounds.{few_digits, at_most}
 
 -- what holds of all that a reading gives
 record Gives {A : Type 0} (read : Option A) (P : A → Type 0) : Type 0 where
@@ -290,15 +290,7 @@ long_read : (ts : List (List ℕ)) → Gives (long_command ts) IsCommand
 unfolding long_command
 long_read ts = either (create_table_read ts) (create_index_read ts)
 
-command_read : (ts : List (List ℕ)) → Gives (command_of ts) IsCommand
-unfolding command_of
-command_read ts = either (short_read ts) (either (alter_read ts) (long_read ts))
-
--- what is read of tokens is a command that a script may hold
-pub is_command : (ts : List (List ℕ)) (c : Command) → command_of ts ≡ Some c → IsCommand c
-is_command ts c same = (command_read ts).each c same
-
--- the same of what the three groups of commands give
+-- what the three groups of commands give is a command that a script may hold
 pub short_made : (ts : List (List ℕ)) (c : Command) → short_command ts ≡ Some c → IsCommand c
 short_made ts c same = (short_read ts).each c same
 

@@ -42,12 +42,12 @@ word_by b bs true e word h = rw (passes in_word b bs word, word, no_blank b word
 word_by b bs false e word h = rw (passes in_word b bs word, word, no_blank b word, e, stopped bs e) refl
 
 -- a line that begins with a longer token
-pub word_first : (line : List ℕ) → goes_on line ≡ true → tokens line ≡ take (prefix_len in_word line) line ∷ tokens (drop (prefix_len in_word line) line)
+word_first : (line : List ℕ) → goes_on line ≡ true → tokens line ≡ take (prefix_len in_word line) line ∷ tokens (drop (prefix_len in_word line) line)
 word_first [] e = cc
 word_first (b ∷ bs) e = word_by b bs (goes_on bs) refl e (word_first bs)
 
 -- a line that begins with a mark
-pub mark_first : (b : ℕ) (bs : List ℕ) → is_blank b ≡ false → in_word b ≡ false → tokens (b ∷ bs) ≡ (b ∷ []) ∷ tokens bs
+mark_first : (b : ℕ) (bs : List ℕ) → is_blank b ≡ false → in_word b ≡ false → tokens (b ∷ bs) ≡ (b ∷ []) ∷ tokens bs
 unfolding tokens
 mark_first b bs blank word = rw (word, blank) refl
 
