@@ -5,6 +5,7 @@ pub mod DigitBounds
 pub mod DraftLimits
 pub mod LineByLine
 pub mod LineLengths
+pub mod Finding
 pub mod StepItems
 pub mod QueueSizes
 pub mod ItemByItem

@@ -10,11 +10,11 @@ use Rattle.std.proofs.Math.Nat.{pow-le-pow_right}
 use Rattle.base_types.specs.Names.{IsName, IsWord, IsText, is_digit, number_of_digits, is_word_byte, is_text_byte, name_fault, short_fault}
 use Rattle.base_types.specs.Commands.{IsCommand, IsShortNumber, IsNonEmpty}
 use Rattle.base_types.specs.declared.command.Command.{Command}
-use Rattle.base_types.specs.declared.command.Command.TheVariants.{Begin, Commit, Rollback, Savepoint, Release, RollbackTo, Show, Columns, Column, Peek, OpenRel, CloseRel, DropTable, DropIndex, RenameTable, DropColumn, ValidateConstraint, DropConstraint}
+use Rattle.base_types.specs.declared.command.Command.TheVariants.{Begin, Commit, Rollback, Savepoint, Release, RollbackTo, Show, Columns, Column, Peek, OpenRel, CloseRel, DropTable, DropIndex, RenameTable, DropColumn, ValidateConstraint, DropConstraint, SetTrigger, CreateTrigger, RenameIndex}
 use Rattle.base_types.specs.declared.command.NewColumn.{NewColumn}
 use Rattle.script_text.specs.Tokens.{◌>>=◌, said, taken, after, is_end, ends, done}
 use Rattle.script_text.specs.Operands.{number_of, stat_of, if_none, plain_name_of, word_of, check_text_of, type_of}
-use Rattle.script_text.specs.Commands.{name_after, one_name, names_after, two_names, optional_field, shown_after, bare_command, savepoint_command, name_command, show_command, table_command, enable_command, disable_command, create_trigger_command, rename_index_command, pair_command, regclass_command, lock_mode, lock_command, add_column_command, rename_column_command, default_command, statistics_command, fillfactor_command, enclosed, enclosed_text, validity, check_part, check_command, referred_part, key_part, foreign_command, items_after, columns_at, enclosed_columns, create_table_command, names_at, enclosed_names, create_index_command, short_command, alter_command, long_command}
+use Rattle.script_text.specs.Commands.{name_after, one_name, names_after, two_names, optional_field, shown_after, bare_command, savepoint_command, name_command, show_command, table_command, pair_command, regclass_command, lock_mode, lock_command, add_column_command, rename_column_command, default_command, statistics_command, fillfactor_command, enclosed, enclosed_text, validity, check_part, check_command, referred_part, key_part, foreign_command, items_after, columns_at, enclosed_columns, create_table_command, names_at, enclosed_names, create_index_command, short_command, alter_command, long_command}
 use Rattle.script_text.proofs.DigitBounds.{few_digits, at_most}
 
 -- what holds of all that a reading gives
@@ -183,12 +183,12 @@ table_read ts =
     (of_two (codes "alter table") (codes "drop constraint") (λ n. DropConstraint n.0 n.1) ts (λ n h. h)))))
 
 pair_read : (ts : List (List ℕ)) → Gives (pair_command ts) IsCommand
-unfolding pair_command enable_command disable_command create_trigger_command rename_index_command
+unfolding pair_command
 pair_read ts =
-    either (then_from (two_read (codes "alter table") (codes "enable trigger") ts) (λ n h. given _ IsCommand h))
-    (either (then_from (two_read (codes "alter table") (codes "disable trigger") ts) (λ n h. given _ IsCommand h))
-    (either (then_from (two_read (codes "create trigger") (codes "on") ts) (λ n h. given _ IsCommand (h.1, h.0)))
-    (then_from (two_read (codes "alter index") (codes "rename to") ts) (λ n h. given _ IsCommand h))))
+    either (of_two (codes "alter table") (codes "enable trigger") (λ n. SetTrigger n.0 n.1 true) ts (λ n h. h))
+    (either (of_two (codes "alter table") (codes "disable trigger") (λ n. SetTrigger n.0 n.1 false) ts (λ n h. h))
+    (either (of_two (codes "create trigger") (codes "on") (λ n. CreateTrigger n.1 n.0) ts (λ n h. (h.1, h.0)))
+    (of_two (codes "alter index") (codes "rename to") (λ n. RenameIndex n.0 n.1) ts (λ n h. h))))
 
 regclass_read : (ts : List (List ℕ)) → Gives (regclass_command ts) IsCommand
 unfolding regclass_command

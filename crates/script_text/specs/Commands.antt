@@ -83,36 +83,12 @@ table_command ts = option_or (option_map (λ n. Column n.0 n.1) (two_names (code
     (option_or (option_map (λ n. ValidateConstraint n.0 n.1) (two_names (codes "alter table") (codes "validate constraint") ts))
     (option_map (λ n. DropConstraint n.0 n.1) (two_names (codes "alter table") (codes "drop constraint") ts)))))
 
--- alter table NAME enable trigger NAME
-unfoldable pub enable_command : List (List ℕ) → Option Command
-enable_command ts = do
-  names ← two_names (codes "alter table") (codes "enable trigger") ts
-  Some (SetTrigger names.0 names.1 true)
-
--- alter table NAME disable trigger NAME
-unfoldable pub disable_command : List (List ℕ) → Option Command
-disable_command ts = do
-  names ← two_names (codes "alter table") (codes "disable trigger") ts
-  Some (SetTrigger names.0 names.1 false)
-
--- create trigger NAME on NAME
-unfoldable pub create_trigger_command : List (List ℕ) → Option Command
-create_trigger_command ts = do
-  names ← two_names (codes "create trigger") (codes "on") ts
-  Some (CreateTrigger names.1 names.0)
-
--- alter index NAME rename to NAME
-unfoldable pub rename_index_command : List (List ℕ) → Option Command
-rename_index_command ts = do
-  names ← two_names (codes "alter index") (codes "rename to") ts
-  Some (RenameIndex names.0 names.1)
-
 -- commands of triggers and the renaming of an index
 unfoldable pub pair_command : List (List ℕ) → Option Command
-pair_command ts = option_or (enable_command ts)
-    (option_or (disable_command ts)
-    (option_or (create_trigger_command ts)
-    (rename_index_command ts)))
+pair_command ts = option_or (option_map (λ n. SetTrigger n.0 n.1 true) (two_names (codes "alter table") (codes "enable trigger") ts))
+    (option_or (option_map (λ n. SetTrigger n.0 n.1 false) (two_names (codes "alter table") (codes "disable trigger") ts))
+    (option_or (option_map (λ n. CreateTrigger n.1 n.0) (two_names (codes "create trigger") (codes "on") ts))
+    (option_map (λ n. RenameIndex n.0 n.1) (two_names (codes "alter index") (codes "rename to") ts))))
 
 -- regclass OID
 unfoldable pub regclass_command : List (List ℕ) → Option Command

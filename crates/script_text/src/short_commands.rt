@@ -1,6 +1,6 @@
 ghost use Rattle.std.specs.Prelude.{◌≡◌, Option, List, ℕ};
 ghost use Rattle.script_text.specs.Tokens.{tokens};
-ghost use Rattle.script_text.specs.Commands.{one_name as one_name_of, two_names as two_names_of, bare_command, savepoint_command, name_command, optional_field as field_of_show, shown_after, show_command, table_command, enable_command, disable_command, create_trigger_command, rename_index_command, pair_command, regclass_command, lock_mode as mode_of_lock, lock_command, short_command};
+ghost use Rattle.script_text.specs.Commands.{one_name as one_name_of, two_names as two_names_of, bare_command, savepoint_command, name_command, optional_field as field_of_show, shown_after, show_command, table_command, pair_command, regclass_command, lock_mode as mode_of_lock, lock_command, short_command};
 
 use crate::operands;
 use crate::tokens::Tokens;
@@ -176,58 +176,23 @@ fn two_names(line: &[u8], words: &str, further: &str) -> Option<(Name, Name)>
 fn pair(line: &[u8]) -> Option<Command>
     ensures { result ≡ pair_command (tokens line.now) }
 {
-    if let Some(command) = enable_trigger(line) {
-        return Some(command);
+    if let Some((name, trigger)) = two_names(line, "alter table", "enable trigger") {
+        return Some(Command::SetTrigger {
+            name,
+            trigger,
+            on: true,
+        });
     }
-    if let Some(command) = disable_trigger(line) {
-        return Some(command);
+    if let Some((name, trigger)) = two_names(line, "alter table", "disable trigger") {
+        return Some(Command::SetTrigger {
+            name,
+            trigger,
+            on: false,
+        });
     }
-    if let Some(command) = create_trigger(line) {
-        return Some(command);
+    if let Some((trigger, name)) = two_names(line, "create trigger", "on") {
+        return Some(Command::CreateTrigger { name, trigger });
     }
-    rename_index(line)
-}
-
-// alter table NAME enable trigger NAME
-#[tactic(auto, unfolding(crate::specs::Commands::enable_command))]
-fn enable_trigger(line: &[u8]) -> Option<Command>
-    ensures { result ≡ enable_command (tokens line.now) }
-{
-    let (name, trigger) = two_names(line, "alter table", "enable trigger")?;
-    Some(Command::SetTrigger {
-        name,
-        trigger,
-        on: true,
-    })
-}
-
-// alter table NAME disable trigger NAME
-#[tactic(auto, unfolding(crate::specs::Commands::disable_command))]
-fn disable_trigger(line: &[u8]) -> Option<Command>
-    ensures { result ≡ disable_command (tokens line.now) }
-{
-    let (name, trigger) = two_names(line, "alter table", "disable trigger")?;
-    Some(Command::SetTrigger {
-        name,
-        trigger,
-        on: false,
-    })
-}
-
-// create trigger NAME on NAME
-#[tactic(auto, unfolding(crate::specs::Commands::create_trigger_command))]
-fn create_trigger(line: &[u8]) -> Option<Command>
-    ensures { result ≡ create_trigger_command (tokens line.now) }
-{
-    let (trigger, name) = two_names(line, "create trigger", "on")?;
-    Some(Command::CreateTrigger { name, trigger })
-}
-
-// alter index NAME rename to NAME
-#[tactic(auto, unfolding(crate::specs::Commands::rename_index_command))]
-fn rename_index(line: &[u8]) -> Option<Command>
-    ensures { result ≡ rename_index_command (tokens line.now) }
-{
     let (name, to) = two_names(line, "alter index", "rename to")?;
     Some(Command::RenameIndex { name, to })
 }
@@ -258,11 +223,14 @@ fn lock(line: &[u8]) -> Option<Command>
 }
 
 // A lock mode by its words, and the end.
-#[tactic(auto, unfolding(crate::specs::Commands::lock_mode))]
+#[tactic(auto, using(crate::proofs::Finding::finds, crate::proofs::Finding::finds_later, crate::proofs::Finding::finds_none), unfolding(crate::specs::Commands::lock_mode))]
 fn lock_mode(tokens: &Tokens) -> Option<Mode>
     ensures { result ≡ mode_of_lock tokens.now }
 {
-    Mode::ALL
-        .into_iter()
-        .find(|mode| tokens.ends(operands::lock_words(*mode)))
+    for mode in Mode::ALL {
+        if tokens.ends(operands::lock_words(mode)) {
+            return Some(mode);
+        }
+    }
+    None
 }
