@@ -5,7 +5,7 @@ use script_text::ScriptCause;
 use thiserror::Error;
 
 /// How a call of the program ended. Its text is the one that the program prints.
-#[derive(Clone, Copy, Debug, PartialEq, Eq, Error)]
+#[derive(Clone, Copy, Debug, Error)]
 pub enum Status {
     /// All was written, and the input was read to its end.
     #[error("done")]
