@@ -15,6 +15,18 @@ impl ColType {
     ghost use Rattle.std.specs.Prelude.{◌≡◌, ◌≤◌, length};
     ghost use Rattle.base_types.specs.Words.{type_word};
 
+    /// All types.
+    pub const ALL: [ColType; 8] = [
+        ColType::Bool,
+        ColType::Int2,
+        ColType::Int4,
+        ColType::Int8,
+        ColType::Text,
+        ColType::Bytea,
+        ColType::Date,
+        ColType::Timestamptz,
+    ];
+
     /// The name of the type.
     pub fn word(self) -> &'static [u8]
         ensures text { result.now ≡ type_word self }

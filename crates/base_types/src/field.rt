@@ -18,6 +18,21 @@ impl Field {
     ghost use Rattle.std.specs.Prelude.{◌≡◌, ◌≤◌, length};
     ghost use Rattle.base_types.specs.Words.{field_word};
 
+    /// All fields.
+    pub const ALL: [Field; 11] = [
+        Field::Name,
+        Field::Columns,
+        Field::Defaults,
+        Field::Statistics,
+        Field::Fillfactor,
+        Field::Constraints,
+        Field::Referenced,
+        Field::Indexes,
+        Field::Triggers,
+        Field::Of,
+        Field::Valid,
+    ];
+
     /// The name of the field.
     pub fn word(self) -> &'static [u8]
         ensures text { result.now ≡ field_word self }

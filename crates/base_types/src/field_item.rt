@@ -4,8 +4,8 @@ ghost use Rattle.base_types.specs.Words.{fill_text, nums_text, state_word, type_
 ghost use Rattle.base_types.specs.Fields.{item_of as item_in, constraint_text, referring_item as item_from};
 
 use crate::{
-    ColType, ConKind, Field, IndexState, LineBuffer, Name, Nums, Oid, Row, Text, Word, on_word,
-    valid_word,
+    ColType, ConKind, Field, IndexState, LINE_ROOM, LineBuffer, Name, Nums, Oid, Row, Text, Word,
+    on_word, valid_word,
 };
 
 /// What a row adds to a field of the relation.
@@ -111,10 +111,7 @@ fn fill_item(fill: Option<u32>) -> LineBuffer
     ensures { result ≡ fill_text fill }
 {
     let mut line = LineBuffer::new();
-    match fill {
-        Some(fill) => line.push_number(fill),
-        None => line.push(b"-"),
-    }
+    push_fill(&mut line, fill);
     line
 }
 
@@ -203,9 +200,21 @@ fn state_item(state: IndexState) -> LineBuffer
     line
 }
 
+/// Adds a fillfactor, or a dash where none is set. Condition: there is room for ten bytes.
+pub fn push_fill(line: &mut LineBuffer, fill: Option<u32>)
+    requires { length line.old + 10 ≤ LINE_ROOM }
+    ensures text { line.new ≡ line.old ++ fill_text fill }
+    ensures short { length line.new ≤ length line.old + 10 }
+{
+    match fill {
+        Some(fill) => line.push_number(fill),
+        None => line.push(b"-"),
+    }
+}
+
 /// Adds column numbers joined by `+`. Condition: there is room for 32 of them.
 pub fn push_nums(line: &mut LineBuffer, nums: &Nums)
-    requires { length line.old + 352 ≤ 512 }
+    requires { length line.old + 352 ≤ LINE_ROOM }
     ensures text { line.new ≡ line.old ++ nums_text nums.now }
     ensures short { length line.new ≤ length line.old + 352 }
 {
@@ -220,7 +229,7 @@ pub fn push_nums(line: &mut LineBuffer, nums: &Nums)
 
 // Adds one more column number.
 fn push_next(line: &mut LineBuffer, num: u32)
-    requires { length line.old + 11 ≤ 512 }
+    requires { length line.old + 11 ≤ LINE_ROOM }
     ensures text { line.new ≡ line.old ++ (codes "+" ++ decimal num) }
     ensures short { length line.new ≤ length line.old + 11 }
 {

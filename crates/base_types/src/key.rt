@@ -1,6 +1,6 @@
 ghost use Rattle.std.specs.Prelude.{◌≡◌, ◌≤◌, length};
 ghost use Rattle.base_types.specs.Padded.{filled as with_filler};
-ghost use Rattle.base_types.specs.Parts.{no_part as filler};
+ghost use Rattle.base_types.specs.CacheKeys.{no_part as filler};
 
 use crate::{Name, Oid};
 use std::marker::Model;
@@ -14,7 +14,7 @@ pub enum CacheId {
 }
 
 impl CacheId {
-    ghost use Rattle.base_types.specs.Hashes.{cache_number};
+    ghost use Rattle.base_types.specs.CacheKeys.{cache_number};
 
     /// The number of the cache, 1 to 3.
     pub fn number(self) -> u32
@@ -46,7 +46,7 @@ impl Model for Key {
     ghost use Rattle.std.specs.Prelude.{List, ℕ, length, take};
     ghost use Rattle.base_types.specs.Padded.{IsFilled, filled, filled_again};
     ghost use Rattle.base_types.specs.declared.key.KeyPart.{KeyPart};
-    ghost use Rattle.base_types.specs.Parts.{no_part};
+    ghost use Rattle.base_types.specs.CacheKeys.{no_part};
 
     ghost Value = { List KeyPart };
 

@@ -1,5 +1,5 @@
 ghost use Rattle.std.specs.Prelude.{◌≡◌};
-ghost use Rattle.base_types.specs.Hashes.{part_bytes, hash_byte as hash_after, hash_bytes as hash_after_all, key_hash as hash_of};
+ghost use Rattle.base_types.specs.CacheKeys.{part_bytes, hash_byte as hash_after, hash_bytes as hash_after_all, key_hash as hash_of};
 
 use crate::{CacheId, Key, KeyPart};
 

@@ -23,10 +23,14 @@
 //! server; [`Name::dropped`] makes it and [`Name::new_or_dropped`] reads it.
 #![tactic(auto)]
 
+mod adding;
 mod catalog;
+mod change;
 mod col_type;
 mod command;
+mod digits;
 mod dropped;
+mod fetched;
 mod field;
 mod field_item;
 mod field_rows;
@@ -50,15 +54,20 @@ mod row;
 mod row_key;
 mod scan;
 mod scan_rows;
+mod scanned;
 mod short_text;
 mod words;
 
+pub use adding::{add_text, whole_or_nothing};
 pub use catalog::Catalog;
+pub use change::Change;
 pub use col_type::ColType;
 pub use command::{Command, NewColumn, Placed, Turns};
+pub use digits::{is_digit, number_up_to};
 pub use dropped::MOST_COLUMNS;
+pub use fetched::Fetched;
 pub use field::Field;
-pub use field_item::{item_of, push_nums};
+pub use field_item::{item_of, push_fill, push_nums};
 pub use field_rows::field_text;
 pub use fields::{fields_of, has_field, read_by};
 pub use ids::{FIRST_OID, Oid, Xid};
@@ -78,9 +87,7 @@ pub use nums::{MOST_INDEX_COLUMNS, Nums};
 pub use row::{ConKind, Row};
 pub use row_key::RowKey;
 pub use scan::Purpose;
-pub use scan_rows::{goes_before, put_in_order, selects};
+pub use scan_rows::{goes_before, put_in_order, same_scan, selects, table_scans};
+pub use scanned::Scanned;
 pub use short_text::{LONGEST_TEXT, ShortText};
 pub use words::{live_word, on_word, valid_word};
-
-#[cfg(test)]
-mod tests;

@@ -24,7 +24,7 @@ pub fn writers(kind: Kind, field: Field) -> ModeSet
 }
 
 // Whether the mode is one of these.
-pub fn is_among(mode: Mode, modes: &[Mode]) -> bool
+pub(crate) fn is_among(mode: Mode, modes: &[Mode]) -> bool
     ensures { result ≡ list_any (same_mode mode) modes.now }
 {
     modes.iter().any(|other| mode.number() == other.number())

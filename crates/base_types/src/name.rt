@@ -1,6 +1,6 @@
 use crate::dropped::dropped_number;
 use crate::name_bytes::{name_fault, text_fault, word_fault};
-use crate::{LineBuffer, NameFault, ShortText};
+use crate::{LONGEST_TEXT, LineBuffer, MOST_COLUMNS, NameFault, ShortText};
 use std::marker::Model;
 
 /// A name of SQL, folded to small letters: 1 to 63 bytes, or the name that a dropped column has.
@@ -11,10 +11,13 @@ pub struct Name {
 
 impl Model for Name {
     ghost use Rattle.std.specs.Prelude.{List, ℕ};
+    ghost use Rattle.base_types.specs.Names.{IsAnyName};
 
     ghost Value = { List ℕ };
 
     ghost view = { λ n. n.text };
+
+    ghost invariant = { λ n. IsAnyName n.text };
 
     ghost inverse = { λ bytes. record { text = bytes } };
 }
@@ -42,7 +45,7 @@ impl Name {
     /// `src/backend/catalog/heap.c`). Condition: 1 to 1,600.
     pub fn dropped(num: u32) -> Name
         requires some { 0 < num }
-        requires most { num ≤ 1600 }
+        requires most { num ≤ MOST_COLUMNS }
         ensures { result ≡ dropped_name num }
     {
         let mut line = LineBuffer::new();
@@ -69,7 +72,8 @@ impl Name {
     /// The bytes of the name, at most 63.
     pub fn as_bytes(&self) -> &[u8]
         ensures text { result.now ≡ self.now }
-        ensures short { length self.now ≤ 63 }
+        ensures spelled { IsAnyName self.now }
+        ensures short { length self.now ≤ LONGEST_TEXT }
     {
         self.text.as_bytes()
     }
@@ -83,10 +87,13 @@ pub struct Word {
 
 impl Model for Word {
     ghost use Rattle.std.specs.Prelude.{List, ℕ};
+    ghost use Rattle.base_types.specs.Names.{IsWord};
 
     ghost Value = { List ℕ };
 
     ghost view = { λ t. t.text };
+
+    ghost invariant = { λ t. IsWord t.text };
 
     ghost inverse = { λ bytes. record { text = bytes } };
 }
@@ -112,7 +119,8 @@ impl Word {
     /// The bytes of the word, at most 63.
     pub fn as_bytes(&self) -> &[u8]
         ensures text { result.now ≡ self.now }
-        ensures short { length self.now ≤ 63 }
+        ensures spelled { IsWord self.now }
+        ensures short { length self.now ≤ LONGEST_TEXT }
     {
         self.text.as_bytes()
     }
@@ -126,10 +134,13 @@ pub struct Text {
 
 impl Model for Text {
     ghost use Rattle.std.specs.Prelude.{List, ℕ};
+    ghost use Rattle.base_types.specs.Names.{IsText};
 
     ghost Value = { List ℕ };
 
     ghost view = { λ t. t.text };
+
+    ghost invariant = { λ t. IsText t.text };
 
     ghost inverse = { λ bytes. record { text = bytes } };
 }
@@ -155,7 +166,8 @@ impl Text {
     /// The bytes of the text, at most 63.
     pub fn as_bytes(&self) -> &[u8]
         ensures text { result.now ≡ self.now }
-        ensures short { length self.now ≤ 63 }
+        ensures spelled { IsText self.now }
+        ensures short { length self.now ≤ LONGEST_TEXT }
     {
         self.text.as_bytes()
     }

@@ -1,7 +1,7 @@
 ghost use Rattle.std.specs.Prelude.{◌≡◌, ◌<◌, IfSome, length};
-ghost use Rattle.base_types.specs.Names.{is_digit as digit, is_name_byte as byte_of_name, is_word_byte as byte_of_word, is_text_byte as byte_of_text, bad_byte as fault_at, name_fault as fault_of_name, short_fault, first_refused};
+ghost use Rattle.base_types.specs.Names.{is_name_byte as byte_of_name, is_word_byte as byte_of_word, is_text_byte as byte_of_text, bad_byte as fault_at, name_fault as fault_of_name, short_fault, first_refused};
 
-use crate::NameFault;
+use crate::{NameFault, is_digit};
 
 // The first fault of a name.
 pub fn name_fault(text: &[u8]) -> Option<NameFault>
@@ -76,12 +76,6 @@ fn bad_byte(at: Option<usize>) -> Option<NameFault>
 {
     let at = at? as u32;
     Some(NameFault::BadByte { at })
-}
-
-fn is_digit(byte: u8) -> bool
-    ensures { result ≡ digit byte }
-{
-    byte.is_ascii_digit()
 }
 
 fn is_name_byte(byte: u8) -> bool

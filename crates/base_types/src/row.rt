@@ -59,8 +59,8 @@ pub enum Row {
 
 impl Row {
     ghost use Rattle.std.specs.Prelude.{◌≡◌};
-    ghost use Rattle.base_types.specs.Rows.{catalog_of};
-    ghost use Rattle.base_types.specs.Keys.{key_of};
+    ghost use Rattle.base_types.specs.RowKeys.{catalog_of};
+    ghost use Rattle.base_types.specs.RowKeys.{key_of};
 
     /// The catalog of the row.
     pub fn catalog(&self) -> Catalog

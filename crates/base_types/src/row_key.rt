@@ -13,7 +13,7 @@ pub enum RowKey {
 
 impl RowKey {
     ghost use Rattle.std.specs.Prelude.{◌≡◌};
-    ghost use Rattle.base_types.specs.Keys.{same_key};
+    ghost use Rattle.base_types.specs.RowKeys.{same_key};
 
     /// Whether two keys are one.
     pub fn is(&self, other: &RowKey) -> bool

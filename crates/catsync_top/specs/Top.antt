@@ -3,7 +3,7 @@ use Rattle.std.specs.Prelude.{◌≡◌, ◌≤◌, ◌<◌, ◌+◌, ⊤, ℕ, 
 use Rattle.std.specs.Io.KnownBytes.{Consumes, IsAtEnd}
 use Rattle.edge_io.specs.Causes.{Rose}
 use Rattle.edge_io.specs.declared.reading.TheConstants.{PIECE}
-use Rattle.script_text.specs.Built.{is_built}
+use Rattle.walk_run.specs.Built.{is_built}
 use Rattle.script_text.specs.Grammar.{Reading, script_of}
 use Rattle.script_text.specs.declared.fault.Rest.TheVariants.{Refused}
 use Rattle.script_text.specs.declared.fault.ScriptCause.{ScriptCause}

@@ -8,9 +8,9 @@ use crate::Status;
 use base_types::NoMemory;
 use edge_io::{Gate, ReadRefusal, Sink, Source, read_all};
 use out_text::put_output;
-use script_text::{Rest, ScriptFault, ScriptRead, is_built, read_script};
+use script_text::{Rest, ScriptFault, ScriptRead, read_script};
 use std::alloc::Global;
-use walk_run::walk;
+use walk_run::{is_built, walk};
 
 /// The most bytes of a script.
 pub const MOST_INPUT: usize = 1_048_576;

@@ -1,5 +1,5 @@
 ghost use Rattle.std.specs.Prelude.{◌≡◌, ◌++◌, OnOk, OnErr};
-ghost use Rattle.event_kinds.specs.Adding.{Adds};
+ghost use Rattle.base_types.specs.Adding.{Adds};
 ghost use Rattle.event_kinds.specs.Texts.{changes_text, entry_text};
 
 use crate::event_text::{changes_in, push_entry_head, push_item};

@@ -1,6 +1,6 @@
 ghost use Rattle.std.specs.Prelude.{◌≡◌, ◌++◌, ◌∷◌, codes, decimal, OnOk, OnErr};
 ghost use Rattle.std.specs.List.{flat_map};
-ghost use Rattle.event_kinds.specs.Adding.{Adds};
+ghost use Rattle.base_types.specs.Adding.{Adds};
 ghost use Rattle.rel_desc.specs.Answers.{answer_text as text_of_answer, relation_word, shown_text, shown_list, column_text, columns_text, as_of_text};
 
 use crate::answer_line::{push_as_of, push_column, push_error, push_regclass, push_relation};

@@ -4,15 +4,15 @@ use Rattle.std.specs.List.{AllByRecursion}
 use Rattle.base_types.specs.declared.command.Placed.{Placed}
 use Rattle.base_types.specs.declared.command.Turns.{Turns}
 use Rattle.base_types.specs.Scenario.{Scenario, IsBackend, AreTurns}
-use Rattle.script_text.specs.Grammar.{blank}
+use Rattle.script_text.specs.Grammar.{empty_draft}
 use Rattle.script_text.specs.Drafts.{IsDraft, IsCounted}
 
 pub each_weaker : {X : Type 0} (P Q : X → Type 0) (xs : List X) → ((x : X) → P x → Q x) → AllByRecursion P xs → AllByRecursion Q xs
 each_weaker P Q [] f h = tt
 each_weaker P Q (x ∷ xs) f h = (f x h.0, each_weaker P Q xs f h.1)
 
-pub blank_kept : IsDraft blank.asked
-blank_kept = record {
+pub empty_kept : IsDraft empty_draft.asked
+empty_kept = record {
   size = record { power = 12; is = refl; least = omega arith; most = omega arith };
   from = omega arith;
   backends = omega arith;
@@ -23,8 +23,8 @@ blank_kept = record {
   steps = omega arith;
 }
 
-pub blank_counted : IsCounted 0 []
-blank_counted = record { is = refl; most = omega arith }
+pub empty_counted : IsCounted 0 []
+empty_counted = record { is = refl; most = omega arith }
 
 -- a number of backends may come where none is known yet
 pub backends_kept : (asked : Scenario) (n : ℕ) → asked.backends ≡ 0 → n ≤ 64 → IsDraft asked → IsDraft (record asked { backends = n })

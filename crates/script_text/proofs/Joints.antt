@@ -3,9 +3,9 @@ use Rattle.std.proofs.Common.{◌≡◌, ◌≤◌, ◌-◌, ℕ, suc, Bool, tru
 use Rattle.std.specs.List.{AllByRecursion, flat_map}
 use Rattle.std.proofs.lemmas.Bool.{and_cases, and_left, and_right, not-false, cond_both}
 use Rattle.std.proofs.lemmas.Bool.Decides.{nat_tests}
-use Rattle.script_text.specs.Lines.{is_blank, with_byte}
+use Rattle.script_text.specs.TextLines.{is_blank, with_byte}
 use Rattle.script_text.specs.Tokens.{tokens, in_word, goes_on}
-use Rattle.script_text.specs.Spelling.{takes_none_behind, takes_none_before, needs_blank, with_piece, with_pieces}
+use Rattle.script_text.specs.Spelling.{takes_none_after, takes_none_before, needs_blank, with_piece, with_pieces}
 use Rattle.script_text.proofs.Clean.{is_clean, IsClean, IsPiece}
 use Rattle.script_text.proofs.Splitting.{no_blank}
 
@@ -75,16 +75,16 @@ clean_ending [] some h = absurd (omega arith)
 clean_ending (x ∷ []) some h = h.0
 clean_ending (x ∷ y ∷ a) some h = clean_ending (y ∷ a) (omega arith) h.1
 
-behind_mark : (b : ℕ) → is_clean b ≡ true → takes_none_behind b ≡ true → in_word b ≡ false
+behind_mark : (b : ℕ) → is_clean b ≡ true → takes_none_after b ≡ true → in_word b ≡ false
 behind_mark b clean mark = grind (arith, nat_tests)
 
 before_mark : (b : ℕ) → is_clean b ≡ true → takes_none_before b ≡ true → in_word b ≡ false
 before_mark b clean mark = grind (arith, nat_tests)
 
 -- where no blank stands between clean bytes, no word goes on
-apart : (a b : ℕ) → is_clean a ≡ true → is_clean b ≡ true → not (takes_none_behind a) && not (takes_none_before b) ≡ false → in_word a && in_word b ≡ false
-apart a b clean_a clean_b h = elim (and_cases (not (takes_none_behind a)) (not (takes_none_before b)) h) [
-  | inl mark ↦ and_left (in_word a) (in_word b) (behind_mark a clean_a (not-false (takes_none_behind a) mark))
+apart : (a b : ℕ) → is_clean a ≡ true → is_clean b ≡ true → not (takes_none_after a) && not (takes_none_before b) ≡ false → in_word a && in_word b ≡ false
+apart a b clean_a clean_b h = elim (and_cases (not (takes_none_after a)) (not (takes_none_before b)) h) [
+  | inl mark ↦ and_left (in_word a) (in_word b) (behind_mark a clean_a (not-false (takes_none_after a) mark))
   | inr mark ↦ and_right (in_word a) (in_word b) (before_mark b clean_b (not-false (takes_none_before b) mark))
 ]
 
@@ -93,7 +93,7 @@ unfolding with_piece
 piece_by text piece true e some clean h = rw e (ap tokens (append_assoc text (32 ∷ []) piece) ∙ over_blank text piece)
 piece_by text [] false e some clean h = absurd (omega (arith, h.0))
 piece_by text (y ∷ ys) false e some clean h =
-    let none : not (takes_none_behind (ending text)) && not (takes_none_before y) ≡ false = rw (ending_is text) at e in
+    let none : not (takes_none_after (ending text)) && not (takes_none_before y) ≡ false = rw (ending_is text) at e in
     rw e (parted text (y ∷ ys) (joins_not text (y ∷ ys) (apart (ending text) y (clean_ending text some clean) h.1.0 none)))
 
 -- the tokens of a text with a piece behind it

@@ -1,4 +1,5 @@
-mod Rows
+mod WorkedScripts
+pub mod OnLiterals
 pub mod Splitting
 pub mod Numbers
 pub mod Drafting
@@ -8,7 +9,6 @@ pub mod Turning
 pub mod Bounds
 pub mod Listing
 pub mod Made
-pub mod Distinct
 pub mod Clean
 pub mod TokenLaws
 pub mod Joints

@@ -5,7 +5,7 @@ use Rattle.std.specs.Str.{bytes_eq}
 use Rattle.std.proofs.lemmas.List.{append-nil}
 use Rattle.std.proofs.lemmas.Bool.Decides.{nat_tests}
 use Rattle.script_text.specs.Tokens.{◌>>=◌}
-use Rattle.script_text.specs.Operands.{text_of}
+use Rattle.script_text.specs.Operands.{check_text_of}
 use Rattle.script_text.specs.Commands.{enclosed, enclosed_text}
 
 -- the items so far, and those that are read yet
@@ -34,7 +34,7 @@ text_ends front t ts whole closing so_far =
 
 -- what is read of a text
 abbrev pub as_text : Option (List ℕ × List (List ℕ)) → Option (List ℕ × List (List ℕ))
-as_text read = read >>= λ inside. text_of inside.0 >>= λ text. Some (text, inside.1)
+as_text read = read >>= λ inside. check_text_of inside.0 >>= λ text. Some (text, inside.1)
 
 pub as_text_is : (ts : List (List ℕ)) → enclosed_text ts ≡ as_text (enclosed ts)
 unfolding enclosed_text
@@ -43,20 +43,20 @@ as_text_is ts = refl
 is_long : (n : ℕ) → 63 < n → ((n == 0) ≡ false) × (nat_lt 63 n ≡ true)
 is_long n lt = (grind (arith, nat_tests), grind (arith, nat_tests))
 
-long_text : (text : List ℕ) → 63 < length text → text_of text ≡ None
-unfolding text_of
+long_text : (text : List ℕ) → 63 < length text → check_text_of text ≡ None
+unfolding check_text_of
 long_text text lt = let h = is_long (length text) lt in rw (h.0, h.1) refl
 
-too_long_behind : (front : List ℕ) (read : Option (List ℕ × List (List ℕ))) → 63 < length front → as_text (with_text front read) ≡ None
-too_long_behind front None lt = refl
-too_long_behind front (Some x) lt =
+too_long_after : (front : List ℕ) (read : Option (List ℕ × List (List ℕ))) → 63 < length front → as_text (with_text front read) ≡ None
+too_long_after front None lt = refl
+too_long_after front (Some x) lt =
     let long : 63 < length (front ++ x.0) = simp length-append (omega arith) in
     rw (long_text (front ++ x.0) long) refl
 
 pub too_long : (front t : List ℕ) (ts : List (List ℕ)) (whole : Option (List ℕ × List (List ℕ))) → bytes_eq t (codes ")") ≡ false → 63 < length front + length t → with_text front (enclosed (t ∷ ts)) ≡ whole → as_text whole ≡ None
 too_long front t ts whole other lt so_far =
     let long : 63 < length (front ++ t) = simp length-append (omega arith) in
-    ap as_text (sym (text_more front t ts whole other so_far)) ∙ too_long_behind (front ++ t) (enclosed ts) long
+    ap as_text (sym (text_more front t ts whole other so_far)) ∙ too_long_after (front ++ t) (enclosed ts) long
 
 pub unclosed : (front : List ℕ) (ts : List (List ℕ)) (whole : Option (List ℕ × List (List ℕ))) → ts ≡ [] → with_text front (enclosed ts) ≡ whole → as_text whole ≡ None
 unfolding enclosed
@@ -64,7 +64,7 @@ unclosed front ts whole none so_far =
     let step : with_text front (enclosed ts) ≡ None = rw none refl in
     ap as_text (sym so_far ∙ step)
 
-pub closed_text : (whole : Option (List ℕ × List (List ℕ))) (front : List ℕ) (rest : List (List ℕ)) (found : Option (List ℕ)) → whole ≡ Some (front, rest) → found ≡ text_of front
+pub closed_text : (whole : Option (List ℕ × List (List ℕ))) (front : List ℕ) (rest : List (List ℕ)) (found : Option (List ℕ)) → whole ≡ Some (front, rest) → found ≡ check_text_of front
     → MatchOption found (as_text whole ≡ None) (λ x. as_text whole ≡ Some (x, rest))
 closed_text whole front rest None e f = rw (e, sym f) refl
 closed_text whole front rest (Some x) e f = rw (e, sym f) refl

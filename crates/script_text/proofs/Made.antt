@@ -1,21 +1,21 @@
 -- What is read of tokens is a command that a script may hold.
-use Rattle.std.proofs.Common.{◌≡◌, ◌≤◌, ◌<◌, ◌^◌, ◌+◌, ◌*◌, ◌-◌, ℕ, pos, neg_ℤ, nat_abs, zero, suc, Bool, true, false, cond, ◌==◌, Option, Some, None, List, [], ◌∷◌, length, codes, nat_lt, Result, Ok, Err, refl, sym, subst, arith}
-use Rattle.std.specs.List.{AllByRecursion}
+use Rattle.std.proofs.Common.{◌≡◌, ◌≤◌, ◌<◌, ◌^◌, ◌+◌, ◌*◌, ◌-◌, ℕ, pos, neg_ℤ, nat_abs, zero, suc, Bool, true, false, cond, not, ◌||◌, ◌==◌, Option, Some, None, List, [], ◌∷◌, length, codes, nat_lt, Result, Ok, Err, refl, sym, subst, arith}
+use Rattle.std.specs.List.{AllByRecursion, list_all}
 use Rattle.std.specs.Option.{IfSome, option_map, option_or}
 use Rattle.std.specs.Result.{IfOk}
 use Rattle.std.specs.Str.{bytes_eq}
 use Rattle.std.proofs.lemmas.Option.{none-some, same_Some}
 use Rattle.std.proofs.lemmas.Bool.Decides.{nat_tests}
 use Rattle.std.proofs.Math.Nat.{pow-le-pow_right}
-use Rattle.base_types.specs.Names.{IsName, IsWord, IsText, is_digit, is_word_byte, is_text_byte, name_fault, short_fault}
-use Rattle.base_types.specs.Commands.{IsCommand, IsShortNumber, IsSome}
+use Rattle.base_types.specs.Names.{IsName, IsWord, IsText, is_digit, number_of_digits, is_word_byte, is_text_byte, name_fault, short_fault}
+use Rattle.base_types.specs.Commands.{IsCommand, IsShortNumber, IsNonEmpty}
 use Rattle.base_types.specs.declared.command.Command.{Command}
 use Rattle.base_types.specs.declared.command.Command.TheVariants.{Begin, Commit, Rollback, Savepoint, Release, RollbackTo, Show, Columns, Column, Peek, OpenRel, CloseRel, DropTable, DropIndex, RenameTable, DropColumn, ValidateConstraint, DropConstraint}
 use Rattle.base_types.specs.declared.command.NewColumn.{NewColumn}
 use Rattle.script_text.specs.Tokens.{◌>>=◌, said, taken, after, is_end, ends, done}
-use Rattle.script_text.specs.Operands.{number_after, number_of, stat_of, if_none, name_of, word_of, text_of, type_of}
-use Rattle.script_text.specs.Commands.{name_after, one_name, names_after, two_names, field_behind, shown_after, bare_command, savepoint_command, name_command, show_command, table_command, enable_command, disable_command, create_trigger_command, rename_index_command, pair_command, regclass_command, mode_behind, lock_command, add_column_command, rename_column_command, default_command, statistics_command, fillfactor_command, enclosed, enclosed_text, valid_behind, check_behind, check_command, referred_behind, key_behind, foreign_command, items_behind, columns_at, columns_behind, create_table_command, names_at, names_behind, create_index_command, short_command, alter_command, long_command, command_of}
-use Rattle.script_text.proofs.Numbers.{one_more, is_below_ten}
+use Rattle.script_text.specs.Operands.{number_of, stat_of, if_none, plain_name_of, word_of, check_text_of, type_of}
+use Rattle.script_text.specs.Commands.{name_after, one_name, names_after, two_names, optional_field, shown_after, bare_command, savepoint_command, name_command, show_command, table_command, enable_command, disable_command, create_trigger_command, rename_index_command, pair_command, regclass_command, lock_mode, lock_command, add_column_command, rename_column_command, default_command, statistics_command, fillfactor_command, enclosed, enclosed_text, validity, check_part, check_command, referred_part, key_part, foreign_command, items_after, columns_at, enclosed_columns, create_table_command, names_at, enclosed_names, create_index_command, short_command, alter_command, long_command, command_of}
+use Rattle.script_text.proofs.Numbers.{few_digits, at_most}
 
 -- what holds of all that a reading gives
 record Gives {A : Type 0} (read : Option A) (P : A → Type 0) : Type 0 where
@@ -59,45 +59,34 @@ faultless_by : {F : Type 0} (fault : List ℕ → Option F) (text : List ℕ) (f
 faultless_by fault text None e = given text _ e
 faultless_by fault text (Some f) e = nothing _
 
-name_read : (text : List ℕ) → Gives (name_of text) IsName
-unfolding name_of
+name_read : (text : List ℕ) → Gives (plain_name_of text) IsName
+unfolding plain_name_of
 name_read text = faultless_by name_fault text (name_fault text) refl
 
 word_read : (text : List ℕ) → Gives (word_of text) IsWord
 unfolding word_of
 word_read text = faultless_by (short_fault is_word_byte) text (short_fault is_word_byte text) refl
 
-text_read : (text : List ℕ) → Gives (text_of text) IsText
-unfolding text_of
+text_read : (text : List ℕ) → Gives (check_text_of text) IsText
+unfolding check_text_of
 text_read text = faultless_by (short_fault is_text_byte) text (short_fault is_text_byte text) refl
 
--- so many digits more make a number below a power of ten
-digits_by : (n i b : ℕ) (bs : List ℕ) (digit : Bool) → is_digit b ≡ digit → n < 10 ^ i → (n * 10 + (b - 48) < 10 ^ (i + 1) → Gives (number_after (n * 10 + (b - 48)) bs) (λ m. m < 10 ^ (i + 1 + length bs)))
-    → Gives (number_after n (b ∷ bs)) (λ m. m < 10 ^ (i + length (b ∷ bs)))
-unfolding number_after
-digits_by n i b bs true e lt more =
-    let same : i + length (b ∷ bs) ≡ i + 1 + length bs = omega arith in
-    rw (same, e) (more (one_more n i (b - 48) lt (is_below_ten b e)))
-digits_by n i b bs false e lt more = rw e (nothing _)
+accepted : (empty long digits : Bool) → empty || long || not digits ≡ false → (long ≡ false) × (digits ≡ true)
+accepted false false true h = (refl, refl)
+accepted false false false h = absurd cc
+accepted false true digits h = absurd cc
+accepted true long digits h = absurd cc
 
-digits_read : (n i : ℕ) (text : List ℕ) → n < 10 ^ i → Gives (number_after n text) (λ m. m < 10 ^ (i + length text))
-unfolding number_after
-digits_read n i [] lt = let same : i + 0 ≡ i = omega arith in rw same (given n _ lt)
-digits_read n i (b ∷ bs) lt = digits_by n i b bs (is_digit b) refl lt (λ h. digits_read (n * 10 + (b - 48)) (i + 1) bs h)
-
-few_digits : (most : ℕ) (text : List ℕ) (empty long : Bool) → nat_lt most (length text) ≡ long → Gives (cond empty None (cond long None (number_after 0 text))) (λ n. n < 10 ^ most)
-few_digits most text true long e = nothing _
-few_digits most text false true e = nothing _
-few_digits most text false false e =
-    let few : length text ≤ most = grind (arith, nat_tests) in
-    let powers : 10 ^ length text ≤ 10 ^ most = pow-le-pow_right {n = 10} (omega arith) few in
-    let all : Gives (number_after 0 text) (λ n. n < 10 ^ length text) = let same : 0 + length text ≡ length text = omega arith in rw same at (digits_read 0 0 text (omega arith)) in
-    weaker _ all (λ n h. omega arith)
+number_by : (most : ℕ) (text : List ℕ) (refused : Bool) → (length text == 0) || nat_lt most (length text) || not (list_all is_digit text) ≡ refused → Gives (cond refused None (Some (number_of_digits text))) (λ n. n < 10 ^ most)
+number_by most text true e = nothing _
+number_by most text false e =
+    let parts = accepted (length text == 0) (nat_lt most (length text)) (list_all is_digit text) e in
+    given _ _ (few_digits text most (at_most (length text) most parts.0) parts.1)
 
 -- a number is below the power of ten of its digits
 number_read : (most : ℕ) (text : List ℕ) → Gives (number_of most text) (λ n. n < 10 ^ most)
 unfolding number_of
-number_read most text = few_digits most text (length text == 0) (nat_lt most (length text)) refl
+number_read most text = number_by most text ((length text == 0) || nat_lt most (length text) || not (list_all is_digit text)) refl
 
 -- a number of nine digits at most, and its opposite
 abs_of : (n : ℕ) → n < 1000000000 → nat_abs (pos n) < 1000000000
@@ -124,22 +113,22 @@ after_read : {X : Type 0} (of : List ℕ → Option X) (P : X → Type 0) → ((
 unfolding after
 after_read of P each text ts = then_each (said text ts) (taken_read of P each)
 
-name_behind : (text : List ℕ) (ts : List (List ℕ)) → Gives (name_after text ts) (λ r. IsName r.0)
-name_behind text ts = after_read name_of IsName name_read text ts
+name_after_read : (text : List ℕ) (ts : List (List ℕ)) → Gives (name_after text ts) (λ r. IsName r.0)
+name_after_read text ts = after_read plain_name_of IsName name_read text ts
 
 done_read : {X : Type 0} (text : List ℕ) (ts : List (List ℕ)) (x : X) (P : X → Type 0) → P x → Gives (done text ts x) P
 done_read text ts x P h = chosen (ends text ts) x P h
 
 one_read : (text : List ℕ) (ts : List (List ℕ)) → Gives (one_name text ts) IsName
 unfolding one_name
-one_read text ts = then_from (name_behind text ts) (λ r h. done_read [] r.1 r.0 IsName h)
+one_read text ts = then_from (name_after_read text ts) (λ r h. done_read [] r.1 r.0 IsName h)
 
 abbrev AreNames : List ℕ × List ℕ → Type 0
 AreNames names = IsName names.0 × IsName names.1
 
 names_read : (text further : List ℕ) (ts : List (List ℕ)) → Gives (names_after text further ts) (λ r. AreNames r.0)
 unfolding names_after
-names_read text further ts = then_from (name_behind text ts) (λ r h. then_from (name_behind further r.1) (λ s k. given _ _ (h, k)))
+names_read text further ts = then_from (name_after_read text ts) (λ r h. then_from (name_after_read further r.1) (λ s k. given _ _ (h, k)))
 
 two_read : (text further : List ℕ) (ts : List (List ℕ)) → Gives (two_names text further ts) AreNames
 unfolding two_names
@@ -176,7 +165,7 @@ named_read ts =
 
 shown_read : (text : List ℕ) (ts : List (List ℕ)) → Gives (shown_after text ts) (λ s. IsName s.0)
 unfolding shown_after
-shown_read text ts = then_from (name_behind text ts) (λ r h. then_each (field_behind r.1) (λ field. given _ _ h))
+shown_read text ts = then_from (name_after_read text ts) (λ r h. then_each (optional_field r.1) (λ field. given _ _ h))
 
 show_read : (ts : List (List ℕ)) → Gives (show_command ts) IsCommand
 unfolding show_command
@@ -207,7 +196,7 @@ regclass_read ts = then_from (after_read (number_of 9) IsShortNumber (number_rea
 
 lock_read : (ts : List (List ℕ)) → Gives (lock_command ts) IsCommand
 unfolding lock_command
-lock_read ts = then_from (name_behind (codes "lock table") ts) (λ r h. then_each (mode_behind r.1) (λ mode. given _ IsCommand h))
+lock_read ts = then_from (name_after_read (codes "lock table") ts) (λ r h. then_each (lock_mode r.1) (λ mode. given _ IsCommand h))
 
 short_read : (ts : List (List ℕ)) → Gives (short_command ts) IsCommand
 unfolding short_command
@@ -219,7 +208,7 @@ add_column_read ts = then_from (names_read (codes "alter table") (codes "add col
 
 rename_column_read : (ts : List (List ℕ)) → Gives (rename_column_command ts) IsCommand
 unfolding rename_column_command
-rename_column_read ts = then_from (names_read (codes "alter table") (codes "rename column") ts) (λ r h. then_from (name_behind (codes "to") r.1) (λ to k. done_read [] to.1 _ IsCommand (h.0, h.1, k)))
+rename_column_read ts = then_from (names_read (codes "alter table") (codes "rename column") ts) (λ r h. then_from (name_after_read (codes "to") r.1) (λ to k. done_read [] to.1 _ IsCommand (h.0, h.1, k)))
 
 default_read : (ts : List (List ℕ)) → Gives (default_command ts) IsCommand
 unfolding default_command
@@ -231,26 +220,26 @@ statistics_read ts = then_from (names_read (codes "alter table") (codes "alter c
 
 fillfactor_read : (ts : List (List ℕ)) → Gives (fillfactor_command ts) IsCommand
 unfolding fillfactor_command
-fillfactor_read ts = then_from (name_behind (codes "alter table") ts) (λ r h. then_from (after_read (number_of 9) IsShortNumber (number_read 9) (codes "set (fillfactor =") r.1) (λ n k. done_read (codes ")") n.1 _ IsCommand (h, k)))
+fillfactor_read ts = then_from (name_after_read (codes "alter table") ts) (λ r h. then_from (after_read (number_of 9) IsShortNumber (number_read 9) (codes "set (fillfactor =") r.1) (λ n k. done_read (codes ")") n.1 _ IsCommand (h, k)))
 
 enclosed_read : (ts : List (List ℕ)) → Gives (enclosed_text ts) (λ r. IsText r.0)
 unfolding enclosed_text
 enclosed_read ts = then_each (enclosed ts) (λ inside. then_from (text_read inside.0) (λ text h. given _ _ h))
 
-check_part_read : (ts : List (List ℕ)) → Gives (check_behind ts) (λ r. IsText r.0)
-unfolding check_behind
-check_part_read ts = then_each (said (codes "check (") ts) (λ rest. then_from (enclosed_read rest) (λ text h. then_each (valid_behind text.1) (λ valid. given _ _ h)))
+check_part_read : (ts : List (List ℕ)) → Gives (check_part ts) (λ r. IsText r.0)
+unfolding check_part
+check_part_read ts = then_each (said (codes "check (") ts) (λ rest. then_from (enclosed_read rest) (λ text h. then_each (validity text.1) (λ valid. given _ _ h)))
 
 check_read : (ts : List (List ℕ)) → Gives (check_command ts) IsCommand
 unfolding check_command
 check_read ts = then_from (names_read (codes "alter table") (codes "add constraint") ts) (λ r h. then_from (check_part_read r.1) (λ what k. given _ IsCommand (h.0, h.1, k)))
 
-referred_read : (ts : List (List ℕ)) → Gives (referred_behind ts) (λ r. IsName r.0)
-unfolding referred_behind
-referred_read ts = then_from (name_behind (codes "(") ts) (λ r h. then_each (said (codes ")") r.1) (λ rest. then_each (valid_behind rest) (λ valid. given _ _ h)))
+referred_read : (ts : List (List ℕ)) → Gives (referred_part ts) (λ r. IsName r.0)
+unfolding referred_part
+referred_read ts = then_from (name_after_read (codes "(") ts) (λ r h. then_each (said (codes ")") r.1) (λ rest. then_each (validity rest) (λ valid. given _ _ h)))
 
-key_read : (ts : List (List ℕ)) → Gives (key_behind ts) (λ k. IsName k.0 × IsName k.1 × IsName k.2)
-unfolding key_behind
+key_read : (ts : List (List ℕ)) → Gives (key_part ts) (λ k. IsName k.0 × IsName k.1 × IsName k.2)
+unfolding key_part
 key_read ts = then_from (names_read (codes "foreign key (") (codes ") references") ts) (λ r h. then_from (referred_read r.1) (λ s k. given _ _ (h.0, h.1, k)))
 
 foreign_read : (ts : List (List ℕ)) → Gives (foreign_command ts) IsCommand
@@ -262,35 +251,35 @@ unfolding alter_command
 alter_read ts = either (add_column_read ts) (either (rename_column_read ts) (either (default_read ts) (either (statistics_read ts) (either (fillfactor_read ts) (either (check_read ts) (foreign_read ts))))))
 
 -- what holds of an item and of the others holds of the list, which isn't empty
-items_read : {X : Type 0} (item : X) (mark : List ℕ) (ts : List (List ℕ)) (others : Option (List X)) (P : X → Type 0) → P item → Gives others (λ xs. IsSome xs × AllByRecursion P xs)
-    → Gives (items_behind item mark ts others) (λ xs. IsSome xs × AllByRecursion P xs)
+items_read : {X : Type 0} (item : X) (mark : List ℕ) (ts : List (List ℕ)) (others : Option (List X)) (P : X → Type 0) → P item → Gives others (λ xs. IsNonEmpty xs × AllByRecursion P xs)
+    → Gives (items_after item mark ts others) (λ xs. IsNonEmpty xs × AllByRecursion P xs)
 items_read item mark ts others P here more =
     one_of (bytes_eq mark (codes ",")) (mapped (λ xs. item ∷ xs) _ more (λ xs h. (tt, (here, h.1))))
-    (one_of (bytes_eq mark (codes ")")) (chosen (is_end ts) (item ∷ []) (λ xs. IsSome xs × AllByRecursion P xs) (tt, (here, tt))) (nothing _))
+    (one_of (bytes_eq mark (codes ")")) (chosen (is_end ts) (item ∷ []) (λ xs. IsNonEmpty xs × AllByRecursion P xs) (tt, (here, tt))) (nothing _))
 
-columns_read : (ts : List (List ℕ)) → Gives (columns_at ts) (λ xs. IsSome xs × AllByRecursion (λ (column : NewColumn). IsName column.name) xs)
+columns_read : (ts : List (List ℕ)) → Gives (columns_at ts) (λ xs. IsNonEmpty xs × AllByRecursion (λ (column : NewColumn). IsName column.name) xs)
 unfolding columns_at
 columns_read [] = nothing _
 columns_read (a ∷ []) = nothing _
 columns_read (a ∷ b ∷ []) = nothing _
 columns_read (a ∷ b ∷ mark ∷ ts) = then_from (name_read a) (λ name h. then_each (type_of b) (λ t. items_read _ mark ts (columns_at ts) (λ (column : NewColumn). IsName column.name) h (columns_read ts)))
 
-enclosed_columns_read : (ts : List (List ℕ)) → Gives (columns_behind ts) (λ xs. AllByRecursion (λ (column : NewColumn). IsName column.name) xs)
-unfolding columns_behind
+enclosed_columns_read : (ts : List (List ℕ)) → Gives (enclosed_columns ts) (λ xs. AllByRecursion (λ (column : NewColumn). IsName column.name) xs)
+unfolding enclosed_columns
 enclosed_columns_read ts = one_of (ends (codes "()") ts) (given [] _ tt) (then_each (said (codes "(") ts) (λ rest. weaker _ (columns_read rest) (λ xs h. h.1)))
 
 create_table_read : (ts : List (List ℕ)) → Gives (create_table_command ts) IsCommand
 unfolding create_table_command
-create_table_read ts = then_from (name_behind (codes "create table") ts) (λ r h. then_from (enclosed_columns_read r.1) (λ xs k. given _ IsCommand (h, k)))
+create_table_read ts = then_from (name_after_read (codes "create table") ts) (λ r h. then_from (enclosed_columns_read r.1) (λ xs k. given _ IsCommand (h, k)))
 
-listed_read : (ts : List (List ℕ)) → Gives (names_at ts) (λ xs. IsSome xs × AllByRecursion IsName xs)
+listed_read : (ts : List (List ℕ)) → Gives (names_at ts) (λ xs. IsNonEmpty xs × AllByRecursion IsName xs)
 unfolding names_at
 listed_read [] = nothing _
 listed_read (a ∷ []) = nothing _
 listed_read (a ∷ mark ∷ ts) = then_from (name_read a) (λ name h. items_read name mark ts (names_at ts) IsName h (listed_read ts))
 
-enclosed_names_read : (ts : List (List ℕ)) → Gives (names_behind ts) (λ xs. IsSome xs × AllByRecursion IsName xs)
-unfolding names_behind
+enclosed_names_read : (ts : List (List ℕ)) → Gives (enclosed_names ts) (λ xs. IsNonEmpty xs × AllByRecursion IsName xs)
+unfolding enclosed_names
 enclosed_names_read ts = then_each (said (codes "(") ts) listed_read
 
 create_index_read : (ts : List (List ℕ)) → Gives (create_index_command ts) IsCommand

@@ -2,7 +2,7 @@
 use Rattle.std.proofs.Common.{◌≡◌, ◌<◌, ℕ, suc, Bool, true, false, not, ◌||◌, ◌==◌, List, [], ◌∷◌, length, get_or, take, drop, refl, arith}
 use Rattle.std.specs.List.{prefix_len}
 use Rattle.std.proofs.lemmas.Bool.Decides.{nat_tests}
-use Rattle.script_text.specs.Lines.{is_blank}
+use Rattle.script_text.specs.TextLines.{is_blank}
 use Rattle.script_text.specs.Tokens.{tokens, is_mark, in_word, goes_on, StartsToken}
 
 pub passes : (p : ℕ → Bool) (b : ℕ) (bs : List ℕ) → p b ≡ true → prefix_len p (b ∷ bs) ≡ suc (prefix_len p bs)
@@ -42,23 +42,23 @@ word_by b bs true e word h = rw (passes in_word b bs word, word, no_blank b word
 word_by b bs false e word h = rw (passes in_word b bs word, word, no_blank b word, e, stopped bs e) refl
 
 -- a longer token in front
-pub word_in_front : (line : List ℕ) → goes_on line ≡ true → tokens line ≡ take (prefix_len in_word line) line ∷ tokens (drop (prefix_len in_word line) line)
-word_in_front [] e = cc
-word_in_front (b ∷ bs) e = word_by b bs (goes_on bs) refl e (word_in_front bs)
+pub word_first : (line : List ℕ) → goes_on line ≡ true → tokens line ≡ take (prefix_len in_word line) line ∷ tokens (drop (prefix_len in_word line) line)
+word_first [] e = cc
+word_first (b ∷ bs) e = word_by b bs (goes_on bs) refl e (word_first bs)
 
 -- a mark in front
-pub mark_in_front : (b : ℕ) (bs : List ℕ) → is_blank b ≡ false → in_word b ≡ false → tokens (b ∷ bs) ≡ (b ∷ []) ∷ tokens bs
+pub mark_first : (b : ℕ) (bs : List ℕ) → is_blank b ≡ false → in_word b ≡ false → tokens (b ∷ bs) ≡ (b ∷ []) ∷ tokens bs
 unfolding tokens
-mark_in_front b bs blank word = rw (word, blank) refl
+mark_first b bs blank word = rw (word, blank) refl
 
 -- the token in front by its first byte, of several bytes or of one
 pub word_token : (line : List ℕ) → 0 < length line → in_word (get_or line 0 0) ≡ true → tokens line ≡ take (prefix_len in_word line) line ∷ tokens (drop (prefix_len in_word line) line)
 word_token [] some e = absurd (omega arith)
-word_token (b ∷ bs) some e = word_in_front (b ∷ bs) e
+word_token (b ∷ bs) some e = word_first (b ∷ bs) e
 
 pub mark_token : (line : List ℕ) → StartsToken line → 0 < length line → in_word (get_or line 0 0) ≡ false → tokens line ≡ take 1 line ∷ tokens (drop 1 line)
 mark_token [] starts some e = absurd (omega arith)
-mark_token (b ∷ bs) starts some e = mark_in_front b bs starts e
+mark_token (b ∷ bs) starts some e = mark_first b bs starts e
 
 pub is_zero : (n : ℕ) → (n == 0) ≡ true → n ≡ 0
 is_zero n e = grind (arith, nat_tests)

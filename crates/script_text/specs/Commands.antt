@@ -1,19 +1,20 @@
 -- The forms of commands, over the tokens of a line behind the colon.
 use Rattle.std.specs.Prelude.{◌≡◌, ℕ, Bool, true, false, Option, Some, None, List, [], ◌∷◌, ◌++◌, option_map, codes, if◌then◌else◌}
+use Rattle.std.specs.List.{find}
 use Rattle.std.specs.Str.{bytes_eq}
 use Rattle.std.specs.Option.{option_or}
 use Rattle.base_types.specs.declared.command.Command.{Command}
 use Rattle.base_types.specs.declared.command.Command.TheVariants.{Begin, Commit, Rollback, Savepoint, Release, RollbackTo, Show, Columns, Column, Regclass, LockTable, OpenRel, Peek, CloseRel, CreateTable, DropTable, RenameTable, AddColumn, DropColumn, RenameColumn, SetDefault, SetStatistics, SetFillfactor, AddCheck, AddForeign, ValidateConstraint, DropConstraint, SetTrigger, CreateTrigger, CreateIndex, DropIndex, RenameIndex}
 use Rattle.base_types.specs.declared.command.NewColumn.{NewColumn}
 use Rattle.base_types.specs.declared.mode.Mode.{Mode}
-use Rattle.base_types.specs.declared.mode.Mode.TheVariants.{AccessShare, RowShare, RowExclusive, ShareUpdateExclusive, Share, ShareRowExclusive, Exclusive, AccessExclusive}
+use Rattle.base_types.specs.Words.{modes}
 use Rattle.base_types.specs.declared.field.Field.{Field}
 use Rattle.script_text.specs.Tokens.{◌>>=◌, said, after, taken, is_end, ends, done}
-use Rattle.script_text.specs.Operands.{number_of, stat_of, name_of, word_of, text_of, type_of, field_of}
+use Rattle.script_text.specs.Operands.{number_of, stat_of, plain_name_of, word_of, check_text_of, type_of, field_of, lock_words}
 
 -- the name behind these words, and the tokens behind it
 abbrev pub name_after : List ℕ → List (List ℕ) → Option (List ℕ × List (List ℕ))
-name_after text ts = after text name_of ts
+name_after text ts = after text plain_name_of ts
 
 -- these words, a name, and the end
 unfoldable pub one_name : List ℕ → List (List ℕ) → Option (List ℕ)
@@ -58,8 +59,8 @@ name_command ts = option_or (option_map Columns (one_name (codes "columns") ts))
     (option_map DropIndex (one_name (codes "drop index") ts)))))
 
 -- nothing, or a field
-unfoldable pub field_behind : List (List ℕ) → Option (Option Field)
-field_behind ts = if is_end ts then Some None else do
+unfoldable pub optional_field : List (List ℕ) → Option (Option Field)
+optional_field ts = if is_end ts then Some None else do
   field ← taken field_of ts
   done [] field.1 (Some field.0)
 
@@ -67,7 +68,7 @@ field_behind ts = if is_end ts then Some None else do
 unfoldable pub shown_after : List ℕ → List (List ℕ) → Option (List ℕ × Option Field)
 shown_after text ts = do
   name ← name_after text ts
-  field ← field_behind name.1
+  field ← optional_field name.1
   Some (name.0, field)
 
 unfoldable pub show_command : List (List ℕ) → Option Command
@@ -118,31 +119,15 @@ regclass_command ts = do
   oid ← after (codes "regclass") (number_of 9) ts
   done [] oid.1 (Regclass (record { 0 = oid.0 }))
 
--- one of the weaker lock modes by its words, and the end
-unfoldable pub weak_mode : List (List ℕ) → Option Mode
-weak_mode ts = if ends (codes "in access share mode") ts then Some AccessShare
-    else if ends (codes "in row share mode") ts then Some RowShare
-    else if ends (codes "in row exclusive mode") ts then Some RowExclusive
-    else if ends (codes "in share update exclusive mode") ts then Some ShareUpdateExclusive
-    else None
-
--- one of the stronger ones
-unfoldable pub strong_mode : List (List ℕ) → Option Mode
-strong_mode ts = if ends (codes "in share mode") ts then Some Share
-    else if ends (codes "in share row exclusive mode") ts then Some ShareRowExclusive
-    else if ends (codes "in exclusive mode") ts then Some Exclusive
-    else if ends (codes "in access exclusive mode") ts then Some AccessExclusive
-    else None
-
 -- a lock mode by its words, and the end
-unfoldable pub mode_behind : List (List ℕ) → Option Mode
-mode_behind ts = option_or (weak_mode ts) (strong_mode ts)
+unfoldable pub lock_mode : List (List ℕ) → Option Mode
+lock_mode ts = find (λ mode. ends (lock_words mode) ts) modes
 
 -- lock table NAME in MODE mode
 unfoldable pub lock_command : List (List ℕ) → Option Command
 lock_command ts = do
   name ← name_after (codes "lock table") ts
-  mode ← mode_behind name.1
+  mode ← lock_mode name.1
   Some (LockTable name.0 mode)
 
 -- alter table NAME add column NAME TYPE
@@ -189,53 +174,53 @@ enclosed (t ∷ ts) = if bytes_eq t (codes ")") then Some ([], ts) else option_m
 unfoldable pub enclosed_text : List (List ℕ) → Option (List ℕ × List (List ℕ))
 enclosed_text ts = do
   inside ← enclosed ts
-  text ← text_of inside.0
+  text ← check_text_of inside.0
   Some (text, inside.1)
 
 -- nothing for a constraint that is valid at once, or `not valid`
-unfoldable pub valid_behind : List (List ℕ) → Option Bool
-valid_behind ts = if is_end ts then Some true else done (codes "not valid") ts false
+unfoldable pub validity : List (List ℕ) → Option Bool
+validity ts = if is_end ts then Some true else done (codes "not valid") ts false
 
 -- check (TEXT), and whether it is valid at once
-unfoldable pub check_behind : List (List ℕ) → Option (List ℕ × Bool)
-check_behind ts = do
+unfoldable pub check_part : List (List ℕ) → Option (List ℕ × Bool)
+check_part ts = do
   rest ← said (codes "check (") ts
   text ← enclosed_text rest
-  valid ← valid_behind text.1
+  valid ← validity text.1
   Some (text.0, valid)
 
 -- alter table NAME add constraint NAME check (TEXT)
 unfoldable pub check_command : List (List ℕ) → Option Command
 check_command ts = do
   names ← names_after (codes "alter table") (codes "add constraint") ts
-  what ← check_behind names.1
+  what ← check_part names.1
   Some (AddCheck names.0.0 names.0.1 what.0 what.1)
 
 -- (NAME), and whether it is valid at once
-unfoldable pub referred_behind : List (List ℕ) → Option (List ℕ × Bool)
-referred_behind ts = do
+unfoldable pub referred_part : List (List ℕ) → Option (List ℕ × Bool)
+referred_part ts = do
   ref_column ← name_after (codes "(") ts
   rest ← said (codes ")") ref_column.1
-  valid ← valid_behind rest
+  valid ← validity rest
   Some (ref_column.0, valid)
 
 -- foreign key (NAME) references NAME (NAME), and whether it is valid at once
-unfoldable pub key_behind : List (List ℕ) → Option (List ℕ × List ℕ × List ℕ × Bool)
-key_behind ts = do
+unfoldable pub key_part : List (List ℕ) → Option (List ℕ × List ℕ × List ℕ × Bool)
+key_part ts = do
   key ← names_after (codes "foreign key (") (codes ") references") ts
-  referred ← referred_behind key.1
+  referred ← referred_part key.1
   Some (key.0.0, key.0.1, referred.0, referred.1)
 
 -- alter table NAME add constraint NAME foreign key (NAME) references NAME (NAME)
 unfoldable pub foreign_command : List (List ℕ) → Option Command
 foreign_command ts = do
   names ← names_after (codes "alter table") (codes "add constraint") ts
-  key ← key_behind names.1
+  key ← key_part names.1
   Some (AddForeign names.0.0 names.0.1 key.0 key.1 key.2 key.3)
 
 -- an item of a list, alone at a closing parenthesis and the end, and with the others at a comma
-abbrev pub items_behind : {X : Type 0} → X → List ℕ → List (List ℕ) → Option (List X) → Option (List X)
-items_behind item mark ts others = if bytes_eq mark (codes ",") then option_map (λ items. item ∷ items) others else if bytes_eq mark (codes ")") then (if is_end ts then Some (item ∷ []) else None) else None
+abbrev pub items_after : {X : Type 0} → X → List ℕ → List (List ℕ) → Option (List X) → Option (List X)
+items_after item mark ts others = if bytes_eq mark (codes ",") then option_map (λ items. item ∷ items) others else if bytes_eq mark (codes ")") then (if is_end ts then Some (item ∷ []) else None) else None
 
 -- what is taken of a list at a time: an item, and whether others follow; no item where there is no list
 abbrev pub Item : {X : Type 0} → (List (List ℕ) → Option (List X)) → List (List ℕ) → List (List ℕ) → Option (X × Bool) → Type 0
@@ -249,13 +234,13 @@ columns_at [] = None
 columns_at (a ∷ []) = None
 columns_at (a ∷ b ∷ []) = None
 columns_at (a ∷ b ∷ mark ∷ ts) = do
-  name ← name_of a
+  name ← plain_name_of a
   col_type ← type_of b
-  items_behind (record { name = name; col_type = col_type }) mark ts (columns_at ts)
+  items_after (record { name = name; col_type = col_type }) mark ts (columns_at ts)
 
 -- (NAME TYPE, ..), or empty parentheses
-unfoldable pub columns_behind : List (List ℕ) → Option (List NewColumn)
-columns_behind ts = if ends (codes "()") ts then Some [] else do
+unfoldable pub enclosed_columns : List (List ℕ) → Option (List NewColumn)
+enclosed_columns ts = if ends (codes "()") ts then Some [] else do
   rest ← said (codes "(") ts
   columns_at rest
 
@@ -263,7 +248,7 @@ columns_behind ts = if ends (codes "()") ts then Some [] else do
 unfoldable pub create_table_command : List (List ℕ) → Option Command
 create_table_command ts = do
   name ← name_after (codes "create table") ts
-  columns ← columns_behind name.1
+  columns ← enclosed_columns name.1
   Some (CreateTable name.0 columns)
 
 -- names with commas between them, up to a closing parenthesis and the end
@@ -271,12 +256,12 @@ unfoldable pub names_at : List (List ℕ) → Option (List (List ℕ))
 names_at [] = None
 names_at (a ∷ []) = None
 names_at (a ∷ mark ∷ ts) = do
-  name ← name_of a
-  items_behind name mark ts (names_at ts)
+  name ← plain_name_of a
+  items_after name mark ts (names_at ts)
 
 -- (NAME, ..)
-unfoldable pub names_behind : List (List ℕ) → Option (List (List ℕ))
-names_behind ts = do
+unfoldable pub enclosed_names : List (List ℕ) → Option (List (List ℕ))
+enclosed_names ts = do
   rest ← said (codes "(") ts
   names_at rest
 
@@ -284,7 +269,7 @@ names_behind ts = do
 unfoldable pub create_index_command : List (List ℕ) → Option Command
 create_index_command ts = do
   names ← names_after (codes "create index") (codes "on") ts
-  columns ← names_behind names.1
+  columns ← enclosed_names names.1
   Some (CreateIndex names.0.0 names.0.1 columns)
 
 -- the commands that take no memory

@@ -1,7 +1,7 @@
 -- The tokens of a line, and how they are taken from the front.
 use Rattle.std.specs.Prelude.{◌≡◌, ⊤, ℕ, Bool, true, false, Option, Some, None, List, [], ◌∷◌, ◌==◌, ◌||◌, not, option_map, option_and_then, if◌then◌else◌}
 use Rattle.std.specs.Str.{bytes_eq}
-use Rattle.script_text.specs.Lines.{is_blank, with_byte}
+use Rattle.script_text.specs.TextLines.{is_blank, with_byte}
 
 infixl 10 ◌>>=◌
 abbrev pub ◌>>=◌ : {A B : Type 0} → Option A → (A → Option B) → Option B
@@ -26,14 +26,14 @@ tokens [] = []
 tokens (byte ∷ bytes) = if is_blank byte then tokens bytes else if in_word byte then (if goes_on bytes then with_byte byte (tokens bytes) else (byte ∷ []) ∷ tokens bytes) else (byte ∷ []) ∷ tokens bytes
 
 -- the tokens behind these words, where they stand in front
-unfoldable pub behind : List (List ℕ) → List (List ℕ) → Option (List (List ℕ))
-behind [] ts = Some ts
-behind (word ∷ words) [] = None
-behind (word ∷ words) (t ∷ ts) = if bytes_eq t word then behind words ts else None
+unfoldable pub after_words : List (List ℕ) → List (List ℕ) → Option (List (List ℕ))
+after_words [] ts = Some ts
+after_words (word ∷ words) [] = None
+after_words (word ∷ words) (t ∷ ts) = if bytes_eq t word then after_words words ts else None
 
 -- the tokens behind those of a text, where they stand in front
 abbrev pub said : List ℕ → List (List ℕ) → Option (List (List ℕ))
-said text ts = behind (tokens text) ts
+said text ts = after_words (tokens text) ts
 
 -- what the first token means, and the tokens behind it
 abbrev pub taken : {X : Type 0} → (List ℕ → Option X) → List (List ℕ) → Option (X × List (List ℕ))

@@ -19,28 +19,27 @@
 //! breaks a rule and the first rule that it breaks.
 #![tactic(auto)]
 
+mod adding_pieces;
 mod alterations;
-mod built;
-mod commands;
-mod draft;
+mod command_writing;
 mod fault;
+mod limits;
 mod line_forms;
-mod lines;
-mod lists;
+mod lines_so_far;
+mod list_commands;
 mod operands;
-mod pieces;
 mod reading;
 mod script;
+mod short_commands;
 mod steps;
-mod taking;
+mod text_lines;
 mod tokens;
+mod typed_tokens;
 mod writing;
 
-pub use built::is_built;
-pub use fault::{LineFault, Rest, ScriptCause, ScriptFault};
+pub use fault::{Rest, ScriptCause, ScriptFault};
+pub use limits::{MOST_BACKENDS, MOST_COMMANDS, MOST_STEPS, QUEUE_ROUNDS, QUEUE_SIZE};
 pub use reading::{ScriptRead, read_script};
 pub use script::Script;
 pub use writing::write_script;
 
-#[cfg(test)]
-mod tests;

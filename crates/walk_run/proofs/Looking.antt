@@ -31,7 +31,7 @@ use Rattle.walk_run.specs.declared.backend.Backend.{Backend}
 use Rattle.walk_run.specs.declared.backend.Found.{Found}
 use Rattle.walk_run.specs.declared.backend.Read.{Read}
 use Rattle.walk_run.specs.declared.backend.Stage.TheVariants as stages
-use Rattle.walk_run.specs.declared.segment.Scanned.{Scanned}
+use Rattle.base_types.specs.declared.scanned.Scanned.{Scanned}
 use Rattle.walk_run.specs.declared.segment.Locked.TheVariants.{Granted, Refused}
 use Rattle.walk_run.specs.Entries.{entry_of}
 use Rattle.walk_run.specs.Left.{entries_left, owed_count}

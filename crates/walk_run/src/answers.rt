@@ -9,10 +9,9 @@ ghost use Rattle.rel_desc.specs.declared.error.CommandError.TheVariants.{NoRelat
 ghost use Rattle.walk_run.specs.Reads.{is_kept_by_share, shown_by, answer_by};
 
 use crate::backend::{Found, Read};
-use crate::scans::same_scan;
 use base_types::{
     Field, Kind, Listed, Mode, Name, NoMemory, Oid, Purpose, conflicts, field_text, fields_of,
-    read_by, writers,
+    read_by, same_scan, writers,
 };
 use rel_desc::{Answer, CommandError, Shown, Value};
 use std::alloc::Global;

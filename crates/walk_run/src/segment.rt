@@ -10,8 +10,8 @@ ghost use Rattle.std.specs.List.{flat_map};
 ghost use Rattle.walk_run.specs.Entries.{entry_of};
 
 use base_types::{
-    Kind, Listed, Mode, Name, NewColumn, NoMemory, Oid, Purpose, Row, Xid, conflicts, put_in_order,
-    selects,
+    Kind, Listed, Mode, Name, NewColumn, NoMemory, Oid, Purpose, Row, Scanned, Xid, conflicts,
+    put_in_order, selects,
 };
 use event_kinds::{Entry, Event, Item};
 use history_model::{Grant, Version};
@@ -30,14 +30,6 @@ pub struct Segment {
     committed: Vec<bool>,
     grants: Vec<Grant>,
     next_oid: u32,
-}
-
-/// What a scan gave.
-#[derive(Drop)]
-pub struct Scanned {
-    pub rows: Vec<Row>,
-    /// The number of the scan's entry, from 1.
-    pub at: u64,
 }
 
 /// How a lock request ended.

@@ -1,4 +1,4 @@
-use Rattle.base_types.specs.Parts.{no_part}
+use Rattle.base_types.specs.CacheKeys.{no_part}
 use Rattle.base_types.proofs.Padding.{copied_to_front}
 use Rattle.base_types.proofs.key.filled.Goals as goal
 

@@ -1,7 +1,7 @@
 use Rattle.std.proofs.Common.{take}
 use Rattle.std.proofs.lemmas.Result.{err_from_is_err_and}
 use Rattle.event_kinds.specs.Texts.{changes_text}
-use Rattle.event_kinds.proofs.Added.{extends_more, first_not_added}
+use Rattle.base_types.proofs.Added.{extends_more, first_not_added}
 use Rattle.event_kinds.proofs.entry_text.add_changes.Goals as goal
 
 pub returns-in_err-add : goal.returns-in_err-add

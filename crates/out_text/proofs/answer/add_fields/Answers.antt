@@ -1,7 +1,7 @@
 use Rattle.std.proofs.Common.{take}
 use Rattle.rel_desc.specs.Answers.{shown_list}
 use Rattle.std.proofs.lemmas.Result.{err_from_is_err_and}
-use Rattle.event_kinds.proofs.Added.{extends_more, first_not_added}
+use Rattle.base_types.proofs.Added.{extends_more, first_not_added}
 use Rattle.out_text.proofs.answer.add_fields.Goals as goal
 
 pub returns-in_err-add_next : goal.returns-in_err-add_next

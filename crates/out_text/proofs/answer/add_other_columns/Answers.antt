@@ -2,7 +2,7 @@ use Rattle.std.proofs.Common.{◌++◌, codes, take}
 use Rattle.std.specs.List.{flat_map}
 use Rattle.rel_desc.specs.Answers.{column_text}
 use Rattle.std.proofs.lemmas.Result.{err_from_is_err_and}
-use Rattle.event_kinds.proofs.Added.{extends_more, first_not_added}
+use Rattle.base_types.proofs.Added.{extends_more, first_not_added}
 use Rattle.out_text.proofs.answer.add_other_columns.Goals as goal
 
 pub returns-in_err-add : goal.returns-in_err-add

@@ -1,0 +1,10 @@
+use crate::{Row, RowKey};
+
+/// A change of one row of a catalog.
+#[derive(Clone, Copy, Debug, PartialEq, Eq)]
+pub enum Change {
+    Insert(Row),
+    /// The row with the same key is replaced.
+    Replace(Row),
+    Delete(RowKey),
+}
