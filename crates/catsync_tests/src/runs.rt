@@ -32,7 +32,7 @@ fn call<S: Source, K: Sink>(
     for word in words {
         arguments.push(String::from_str(alloc, word)?)?;
     }
-    let mut gates = vec![in alloc; OpenGate; MOST_BACKENDS]?;
+    let mut gates = vec![in alloc; OpenGate; MOST_BACKENDS as usize]?;
     Ok(catsync(alloc, &arguments, source, sink, &mut gates))
 }
 

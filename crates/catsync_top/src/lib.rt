@@ -19,5 +19,6 @@
 mod status;
 mod top;
 
+pub use script_text::MOST_BACKENDS;
 pub use status::Status;
-pub use top::{MOST_BACKENDS, MOST_INPUT, catsync};
+pub use top::{MOST_INPUT, catsync};

@@ -8,15 +8,12 @@ use crate::Status;
 use base_types::NoMemory;
 use edge_io::{Gate, ReadRefusal, Sink, Source, read_all};
 use out_text::put_output;
-use script_text::{Rest, ScriptFault, ScriptRead, read_script};
+use script_text::{MOST_BACKENDS, Rest, ScriptFault, ScriptRead, read_script};
 use std::alloc::Global;
 use walk_run::{is_built, walk};
 
 /// The most bytes of a script.
 pub const MOST_INPUT: usize = 1_048_576;
-
-/// The most backends of a script.
-pub const MOST_BACKENDS: usize = 64;
 
 /// Runs the program: its arguments, where it reads, where it writes, and a gate for each backend
 /// that a script can have, which `walk` doesn't ask. It takes memory from `alloc`, and none while
