@@ -93,12 +93,7 @@ fn shown(alloc: Global, field: Field, text: &[u8], at: Option<u64>) -> Result<Sh
 }
 
 // A relation, with its name and one more field if it has one.
-fn relation(
-    alloc: Global,
-    kind: Kind,
-    rel: Oid,
-    more: Option<Shown>,
-) -> Result<Answer, Fail> {
+fn relation(alloc: Global, kind: Kind, rel: Oid, more: Option<Shown>) -> Result<Answer, Fail> {
     let mut fields = Listed::new(alloc);
     fields.push(shown(alloc, Field::Name, b"x", None)?)?;
     if let Some(more) = more {
@@ -159,7 +154,10 @@ fn each_error_has_its_text(rt: HostRuntime) -> Result<(), Fail> {
     let alloc = rt.alloc();
     for (error, text) in errors(name(b"x")?).iter().zip(ERROR_TEXTS.iter()) {
         let want = format!(in alloc; "error {text}")?;
-        assert!(rt; has_text(alloc, &Answer::Error(*error), want.as_str())?, "{text}");
+        assert!(rt;
+            has_text(alloc, &Answer::Error(*error), want.as_str())?,
+            "{text}"
+        );
     }
     Ok(())
 }

@@ -1,7 +1,7 @@
 use crate::readers::{FailingReader, FailingWriter};
 use edge_io::{
     Failed, Gate, GatheringSink, Go, MemorySink, MemorySource, OpenGate, ReadRefusal, Sink,
-    SteadySink, SteadySource, StdSink, StdSource, StopGate, read_all, send,
+    StdSink, StdSource, SteadySink, SteadySource, StopGate, read_all, send,
 };
 use std::io::ErrorKind;
 use std::test::Fail;
@@ -97,16 +97,17 @@ fn bytes_pass_over_std(rt: HostRuntime) -> Result<(), Fail> {
 }
 
 #[test]
-fn a_reader_of_std_fails_at_each_call_in_turn(rt: HostRuntime) {
+fn a_reader_of_std_fails_at_each_call_in_turn(rt: HostRuntime) -> Result<(), Fail> {
     let alloc = rt.alloc();
     for failing in 1..5 {
         let reader = FailingReader::new(3, failing, ErrorKind::Other);
         let text = read_all(alloc, &mut StdSource::new(reader), 100);
         assert!(rt; matches!(text, Err(ReadRefusal::Failed)), "at {failing}");
         let reader = FailingReader::new(3, failing, ErrorKind::Interrupted);
-        let text = read_all(alloc, &mut StdSource::new(reader), 100);
-        assert!(rt; matches!(text, Ok(text) if text.len() == 3), "at {failing}");
+        let text = read_all(alloc, &mut StdSource::new(reader), 100)?;
+        assert_eq!(rt; text.len(), 3, "at {failing}");
     }
+    Ok(())
 }
 
 #[test]

@@ -1,6 +1,5 @@
-use base_types::NoMemory;
+use base_types::{ColType, Kind, NoMemory, Oid, Row};
 use event_kinds::{Entry, EntryFault, Event, Item, changes_in, read_entry, write_entry};
-use base_types::{ColType, Kind, Oid, Row};
 use std::alloc::Global;
 use std::test::Fail;
 
@@ -29,9 +28,15 @@ const EVENTS: [(&[u8], &str); 35] = [
     (b"h 1 1 scan trigger 7 rows 1", "Scan"),
     (b"h 1 1 scan indexrow 7 rows 1", "Scan"),
     (b"h 1 2 scan relname t rows 1", "Scan"),
-    (b"h 1 2 scan attname 16384 ........pg.dropped.1600........ rows 0", "Scan"),
+    (
+        b"h 1 2 scan attname 16384 ........pg.dropped.1600........ rows 0",
+        "Scan",
+    ),
     (b"h 2 2 clash x_1 row 16384", "ClashRow"),
-    (b"h 2 1 clash ........pg.dropped.1........ running 1", "ClashRunning"),
+    (
+        b"h 2 1 clash ........pg.dropped.1........ running 1",
+        "ClashRunning",
+    ),
     (b"h 1 1 visible 4294967295", "Visible"),
     (b"h 1 1 publish 64", "Publish"),
     (b"h 1 1 release 1", "Release"),

@@ -2,7 +2,7 @@ use crate::readers::EndlessReader;
 use base_types::NoMemory;
 use catsync_top::{MOST_BACKENDS, MOST_INPUT, Status, catsync};
 use edge_io::{
-    MemorySink, MemorySource, OpenGate, PIECE, Sink, Source, SteadySink, SteadySource, StdSource,
+    MemorySink, MemorySource, OpenGate, PIECE, Sink, Source, StdSource, SteadySink, SteadySource,
 };
 use script_text::ScriptCause;
 use std::alloc::Global;
@@ -93,11 +93,36 @@ const REFUSED: [(&[&str], &[u8], u8, &str); 14] = [
     (&["make", "0"], ABSENT, 1, "usage"),
     (&["walk", "walk"], ABSENT, 1, "usage"),
     (&["walk"], b"", 2, "line 1: NoBackends"),
-    (&["walk"], b"backends 1\n1: create table t (a int4)\n1: show t\n", 2, "line 4: NoEnd"),
-    (&["walk"], b"-- none\nbackends 1\n\n1: show 1t\nend\n", 2, "line 4: BadCommand"),
-    (&["walk"], b"backends 1\n1: begin\nend\n", 9, "the script holds"),
-    (&["walk"], b"ring 4096\nbackends 1\nend\n", 9, "the script holds"),
-    (&["walk"], b"backends 1\n1: show t name\nend\n", 9, "the script holds"),
+    (
+        &["walk"],
+        b"backends 1\n1: create table t (a int4)\n1: show t\n",
+        2,
+        "line 4: NoEnd",
+    ),
+    (
+        &["walk"],
+        b"-- none\nbackends 1\n\n1: show 1t\nend\n",
+        2,
+        "line 4: BadCommand",
+    ),
+    (
+        &["walk"],
+        b"backends 1\n1: begin\nend\n",
+        9,
+        "the script holds",
+    ),
+    (
+        &["walk"],
+        b"ring 4096\nbackends 1\nend\n",
+        9,
+        "the script holds",
+    ),
+    (
+        &["walk"],
+        b"backends 1\n1: show t name\nend\n",
+        9,
+        "the script holds",
+    ),
     (
         &["walk"],
         b"backends 1\n1: create table t (a int4, a int8)\nend\n",
@@ -145,7 +170,12 @@ fn the_most_bytes_and_one_more(rt: HostRuntime) -> Result<(), Fail> {
 fn an_input_without_an_end_is_read_to_the_limit(rt: HostRuntime) -> Result<(), Fail> {
     let mut reader = EndlessReader { given: 0 };
     let mut sink = SteadySink::new(rt.alloc());
-    let status = call(rt.alloc(), &["walk"], &mut StdSource::new(&mut reader), &mut sink)?;
+    let status = call(
+        rt.alloc(),
+        &["walk"],
+        &mut StdSource::new(&mut reader),
+        &mut sink,
+    )?;
     assert_eq!(rt; status.exit_code(), 3);
     assert!(rt; reader.given <= (MOST_INPUT + PIECE) as u64);
     Ok(())

@@ -157,11 +157,7 @@ const FAULTS: [(&str, u32, &str); 22] = [
     ("backends 1\r\r\nend", 1, "BadByte"),
     ("backends 1\nend\r", 2, "BadByte"),
     ("ring 63\nbackends 1\nend", 1, "BadRing"),
-    (
-        "ring 64 from 16777216\nbackends 1\nend",
-        1,
-        "BadRing",
-    ),
+    ("ring 64 from 16777216\nbackends 1\nend", 1, "BadRing"),
     ("backends 1\nring 64\nend", 2, "BadRing"),
     ("end", 1, "NoBackends"),
     ("backends 65\nend", 1, "BadCount"),
@@ -176,11 +172,7 @@ const FAULTS: [(&str, u32, &str); 22] = [
     ),
     ("backends 2\n+1: begin\nend", 2, "UnknownBackend"),
     ("backends 2\nend;\nend", 2, "UnknownBackend"),
-    (
-        "backends 2\nsteps 1\n1: bugin\nend",
-        3,
-        "LateCommand",
-    ),
+    ("backends 2\nsteps 1\n1: bugin\nend", 3, "LateCommand"),
     ("backends 2\n1: begin;;\nend", 2, "BadCommand"),
     (
         "backends 2\n1: create index i on t ()\nend",
@@ -194,7 +186,10 @@ const FAULTS: [(&str, u32, &str); 22] = [
 #[test]
 fn the_first_fault_is_named(rt: HostRuntime) -> Result<(), Fail> {
     for (text, line, rule) in FAULTS {
-        assert!(rt; breaks(rt.alloc(), text.as_bytes(), line, rule)?, "at {text}");
+        assert!(rt;
+            breaks(rt.alloc(), text.as_bytes(), line, rule)?,
+            "at {text}"
+        );
     }
     Ok(())
 }
@@ -207,9 +202,15 @@ fn names_have_63_bytes_at_most(rt: HostRuntime) -> Result<(), Fail> {
     let alloc = rt.alloc();
     for (before, after) in LONG_ONES {
         let text = format!(in alloc; "backends 1\n1: {before}{BYTES_63}{after}\nend\n")?;
-        assert_eq!(rt; written(alloc, text.as_bytes())?.as_slice(), text.as_bytes());
+        assert_eq!(rt;
+            written(alloc, text.as_bytes())?.as_slice(),
+            text.as_bytes()
+        );
         let text = format!(in alloc; "backends 1\n1: {before}{BYTES_63}4{after}\nend\n")?;
-        assert!(rt; breaks(alloc, text.as_bytes(), 2, "BadCommand")?, "at {before}");
+        assert!(rt;
+            breaks(alloc, text.as_bytes(), 2, "BadCommand")?,
+            "at {before}"
+        );
     }
     Ok(())
 }
@@ -251,6 +252,9 @@ fn a_rest_begins_after_the_end(rt: HostRuntime) -> Result<(), Fail> {
     assert_eq!(rt; found.rest_at, 66);
     assert!(rt; found.has_ring);
     let wanted = b"ring 64\nbackends 1\n1: create table t (a int4)\nsteps 1*5 1\nend\n";
-    assert_eq!(rt; write_script(alloc, &found.script)?.as_slice(), wanted.as_slice());
+    assert_eq!(rt;
+        write_script(alloc, &found.script)?.as_slice(),
+        wanted.as_slice()
+    );
     Ok(())
 }

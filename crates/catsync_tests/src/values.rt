@@ -3,18 +3,8 @@ use base_types::{
     Mode, Name, NameFault, Nums, Oid, Purpose, Row, RowKey, Text, Word, conflicts, field_text,
     goes_before, has_field, key_hash, put_in_order, read_by, selects, writers,
 };
+use std::alloc::Global;
 use std::test::Fail;
-
-const MODES: [Mode; 8] = [
-    Mode::AccessShare,
-    Mode::RowShare,
-    Mode::RowExclusive,
-    Mode::ShareUpdateExclusive,
-    Mode::Share,
-    Mode::ShareRowExclusive,
-    Mode::Exclusive,
-    Mode::AccessExclusive,
-];
 
 // The table of the PostgreSQL manual, "Explicit Locking".
 const CONFLICTS: [&[u8; 8]; 8] = [
@@ -47,63 +37,88 @@ const WRITERS: [(Kind, Field, &[u8]); 14] = [
 ];
 
 const BYTES_63: &[u8] = b"a23456789_123456789_123456789_123456789_123456789_123456789_123";
+
 const BYTES_64: &[u8] = b"a23456789_123456789_123456789_123456789_123456789_123456789_1234";
 
-// Bytes that are no name, and the place of the first bad one.
-const NO_NAMES: [(&[u8], u32); 4] = [
-    (b"1a", 0),
-    (b"aB C", 1),
-    (b"a-b", 1),
-    (b"........pg.dropped.012........", 0),
+// Bytes that may be a name, and whether they are one.
+const NAMES: [(&[u8], bool); 8] = [
+    (b"t_1", true),
+    (BYTES_63, true),
+    (b"........pg.dropped.1600........", true),
+    (b"", false),
+    (BYTES_64, false),
+    (b"1a", false),
+    (b"a-b", false),
+    (b"........pg.dropped.012........", false),
+];
+
+// Bytes that may be a word, and whether they are one.
+const WORDS: [(&[u8], bool); 5] = [
+    (b"-1a_", true),
+    (BYTES_63, true),
+    (b"", false),
+    (BYTES_64, false),
+    (b"a+", false),
+];
+
+// Bytes that may be a text, and whether they are one.
+const TEXTS: [(&[u8], bool); 5] = [
+    (b"a+b>=-1*c<0", true),
+    (BYTES_63, true),
+    (b"", false),
+    (BYTES_64, false),
+    (b"a,b", false),
 ];
 
 pub(crate) fn name(text: &[u8]) -> Result<Name, Fail> {
     Ok(Name::new(text).ok().ok_or("no name")?)
 }
 
-fn column(num: u32, text: &[u8], live: bool) -> Result<Row, Fail> {
-    Ok(Row::Att {
-        rel: Oid(16384),
-        num,
-        name: name(text)?,
-        col_type: ColType::Int4,
-        stat: -1,
-        live,
-    })
+#[test]
+fn names(rt: HostRuntime) {
+    for (text, good) in NAMES {
+        let found = matches!(Name::new_or_dropped(text), Ok(name) if name.as_bytes() == text);
+        assert_eq!(rt; found, good);
+    }
 }
 
 #[test]
-fn names(rt: HostRuntime) -> Result<(), Fail> {
-    for text in [b"t_1", BYTES_63] {
-        assert_eq!(rt; name(text)?.as_bytes(), text);
+fn words(rt: HostRuntime) {
+    for (text, good) in WORDS {
+        let found = matches!(Word::new(text), Ok(word) if word.as_bytes() == text);
+        assert_eq!(rt; found, good);
     }
+}
+
+#[test]
+fn texts(rt: HostRuntime) {
+    for (text, good) in TEXTS {
+        let found = matches!(Text::new(text), Ok(found) if found.as_bytes() == text);
+        assert_eq!(rt; found, good);
+    }
+}
+
+#[test]
+fn the_first_fault_of_a_name(rt: HostRuntime) {
     assert!(rt; matches!(Name::new(b""), Err(NameFault::Empty)));
     assert!(rt; matches!(Name::new(BYTES_64), Err(NameFault::TooLong)));
-    for (text, place) in NO_NAMES {
-        let found = Name::new_or_dropped(text);
-        assert!(rt; matches!(found, Err(NameFault::BadByte { at }) if at == place), "at {place}");
-    }
-    let dropped = Name::dropped(12);
-    assert_eq!(rt; dropped.as_bytes(), b"........pg.dropped.12........".as_slice());
-    assert!(rt; Name::new(dropped.as_bytes()).is_err());
-    assert!(rt; Name::new_or_dropped(dropped.as_bytes()).is_ok());
-    Ok(())
+    assert!(rt; matches!(Name::new(b"aB C"), Err(NameFault::BadByte { at: 1 })));
 }
 
 #[test]
-fn words_and_texts(rt: HostRuntime) {
-    assert!(rt; matches!(Word::new(b"-1a"), Ok(word) if word.as_bytes() == b"-1a".as_slice()));
-    assert!(rt; matches!(Word::new(b"a+"), Err(NameFault::BadByte { at: 1 })));
-    assert!(rt; matches!(Word::new(BYTES_64), Err(NameFault::TooLong)));
-    assert!(rt; matches!(Text::new(b"a+b>=-1*c<0"), Ok(text) if text.as_bytes() == b"a+b>=-1*c<0".as_slice()));
-    assert!(rt; matches!(Text::new(b"a,b"), Err(NameFault::BadByte { at: 1 })));
-    assert!(rt; matches!(Text::new(b""), Err(NameFault::Empty)));
+fn the_name_of_a_dropped_column(rt: HostRuntime) {
+    let dropped = Name::dropped(12);
+    assert_eq!(rt;
+        dropped.as_bytes(),
+        b"........pg.dropped.12........".as_slice()
+    );
+    assert!(rt; Name::new(dropped.as_bytes()).is_err());
 }
 
 #[test]
 fn conflict_table(rt: HostRuntime) {
-    for (a, row) in MODES.iter().zip(CONFLICTS.iter()) {
-        for (b, mark) in MODES.iter().zip(row.iter()) {
+    for (a, row) in Mode::ALL.iter().zip(CONFLICTS.iter()) {
+        for (b, mark) in Mode::ALL.iter().zip(row.iter()) {
             assert_eq!(rt; conflicts(*a, *b), *mark == b'x');
         }
     }
@@ -127,32 +142,60 @@ fn writers_table(rt: HostRuntime) {
     }
 }
 
-#[test]
-fn scans_in_order(rt: HostRuntime) -> Result<(), Fail> {
-    let (a, b, c) = (
-        column(2, b"a", true)?,
-        column(1, b"b", true)?,
-        column(3, b"c", false)?,
-    );
-    let by_number = read_by(Field::Columns, Oid(16384));
-    assert!(rt; selects(&by_number, &a));
-    let mut given = Vec::new(rt.alloc());
-    for row in [a, b, c] {
-        put_in_order(&by_number, &mut given, row)?;
+// The columns of a table as they come: number, name, and whether they are live.
+const COLUMNS: [(u32, &[u8], bool); 3] = [(2, b"a", true), (1, b"b", true), (3, b"c", false)];
+
+fn column(num: u32, text: &[u8], live: bool) -> Result<Row, Fail> {
+    Ok(Row::Att {
+        rel: Oid(16384),
+        num,
+        name: name(text)?,
+        col_type: ColType::Int4,
+        stat: -1,
+        live,
+    })
+}
+
+// The columns in a scan's order.
+fn scanned(alloc: Global, purpose: &Purpose) -> Result<Vec<Row>, Fail> {
+    let mut given = Vec::new(alloc);
+    for (num, text, live) in COLUMNS {
+        put_in_order(purpose, &mut given, column(num, text, live)?)?;
     }
-    let columns = field_text(rt.alloc(), Field::Columns, Oid(16384), given.as_slice())?;
-    assert_eq!(rt; columns.as_slice(), b"b:int4 a:int4".as_slice());
-    assert!(rt; goes_before(&Purpose::AttList(Oid(16384)), &a, &b));
-    let statistics = field_text(rt.alloc(), Field::Statistics, Oid(16384), given.as_slice())?;
-    assert_eq!(rt; statistics.as_slice(), b"1:-1 2:-1".as_slice());
-    let none = field_text(rt.alloc(), Field::Defaults, Oid(16384), &[])?;
-    assert_eq!(rt; none.as_slice(), b"-".as_slice());
+    Ok(given)
+}
+
+// What fields of the table these columns give.
+const OF_COLUMNS: [(Field, &str); 3] = [
+    (Field::Columns, "b:int4 a:int4"),
+    (Field::Statistics, "1:-1 2:-1"),
+    (Field::Defaults, "-"),
+];
+
+#[test]
+fn scans_by_number(rt: HostRuntime) -> Result<(), Fail> {
+    let given = scanned(rt.alloc(), &read_by(Field::Columns, Oid(16384)))?;
+    for (field, want) in OF_COLUMNS {
+        let text = field_text(rt.alloc(), field, Oid(16384), given.as_slice())?;
+        assert_eq!(rt; text.as_slice(), want.as_bytes());
+    }
     Ok(())
 }
 
 #[test]
-fn items_of_fields(rt: HostRuntime) -> Result<(), Fail> {
-    let key = Row::Con {
+fn scans_by_name(rt: HostRuntime) -> Result<(), Fail> {
+    let purpose = Purpose::AttList(Oid(16384));
+    let given = scanned(rt.alloc(), &purpose)?;
+    for (row, num) in given.iter().zip([2, 1, 3].iter()) {
+        assert!(rt; selects(&purpose, row));
+        assert!(rt; row.key().is(&RowKey::Att(Oid(16384), *num)));
+    }
+    assert!(rt; goes_before(&purpose, &column(2, b"a", true)?, &column(1, b"b", true)?));
+    Ok(())
+}
+
+fn foreign_key() -> Result<Row, Fail> {
+    Ok(Row::Con {
         oid: Oid(16390),
         rel: Oid(16385),
         name: name(b"k")?,
@@ -162,26 +205,50 @@ fn items_of_fields(rt: HostRuntime) -> Result<(), Fail> {
             refrel: Oid(16384),
             refnum: 1,
         },
-    };
-    let index = Row::Ind {
+    })
+}
+
+fn index() -> Row {
+    Row::Ind {
         index: Oid(16400),
         table: Oid(16384),
         state: IndexState::Valid,
         nums: Nums::new(&[1, 3, 12]),
-    };
-    for (field, rel, row, want) in [
-        (Field::Constraints, Oid(16385), key, "k:fk:n:2:16384:1"),
-        (Field::Constraints, Oid(16384), key, "-"),
-        (Field::Referenced, Oid(16384), key, "16390:16385:1"),
-        (Field::Indexes, Oid(16384), index, "16400:v:1+3+12"),
-        (Field::Of, Oid(16400), index, "16384:1+3+12"),
-        (Field::Valid, Oid(16400), index, "v"),
-    ] {
-        let text = field_text(rt.alloc(), field, rel, &[row])?;
-        assert_eq!(rt; text.as_slice(), want.as_bytes(), "{want}");
     }
-    assert!(rt; matches!(index.catalog(), Catalog::Index));
-    assert!(rt; index.key().is(&RowKey::Ind(Oid(16400))));
+}
+
+// A field of a relation, and its text where there is the foreign key alone.
+const OF_KEY: [(Field, u32, &str); 3] = [
+    (Field::Constraints, 16385, "k:fk:n:2:16384:1"),
+    (Field::Constraints, 16384, "-"),
+    (Field::Referenced, 16384, "16390:16385:1"),
+];
+
+// The same with the index alone.
+const OF_INDEX: [(Field, u32, &str); 3] = [
+    (Field::Indexes, 16384, "16400:v:1+3+12"),
+    (Field::Of, 16400, "16384:1+3+12"),
+    (Field::Valid, 16400, "v"),
+];
+
+#[test]
+fn fields_of_a_foreign_key(rt: HostRuntime) -> Result<(), Fail> {
+    let rows = [foreign_key()?];
+    for (field, rel, want) in OF_KEY {
+        let text = field_text(rt.alloc(), field, Oid(rel), rows.as_slice())?;
+        assert_eq!(rt; text.as_slice(), want.as_bytes());
+    }
+    Ok(())
+}
+
+#[test]
+fn fields_of_an_index(rt: HostRuntime) -> Result<(), Fail> {
+    let rows = [index()];
+    for (field, rel, want) in OF_INDEX {
+        let text = field_text(rt.alloc(), field, Oid(rel), rows.as_slice())?;
+        assert_eq!(rt; text.as_slice(), want.as_bytes());
+    }
+    assert!(rt; matches!(index().catalog(), Catalog::Index));
     Ok(())
 }
 
