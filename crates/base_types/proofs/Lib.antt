@@ -5,3 +5,5 @@ pub mod Placing
 pub mod Joining
 pub mod DroppedNumbers
 pub mod SameScan
+pub mod ScanOrder
+pub mod InLine

@@ -1,5 +1,5 @@
 /// The types that a column may have.
-#[derive(Clone, Copy, Debug, PartialEq, Eq)]
+#[derive(Clone, Copy)]
 pub enum ColType {
     Bool,
     Int2,

@@ -1,5 +1,5 @@
 /// A field of a relation's descriptor. `Name` is a field of both kinds.
-#[derive(Clone, Copy, Debug, PartialEq, Eq)]
+#[derive(Clone, Copy)]
 pub enum Field {
     Name,
     Columns,

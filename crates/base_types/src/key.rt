@@ -6,7 +6,8 @@ use crate::{Name, Oid};
 use std::marker::Model;
 
 /// The catalog caches: relations by name, relations by oid, and columns by relation and name.
-#[derive(Clone, Copy, Debug, PartialEq, Eq)]
+// used by the catalog caches, which are not built yet
+#[derive(Clone, Copy)]
 pub enum CacheId {
     RelName,
     RelOid,
@@ -29,14 +30,15 @@ impl CacheId {
 }
 
 /// A part of a key.
-#[derive(Clone, Copy, Debug, PartialEq, Eq)]
+#[derive(Clone, Copy)]
 pub enum KeyPart {
     Oid(Oid),
     Name(Name),
 }
 
-/// A key of a catalog cache, or the front of one, of 1 to 4 parts kept in place.
-#[derive(Clone, Copy, Debug, PartialEq, Eq)]
+/// A key of a catalog cache, or a prefix of one, of 1 to 4 parts kept in place.
+// used by the catalog caches, which are not built yet
+#[derive(Clone, Copy)]
 pub struct Key {
     len: usize,
     parts: [KeyPart; 4],

@@ -1,5 +1,5 @@
 /// The eight lock modes of a relation in rising order (`src/include/storage/lockdefs.h`).
-#[derive(Clone, Copy, Debug, PartialEq, Eq)]
+#[derive(Clone, Copy)]
 pub enum Mode {
     AccessShare,
     RowShare,

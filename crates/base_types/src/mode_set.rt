@@ -6,7 +6,7 @@ use crate::lock_modes::is_among;
 use std::marker::Model;
 
 /// A set of lock modes, kept in place: contracts see its modes in rising order.
-#[derive(Clone, Copy, Debug, PartialEq, Eq)]
+#[derive(Clone, Copy)]
 pub struct ModeSet {
     len: usize,
     modes: [Mode; 8],

@@ -4,7 +4,7 @@ use crate::{LONGEST_TEXT, LineBuffer, MOST_COLUMNS, NameFault, ShortText};
 use std::marker::Model;
 
 /// A name of SQL, folded to small letters: 1 to 63 bytes, or the name that a dropped column has.
-#[derive(Clone, Copy, Debug, PartialEq, Eq)]
+#[derive(Clone, Copy)]
 pub struct Name {
     text: ShortText,
 }
@@ -27,7 +27,7 @@ impl Name {
     ghost use Rattle.std.specs.Prelude.{◌<◌};
     ghost use Rattle.base_types.specs.Names.{IsName, IsAnyName, IsDroppedName, dropped_name, name_fault as first_fault};
 
-    /// The name of these bytes: 1 to 63 small letters, digits and `_`, with no digit in front.
+    /// The name of these bytes: 1 to 63 small letters, digits and `_`, and no digit first.
     /// `Err` has the first fault.
     pub fn new(text: &[u8]) -> Result<Name, NameFault>
         ensures ok { IfOk result (λ name. (name ≡ text.now) × IsName text.now) }
@@ -80,7 +80,7 @@ impl Name {
 }
 
 /// The word of a column's default.
-#[derive(Clone, Copy, Debug, PartialEq, Eq)]
+#[derive(Clone, Copy)]
 pub struct Word {
     text: ShortText,
 }
@@ -127,7 +127,7 @@ impl Word {
 }
 
 /// The text of a check, without its blanks.
-#[derive(Clone, Copy, Debug, PartialEq, Eq)]
+#[derive(Clone, Copy)]
 pub struct Text {
     text: ShortText,
 }

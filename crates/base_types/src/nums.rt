@@ -7,7 +7,7 @@ use std::marker::Model;
 pub const MOST_INDEX_COLUMNS: usize = 32;
 
 /// The numbers of an index's columns, 1 to 32 of them, kept in place.
-#[derive(Clone, Copy, Debug, PartialEq, Eq)]
+#[derive(Clone, Copy)]
 pub struct Nums {
     len: usize,
     nums: [u32; MOST_INDEX_COLUMNS],

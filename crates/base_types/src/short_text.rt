@@ -7,7 +7,7 @@ use std::marker::Model;
 pub const LONGEST_TEXT: usize = 63;
 
 /// A text of at most 63 bytes, kept in place, so that it is `Copy` and takes no memory.
-#[derive(Clone, Copy, Debug, PartialEq, Eq)]
+#[derive(Clone, Copy)]
 pub struct ShortText {
     len: usize,
     bytes: [u8; LONGEST_TEXT],

@@ -1,7 +1,7 @@
 use base_types::{Listed, Mode, Name, Oid, Purpose, Row, RowKey, Xid};
 
 /// One change of a write.
-#[derive(Clone, Copy, Debug, PartialEq, Eq)]
+#[derive(Clone, Copy)]
 pub enum Item {
     /// A new row.
     Add(Row),
@@ -14,7 +14,7 @@ pub enum Item {
 }
 
 /// What a backend did.
-#[derive(Debug, Drop)]
+#[derive(Drop)]
 pub enum Event {
     /// It joined the queue (`SharedInvalBackendInit`).
     Start,
@@ -88,7 +88,7 @@ pub enum Event {
 }
 
 /// An entry of a history.
-#[derive(Debug, Drop)]
+#[derive(Drop)]
 pub struct Entry {
     /// The backend, 1 to 64.
     pub backend: u32,
@@ -98,7 +98,7 @@ pub struct Entry {
 }
 
 /// The answer line of a command.
-#[derive(Debug, Drop)]
+#[derive(Drop)]
 pub struct Line {
     /// The backend, 1 to 64.
     pub backend: u32,

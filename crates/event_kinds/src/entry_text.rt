@@ -4,7 +4,7 @@ ghost use Rattle.event_kinds.specs.Texts.{changes_text, entry_text};
 
 use crate::event_text::{changes_in, push_entry_head, push_item};
 use crate::{Entry, Item};
-use base_types::{LineBuffer, NoMemory};
+use base_types::{LineBuffer, NoMemory, add_text, whole_or_nothing};
 
 /// Adds the text of an entry to `out`, without the line's end; want of memory leaves `out` as it was.
 pub fn write_entry(entry: &Entry, out: &mut Vec<u8>) -> Result<(), NoMemory>
@@ -12,11 +12,8 @@ pub fn write_entry(entry: &Entry, out: &mut Vec<u8>) -> Result<(), NoMemory>
     ensures err { OnErr result (out.new.items ≡ out.old.items) }
 {
     let before = out.len();
-    let result = add_entry(entry, out);
-    if result.is_err() {
-        out.truncate(before);
-    }
-    result
+    let added = add_entry(entry, out);
+    whole_or_nothing(out, before, added)
 }
 
 // The text of an entry, or a front of it.
@@ -25,7 +22,7 @@ fn add_entry(entry: &Entry, out: &mut Vec<u8>) -> Result<(), NoMemory>
 {
     let mut head = LineBuffer::new();
     push_entry_head(&mut head, entry);
-    add(head.as_bytes(), out)?;
+    add_text(head.as_bytes(), out)?;
     add_changes(changes_in(&entry.event), out)
 }
 
@@ -37,15 +34,7 @@ fn add_changes(changes: &[Item], out: &mut Vec<u8>) -> Result<(), NoMemory>
         let mut line = LineBuffer::new();
         line.push(b" ");
         push_item(&mut line, change);
-        add(line.as_bytes(), out)?;
+        add_text(line.as_bytes(), out)?;
     }
-    Ok(())
-}
-
-// A text, or nothing.
-fn add(text: &[u8], out: &mut Vec<u8>) -> Result<(), NoMemory>
-    ensures { Adds out.old.items out.new.items result text.now }
-{
-    out.extend_from_slice(text)?;
     Ok(())
 }

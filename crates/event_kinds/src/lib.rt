@@ -48,6 +48,3 @@ pub use event_text::{
 pub use fault::EntryFault;
 pub use reading::{read_entry, texts_differ};
 pub use row_text::{push_key, push_row};
-
-#[cfg(test)]
-mod tests;

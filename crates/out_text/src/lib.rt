@@ -13,16 +13,11 @@
 //! `entry_text`, `line_text` and `answer_text`.
 #![tactic(auto)]
 
-mod answer;
-mod answer_line;
 mod entries;
 mod lines;
 mod output;
 
-pub use answer::answer_text;
 pub use entries::put_entry;
 pub use lines::put_line;
 pub use output::put_output;
-
-#[cfg(test)]
-mod tests;
+pub use rel_desc::answer_text;

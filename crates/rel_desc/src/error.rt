@@ -1,7 +1,7 @@
 use base_types::{Field, Mode, Name, Oid, Xid};
 
 /// Why a command failed. Each is an error of PostgreSQL, with its SQLSTATE in the text.
-#[derive(Clone, Copy, Debug, PartialEq, Eq)]
+#[derive(Clone, Copy)]
 pub enum CommandError {
     /// 25P02: the block has failed, and this command isn't one that ends or mends it.
     BlockFailed,

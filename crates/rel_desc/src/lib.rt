@@ -8,9 +8,12 @@
 #![tactic(auto)]
 
 mod answer;
+mod answer_parts;
 mod error;
+mod text;
 mod value;
 
 pub use answer::{Answer, Column, Shown};
+pub use text::answer_text;
 pub use error::CommandError;
 pub use value::Value;

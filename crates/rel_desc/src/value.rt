@@ -3,7 +3,7 @@ ghost use Rattle.std.specs.Prelude.{◌≡◌};
 use std::marker::Model;
 
 /// The text of one field of a relation.
-#[derive(Debug, Drop)]
+#[derive(Drop)]
 pub struct Value {
     text: Vec<u8>,
 }

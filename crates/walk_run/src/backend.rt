@@ -11,20 +11,19 @@ use base_types::{
     Xid, same_scan, table_scans,
 };
 use event_kinds::Line;
-use out_text::answer_text;
-use rel_desc::{Answer, CommandError};
+use rel_desc::{Answer, CommandError, answer_text};
 use script_text::Script;
 use std::alloc::Global;
 
 /// A relation that a lookup found.
-#[derive(Clone, Copy, Debug, PartialEq, Eq)]
+#[derive(Clone, Copy)]
 pub struct Found {
     pub rel: Oid,
     pub kind: Kind,
 }
 
 /// What a backend has done for its command at hand.
-#[derive(Clone, Copy, Debug)]
+#[derive(Clone, Copy)]
 pub enum Stage {
     /// It hasn't joined.
     Unstarted,

@@ -33,7 +33,7 @@ pub struct Segment {
 }
 
 /// How a lock request ended.
-#[derive(Clone, Copy, Debug, PartialEq, Eq)]
+#[derive(Clone, Copy)]
 pub enum Locked {
     Granted,
     /// The first other holder of a conflicting mode, and that mode.

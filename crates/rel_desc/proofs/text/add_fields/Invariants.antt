@@ -1,0 +1,6 @@
+use Rattle.std.proofs.Common.{◌≡◌, ◌++◌, take}
+use Rattle.rel_desc.specs.Answers.{shown_list}
+use Rattle.rel_desc.proofs.text.add_fields.Given as goal
+
+abbrev pub invariant-loop-shown : goal.invariant-loop-shown
+invariant-loop-shown l = l.out.items ≡ l.fn.out.items ++ shown_list (take l.shown-index l.fields)
