@@ -45,7 +45,7 @@ fn is_built_command(alloc: Global, command: &Command) -> Result<bool, NoMemory>
 
 // The columns are at most 1,600, with names of their own.
 fn are_columns(alloc: Global, columns: &[NewColumn]) -> Result<bool, NoMemory>
-    ensures { IfOk result (λ built. built ≡ nat_le (length columns.now) 1600 && names_differ (map (λ c. c.name) columns.now)) }
+    ensures { IfOk result (λ built. built ≡ nat_le (length columns.now) MOST_COLUMNS && names_differ (map (λ c. c.name) columns.now)) }
 {
     if columns.len() > MOST_COLUMNS as usize {
         return Ok(false);

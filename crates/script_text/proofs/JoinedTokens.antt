@@ -1,4 +1,4 @@
--- The tokens of texts that stand one behind the other.
+-- The tokens of texts one after the other.
 use Rattle.std.proofs.Common.{◌≡◌, ◌≤◌, ◌-◌, ℕ, suc, Bool, true, false, not, ◌&&◌, cond, inl, inr, List, [], ◌∷◌, ◌++◌, length, get_or, refl, sym, ap, ◌∙◌, append_assoc, append-nil, arith}
 use Rattle.std.specs.List.{AllByRecursion, flat_map}
 use Rattle.std.proofs.lemmas.Bool.{and_cases, and_left, and_right, not-false, cond_both}
@@ -7,9 +7,9 @@ use Rattle.script_text.specs.TextLines.{is_blank, with_byte}
 use Rattle.script_text.specs.Tokens.{tokens, in_word, goes_on}
 use Rattle.script_text.specs.Spelling.{takes_none_after, takes_none_before, needs_blank, with_piece, with_pieces}
 use Rattle.script_text.proofs.Clean.{is_clean, IsClean, IsPiece}
-use Rattle.script_text.proofs.Splitting.{no_blank}
+use Rattle.script_text.proofs.TokenLengths.{no_blank}
 
--- a word goes on from a text into the one behind it
+-- a word goes on from a text into the one after it
 abbrev pub joins : List ℕ → List ℕ → Bool
 joins [] b = false
 joins (x ∷ []) b = in_word x && goes_on b
@@ -43,13 +43,13 @@ some_tokens x a word =
     rw (word, no_blank x word) (cond_both (goes_on a) (with_byte x (tokens a)) ((x ∷ []) ∷ tokens a) (λ ts. 1 ≤ length ts) (λ more. with_byte_some x (tokens a)) (λ last. omega arith))
 
 -- the tokens of two texts are those of the one and of the other, where no word goes on
-pub parted : (a b : List ℕ) → joins a b ≡ false → tokens (a ++ b) ≡ tokens a ++ tokens b
+parted : (a b : List ℕ) → joins a b ≡ false → tokens (a ++ b) ≡ tokens a ++ tokens b
 unfolding tokens
 parted [] b h = refl
 parted (x ∷ []) b h = last_by x (tokens b) (is_blank x) (in_word x) (goes_on b) h
 parted (x ∷ y ∷ a) b h = more_by x (tokens (y ∷ a)) (tokens b) (tokens (y ∷ a ++ b)) (is_blank x) (in_word x) (in_word y) (parted (y ∷ a) b h) (some_tokens y a)
 
--- the last byte of a text, and LF where it has none
+-- the last byte of a text, and a line feed where it has none
 abbrev pub ending : List ℕ → ℕ
 ending [] = 10
 ending (x ∷ []) = x
@@ -66,7 +66,7 @@ joins_not (x ∷ []) b h = h
 joins_not (x ∷ y ∷ a) b h = joins_not (y ∷ a) b h
 
 -- the tokens of two texts with a blank between them
-pub over_blank : (a b : List ℕ) → tokens (a ++ 32 ∷ b) ≡ tokens a ++ tokens b
+over_blank : (a b : List ℕ) → tokens (a ++ 32 ∷ b) ≡ tokens a ++ tokens b
 unfolding tokens
 over_blank a b = parted a (32 ∷ b) (joins_not a (32 ∷ b) (and_right (in_word (ending a)) false refl))
 
@@ -81,7 +81,7 @@ behind_mark b clean mark = grind (arith, nat_tests)
 before_mark : (b : ℕ) → is_clean b ≡ true → takes_none_before b ≡ true → in_word b ≡ false
 before_mark b clean mark = grind (arith, nat_tests)
 
--- where no blank stands between clean bytes, no word goes on
+-- where no blank is between clean bytes, no word goes on
 apart : (a b : ℕ) → is_clean a ≡ true → is_clean b ≡ true → not (takes_none_after a) && not (takes_none_before b) ≡ false → in_word a && in_word b ≡ false
 apart a b clean_a clean_b h = elim (and_cases (not (takes_none_after a)) (not (takes_none_before b)) h) [
   | inl mark ↦ and_left (in_word a) (in_word b) (behind_mark a clean_a (not-false (takes_none_after a) mark))
@@ -96,7 +96,7 @@ piece_by text (y ∷ ys) false e some clean h =
     let none : not (takes_none_after (ending text)) && not (takes_none_before y) ≡ false = rw (ending_is text) at e in
     rw e (parted text (y ∷ ys) (joins_not text (y ∷ ys) (apart (ending text) y (clean_ending text some clean) h.1.0 none)))
 
--- the tokens of a text with a piece behind it
+-- the tokens of a text with a piece after it
 piece_tokens : (text piece : List ℕ) → IsClean text → IsPiece piece → tokens (with_piece text piece) ≡ tokens text ++ tokens piece
 unfolding with_piece tokens
 piece_tokens [] piece clean h = refl
@@ -110,7 +110,7 @@ with_clean : (text piece : List ℕ) → IsClean text → IsClean piece → IsCl
 unfolding with_piece
 with_clean text piece h k = cond_both (needs_blank text piece) (text ++ 32 ∷ [] ++ piece) (text ++ piece) IsClean (λ blank. both_clean (text ++ 32 ∷ []) piece (both_clean text (32 ∷ []) h (refl, tt)) k) (λ none. both_clean text piece h k)
 
--- a text with pieces behind it is clean, and has the tokens of each
+-- a text with pieces after it is clean, and has the tokens of each
 pub pieces_clean : (text : List ℕ) (pieces : List (List ℕ)) → IsClean text → AllByRecursion IsPiece pieces → IsClean (with_pieces text pieces)
 pieces_clean text [] clean h = clean
 pieces_clean text (p ∷ ps) clean h = pieces_clean (with_piece text p) ps (with_clean text p clean h.0.1) h.1

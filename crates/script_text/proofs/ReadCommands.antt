@@ -10,12 +10,12 @@ use Rattle.std.proofs.Math.Nat.{pow-le-pow_right}
 use Rattle.base_types.specs.Names.{IsName, IsWord, IsText, is_digit, number_of_digits, is_word_byte, is_text_byte, name_fault, short_fault}
 use Rattle.base_types.specs.Commands.{IsCommand, IsShortNumber, IsNonEmpty}
 use Rattle.base_types.specs.declared.command.Command.{Command}
-use Rattle.base_types.specs.declared.command.Command.TheVariants.{Begin, Commit, Rollback, Savepoint, Release, RollbackTo, Show, Columns, Column, Peek, OpenRel, CloseRel, DropTable, DropIndex, RenameTable, DropColumn, ValidateConstraint, DropConstraint}
+use Rattle.base_types.specs.declared.command.Command.TheVariants.{Begin, Commit, Rollback, Savepoint, Release, RollbackTo, Show, Columns, Column, Peek, OpenRel, CloseRel, DropTable, DropIndex, RenameTable, DropColumn, ValidateConstraint, DropConstraint, SetTrigger, CreateTrigger, RenameIndex}
 use Rattle.base_types.specs.declared.command.NewColumn.{NewColumn}
 use Rattle.script_text.specs.Tokens.{◌>>=◌, said, taken, after, is_end, ends, done}
 use Rattle.script_text.specs.Operands.{number_of, stat_of, if_none, plain_name_of, word_of, check_text_of, type_of}
-use Rattle.script_text.specs.Commands.{name_after, one_name, names_after, two_names, optional_field, shown_after, bare_command, savepoint_command, name_command, show_command, table_command, enable_command, disable_command, create_trigger_command, rename_index_command, pair_command, regclass_command, lock_mode, lock_command, add_column_command, rename_column_command, default_command, statistics_command, fillfactor_command, enclosed, enclosed_text, validity, check_part, check_command, referred_part, key_part, foreign_command, items_after, columns_at, enclosed_columns, create_table_command, names_at, enclosed_names, create_index_command, short_command, alter_command, long_command, command_of}
-use Rattle.script_text.proofs.Numbers.{few_digits, at_most}
+use Rattle.script_text.specs.Commands.{name_after, one_name, names_after, two_names, optional_field, shown_after, bare_command, savepoint_command, name_command, show_command, table_command, pair_command, regclass_command, lock_mode, lock_command, add_column_command, rename_column_command, default_command, statistics_command, fillfactor_command, enclosed, enclosed_text, validity, check_part, check_command, referred_part, key_part, foreign_command, items_after, columns_at, enclosed_columns, create_table_command, names_at, enclosed_names, create_index_command, short_command, alter_command, long_command}
+use Rattle.script_text.proofs.DigitBounds.{few_digits, at_most}
 
 -- what holds of all that a reading gives
 record Gives {A : Type 0} (read : Option A) (P : A → Type 0) : Type 0 where
@@ -104,7 +104,7 @@ unfolding stat_of
 stat_read [] = nothing _
 stat_read (byte ∷ bytes) = stat_by (byte ∷ bytes) bytes (byte == 45)
 
--- the token behind words
+-- the token after words
 taken_read : {X : Type 0} (of : List ℕ → Option X) (P : X → Type 0) → ((text : List ℕ) → Gives (of text) P) → (ts : List (List ℕ)) → Gives (taken of ts) (λ r. P r.0)
 taken_read of P each [] = nothing _
 taken_read of P each (t ∷ ts) = mapped (λ x. (x, ts)) (λ r. P r.0) (each t) (λ x h. h)
@@ -183,12 +183,12 @@ table_read ts =
     (of_two (codes "alter table") (codes "drop constraint") (λ n. DropConstraint n.0 n.1) ts (λ n h. h)))))
 
 pair_read : (ts : List (List ℕ)) → Gives (pair_command ts) IsCommand
-unfolding pair_command enable_command disable_command create_trigger_command rename_index_command
+unfolding pair_command
 pair_read ts =
-    either (then_from (two_read (codes "alter table") (codes "enable trigger") ts) (λ n h. given _ IsCommand h))
-    (either (then_from (two_read (codes "alter table") (codes "disable trigger") ts) (λ n h. given _ IsCommand h))
-    (either (then_from (two_read (codes "create trigger") (codes "on") ts) (λ n h. given _ IsCommand (h.1, h.0)))
-    (then_from (two_read (codes "alter index") (codes "rename to") ts) (λ n h. given _ IsCommand h))))
+    either (of_two (codes "alter table") (codes "enable trigger") (λ n. SetTrigger n.0 n.1 true) ts (λ n h. h))
+    (either (of_two (codes "alter table") (codes "disable trigger") (λ n. SetTrigger n.0 n.1 false) ts (λ n h. h))
+    (either (of_two (codes "create trigger") (codes "on") (λ n. CreateTrigger n.1 n.0) ts (λ n h. (h.1, h.0)))
+    (of_two (codes "alter index") (codes "rename to") (λ n. RenameIndex n.0 n.1) ts (λ n h. h))))
 
 regclass_read : (ts : List (List ℕ)) → Gives (regclass_command ts) IsCommand
 unfolding regclass_command
@@ -290,15 +290,7 @@ long_read : (ts : List (List ℕ)) → Gives (long_command ts) IsCommand
 unfolding long_command
 long_read ts = either (create_table_read ts) (create_index_read ts)
 
-command_read : (ts : List (List ℕ)) → Gives (command_of ts) IsCommand
-unfolding command_of
-command_read ts = either (short_read ts) (either (alter_read ts) (long_read ts))
-
--- what is read of tokens is a command that a script may hold
-pub is_command : (ts : List (List ℕ)) (c : Command) → command_of ts ≡ Some c → IsCommand c
-is_command ts c same = (command_read ts).each c same
-
--- the same of what the three groups of commands give
+-- what the three groups of commands give is a command that a script may hold
 pub short_made : (ts : List (List ℕ)) (c : Command) → short_command ts ≡ Some c → IsCommand c
 short_made ts c same = (short_read ts).each c same
 

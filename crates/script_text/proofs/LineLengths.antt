@@ -1,8 +1,8 @@
--- A text's lines, taken from the front by lengths, and which of them count.
+-- A text's lines, taken one after the other by their lengths, and which of them count.
 use Rattle.std.proofs.Common.{◌≡◌, ◌<◌, ℕ, suc, Bool, true, false, ◌==◌, List, [], ◌∷◌, length, take, drop, refl, ap, ◌∙◌, arith}
 use Rattle.std.specs.List.{prefix_len}
 use Rattle.script_text.specs.TextLines.{is_blank, with_byte, text_lines, line_len, counts, rest_counts}
-use Rattle.script_text.proofs.Splitting.{passes, fails}
+use Rattle.script_text.proofs.TokenLengths.{passes, fails}
 
 at_lf : (b : ℕ) (bs : List ℕ) → (b == 10) ≡ true → text_lines (b ∷ bs) ≡ take (line_len (b ∷ bs)) (b ∷ bs) ∷ text_lines (drop (line_len (b ∷ bs)) (b ∷ bs))
 unfolding text_lines
@@ -42,7 +42,7 @@ unfolding counts
 count_by b bs true e h = rw (passes is_blank b bs e) (rw e h)
 count_by b bs false e h = rw (fails is_blank b bs e) (rw e refl)
 
--- whether a line counts is seen behind its blanks
+-- whether a line counts is seen after its blanks
 pub counts_after_blanks : (line : List ℕ) → counts line ≡ rest_counts (drop (prefix_len is_blank line) line)
 unfolding counts
 counts_after_blanks [] = refl

@@ -8,11 +8,11 @@ use Rattle.script_text.specs.Tokens.{◌>>=◌}
 use Rattle.script_text.specs.Operands.{check_text_of}
 use Rattle.script_text.specs.Commands.{enclosed, enclosed_text}
 
--- the items so far, and those that are read yet
+-- the items so far, and those that are still to be read
 abbrev pub with_items : {X : Type 0} → List X → Option (List X) → Option (List X)
 with_items front read = option_map (λ xs. front ++ xs) read
 
--- the text so far, and what is read yet
+-- the text so far, and what is still to be read
 abbrev pub with_text : List ℕ → Option (List ℕ × List (List ℕ)) → Option (List ℕ × List (List ℕ))
 with_text front read = option_map (λ x. (front ++ x.0, x.1)) read
 

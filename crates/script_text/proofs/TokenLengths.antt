@@ -1,4 +1,4 @@
--- A line's tokens, taken from the front by lengths.
+-- A line's tokens, taken one after the other by their lengths.
 use Rattle.std.proofs.Common.{◌≡◌, ◌<◌, ℕ, suc, Bool, true, false, not, ◌||◌, ◌==◌, List, [], ◌∷◌, length, get_or, take, drop, refl, arith}
 use Rattle.std.specs.List.{prefix_len}
 use Rattle.std.proofs.lemmas.Bool.Decides.{nat_tests}
@@ -18,7 +18,7 @@ unfolding tokens
 skip_by b bs true e h = rw (passes is_blank b bs e) (rw e h)
 skip_by b bs false e h = rw (fails is_blank b bs e) (refl, e)
 
--- without the blanks in front the tokens are the same
+-- without the blanks before the first token the tokens are the same
 pub skips : (line : List ℕ) → (tokens (drop (prefix_len is_blank line) line) ≡ tokens line) × StartsToken (drop (prefix_len is_blank line) line)
 skips [] = (refl, tt)
 skips (b ∷ bs) = skip_by b bs (is_blank b) refl (skips bs)
@@ -41,17 +41,17 @@ unfolding tokens
 word_by b bs true e word h = rw (passes in_word b bs word, word, no_blank b word, e, h e) refl
 word_by b bs false e word h = rw (passes in_word b bs word, word, no_blank b word, e, stopped bs e) refl
 
--- a longer token in front
-pub word_first : (line : List ℕ) → goes_on line ≡ true → tokens line ≡ take (prefix_len in_word line) line ∷ tokens (drop (prefix_len in_word line) line)
+-- a line that begins with a longer token
+word_first : (line : List ℕ) → goes_on line ≡ true → tokens line ≡ take (prefix_len in_word line) line ∷ tokens (drop (prefix_len in_word line) line)
 word_first [] e = cc
 word_first (b ∷ bs) e = word_by b bs (goes_on bs) refl e (word_first bs)
 
--- a mark in front
-pub mark_first : (b : ℕ) (bs : List ℕ) → is_blank b ≡ false → in_word b ≡ false → tokens (b ∷ bs) ≡ (b ∷ []) ∷ tokens bs
+-- a line that begins with a mark
+mark_first : (b : ℕ) (bs : List ℕ) → is_blank b ≡ false → in_word b ≡ false → tokens (b ∷ bs) ≡ (b ∷ []) ∷ tokens bs
 unfolding tokens
 mark_first b bs blank word = rw (word, blank) refl
 
--- the token in front by its first byte, of several bytes or of one
+-- the first token by its first byte, of several bytes or of one
 pub word_token : (line : List ℕ) → 0 < length line → in_word (get_or line 0 0) ≡ true → tokens line ≡ take (prefix_len in_word line) line ∷ tokens (drop (prefix_len in_word line) line)
 word_token [] some e = absurd (omega arith)
 word_token (b ∷ bs) some e = word_first (b ∷ bs) e

@@ -5,9 +5,9 @@ use Rattle.base_types.specs.declared.command.Turns.{Turns}
 use Rattle.script_text.specs.Tokens.{◌>>=◌}
 use Rattle.script_text.specs.LineForms.{all_turns, with_turns, backend_of, count_of, count_part, is_times, none_left, NextTurns}
 use Rattle.std.proofs.lemmas.List.{append-nil}
-use Rattle.script_text.proofs.Listing.{with_items}
+use Rattle.script_text.proofs.ItemByItem.{with_items}
 
--- an item in front of what reads the others
+-- an item, and then what reads the others
 abbrev pub item_then : Option ℕ → Option (ℕ × List (List ℕ)) → (List (List ℕ) → Option (List Turns)) → Option (List Turns)
 item_then backend count others = backend >>= λ b. count >>= λ c. option_map (λ turns. record { backend = b; count = c.0 } ∷ turns) (others c.1)
 

@@ -7,7 +7,7 @@ use Rattle.base_types.specs.Scenario.{Scenario, IsBackend, AreTurns}
 use Rattle.script_text.specs.Grammar.{empty_draft}
 use Rattle.script_text.specs.Drafts.{IsDraft, IsCounted}
 
-pub each_weaker : {X : Type 0} (P Q : X → Type 0) (xs : List X) → ((x : X) → P x → Q x) → AllByRecursion P xs → AllByRecursion Q xs
+each_weaker : {X : Type 0} (P Q : X → Type 0) (xs : List X) → ((x : X) → P x → Q x) → AllByRecursion P xs → AllByRecursion Q xs
 each_weaker P Q [] f h = tt
 each_weaker P Q (x ∷ xs) f h = (f x h.0, each_weaker P Q xs f h.1)
 

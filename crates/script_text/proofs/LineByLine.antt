@@ -7,9 +7,9 @@ use Rattle.script_text.specs.Grammar.{Draft, Reading, any_line, place_after, sto
 use Rattle.script_text.specs.declared.fault.LineFault.{LineFault}
 use Rattle.script_text.specs.declared.fault.LineFault.TheVariants.{Breaks, NoMemory}
 use Rattle.script_text.specs.Drafts.{Takes, Reads, fault_at}
-use Rattle.script_text.proofs.Splitting.{is_zero}
+use Rattle.script_text.proofs.TokenLengths.{is_zero}
 
-pub faulty : (rest : Rest) (draft : Draft) (number place : ℕ) (text line : List ℕ) (others : List (List ℕ)) (cause : ScriptCause) (whole : Result Reading (ℕ × ScriptCause)) → text_lines text ≡ line ∷ others → any_line draft line ≡ Err cause
+faulty : (rest : Rest) (draft : Draft) (number place : ℕ) (text line : List ℕ) (others : List (List ℕ)) (cause : ScriptCause) (whole : Result Reading (ℕ × ScriptCause)) → text_lines text ≡ line ∷ others → any_line draft line ≡ Err cause
     → lines_from rest draft number place (text_lines text) ≡ whole → whole ≡ Err (number, cause)
 unfolding lines_from
 faulty rest draft number place text line others cause whole first fault so_far =
