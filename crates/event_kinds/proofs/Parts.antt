@@ -1,4 +1,4 @@
--- The single values of a line as parts, and parts with a comma, a parenthesis or a blank behind them.
+-- The single values of a line as parts, and parts with a comma, a parenthesis or a blank after them.
 use Rattle.std.proofs.Common.{◌≡◌, ℕ, ℤ, Bool, List, ◌++◌, Option, sym, ap, codes, decimal}
 use Rattle.std.specs.Prelude.{FitsSigned}
 use Rattle.std.specs.Int.{w32}

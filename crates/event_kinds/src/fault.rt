@@ -9,7 +9,7 @@ use std::fmt;
 pub enum EntryFault {
     /// No entry has this text.
     Bad,
-    /// Memory was refused.
+    /// Out of memory.
     NoMemory,
 }
 

@@ -1,14 +1,16 @@
 ghost use Rattle.std.specs.Prelude.{◌≡◌, ◌≤◌, ◌+◌, ◌++◌, length, codes, decimal, Some};
 ghost use Rattle.std.specs.Fmt.{signed_decimal};
+ghost use Rattle.base_types.specs.Names.{IsInLine};
 ghost use Rattle.base_types.specs.Words.{mode_word, field_word};
-ghost use Rattle.rel_desc.specs.Answers.{relation_word, column_text, as_of_text, regclass_text, error_text};
+ghost use Rattle.base_types.specs.declared.line_buffer.TheConstants.{LINE_ROOM};
+ghost use Rattle.rel_desc.specs.Answers.{relation_word, column_text, as_of_text, regclass_text, error_name, error_text};
 
 use crate::{Column, CommandError};
 use base_types::{Field, Kind, LineBuffer, Mode, Name, Oid, Xid};
 
-/// Adds the word and the number of a relation.
-pub fn push_relation(line: &mut LineBuffer, kind: Kind, rel: Oid)
-    requires { length line.old + 16 ≤ 512 }
+// Adds the word and the number of a relation.
+pub(crate) fn push_relation(line: &mut LineBuffer, kind: Kind, rel: Oid)
+    requires { length line.old + 16 ≤ LINE_ROOM }
     ensures text { line.new ≡ line.old ++ (relation_word kind ++ decimal rel.0) }
     ensures short { length line.new ≤ length line.old + 16 }
 {
@@ -19,20 +21,22 @@ pub fn push_relation(line: &mut LineBuffer, kind: Kind, rel: Oid)
     line.push_number(rel.0);
 }
 
-/// Adds a column of a list.
-pub fn push_column(line: &mut LineBuffer, column: &Column)
-    requires { length line.old + 80 ≤ 512 }
+// Adds a column of a list.
+#[tactic(auto, using(base_types::proofs::InLine::name_in_line))]
+pub(crate) fn push_column(line: &mut LineBuffer, column: &Column)
+    requires { length line.old + 80 ≤ LINE_ROOM }
     ensures text { line.new ≡ line.old ++ column_text column.now }
     ensures short { length line.new ≤ length line.old + 80 }
+    ensures in_line { IsInLine column.now.name }
 {
     line.push(column.name.as_bytes());
     line.push(b":");
     line.push(column.col_type.word());
 }
 
-/// Adds where a value was read, if others may change it.
-pub fn push_as_of(line: &mut LineBuffer, at: Option<u64>)
-    requires { length line.old + 27 ≤ 512 }
+// Adds where a value was read, if others may change it.
+pub(crate) fn push_as_of(line: &mut LineBuffer, at: Option<u64>)
+    requires { length line.old + 27 ≤ LINE_ROOM }
     ensures text { line.new ≡ line.old ++ as_of_text at }
     ensures short { length line.new ≤ length line.old + 27 }
 {
@@ -42,11 +46,12 @@ pub fn push_as_of(line: &mut LineBuffer, at: Option<u64>)
     }
 }
 
-/// Adds the name of an oid, or that there is none.
-pub fn push_regclass(line: &mut LineBuffer, rel: Oid, name: &Option<Name>)
-    requires { length line.old + 63 ≤ 512 }
+// Adds the name of an oid, or that there is none.
+pub(crate) fn push_regclass(line: &mut LineBuffer, rel: Oid, name: &Option<Name>)
+    requires { length line.old + 63 ≤ LINE_ROOM }
     ensures text { line.new ≡ line.old ++ regclass_text rel name.now }
     ensures short { length line.new ≤ length line.old + 63 }
+    ensures in_line { IsInLine (regclass_text rel name.now) }
 {
     match name {
         None => {
@@ -57,11 +62,12 @@ pub fn push_regclass(line: &mut LineBuffer, rel: Oid, name: &Option<Name>)
     }
 }
 
-/// Adds the SQLSTATE of an error and what is wrong.
-pub fn push_error(line: &mut LineBuffer, error: &CommandError)
-    requires { length line.old + 200 ≤ 512 }
+// Adds the SQLSTATE of an error and what is wrong.
+pub(crate) fn push_error(line: &mut LineBuffer, error: &CommandError)
+    requires { length line.old + 200 ≤ LINE_ROOM }
     ensures text { line.new ≡ line.old ++ error_text error.now }
     ensures short { length line.new ≤ length line.old + 200 }
+    ensures in_line { IsInLine (error_name error.now) }
 {
     match error {
         CommandError::BlockFailed => line.push(b"25P02 the transaction block has failed"),
@@ -93,29 +99,32 @@ pub fn push_error(line: &mut LineBuffer, error: &CommandError)
 
 // Nothing has a name.
 fn push_absent(line: &mut LineBuffer, before: &[u8], name: &Name)
-    requires room { length line.old + 150 ≤ 512 }
+    requires room { length line.old + 150 ≤ LINE_ROOM }
     requires before { length before.now ≤ 40 }
     ensures text { line.new ≡ line.old ++ (before.now ++ name.now ++ codes " does not exist") }
     ensures short { length line.new ≤ length line.old + 150 }
+    ensures in_line { IsInLine name.now }
 {
     push_around(line, before, name, b" does not exist");
 }
 
 // Something has a name.
 fn push_present(line: &mut LineBuffer, before: &[u8], name: &Name)
-    requires room { length line.old + 150 ≤ 512 }
+    requires room { length line.old + 150 ≤ LINE_ROOM }
     requires before { length before.now ≤ 40 }
     ensures text { line.new ≡ line.old ++ (before.now ++ name.now ++ codes " already exists") }
     ensures short { length line.new ≤ length line.old + 150 }
+    ensures in_line { IsInLine name.now }
 {
     push_around(line, before, name, b" already exists");
 }
 
 // A column is in use.
 fn push_column_used(line: &mut LineBuffer, name: &Name)
-    requires { length line.old + 150 ≤ 512 }
+    requires { length line.old + 150 ≤ LINE_ROOM }
     ensures text { line.new ≡ line.old ++ (codes "0A000 column " ++ name.now ++ codes " is used by an index or constraint") }
     ensures short { length line.new ≤ length line.old + 150 }
+    ensures in_line { IsInLine name.now }
 {
     push_around(
         line,
@@ -127,7 +136,7 @@ fn push_column_used(line: &mut LineBuffer, name: &Name)
 
 // A relation is open in the session.
 fn push_open(line: &mut LineBuffer, rel: Oid)
-    requires { length line.old + 90 ≤ 512 }
+    requires { length line.old + 90 ≤ LINE_ROOM }
     ensures text { line.new ≡ line.old ++ (codes "55006 relation " ++ decimal rel.0 ++ codes " is open in this session") }
     ensures short { length line.new ≤ length line.old + 90 }
 {
@@ -136,7 +145,7 @@ fn push_open(line: &mut LineBuffer, rel: Oid)
 
 // A number is out of range.
 fn push_out_of_range(line: &mut LineBuffer, value: &i64)
-    requires { length line.old + 100 ≤ 512 }
+    requires { length line.old + 100 ≤ LINE_ROOM }
     ensures text { line.new ≡ line.old ++ (codes "22023 value " ++ signed_decimal value.now ++ codes " is out of range") }
     ensures short { length line.new ≤ length line.old + 100 }
 {
@@ -144,12 +153,14 @@ fn push_out_of_range(line: &mut LineBuffer, value: &i64)
 }
 
 // A name between two texts.
+#[tactic(auto, using(base_types::proofs::InLine::name_in_line))]
 fn push_around(line: &mut LineBuffer, before: &[u8], name: &Name, after: &[u8])
-    requires room { length line.old + 150 ≤ 512 }
+    requires room { length line.old + 150 ≤ LINE_ROOM }
     requires before { length before.now ≤ 40 }
     requires after { length after.now ≤ 40 }
     ensures text { line.new ≡ line.old ++ (before.now ++ name.now ++ after.now) }
     ensures short { length line.new ≤ length line.old + 150 }
+    ensures in_line { IsInLine name.now }
 {
     line.push(before);
     line.push(name.as_bytes());
@@ -158,7 +169,7 @@ fn push_around(line: &mut LineBuffer, before: &[u8], name: &Name, after: &[u8])
 
 // Another backend holds a relation.
 fn push_locked(line: &mut LineBuffer, rel: Oid, holder: u32, mode: Mode)
-    requires { length line.old + 110 ≤ 512 }
+    requires { length line.old + 110 ≤ LINE_ROOM }
     ensures text { line.new ≡ line.old ++ (codes "55P03 relation " ++ decimal rel.0 ++ codes " is locked by backend " ++ decimal holder ++ codes " in " ++ mode_word mode) }
     ensures short { length line.new ≤ length line.old + 110 }
 {
@@ -170,9 +181,10 @@ fn push_locked(line: &mut LineBuffer, rel: Oid, holder: u32, mode: Mode)
 
 // A relation has no such field.
 fn push_no_field(line: &mut LineBuffer, name: &Name, field: Field)
-    requires { length line.old + 170 ≤ 512 }
+    requires { length line.old + 170 ≤ LINE_ROOM }
     ensures text { line.new ≡ line.old ++ (codes "42809 " ++ name.now ++ codes " has no field " ++ field_word field) }
     ensures short { length line.new ≤ length line.old + 170 }
+    ensures in_line { IsInLine name.now }
 {
     push_around(line, b"42809 ", name, b" has no field ");
     line.push(field.word());
@@ -180,10 +192,11 @@ fn push_no_field(line: &mut LineBuffer, name: &Name, field: Field)
 
 // No relation or index has a name, and where that was read.
 fn push_missing(line: &mut LineBuffer, before: &[u8], name: &Name, at: u64)
-    requires room { length line.old + 180 ≤ 512 }
+    requires room { length line.old + 180 ≤ LINE_ROOM }
     requires before { length before.now ≤ 40 }
     ensures text { line.new ≡ line.old ++ (before.now ++ name.now ++ codes " does not exist" ++ as_of_text (Some at)) }
     ensures short { length line.new ≤ length line.old + 180 }
+    ensures in_line { IsInLine name.now }
 {
     push_around(line, before, name, b" does not exist");
     push_as_of(line, Some(at));
@@ -191,9 +204,10 @@ fn push_missing(line: &mut LineBuffer, before: &[u8], name: &Name, at: u64)
 
 // A name is in use by a transaction.
 fn push_in_use(line: &mut LineBuffer, name: &Name, xid: Xid)
-    requires { length line.old + 160 ≤ 512 }
+    requires { length line.old + 160 ≤ LINE_ROOM }
     ensures text { line.new ≡ line.old ++ (codes "55P03 name " ++ name.now ++ codes " is in use by transaction " ++ decimal xid.0) }
     ensures short { length line.new ≤ length line.old + 160 }
+    ensures in_line { IsInLine name.now }
 {
     push_around(line, b"55P03 name ", name, b" is in use by transaction ");
     line.push_number(xid.0);
@@ -201,7 +215,7 @@ fn push_in_use(line: &mut LineBuffer, name: &Name, xid: Xid)
 
 // A number between two texts.
 fn push_between(line: &mut LineBuffer, before: &[u8], number: u32, after: &[u8])
-    requires room { length line.old + 90 ≤ 512 }
+    requires room { length line.old + 90 ≤ LINE_ROOM }
     requires before { length before.now ≤ 40 }
     requires after { length after.now ≤ 40 }
     ensures text { line.new ≡ line.old ++ (before.now ++ decimal number ++ after.now) }
@@ -213,10 +227,12 @@ fn push_between(line: &mut LineBuffer, before: &[u8], number: u32, after: &[u8])
 }
 
 // Other objects depend on a relation.
+#[tactic(auto, using(base_types::proofs::InLine::name_in_line))]
 fn push_depends(line: &mut LineBuffer, name: &Name)
-    requires { length line.old + 110 ≤ 512 }
+    requires { length line.old + 110 ≤ LINE_ROOM }
     ensures text { line.new ≡ line.old ++ (codes "2BP01 other objects depend on relation " ++ name.now) }
     ensures short { length line.new ≤ length line.old + 110 }
+    ensures in_line { IsInLine name.now }
 {
     line.push(b"2BP01 other objects depend on relation ");
     line.push(name.as_bytes());
@@ -224,7 +240,7 @@ fn push_depends(line: &mut LineBuffer, name: &Name)
 
 // A number that may be below 0 between two texts.
 fn push_signed_between(line: &mut LineBuffer, before: &[u8], number: &i64, after: &[u8])
-    requires room { length line.old + 100 ≤ 512 }
+    requires room { length line.old + 100 ≤ LINE_ROOM }
     requires before { length before.now ≤ 40 }
     requires after { length after.now ≤ 40 }
     ensures text { line.new ≡ line.old ++ (before.now ++ signed_decimal number.now ++ after.now) }
