@@ -16,7 +16,7 @@ use Rattle.base_types.specs.declared.col_type.ColType.{ColType}
 use Rattle.base_types.specs.declared.col_type.ColType.TheVariants as types
 use Rattle.base_types.specs.declared.field.Field.{Field}
 use Rattle.base_types.specs.declared.field.Field.TheVariants as fields
-use Rattle.script_text.specs.Tokens.{tokens, after_words, is_end}
+use Rattle.script_text.specs.Tokens.{tokens, is_end}
 use Rattle.script_text.specs.Operands.{if_none, plain_name_of, word_of, check_text_of, type_of, field_of, lock_words}
 use Rattle.script_text.specs.Commands.{columns_at, names_at, command_of}
 use Rattle.script_text.specs.Spelling.{command_pieces, column_pieces, name_pieces, valid_pieces, shown_pieces, trigger_words, listed}

@@ -1,5 +1,5 @@
 -- The number that digits write is below the power of ten of their count.
-use Rattle.std.proofs.Common.{◌≡◌, ◌<◌, ◌≤◌, ℕ, true, false, ◌+◌, ◌-◌, ◌*◌, ◌^◌, ◌&&◌, nat_lt, fold, Option, Some, None, IfSome, IfNone, List, [], ◌∷◌, length, refl, ap, arith}
+use Rattle.std.proofs.Common.{◌≡◌, ◌<◌, ◌≤◌, ℕ, true, false, ◌+◌, ◌-◌, ◌*◌, ◌^◌, nat_lt, fold, Option, Some, None, IfSome, IfNone, List, [], ◌∷◌, length, ap, arith}
 use Rattle.std.specs.List.{list_all}
 use Rattle.std.proofs.lemmas.Bool.{and_parts}
 use Rattle.std.proofs.lemmas.Bool.Decides.{nat_tests}

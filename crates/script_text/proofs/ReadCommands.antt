@@ -1,12 +1,10 @@
 -- What is read of tokens is a command that a script may hold.
-use Rattle.std.proofs.Common.{◌≡◌, ◌≤◌, ◌<◌, ◌^◌, ◌+◌, ◌*◌, ◌-◌, ℕ, pos, neg_ℤ, nat_abs, zero, suc, Bool, true, false, cond, not, ◌||◌, ◌==◌, Option, Some, None, List, [], ◌∷◌, length, codes, nat_lt, Result, Ok, Err, refl, sym, subst, arith}
+use Rattle.std.proofs.Common.{◌≡◌, ◌<◌, ◌^◌, ℕ, pos, neg_ℤ, nat_abs, zero, suc, Bool, true, false, cond, not, ◌||◌, ◌==◌, Option, Some, None, List, [], ◌∷◌, length, codes, nat_lt, Result, Ok, Err, refl, sym, subst}
 use Rattle.std.specs.List.{AllByRecursion, list_all}
 use Rattle.std.specs.Option.{IfSome, option_map, option_or}
 use Rattle.std.specs.Result.{IfOk}
 use Rattle.std.specs.Str.{bytes_eq}
 use Rattle.std.proofs.lemmas.Option.{none-some, same_Some}
-use Rattle.std.proofs.lemmas.Bool.Decides.{nat_tests}
-use Rattle.std.proofs.Math.Nat.{pow-le-pow_right}
 use Rattle.base_types.specs.Names.{IsName, IsWord, IsText, is_digit, number_of_digits, is_word_byte, is_text_byte, name_fault, short_fault}
 use Rattle.base_types.specs.Commands.{IsCommand, IsShortNumber, IsNonEmpty}
 use Rattle.base_types.specs.declared.command.Command.{Command}

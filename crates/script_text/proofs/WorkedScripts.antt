@@ -6,7 +6,7 @@ use Rattle.base_types.specs.declared.mode.Mode.TheVariants.{ShareRowExclusive}
 use Rattle.base_types.specs.declared.col_type.ColType.TheVariants as types
 use Rattle.script_text.specs.declared.fault.ScriptCause.TheVariants.{BadByte, BadRing, NoBackends, BadCount, NoEnd, BadSteps, TooManySteps, UnknownBackend, LateCommand, BadCommand, AfterEnd}
 use Rattle.script_text.specs.declared.fault.Rest.TheVariants.{Refused, Given}
-use Rattle.script_text.specs.Tokens.{tokens, after_words, after}
+use Rattle.script_text.specs.Tokens.{tokens}
 use Rattle.script_text.specs.Commands.{command_of}
 use Rattle.std.specs.Fmt.{digits}
 use Rattle.script_text.specs.Spelling.{with_piece, listed, script_spelling}
