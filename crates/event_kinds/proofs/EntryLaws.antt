@@ -1,9 +1,8 @@
 -- What a function that reads a whole line answers.
 use Rattle.std.proofs.Common.{◌≡◌, ℕ, List, Option, Some, None, Result, Ok, Err, sym, ap, ◌∙◌}
 use Rattle.std.specs.Prelude.{IfOk}
-use Rattle.event_kinds.specs.declared.fault.EntryFault.{EntryFault}
+use Rattle.event_kinds.specs.Events.{EntryFault, Entry}
 use Rattle.event_kinds.specs.declared.fault.EntryFault.TheVariants as faults
-use Rattle.event_kinds.specs.Events.{Entry}
 use Rattle.event_kinds.specs.Texts.{entry_text}
 use Rattle.event_kinds.specs.Entries.{IsEntry}
 use Rattle.event_kinds.specs.Reading.{entry_at}

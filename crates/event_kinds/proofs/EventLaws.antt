@@ -1,10 +1,8 @@
 -- What is read of an event or an entry is spelled so, and what is spelled so is read.
 use Rattle.std.proofs.Common.{◌≡◌, ℕ, Bool, true, false, List, [], ◌∷◌, ◌++◌, Option, Some, None, refl, sym, ap, ◌∙◌, append_assoc, append-nil, codes, decimal}
 use Rattle.base_types.specs.Words.{mode_word}
-use Rattle.base_types.specs.declared.mode.Mode.{Mode}
-use Rattle.base_types.specs.declared.scan.Purpose.{Purpose}
+use Rattle.event_kinds.specs.Events.{Mode, Purpose, Item, Event, Entry}
 use Rattle.base_types.specs.declared.scan.Purpose.TheVariants as scans
-use Rattle.event_kinds.specs.Events.{Item, Event, Entry}
 use Rattle.event_kinds.specs.declared.entry.Event.TheVariants as events
 use Rattle.event_kinds.specs.Texts.{purpose_text, event_text, entry_text}
 use Rattle.event_kinds.specs.Entries.{IsNumber, IsPurpose, IsEvent, IsEntry}

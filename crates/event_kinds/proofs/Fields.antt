@@ -9,13 +9,10 @@ use Rattle.std.proofs.lemmas.Fmt.{decimal_nonempty}
 use Rattle.std.proofs.lemmas.Option.{some_pair_parts}
 use Rattle.base_types.specs.Names.{is_digit, IsAnyName, IsWord, IsText}
 use Rattle.base_types.specs.Words.{mode_word, kind_word, type_word, state_word, valid_word, live_word, on_word, fill_text, nums_text, modes, col_types}
-use Rattle.base_types.specs.declared.mode.Mode.{Mode}
+use Rattle.event_kinds.specs.Events.{Mode, Kind, ColType, IndexState}
 use Rattle.base_types.specs.declared.mode.Mode.TheVariants.{AccessShare, RowShare, RowExclusive, ShareUpdateExclusive, Share, ShareRowExclusive, Exclusive, AccessExclusive}
-use Rattle.base_types.specs.declared.kind.Kind.{Kind}
 use Rattle.base_types.specs.declared.kind.Kind.TheVariants.{Table, Index}
-use Rattle.base_types.specs.declared.col_type.ColType.{ColType}
 use Rattle.base_types.specs.declared.col_type.ColType.TheVariants as types
-use Rattle.base_types.specs.declared.index_state.IndexState.{IndexState}
 use Rattle.base_types.specs.declared.index_state.IndexState.TheVariants.{Neither, Valid}
 use Rattle.event_kinds.specs.Entries.{IsNumber, AreNums}
 use Rattle.event_kinds.specs.Readers.{Reader, lit_at, pair_at, as_at, check_at, none_at, more_at}

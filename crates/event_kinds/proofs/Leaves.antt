@@ -12,7 +12,7 @@ use Rattle.std.proofs.lemmas.Bool.Decides.{nat_tests}
 use Rattle.std.proofs.lemmas.Str.Parse.{IsNumeralModel, numerals_by_fold}
 use Rattle.std.proofs.lemmas.Fmt.{digits_decimal, digits_value-decimal}
 use Rattle.base_types.specs.Names.{digit_more, number_of_digits, is_digit, is_name_byte, is_word_byte, is_text_byte, short_fault, name_fault, dropped_name, IsWord, IsText, IsDropped, IsDroppedName, IsAnyName}
-use Rattle.base_types.specs.declared.name_fault.NameFault.{NameFault}
+use Rattle.event_kinds.specs.Events.{NameFault}
 use Rattle.base_types.proofs.Names.{name_parts, word_parts, text_parts}
 use Rattle.base_types.proofs.DroppedNumbers.{shown}
 use Rattle.event_kinds.specs.Entries.{IsNumber}

@@ -1,14 +1,9 @@
 -- What is read of a row or a key is spelled so, and what is spelled so is read.
 use Rattle.std.proofs.Common.{◌≡◌, ℕ, ℤ, Bool, List, [], ◌++◌, Option, Some, refl, ap, ◌∙◌, append_assoc, codes}
 use Rattle.base_types.specs.Words.{valid_word, live_word, on_word}
-use Rattle.base_types.specs.declared.kind.Kind.{Kind}
-use Rattle.base_types.specs.declared.col_type.ColType.{ColType}
-use Rattle.base_types.specs.declared.index_state.IndexState.{IndexState}
-use Rattle.base_types.specs.declared.row.ConKind.{ConKind}
+use Rattle.event_kinds.specs.Events.{Kind, ColType, IndexState, ConKind, Row, RowKey}
 use Rattle.base_types.specs.declared.row.ConKind.TheVariants as kinds
-use Rattle.base_types.specs.declared.row.Row.{Row}
 use Rattle.base_types.specs.declared.row.Row.TheVariants as rows
-use Rattle.base_types.specs.declared.row_key.RowKey.{RowKey}
 use Rattle.base_types.specs.declared.row_key.RowKey.TheVariants as keys
 use Rattle.event_kinds.specs.Texts.{con_text, row_text, key_text}
 use Rattle.event_kinds.specs.Entries.{IsConKind, IsRow, IsKey}

@@ -3,15 +3,11 @@ use Rattle.std.specs.Prelude.{◌≡◌, ℕ, List, ⊤, ◌<◌, ◌≤◌, ◌
 use Rattle.std.specs.Int.{w32}
 use Rattle.std.specs.List.{AllByRecursion}
 use Rattle.base_types.specs.Names.{IsAnyName, IsInLine, IsWord, IsText}
-use Rattle.base_types.specs.declared.row.ConKind.{ConKind}
+use Rattle.event_kinds.specs.Events.{ConKind, Row, RowKey, Purpose, Item, Event, Entry, Line}
 use Rattle.base_types.specs.declared.row.ConKind.TheVariants as kinds
-use Rattle.base_types.specs.declared.row.Row.{Row}
 use Rattle.base_types.specs.declared.row.Row.TheVariants as rows
-use Rattle.base_types.specs.declared.row_key.RowKey.{RowKey}
 use Rattle.base_types.specs.declared.row_key.RowKey.TheVariants as keys
-use Rattle.base_types.specs.declared.scan.Purpose.{Purpose}
 use Rattle.base_types.specs.declared.scan.Purpose.TheVariants as scans
-use Rattle.event_kinds.specs.Events.{Item, Event, Entry, Line}
 use Rattle.event_kinds.specs.Texts.{text_of}
 use Rattle.event_kinds.specs.declared.entry.Item.TheVariants as items
 use Rattle.event_kinds.specs.declared.entry.Event.TheVariants as events

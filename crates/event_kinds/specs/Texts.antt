@@ -2,17 +2,12 @@
 use Rattle.std.specs.Prelude.{ℕ, Bool, true, false, List, [], ◌++◌, codes, decimal}
 use Rattle.std.specs.Fmt.{signed_decimal}
 use Rattle.std.specs.List.{flat_map}
-use Rattle.base_types.specs.declared.ids.Oid.{Oid}
-use Rattle.base_types.specs.declared.row.ConKind.{ConKind}
+use Rattle.event_kinds.specs.Events.{Oid, ConKind, Row, RowKey, Purpose, Item, Event, Entry, Line}
 use Rattle.base_types.specs.declared.row.ConKind.TheVariants as kinds
-use Rattle.base_types.specs.declared.row.Row.{Row}
 use Rattle.base_types.specs.declared.row.Row.TheVariants as rows
-use Rattle.base_types.specs.declared.row_key.RowKey.{RowKey}
 use Rattle.base_types.specs.declared.row_key.RowKey.TheVariants as keys
-use Rattle.base_types.specs.declared.scan.Purpose.{Purpose}
 use Rattle.base_types.specs.declared.scan.Purpose.TheVariants as scans
 use Rattle.base_types.specs.Words.{mode_word, kind_word, type_word, state_word, valid_word, live_word, on_word, fill_text, nums_text}
-use Rattle.event_kinds.specs.Events.{Item, Event, Entry, Line}
 use Rattle.event_kinds.specs.declared.entry.Item.TheVariants as items
 use Rattle.event_kinds.specs.declared.entry.Event.TheVariants as events
 

@@ -2,20 +2,14 @@
 use Rattle.std.proofs.Common.{◌≡◌, ℕ, ◌+◌, ◌<◌, Option, Some, None, List, [], ◌∷◌, ◌++◌, length, take, get_or, refl, sym, ap, ◌∙◌, append-nil, codes, decimal}
 use Rattle.std.specs.Fmt.{signed_decimal}
 use Rattle.std.specs.List.{flat_map}
-use Rattle.std.proofs.lemmas.List.{take_more}
-use Rattle.std.proofs.lemmas.Grind.{flat_map-append}
-use Rattle.base_types.specs.declared.kind.Kind.{Kind}
+use Rattle.rel_desc.specs.Types.{Kind, ColType, Oid, CommandError, Shown, Column}
 use Rattle.base_types.specs.declared.kind.Kind.TheVariants.{Table, Index}
-use Rattle.base_types.specs.declared.col_type.ColType.{ColType}
-use Rattle.base_types.specs.declared.ids.Oid.{Oid}
 use Rattle.base_types.specs.Names.{IsInLine}
 use Rattle.base_types.specs.Fields.{or_dash}
 use Rattle.base_types.specs.Words.{mode_word, type_word, field_word}
+use Rattle.base_types.proofs.Added.{texts_more}
 use Rattle.base_types.proofs.InLine.{decimal_in_line, signed_in_line, mode_in_line, type_in_line, field_in_line, joined_in_line}
-use Rattle.rel_desc.specs.declared.error.CommandError.{CommandError}
 use Rattle.rel_desc.specs.declared.error.CommandError.TheVariants as errors
-use Rattle.rel_desc.specs.declared.answer.Shown.{Shown}
-use Rattle.rel_desc.specs.declared.answer.Column.{Column}
 use Rattle.rel_desc.specs.Answers.{as_of_text, shown_text, relation_word, column_text, columns_text, regclass_text, error_name, error_text}
 
 -- a text between two others
@@ -47,10 +41,7 @@ one_column_in_line num col_type = between (codes "column " ++ decimal num) (code
 -- one more text of a loop
 pub more_in_line : {X : Type 0} (f : X → List ℕ) (xs : List X) (i : ℕ) (x : X) → i < length xs → x ≡ get_or xs i x → IsInLine (flat_map f (take i xs)) → IsInLine (f x)
     → IsInLine (flat_map f (take (i + 1) xs))
-more_in_line f xs i x within is before one =
-    let more : flat_map f (take (i + 1) xs) ≡ flat_map f (take i xs) ++ f x =
-    ap (flat_map f) (take_more xs i x within) ∙ flat_map-append f (take i xs) (get_or xs i x ∷ []) ∙ ap (λ l. flat_map f (take i xs) ++ l) (append-nil (f (get_or xs i x)) ∙ ap f (sym is)) in
-    rw more (joined_in_line (flat_map f (take i xs)) (f x) before one)
+more_in_line f xs i x within is before one = rw (texts_more f xs i x within is) (joined_in_line (flat_map f (take i xs)) (f x) before one)
 
 or_dash_in_line : (text : List ℕ) → IsInLine text → IsInLine (or_dash text)
 or_dash_in_line [] h = refl

@@ -2,16 +2,11 @@
 use Rattle.std.specs.Prelude.{ℕ, Option, Some, None, List, [], ◌++◌, codes, decimal}
 use Rattle.std.specs.Fmt.{signed_decimal}
 use Rattle.std.specs.List.{flat_map, join_by}
-use Rattle.base_types.specs.declared.ids.Oid.{Oid}
-use Rattle.base_types.specs.declared.kind.Kind.{Kind}
+use Rattle.rel_desc.specs.Types.{Oid, Kind, CommandError, Shown, Column, Answer}
 use Rattle.base_types.specs.declared.kind.Kind.TheVariants.{Table, Index}
 use Rattle.base_types.specs.Words.{mode_word, type_word, field_word}
 use Rattle.base_types.specs.Fields.{or_dash}
-use Rattle.rel_desc.specs.declared.error.CommandError.{CommandError}
 use Rattle.rel_desc.specs.declared.error.CommandError.TheVariants as errors
-use Rattle.rel_desc.specs.declared.answer.Shown.{Shown}
-use Rattle.rel_desc.specs.declared.answer.Column.{Column}
-use Rattle.rel_desc.specs.declared.answer.Answer.{Answer}
 use Rattle.rel_desc.specs.declared.answer.Answer.TheVariants as answers
 
 -- where a value was read, after one that others may change
