@@ -1,5 +1,5 @@
 -- An entry is its head and its changes, and so is its text.
-use Rattle.std.proofs.Common.{◌≡◌, ◌<◌, length, Result, Ok, Err, ◌++◌, refl, sym, ap, ◌∙◌, append_assoc, append-nil, codes}
+use Rattle.std.proofs.Common.{◌≡◌, Result, Ok, Err, ◌++◌, refl, sym, ap, ◌∙◌, append_assoc, append-nil, codes}
 use Rattle.std.specs.Prelude.{OnOk}
 use Rattle.std.specs.List.{All}
 use Rattle.std.proofs.lemmas.List.Elements.{recursion_from_All}
