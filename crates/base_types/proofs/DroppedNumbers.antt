@@ -1,5 +1,5 @@
 -- The number in a dropped column's name.
-use Rattle.std.proofs.Common.{IfSome, IfNone, Option, Some, None, ◌≡◌, ◌<◌, ◌≤◌, ◌+◌, ◌-◌, ◌∙◌, ℕ, true, fold, List, [], ◌∷◌, ◌++◌, length, take, drop, get_or, codes, decimal, ap, sym, subst, arith, rules}
+use Rattle.std.proofs.Common.{◌≡◌, ◌<◌, ◌≤◌, ◌+◌, ◌-◌, ◌∙◌, ℕ, true, fold, List, [], ◌∷◌, ◌++◌, length, take, drop, get_or, codes, decimal, ap, sym, subst, arith, rules}
 use Rattle.std.specs.Str.{all_ascii_digits}
 use Rattle.std.proofs.lemmas.List.{take_more, take-append-drop, length-append}
 use Rattle.std.proofs.Math.Seq.{take-append_seam}
@@ -12,19 +12,19 @@ grows : (n : ℕ) (digits : List ℕ) → n ≤ fold digit_more n digits
 grows n [] = omega arith
 grows n (d ∷ digits) = omega (arith, grows (digit_more n d) digits)
 
-front_below : (digits : List ℕ) (k : ℕ) → number_of_digits (take k digits) ≤ number_of_digits digits
-front_below digits k =
+prefix_below : (digits : List ℕ) (k : ℕ) → number_of_digits (take k digits) ≤ number_of_digits digits
+prefix_below digits k =
     let whole : number_of_digits digits ≡ fold digit_more (number_of_digits (take k digits)) (drop k digits) =
     ap number_of_digits (sym (take-append-drop k digits)) ∙ fold-append digit_more 0 (take k digits) (drop k digits) in
     omega (arith, whole, grows (number_of_digits (take k digits)) (drop k digits))
 
-pub over : (digits : List ℕ) (i number : ℕ) → i < length digits → number ≡ number_of_digits (take i digits)
-    → 1600 < digit_more number (get_or digits i 0) → 1600 < number_of_digits digits
-over digits i number within same high =
+pub over : (most : ℕ) (digits : List ℕ) (i number : ℕ) → i < length digits → number ≡ number_of_digits (take i digits)
+    → most < digit_more number (get_or digits i 0) → most < number_of_digits digits
+over most digits i number within same high =
     let byte = get_or digits i 0 in
     let one : number_of_digits (take (i + 1) digits) ≡ digit_more number byte =
     ap number_of_digits (take_more digits i 0 within) ∙ fold-append digit_more 0 (take i digits) (byte ∷ []) ∙ ap (λ n. digit_more n byte) (sym same) in
-    omega (arith, front_below digits (i + 1), one, high)
+    omega (arith, prefix_below digits (i + 1), one, high)
 
 own : IsNumeralModel (λ ds. all_ascii_digits ds ≡ true) number_of_digits
 own = numerals_by_fold _ (search rules) (fold digit_more) (search rules)
@@ -47,14 +47,6 @@ digits_shown digits =
 
 pub shown : (m : ℕ) (text : List ℕ) → IsDropped m text → number_of_digits (shown_digits text) ≡ m
 shown m text d = ap (λ t. number_of_digits (shown_digits t)) d.is ∙ ap number_of_digits (digits_shown (decimal m)) ∙ number_of_decimal m d.most
-
-pub same_number : (text : List ℕ) (r : Option ℕ) → IfSome r (λ n. (n ≡ number_of_digits (shown_digits text)) × (n ≤ 1600)) → IfSome r (λ num. (m : ℕ) → IsDropped m text → m ≡ num)
-same_number text None h = tt
-same_number text (Some n) h = λ m d. sym (h.0 ∙ shown m text d)
-
-pub no_number : (text : List ℕ) (r : Option ℕ) → IfNone r (1600 < number_of_digits (shown_digits text)) → IfNone r ((m : ℕ) → IsDropped m text → ⊥)
-no_number text None h = λ m d. omega (arith, h, shown m text d, d.most)
-no_number text (Some n) h = tt
 
 pub not_this : (text : List ℕ) (num : ℕ) → ((m : ℕ) → IsDropped m text → m ≡ num) → (IsDropped num text → ⊥) → IsDroppedName text → ⊥
 not_this text num same isnt d = isnt (subst (λ (n : ℕ). IsDropped n text) (same d.0 d.1) d.1)

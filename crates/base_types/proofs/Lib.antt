@@ -1,5 +1,9 @@
+pub mod Added
 pub mod Padding
 pub mod Names
 pub mod Placing
 pub mod Joining
 pub mod DroppedNumbers
+pub mod SameScan
+pub mod ScanOrder
+pub mod InLine

@@ -10,9 +10,9 @@ abbrev pub IsShortNumber : ℕ → Type 0
 IsShortNumber n = n < 1000000000
 
 -- at least one
-abbrev pub IsSome : {X : Type 0} → List X → Type 0
-IsSome [] = ⊥
-IsSome (x ∷ xs) = ⊤
+abbrev pub IsNonEmpty : {X : Type 0} → List X → Type 0
+IsNonEmpty [] = ⊥
+IsNonEmpty (x ∷ xs) = ⊤
 
 -- the parts of a command have forms that a line may have
 abbrev pub IsCommand : Command → Type 0
@@ -45,6 +45,6 @@ IsCommand (ValidateConstraint name constraint) = IsName name × IsName constrain
 IsCommand (DropConstraint name constraint) = IsName name × IsName constraint
 IsCommand (SetTrigger name trigger on) = IsName name × IsName trigger
 IsCommand (CreateTrigger name trigger) = IsName name × IsName trigger
-IsCommand (CreateIndex name on_table columns) = IsName name × IsName on_table × IsSome columns × AllByRecursion IsName columns
+IsCommand (CreateIndex name on_table columns) = IsName name × IsName on_table × IsNonEmpty columns × AllByRecursion IsName columns
 IsCommand (DropIndex name) = IsName name
 IsCommand (RenameIndex name to) = IsName name × IsName to

@@ -1,8 +1,8 @@
 -- The fields of a descriptor: which a kind has, which scan reads one, and its text.
-use Rattle.std.specs.Prelude.{ℕ, Bool, true, Option, Some, None, List, [], ◌∷◌, ◌++◌, codes, decimal, ◌==◌, if◌then◌else◌}
+use Rattle.std.specs.Prelude.{ℕ, Bool, Option, Some, None, List, [], ◌∷◌, ◌++◌, codes, decimal, ◌==◌, if◌then◌else◌, ℤ}
 use Rattle.std.specs.Fmt.{signed_decimal}
 use Rattle.std.specs.List.{filter_map, join_by, list_any}
-use Rattle.base_types.specs.Types.{Oid, Row, Purpose, Kind, Field, ConKind}
+use Rattle.base_types.specs.Types.{Oid, Row, Purpose, Kind, Field, ConKind, ColType, IndexState}
 use Rattle.base_types.specs.Scans.{same_oid}
 use Rattle.base_types.specs.Words.{type_word, state_word, valid_word, on_word, fill_text, nums_text}
 use Rattle.base_types.specs.declared.kind.Kind.TheVariants.{Table, Index}
@@ -52,7 +52,7 @@ read_by fields.Triggers rel = scans.Trigger rel
 read_by fields.Of rel = scans.IndexRow rel
 read_by fields.Valid rel = scans.IndexRow rel
 
--- what a constraint's item says behind its name
+-- what a constraint's item says after its name
 abbrev pub constraint_text : Bool → ConKind → List ℕ
 constraint_text valid (kinds.Check text) = codes ":check:" ++ valid_word valid ++ codes ":" ++ text
 constraint_text valid (kinds.Foreign num refrel refnum) = codes ":fk:" ++ valid_word valid ++ codes ":" ++ decimal num ++ codes ":" ++ decimal refrel.0 ++ codes ":" ++ decimal refnum
@@ -62,20 +62,49 @@ abbrev pub referring_item : Oid → Oid → Oid → ConKind → Option (List ℕ
 referring_item rel oid of (kinds.Check text) = None
 referring_item rel oid of (kinds.Foreign num refrel refnum) = if same_oid refrel rel then Some (decimal oid.0 ++ codes ":" ++ decimal of.0 ++ codes ":" ++ decimal refnum) else None
 
+-- what a relation's row adds to a field
+abbrev pub item_of_class : Field → List ℕ → Option ℕ → Option (List ℕ)
+item_of_class fields.Name own fill = Some own
+item_of_class fields.Fillfactor own fill = Some (fill_text fill)
+item_of_class field own fill = None
+
+-- what the row of a live column adds
+abbrev pub item_of_column : Field → ℕ → List ℕ → ColType → ℤ → Option (List ℕ)
+item_of_column fields.Columns num own col_type stat = Some (own ++ codes ":" ++ type_word col_type)
+item_of_column fields.Statistics num own col_type stat = Some (decimal num ++ codes ":" ++ signed_decimal stat)
+item_of_column field num own col_type stat = None
+
+-- what the row of a default adds
+abbrev pub item_of_default : Field → ℕ → List ℕ → Option (List ℕ)
+item_of_default fields.Defaults num word = Some (decimal num ++ codes "=" ++ word)
+item_of_default field num word = None
+
+-- what the row of an index adds, to a field of its table or of the index
+abbrev pub item_of_index : Field → Oid → Oid → IndexState → List ℕ → Option (List ℕ)
+item_of_index fields.Indexes index table state nums = Some (decimal index.0 ++ codes ":" ++ state_word state ++ codes ":" ++ nums_text nums)
+item_of_index fields.Of index table state nums = Some (decimal table.0 ++ codes ":" ++ nums_text nums)
+item_of_index fields.Valid index table state nums = Some (state_word state)
+item_of_index field index table state nums = None
+
+-- what the row of a constraint adds, its own or that of a foreign key that refers to the relation
+abbrev pub item_of_constraint : Field → Oid → Oid → Oid → List ℕ → Bool → ConKind → Option (List ℕ)
+item_of_constraint fields.Constraints rel oid of own valid what = if same_oid of rel then Some (own ++ constraint_text valid what) else None
+item_of_constraint fields.Referenced rel oid of own valid what = referring_item rel oid of what
+item_of_constraint field rel oid of own valid what = None
+
+-- what the row of a trigger adds
+abbrev pub item_of_trigger : Field → List ℕ → Bool → Option (List ℕ)
+item_of_trigger fields.Triggers own on = Some (own ++ codes ":" ++ on_word on)
+item_of_trigger field own on = None
+
 -- what a row adds to a field of the relation
 abbrev pub item_of : Field → Oid → Row → Option (List ℕ)
-item_of fields.Name rel (rows.Class oid own kind fill) = Some own
-item_of fields.Columns rel (rows.Att of num own col_type stat true) = Some (own ++ codes ":" ++ type_word col_type)
-item_of fields.Defaults rel (rows.Def oid of num word) = Some (decimal num ++ codes "=" ++ word)
-item_of fields.Statistics rel (rows.Att of num own col_type stat true) = Some (decimal num ++ codes ":" ++ signed_decimal stat)
-item_of fields.Fillfactor rel (rows.Class oid own kind fill) = Some (fill_text fill)
-item_of fields.Constraints rel (rows.Con oid of own valid what) = if same_oid of rel then Some (own ++ constraint_text valid what) else None
-item_of fields.Referenced rel (rows.Con oid of own valid what) = referring_item rel oid of what
-item_of fields.Indexes rel (rows.Ind index table state nums) = Some (decimal index.0 ++ codes ":" ++ state_word state ++ codes ":" ++ nums_text nums)
-item_of fields.Triggers rel (rows.Trg oid of own on) = Some (own ++ codes ":" ++ on_word on)
-item_of fields.Of rel (rows.Ind index table state nums) = Some (decimal table.0 ++ codes ":" ++ nums_text nums)
-item_of fields.Valid rel (rows.Ind index table state nums) = Some (state_word state)
-item_of field rel row = None
+item_of field rel (rows.Class oid own kind fill) = item_of_class field own fill
+item_of field rel (rows.Att of num own col_type stat live) = if live then item_of_column field num own col_type stat else None
+item_of field rel (rows.Def oid of num word) = item_of_default field num word
+item_of field rel (rows.Ind index table state nums) = item_of_index field index table state nums
+item_of field rel (rows.Con oid of own valid what) = item_of_constraint field rel oid of own valid what
+item_of field rel (rows.Trg oid of own on) = item_of_trigger field own on
 
 -- a text, or a dash for none
 abbrev pub or_dash : List ℕ → List ℕ

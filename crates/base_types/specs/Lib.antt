@@ -1,3 +1,4 @@
+pub mod Adding
 pub mod Padded
 pub mod Types
 pub mod Names
@@ -7,7 +8,5 @@ pub mod Words
 pub mod Fields
 pub mod Commands
 pub mod Scenario
-pub mod Keys
-pub mod Rows
-pub mod Parts
-pub mod Hashes
+pub mod RowKeys
+pub mod CacheKeys

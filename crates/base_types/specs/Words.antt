@@ -1,11 +1,23 @@
 -- The words by which modes, kinds, types and states are written.
-use Rattle.std.specs.Prelude.{ℕ, Bool, true, false, Option, Some, None, List, codes, decimal}
+use Rattle.std.specs.Prelude.{ℕ, Bool, true, false, Option, Some, None, List, [], ◌∷◌, codes, decimal}
 use Rattle.std.specs.List.{join_by}
 use Rattle.base_types.specs.Types.{Mode, AccessShare, RowShare, RowExclusive, ShareUpdateExclusive, Share, ShareRowExclusive, Exclusive, AccessExclusive, Kind, ColType, IndexState, Field}
 use Rattle.base_types.specs.declared.kind.Kind.TheVariants.{Table, Index}
 use Rattle.base_types.specs.declared.col_type.ColType.TheVariants as types
 use Rattle.base_types.specs.declared.index_state.IndexState.TheVariants.{Neither, Valid}
 use Rattle.base_types.specs.declared.field.Field.TheVariants as fields
+
+-- the lock modes, in rising order
+abbrev pub modes : List Mode
+modes = AccessShare ∷ RowShare ∷ RowExclusive ∷ ShareUpdateExclusive ∷ Share ∷ ShareRowExclusive ∷ Exclusive ∷ AccessExclusive ∷ []
+
+-- the types of columns
+abbrev pub col_types : List ColType
+col_types = types.Bool ∷ types.Int2 ∷ types.Int4 ∷ types.Int8 ∷ types.Text ∷ types.Bytea ∷ types.Date ∷ types.Timestamptz ∷ []
+
+-- the fields of descriptors
+abbrev pub all_fields : List Field
+all_fields = fields.Name ∷ fields.Columns ∷ fields.Defaults ∷ fields.Statistics ∷ fields.Fillfactor ∷ fields.Constraints ∷ fields.Referenced ∷ fields.Indexes ∷ fields.Triggers ∷ fields.Of ∷ fields.Valid ∷ []
 
 -- the short word of a lock mode
 abbrev pub mode_word : Mode → List ℕ

@@ -1,5 +1,5 @@
 /// The catalogs whose rows are kept.
-#[derive(Clone, Copy, Debug, PartialEq, Eq)]
+#[derive(Clone, Copy)]
 pub enum Catalog {
     Class,
     Attribute,

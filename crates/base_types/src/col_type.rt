@@ -1,5 +1,5 @@
 /// The types that a column may have.
-#[derive(Clone, Copy, Debug, PartialEq, Eq)]
+#[derive(Clone, Copy)]
 pub enum ColType {
     Bool,
     Int2,
@@ -14,6 +14,18 @@ pub enum ColType {
 impl ColType {
     ghost use Rattle.std.specs.Prelude.{◌≡◌, ◌≤◌, length};
     ghost use Rattle.base_types.specs.Words.{type_word};
+
+    /// All types.
+    pub const ALL: [ColType; 8] = [
+        ColType::Bool,
+        ColType::Int2,
+        ColType::Int4,
+        ColType::Int8,
+        ColType::Text,
+        ColType::Bytea,
+        ColType::Date,
+        ColType::Timestamptz,
+    ];
 
     /// The name of the type.
     pub fn word(self) -> &'static [u8]

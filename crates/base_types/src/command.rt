@@ -1,14 +1,14 @@
 use crate::{ColType, Field, Listed, Mode, Name, Oid, Text, Word};
 
 /// A column of a new table.
-#[derive(Clone, Copy, Debug, PartialEq, Eq)]
+#[derive(Clone, Copy)]
 pub struct NewColumn {
     pub name: Name,
     pub col_type: ColType,
 }
 
 /// A command of a script.
-#[derive(Debug, Drop)]
+#[derive(Drop)]
 pub enum Command {
     Begin,
     Commit,
@@ -117,14 +117,14 @@ pub enum Command {
 }
 
 /// A command of a script beside the backend that runs it, 1 to 64.
-#[derive(Debug, Drop)]
+#[derive(Drop)]
 pub struct Placed {
     pub backend: u32,
     pub command: Command,
 }
 
 /// Steps of a schedule in a row: a backend, 1 to 64, and how many steps it has, 1 to 1,000,000.
-#[derive(Clone, Copy, Debug, PartialEq, Eq)]
+#[derive(Clone, Copy)]
 pub struct Turns {
     pub backend: u32,
     pub count: u32,

@@ -1,5 +1,5 @@
 /// A field of a relation's descriptor. `Name` is a field of both kinds.
-#[derive(Clone, Copy, Debug, PartialEq, Eq)]
+#[derive(Clone, Copy)]
 pub enum Field {
     Name,
     Columns,
@@ -17,6 +17,21 @@ pub enum Field {
 impl Field {
     ghost use Rattle.std.specs.Prelude.{◌≡◌, ◌≤◌, length};
     ghost use Rattle.base_types.specs.Words.{field_word};
+
+    /// All fields.
+    pub const ALL: [Field; 11] = [
+        Field::Name,
+        Field::Columns,
+        Field::Defaults,
+        Field::Statistics,
+        Field::Fillfactor,
+        Field::Constraints,
+        Field::Referenced,
+        Field::Indexes,
+        Field::Triggers,
+        Field::Of,
+        Field::Valid,
+    ];
 
     /// The name of the field.
     pub fn word(self) -> &'static [u8]

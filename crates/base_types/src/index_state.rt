@@ -1,5 +1,5 @@
 /// Whether an index serves queries (`indisvalid`), written `v`, or doesn't, written `n`.
-#[derive(Clone, Copy, Debug, PartialEq, Eq)]
+#[derive(Clone, Copy)]
 pub enum IndexState {
     Neither,
     Valid,

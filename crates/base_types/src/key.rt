@@ -1,12 +1,13 @@
 ghost use Rattle.std.specs.Prelude.{◌≡◌, ◌≤◌, length};
 ghost use Rattle.base_types.specs.Padded.{filled as with_filler};
-ghost use Rattle.base_types.specs.Parts.{no_part as filler};
+ghost use Rattle.base_types.specs.CacheKeys.{no_part as filler};
 
 use crate::{Name, Oid};
 use std::marker::Model;
 
 /// The catalog caches: relations by name, relations by oid, and columns by relation and name.
-#[derive(Clone, Copy, Debug, PartialEq, Eq)]
+// used by the catalog caches, which are not built yet
+#[derive(Clone, Copy)]
 pub enum CacheId {
     RelName,
     RelOid,
@@ -14,7 +15,7 @@ pub enum CacheId {
 }
 
 impl CacheId {
-    ghost use Rattle.base_types.specs.Hashes.{cache_number};
+    ghost use Rattle.base_types.specs.CacheKeys.{cache_number};
 
     /// The number of the cache, 1 to 3.
     pub fn number(self) -> u32
@@ -29,14 +30,15 @@ impl CacheId {
 }
 
 /// A part of a key.
-#[derive(Clone, Copy, Debug, PartialEq, Eq)]
+#[derive(Clone, Copy)]
 pub enum KeyPart {
     Oid(Oid),
     Name(Name),
 }
 
-/// A key of a catalog cache, or the front of one, of 1 to 4 parts kept in place.
-#[derive(Clone, Copy, Debug, PartialEq, Eq)]
+/// A key of a catalog cache, or a prefix of one, of 1 to 4 parts kept in place.
+// used by the catalog caches, which are not built yet
+#[derive(Clone, Copy)]
 pub struct Key {
     len: usize,
     parts: [KeyPart; 4],
@@ -46,7 +48,7 @@ impl Model for Key {
     ghost use Rattle.std.specs.Prelude.{List, ℕ, length, take};
     ghost use Rattle.base_types.specs.Padded.{IsFilled, filled, filled_again};
     ghost use Rattle.base_types.specs.declared.key.KeyPart.{KeyPart};
-    ghost use Rattle.base_types.specs.Parts.{no_part};
+    ghost use Rattle.base_types.specs.CacheKeys.{no_part};
 
     ghost Value = { List KeyPart };
 

@@ -1,27 +1,28 @@
-ghost use Rattle.std.specs.Prelude.{◌≡◌, ◌≤◌, ◌+◌, ◌++◌, length, [], decimal};
+ghost use Rattle.std.specs.Prelude.{◌≡◌, ◌≤◌, ◌+◌, ◌++◌, ◌↔◌, IsTrue, length, [], decimal};
 ghost use Rattle.std.specs.Fmt.{signed_decimal};
 
 use itoa::Buffer;
 use std::marker::Model;
 
-/// The room of a line.
+/// The most bytes of a line.
 pub const LINE_ROOM: usize = 512;
 
-/// A line of text in the making, of at most 512 bytes. It takes no memory.
+/// A line of text that is being built, of at most 512 bytes. It allocates nothing.
 #[derive(Drop)]
 pub struct LineBuffer {
-    bytes: [u8; 512],
+    bytes: [u8; LINE_ROOM],
     len: usize,
 }
 
 impl Model for LineBuffer {
     ghost use Rattle.std.specs.Prelude.{List, ℕ, ◌≤◌, take};
+    ghost use Rattle.base_types.specs.declared.line_buffer.TheConstants.{LINE_ROOM};
 
     ghost Value = { List ℕ };
 
     ghost view = { λ line. take line.len line.bytes };
 
-    ghost invariant = { λ line. line.len ≤ 512 };
+    ghost invariant = { λ line. line.len ≤ LINE_ROOM };
 }
 
 impl LineBuffer {
@@ -30,14 +31,21 @@ impl LineBuffer {
         ensures { result ≡ [] }
     {
         LineBuffer {
-            bytes: [0; 512],
+            bytes: [0; LINE_ROOM],
             len: 0,
         }
     }
 
+    /// Whether there is room for so many more bytes.
+    pub fn has_room(&self, bytes: usize) -> bool
+        ensures { IsTrue result ↔ (length self.now + bytes ≤ LINE_ROOM) }
+    {
+        bytes <= LINE_ROOM - self.len
+    }
+
     /// Adds a text at the end. Condition: there is room.
     pub fn push(&mut self, text: &[u8])
-        requires { length self.old + length text.now ≤ 512 }
+        requires { length self.old + length text.now ≤ LINE_ROOM }
         ensures text { self.new ≡ self.old ++ text.now }
         ensures short { length self.new ≤ length self.old + length text.now }
     {
@@ -48,7 +56,7 @@ impl LineBuffer {
 
     /// Adds a number in decimal. Condition: there is room for ten digits.
     pub fn push_number(&mut self, number: u32)
-        requires { length self.old + 10 ≤ 512 }
+        requires { length self.old + 10 ≤ LINE_ROOM }
         ensures text { self.new ≡ self.old ++ decimal number }
         ensures short { length self.new ≤ length self.old + 10 }
     {
@@ -58,7 +66,7 @@ impl LineBuffer {
 
     /// Adds a number that may be below 0 in decimal. Condition: there is room for eleven bytes.
     pub fn push_signed(&mut self, number: i32)
-        requires { length self.old + 11 ≤ 512 }
+        requires { length self.old + 11 ≤ LINE_ROOM }
         ensures text { self.new ≡ self.old ++ signed_decimal number }
         ensures short { length self.new ≤ length self.old + 11 }
     {
@@ -68,7 +76,7 @@ impl LineBuffer {
 
     /// Adds a long number that may be below 0 in decimal. Condition: there is room for twenty bytes.
     pub fn push_i64(&mut self, number: i64)
-        requires { length self.old + 20 ≤ 512 }
+        requires { length self.old + 20 ≤ LINE_ROOM }
         ensures text { self.new ≡ self.old ++ signed_decimal number }
         ensures short { length self.new ≤ length self.old + 20 }
     {
@@ -78,7 +86,7 @@ impl LineBuffer {
 
     /// Adds a long number in decimal. Condition: there is room for twenty digits.
     pub fn push_u64(&mut self, number: u64)
-        requires { length self.old + 20 ≤ 512 }
+        requires { length self.old + 20 ≤ LINE_ROOM }
         ensures text { self.new ≡ self.old ++ decimal number }
         ensures short { length self.new ≤ length self.old + 20 }
     {
@@ -89,15 +97,8 @@ impl LineBuffer {
     /// The bytes of the line, at most 512.
     pub fn as_bytes(&self) -> &[u8]
         ensures text { result.now ≡ self.now }
-        ensures short { length self.now ≤ 512 }
+        ensures short { length self.now ≤ LINE_ROOM }
     {
         &self.bytes[..self.len]
-    }
-
-    /// Empties the line.
-    pub fn clear(&mut self)
-        ensures { self.new ≡ [] }
-    {
-        self.len = 0;
     }
 }

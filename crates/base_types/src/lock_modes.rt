@@ -24,66 +24,37 @@ pub fn writers(kind: Kind, field: Field) -> ModeSet
 }
 
 // Whether the mode is one of these.
-pub fn is_among(mode: Mode, modes: &[Mode]) -> bool
+pub(crate) fn is_among(mode: Mode, modes: &[Mode]) -> bool
     ensures { result ≡ list_any (same_mode mode) modes.now }
 {
     modes.iter().any(|other| mode.number() == other.number())
 }
 
 // The modes that conflict with a mode, in rising order.
+#[rattlefmt::skip]
 fn conflicting_modes(mode: Mode) -> &'static [Mode]
     ensures { result.now ≡ modes_against mode }
 {
     match mode {
         Mode::AccessShare => &[Mode::AccessExclusive],
         Mode::RowShare => &[Mode::Exclusive, Mode::AccessExclusive],
-        Mode::RowExclusive => &[
-            Mode::Share,
-            Mode::ShareRowExclusive,
-            Mode::Exclusive,
-            Mode::AccessExclusive,
-        ],
-        Mode::ShareUpdateExclusive => &[
-            Mode::ShareUpdateExclusive,
-            Mode::Share,
-            Mode::ShareRowExclusive,
-            Mode::Exclusive,
-            Mode::AccessExclusive,
-        ],
-        Mode::Share => &[
-            Mode::RowExclusive,
-            Mode::ShareUpdateExclusive,
-            Mode::ShareRowExclusive,
-            Mode::Exclusive,
-            Mode::AccessExclusive,
-        ],
-        Mode::ShareRowExclusive => &[
-            Mode::RowExclusive,
-            Mode::ShareUpdateExclusive,
-            Mode::Share,
-            Mode::ShareRowExclusive,
-            Mode::Exclusive,
-            Mode::AccessExclusive,
-        ],
-        Mode::Exclusive => &[
-            Mode::RowShare,
-            Mode::RowExclusive,
-            Mode::ShareUpdateExclusive,
-            Mode::Share,
-            Mode::ShareRowExclusive,
-            Mode::Exclusive,
-            Mode::AccessExclusive,
-        ],
-        Mode::AccessExclusive => &[
-            Mode::AccessShare,
-            Mode::RowShare,
-            Mode::RowExclusive,
-            Mode::ShareUpdateExclusive,
-            Mode::Share,
-            Mode::ShareRowExclusive,
-            Mode::Exclusive,
-            Mode::AccessExclusive,
-        ],
+        Mode::RowExclusive =>
+            &[Mode::Share, Mode::ShareRowExclusive, Mode::Exclusive, Mode::AccessExclusive],
+        Mode::ShareUpdateExclusive =>
+            &[Mode::ShareUpdateExclusive, Mode::Share, Mode::ShareRowExclusive, Mode::Exclusive,
+              Mode::AccessExclusive],
+        Mode::Share =>
+            &[Mode::RowExclusive, Mode::ShareUpdateExclusive, Mode::ShareRowExclusive,
+              Mode::Exclusive, Mode::AccessExclusive],
+        Mode::ShareRowExclusive =>
+            &[Mode::RowExclusive, Mode::ShareUpdateExclusive, Mode::Share,
+              Mode::ShareRowExclusive, Mode::Exclusive, Mode::AccessExclusive],
+        Mode::Exclusive =>
+            &[Mode::RowShare, Mode::RowExclusive, Mode::ShareUpdateExclusive, Mode::Share,
+              Mode::ShareRowExclusive, Mode::Exclusive, Mode::AccessExclusive],
+        Mode::AccessExclusive =>
+            &[Mode::AccessShare, Mode::RowShare, Mode::RowExclusive, Mode::ShareUpdateExclusive,
+              Mode::Share, Mode::ShareRowExclusive, Mode::Exclusive, Mode::AccessExclusive],
     }
 }
 

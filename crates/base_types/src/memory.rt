@@ -4,8 +4,8 @@ use std::alloc::{AllocError, AllocFailed};
 use std::error::Error;
 use std::fmt;
 
-/// Want of memory, the one refusal that no clause ties to its cause.
-#[derive(Clone, Copy, Debug, PartialEq, Eq)]
+/// Out of memory. Any allocation may fail, so no contract says when.
+#[derive(Clone, Copy, Debug)]
 pub struct NoMemory;
 
 impl fmt::Display for NoMemory {

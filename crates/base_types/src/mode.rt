@@ -1,5 +1,5 @@
 /// The eight lock modes of a relation in rising order (`src/include/storage/lockdefs.h`).
-#[derive(Clone, Copy, Debug, PartialEq, Eq)]
+#[derive(Clone, Copy)]
 pub enum Mode {
     AccessShare,
     RowShare,
@@ -15,6 +15,18 @@ impl Mode {
     ghost use Rattle.std.specs.Prelude.{◌≡◌, ◌≤◌, length};
     ghost use Rattle.base_types.specs.Words.{mode_word};
     ghost use Rattle.base_types.specs.Modes.{mode_number};
+
+    /// All modes, in rising order.
+    pub const ALL: [Mode; 8] = [
+        Mode::AccessShare,
+        Mode::RowShare,
+        Mode::RowExclusive,
+        Mode::ShareUpdateExclusive,
+        Mode::Share,
+        Mode::ShareRowExclusive,
+        Mode::Exclusive,
+        Mode::AccessExclusive,
+    ];
 
     /// The number by which the server counts the mode, 1 to 8.
     pub fn number(self) -> u32

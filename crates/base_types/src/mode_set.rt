@@ -6,7 +6,7 @@ use crate::lock_modes::is_among;
 use std::marker::Model;
 
 /// A set of lock modes, kept in place: contracts see its modes in rising order.
-#[derive(Clone, Copy, Debug, PartialEq, Eq)]
+#[derive(Clone, Copy)]
 pub struct ModeSet {
     len: usize,
     modes: [Mode; 8],
@@ -33,8 +33,8 @@ impl ModeSet {
     ghost use Rattle.std.specs.List.{list_any};
     ghost use Rattle.base_types.specs.Modes.{same_mode};
 
-    // The set of these modes, which stand in rising order.
-    pub fn new(modes: &[Mode]) -> ModeSet
+    // The set of these modes, which are in rising order.
+    pub(crate) fn new(modes: &[Mode]) -> ModeSet
         requires { length modes.now ≤ 8 }
         ensures { result ≡ modes.now }
     {

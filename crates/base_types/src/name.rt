@@ -1,20 +1,23 @@
 use crate::dropped::dropped_number;
 use crate::name_bytes::{name_fault, text_fault, word_fault};
-use crate::{LineBuffer, NameFault, ShortText};
+use crate::{LONGEST_TEXT, LineBuffer, MOST_COLUMNS, NameFault, ShortText};
 use std::marker::Model;
 
 /// A name of SQL, folded to small letters: 1 to 63 bytes, or the name that a dropped column has.
-#[derive(Clone, Copy, Debug, PartialEq, Eq)]
+#[derive(Clone, Copy)]
 pub struct Name {
     text: ShortText,
 }
 
 impl Model for Name {
     ghost use Rattle.std.specs.Prelude.{List, ℕ};
+    ghost use Rattle.base_types.specs.Names.{IsAnyName};
 
     ghost Value = { List ℕ };
 
     ghost view = { λ n. n.text };
+
+    ghost invariant = { λ n. IsAnyName n.text };
 
     ghost inverse = { λ bytes. record { text = bytes } };
 }
@@ -24,7 +27,7 @@ impl Name {
     ghost use Rattle.std.specs.Prelude.{◌<◌};
     ghost use Rattle.base_types.specs.Names.{IsName, IsAnyName, IsDroppedName, dropped_name, name_fault as first_fault};
 
-    /// The name of these bytes: 1 to 63 small letters, digits and `_`, with no digit in front.
+    /// The name of these bytes: 1 to 63 small letters, digits and `_`, and no digit first.
     /// `Err` has the first fault.
     pub fn new(text: &[u8]) -> Result<Name, NameFault>
         ensures ok { IfOk result (λ name. (name ≡ text.now) × IsName text.now) }
@@ -42,7 +45,7 @@ impl Name {
     /// `src/backend/catalog/heap.c`). Condition: 1 to 1,600.
     pub fn dropped(num: u32) -> Name
         requires some { 0 < num }
-        requires most { num ≤ 1600 }
+        requires most { num ≤ MOST_COLUMNS }
         ensures { result ≡ dropped_name num }
     {
         let mut line = LineBuffer::new();
@@ -69,24 +72,28 @@ impl Name {
     /// The bytes of the name, at most 63.
     pub fn as_bytes(&self) -> &[u8]
         ensures text { result.now ≡ self.now }
-        ensures short { length self.now ≤ 63 }
+        ensures spelled { IsAnyName self.now }
+        ensures short { length self.now ≤ LONGEST_TEXT }
     {
         self.text.as_bytes()
     }
 }
 
 /// The word of a column's default.
-#[derive(Clone, Copy, Debug, PartialEq, Eq)]
+#[derive(Clone, Copy)]
 pub struct Word {
     text: ShortText,
 }
 
 impl Model for Word {
     ghost use Rattle.std.specs.Prelude.{List, ℕ};
+    ghost use Rattle.base_types.specs.Names.{IsWord};
 
     ghost Value = { List ℕ };
 
     ghost view = { λ t. t.text };
+
+    ghost invariant = { λ t. IsWord t.text };
 
     ghost inverse = { λ bytes. record { text = bytes } };
 }
@@ -112,24 +119,28 @@ impl Word {
     /// The bytes of the word, at most 63.
     pub fn as_bytes(&self) -> &[u8]
         ensures text { result.now ≡ self.now }
-        ensures short { length self.now ≤ 63 }
+        ensures spelled { IsWord self.now }
+        ensures short { length self.now ≤ LONGEST_TEXT }
     {
         self.text.as_bytes()
     }
 }
 
 /// The text of a check, without its blanks.
-#[derive(Clone, Copy, Debug, PartialEq, Eq)]
+#[derive(Clone, Copy)]
 pub struct Text {
     text: ShortText,
 }
 
 impl Model for Text {
     ghost use Rattle.std.specs.Prelude.{List, ℕ};
+    ghost use Rattle.base_types.specs.Names.{IsText};
 
     ghost Value = { List ℕ };
 
     ghost view = { λ t. t.text };
+
+    ghost invariant = { λ t. IsText t.text };
 
     ghost inverse = { λ bytes. record { text = bytes } };
 }
@@ -155,7 +166,8 @@ impl Text {
     /// The bytes of the text, at most 63.
     pub fn as_bytes(&self) -> &[u8]
         ensures text { result.now ≡ self.now }
-        ensures short { length self.now ≤ 63 }
+        ensures spelled { IsText self.now }
+        ensures short { length self.now ≤ LONGEST_TEXT }
     {
         self.text.as_bytes()
     }

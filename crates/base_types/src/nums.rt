@@ -1,4 +1,4 @@
-ghost use Rattle.std.specs.Prelude.{◌≡◌, ◌≤◌, length};
+ghost use Rattle.std.specs.Prelude.{◌≡◌, ◌<◌, ◌≤◌, length};
 ghost use Rattle.base_types.specs.Padded.{padded as with_zeros};
 
 use std::marker::Model;
@@ -7,31 +7,33 @@ use std::marker::Model;
 pub const MOST_INDEX_COLUMNS: usize = 32;
 
 /// The numbers of an index's columns, 1 to 32 of them, kept in place.
-#[derive(Clone, Copy, Debug, PartialEq, Eq)]
+#[derive(Clone, Copy)]
 pub struct Nums {
     len: usize,
-    nums: [u32; 32],
+    nums: [u32; MOST_INDEX_COLUMNS],
 }
 
 impl Model for Nums {
-    ghost use Rattle.std.specs.Prelude.{List, ℕ, length, take};
+    ghost use Rattle.std.specs.Prelude.{List, ℕ, ◌<◌, length, take};
     ghost use Rattle.base_types.specs.Padded.{IsPadded, padded, made_again};
+    ghost use Rattle.base_types.specs.declared.nums.TheConstants.{MOST_INDEX_COLUMNS};
 
     ghost Value = { List ℕ };
 
     ghost view = { λ t. take t.len t.nums };
 
-    ghost invariant = { λ t. IsPadded 32 t.len t.nums };
+    ghost invariant = { λ t. (0 < t.len) × IsPadded MOST_INDEX_COLUMNS t.len t.nums };
 
-    ghost inverse = { λ nums. record { len = length nums; nums = padded 32 nums } };
+    ghost inverse = { λ nums. record { len = length nums; nums = padded MOST_INDEX_COLUMNS nums } };
 
-    ghost inverse_ok = { λ t kept. made_again (λ n xs. record { len = n; nums = xs }) 32 t.len t.nums kept };
+    ghost inverse_ok = { λ t kept. made_again (λ n xs. record { len = n; nums = xs }) MOST_INDEX_COLUMNS t.len t.nums kept.1 };
 }
 
 impl Nums {
-    /// The numbers of these columns. Condition: at most 32.
+    /// The numbers of these columns. Condition: 1 to 32 of them.
     pub fn new(nums: &[u32]) -> Nums
-        requires { length nums.now ≤ 32 }
+        requires some { 0 < length nums.now }
+        requires few { length nums.now ≤ MOST_INDEX_COLUMNS }
         ensures { result ≡ nums.now }
     {
         Nums {
@@ -40,21 +42,22 @@ impl Nums {
         }
     }
 
-    /// The numbers in order, at most 32.
+    /// The numbers in order, 1 to 32.
     pub fn as_slice(&self) -> &[u32]
         ensures nums { result.now ≡ self.now }
-        ensures short { length self.now ≤ 32 }
+        ensures some { 0 < length self.now }
+        ensures short { length self.now ≤ MOST_INDEX_COLUMNS }
     {
         &self.nums[..self.len]
     }
 }
 
 // The numbers in an array, with zeros after them.
-fn padded(nums: &[u32]) -> [u32; 32]
-    requires { length nums.now ≤ 32 }
-    ensures { result ≡ with_zeros 32 nums.now }
+fn padded(nums: &[u32]) -> [u32; MOST_INDEX_COLUMNS]
+    requires { length nums.now ≤ MOST_INDEX_COLUMNS }
+    ensures { result ≡ with_zeros MOST_INDEX_COLUMNS nums.now }
 {
-    let mut array = [0; 32];
+    let mut array = [0; MOST_INDEX_COLUMNS];
     array[..nums.len()].copy_from_slice(nums);
     array
 }

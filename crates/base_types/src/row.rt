@@ -1,14 +1,14 @@
 use crate::{Catalog, ColType, IndexState, Kind, Name, Nums, Oid, RowKey, Text, Word};
 
 /// What a constraint demands.
-#[derive(Clone, Copy, Debug, PartialEq, Eq)]
+#[derive(Clone, Copy)]
 pub enum ConKind {
     Check(Text),
     Foreign { num: u32, refrel: Oid, refnum: u32 },
 }
 
 /// A row of a catalog, with the columns that the caches read.
-#[derive(Clone, Copy, Debug, PartialEq, Eq)]
+#[derive(Clone, Copy)]
 pub enum Row {
     /// `pg_class`: `fill` is the fillfactor, where one is set.
     Class {
@@ -59,10 +59,11 @@ pub enum Row {
 
 impl Row {
     ghost use Rattle.std.specs.Prelude.{◌≡◌};
-    ghost use Rattle.base_types.specs.Rows.{catalog_of};
-    ghost use Rattle.base_types.specs.Keys.{key_of};
+    ghost use Rattle.base_types.specs.RowKeys.{catalog_of};
+    ghost use Rattle.base_types.specs.RowKeys.{key_of};
 
     /// The catalog of the row.
+    // used by the invalidation messages, which are not built yet
     pub fn catalog(&self) -> Catalog
         ensures { result ≡ catalog_of self.now }
     {
@@ -76,7 +77,8 @@ impl Row {
         }
     }
 
-    /// What tells the row from the others of its catalog.
+    /// What identifies the row within its catalog.
+    // used by the writers of rows, which are not built yet
     pub fn key(&self) -> RowKey
         ensures { result ≡ key_of self.now }
     {

@@ -1,7 +1,7 @@
 use crate::Oid;
 
-/// What tells a row of a catalog from the others of it.
-#[derive(Clone, Copy, Debug, PartialEq, Eq)]
+/// What identifies a row within its catalog.
+#[derive(Clone, Copy)]
 pub enum RowKey {
     Class(Oid),
     Att(Oid, u32),
@@ -13,9 +13,10 @@ pub enum RowKey {
 
 impl RowKey {
     ghost use Rattle.std.specs.Prelude.{◌≡◌};
-    ghost use Rattle.base_types.specs.Keys.{same_key};
+    ghost use Rattle.base_types.specs.RowKeys.{same_key};
 
     /// Whether two keys are one.
+    // used by the writers of rows, which are not built yet
     pub fn is(&self, other: &RowKey) -> bool
         ensures { result ≡ same_key self.now other.now }
     {

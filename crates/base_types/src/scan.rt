@@ -1,7 +1,7 @@
 use crate::{Name, Oid};
 
 /// A scan of a catalog: which rows it asks for.
-#[derive(Clone, Copy, Debug, PartialEq, Eq)]
+#[derive(Clone, Copy)]
 pub enum Purpose {
     /// The `pg_class` row of a name.
     RelName(Name),

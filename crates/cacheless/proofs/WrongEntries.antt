@@ -125,11 +125,11 @@ kind_changed h = search arith
 pub release_before_gone : MayFollow oids.written (entry 1 3 (Release 1)) → ⊥
 release_before_gone h = search arith
 
--- writes are taken back where none stands
+-- writes are taken back where there are none
 pub nothing_taken_back : MayFollow oids.begun (entry 1 1 (Gone 1)) → ⊥
 nothing_taken_back h = search arith
 
--- writes of later commands are taken back, where none stands
+-- writes of later commands are taken back, where there is none
 pub later_commands_taken_back : MayFollow oids.written (entry 1 3 (Gone 3)) → ⊥
 later_commands_taken_back h = search arith
 
@@ -245,7 +245,7 @@ key_added_again h = search arith
 pub needless_scan : ScansOnlyIfNeeded show.trigger_scanned 1 (Scan (scans.Attribute (oid 16384)) 1) → ⊥
 needless_scan h = search arith
 
--- a backend's own locks don't stand in its way
+-- a backend's own locks don't conflict
 pub own_lock_no_conflict : MayFollow creators.first_written (entry 1 3 (LockOk (oid 16384) AccessShare))
 own_lock_no_conflict = search arith
 

@@ -51,11 +51,11 @@ abbrev pub next_sent : ℕ → ℕ → Event
 next_sent first zero = events.Release first
 next_sent first unsent = events.Publish (if nat_le unsent 64 then unsent else 64)
 
--- the next entry of a commit: the visibility step if a write stands, the publishes, the release
+-- the next entry of a commit: the visibility step if it has a write, the publishes, the release
 abbrev pub next_of_commit : Facts → ℕ → Event
 next_of_commit facts first = elim (has_write_from first facts.lists) [ true ↦ elim (is_visible facts.running) [ true ↦ next_sent first (length (unsent_in facts.lists facts.running)) | false ↦ events.Visible (record { 0 = xid_of facts }) ] | false ↦ events.Release first ]
 
--- the next entry of taking back: `gone` if a write stands, the release
+-- the next entry of taking back: `gone` if there is a write, the release
 abbrev pub next_of_taking_back : Facts → ℕ → Event
 next_of_taking_back facts from = elim (has_write_from from facts.lists) [ true ↦ events.Gone from | false ↦ events.Release from ]
 

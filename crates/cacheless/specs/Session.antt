@@ -1,4 +1,4 @@
--- Where a backend stands in its commands.
+-- The session of a backend: how far it is in its commands.
 use Rattle.std.specs.Prelude.{ℕ, Bool, true, false, Option, Some, None, List, [], ◌∷◌, ◌++◌, ◌+◌, length, is_some}
 use Rattle.std.specs.Option.{option_map_or}
 use Rattle.ddl_effect.specs.Plans.{Plan, Done, Fails, Absent, Do, NotBuilt}

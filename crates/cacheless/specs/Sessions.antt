@@ -82,6 +82,6 @@ abbrev pub session_by : Scenario → Facts → ℕ → ℕ → ℕ → Event →
 session_by scenario facts b at command events.Start old = let commands = commands_of scenario b in Some (settled facts commands (at_command no_block [] [] at (first_of commands)))
 session_by scenario facts b at command event old = option_map (λ s. let commands = commands_left scenario b s in settled facts commands (entered facts commands at command event s)) old
 
--- where a backend stands in its commands, once it has started
+-- how far a backend is in its commands, once it has started
 abbrev pub session_of : Scenario → List Entry → ℕ → Option Session
 session_of scenario history b = along_own b (λ before old e. session_by scenario (facts_of (before ++ e ∷ []) b) b (length before + 1) e.command e.event old) None history

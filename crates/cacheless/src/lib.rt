@@ -1,7 +1,7 @@
 //! What the program may write for a script: the order in which backends do what their commands say,
 //! what each command answers, and the texts that follow.
 //!
-//! Where a backend stands is a fold over its own entries, its session. What it may do next is a
+//! How far a backend is, is a fold over its own entries: its session. What it may do next is a
 //! function of its session and of a few facts of its entries: what it has to do first (a look at its
 //! has-messages word, the scans on which its next act rests), the next act of its command's plan, or
 //! the end of the command. An act that needs no entry, and a command that needs none, are passed over

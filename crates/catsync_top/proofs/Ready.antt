@@ -2,7 +2,7 @@
 use Rattle.std.proofs.Common.{◌≡◌, ◌≤◌, ◌∙◌, ℕ, Bool, true, false, not, ◌&&◌, Option, Ok, List, length, sym, ap}
 use Rattle.std.proofs.lemmas.Bool.{true≢false}
 use Rattle.edge_io.specs.Reads.{ReadsAll}
-use Rattle.script_text.specs.Built.{is_built}
+use Rattle.walk_run.specs.Built.{is_built}
 use Rattle.script_text.specs.Grammar.{Reading, script_of}
 use Rattle.script_text.specs.declared.fault.Rest.TheVariants.{Refused}
 use Rattle.catsync_top.specs.Top.{IsNotYet, is_ready}

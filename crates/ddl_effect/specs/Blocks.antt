@@ -15,7 +15,7 @@ pub record Level : Type 0 where
   pub first : ℕ
   pub savepoint : Option (List ℕ)
 
--- where a session stands: whether it is in a block, and the block's levels, the outermost first
+-- whether a session is in a block, and the block's levels, the outermost first
 pub record Blocks : Type 0 where
   pub block : Block
   pub levels : List Level

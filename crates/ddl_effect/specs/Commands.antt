@@ -3,6 +3,7 @@ use Rattle.std.specs.Prelude.{ℕ, Bool, true, false, Option, Some, None, List, 
 use Rattle.std.specs.List.{list_any, enumerate_from}
 use Rattle.std.specs.Str.{bytes_eq}
 use Rattle.base_types.specs.Fields.{has_field}
+use Rattle.base_types.specs.declared.dropped.TheConstants.{MOST_COLUMNS}
 use Rattle.base_types.specs.declared.row.Row.TheVariants as rows
 use Rattle.base_types.specs.declared.command.Command.TheVariants as commands
 use Rattle.rel_desc.specs.declared.error.CommandError.TheVariants as errors
@@ -68,5 +69,5 @@ plan_of held commands.Begin = Done
 plan_of held commands.Commit = Done
 plan_of held commands.Rollback = Done
 plan_of held (commands.Show name field) = looking_up name AccessShare (showing name field)
-plan_of held (commands.CreateTable name columns) = if_passes (nat_le (length columns) 1600) errors.TooManyColumns (if_no_column (first_twice [] (map (λ c. c.name) columns)) (writing (new_table name columns)))
+plan_of held (commands.CreateTable name columns) = if_passes (nat_le (length columns) MOST_COLUMNS) errors.TooManyColumns (if_no_column (first_twice [] (map (λ c. c.name) columns)) (writing (new_table name columns)))
 plan_of held command = NotBuilt

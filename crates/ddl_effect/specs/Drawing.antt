@@ -3,7 +3,7 @@ use Rattle.std.specs.Prelude.{ℕ, true, false, List, ◌+◌, ◌-◌, ◌&&◌
 use Rattle.base_types.specs.declared.row.Row.TheVariants as rows
 use Rattle.ddl_effect.specs.Types.{Oid, Row, Change, Insert, Replace, Delete, Draft}
 
--- the new oid for which a number from 1 to `new_oids` stands; any other oid stays
+-- the new oid that a number from 1 to `new_oids` means; any other oid stays
 abbrev pub drawn_oid : ℕ → ℕ → Oid → Oid
 drawn_oid first new_oids oid = elim (nat_le 1 oid.0 && nat_le oid.0 new_oids) [ true ↦ record { 0 = first + oid.0 - 1 } | false ↦ oid ]
 

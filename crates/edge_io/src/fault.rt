@@ -4,7 +4,7 @@ use std::error::Error;
 use std::fmt;
 
 /// A source or a sink failed; its count of faults says so too.
-#[derive(Clone, Copy, Debug, PartialEq, Eq)]
+#[derive(Clone, Copy, Debug)]
 pub struct Failed;
 
 impl fmt::Display for Failed {

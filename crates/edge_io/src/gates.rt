@@ -3,8 +3,10 @@ ghost use Rattle.std.specs.Prelude.{◌≡◌, ℕ, ◌+◌};
 use std::marker::Model;
 use std::sync::Wait;
 
+// Gates wait for the program that runs its backends on threads; the walk asks none.
+
 /// What a gate answers.
-#[derive(Clone, Copy, Debug, PartialEq, Eq)]
+#[derive(Clone, Copy)]
 pub enum Go {
     /// The backend goes on.
     On,
@@ -25,7 +27,7 @@ pub trait Gate: Send {
 }
 
 /// A gate that never stops.
-#[derive(Clone, Copy, Debug, Drop)]
+#[derive(Clone, Copy, Drop)]
 pub struct OpenGate;
 
 impl Gate for OpenGate {
@@ -42,7 +44,7 @@ impl Gate for OpenGate {
 }
 
 /// A gate that stops at one of its passes and at no other.
-#[derive(Debug, Drop)]
+#[derive(Drop)]
 pub struct StopGate {
     left: u64,
     stops: u64,

@@ -4,14 +4,14 @@ ghost use Rattle.edge_io.specs.Causes.{HasCause};
 ghost use Rattle.edge_io.specs.Taken.{Takes, TakesSome};
 ghost use Rattle.edge_io.specs.Gathered.{gathered, Gathers, Flushes, Stood};
 
-use crate::held::Held;
+use crate::held::{Held, MOST_HELD};
 use crate::{Failed, Sink};
 
-/// Gathers bytes for a sink, and hands them on in pieces of 4,096.
+/// Gathers bytes for a sink, and hands them on in large pieces.
 ///
-/// It tells what the sink behind it has taken and then what it holds. Whoever lent the sink learns
-/// from `Gathers` and `Flushes` what it has taken: all that was sent after `Ok` of
-/// [`GatheringSink::flush`], and a front of it after any `Failed`.
+/// It tells what its sink has taken and then what it holds. Whoever lent the sink learns from
+/// `Gathers` and `Flushes` what it has taken: all that was sent after `Ok` of
+/// [`GatheringSink::flush`], and a prefix of it after any `Failed`.
 pub struct GatheringSink<'a, K> {
     sink: &'a mut K,
     held: Held,
@@ -39,7 +39,7 @@ impl<'a, K: Sink> GatheringSink<'a, K> {
         }
     }
 
-    /// Sends all of `text`. After `Failed` a front of it is taken or held.
+    /// Sends all of `text`. After `Failed` a prefix of it is taken or held.
     pub fn send(&mut self, text: &[u8]) -> Result<(), Failed>
         ensures bytes { Gathers (gathered K.taken self.old) (gathered K.taken self.new) result text.now }
         ensures cause { HasCause (K.faults self.old.sink.now) (K.faults self.new.sink.now) result }
@@ -54,7 +54,7 @@ impl<'a, K: Sink> GatheringSink<'a, K> {
     // Hands on what is held where there is room for no more.
     fn make_room(&mut self) -> Result<(), Failed>
         ensures bytes { Flushes (gathered K.taken self.old) (gathered K.taken self.new) }
-        ensures ok { OnOk result (length self.new.held < 4096) }
+        ensures ok { OnOk result (length self.new.held < MOST_HELD) }
         ensures cause { HasCause (K.faults self.old.sink.now) (K.faults self.new.sink.now) result }
     {
         if self.held.is_full() {

@@ -3,30 +3,31 @@ ghost use Rattle.std.specs.Prelude.{◌≡◌, ℕ, ◌-◌, ◌≤◌, ◌==◌
 use std::marker::Model;
 
 // How many bytes are gathered before they are handed on.
-const MOST: usize = 4096;
+pub(crate) const MOST_HELD: usize = 4096;
 
 // Bytes that wait to be handed on.
-#[derive(Debug, Drop)]
+#[derive(Drop)]
 pub(crate) struct Held {
-    bytes: [u8; MOST],
+    bytes: [u8; MOST_HELD],
     len: usize,
 }
 
 impl Model for Held {
     ghost use Rattle.std.specs.Prelude.{ℕ, ◌≤◌, List, take};
+    ghost use Rattle.edge_io.specs.declared.held.TheConstants.{MOST_HELD};
 
     ghost Value = { List ℕ };
 
     ghost view = { λ held. take held.len held.bytes };
 
-    ghost invariant = { λ held. held.len ≤ 4096 };
+    ghost invariant = { λ held. held.len ≤ MOST_HELD };
 }
 
 // Room for the bytes.
-fn blank() -> [u8; MOST]
-    ensures { length result ≡ 4096 }
+fn blank() -> [u8; MOST_HELD]
+    ensures { length result ≡ MOST_HELD }
 {
-    [0; MOST]
+    [0; MOST_HELD]
 }
 
 impl Held {
@@ -46,10 +47,10 @@ impl Held {
     }
 
     pub(crate) fn is_full(&self) -> bool
-        ensures full { result ≡ (length self.now == 4096) }
-        ensures short { length self.now ≤ 4096 }
+        ensures full { result ≡ (length self.now == MOST_HELD) }
+        ensures short { length self.now ≤ MOST_HELD }
     {
-        self.len == MOST
+        self.len == MOST_HELD
     }
 
     pub(crate) fn as_slice(&self) -> &[u8]
@@ -58,12 +59,12 @@ impl Held {
         &self.bytes[..self.len]
     }
 
-    // Keeps the front of a piece for which there is room, and says how long it is.
+    // Keeps the prefix of a piece for which there is room, and says how long it is.
     pub(crate) fn keep(&mut self, piece: &[u8]) -> usize
-        ensures count { result ≡ min (length piece.now) (4096 - length self.old) }
+        ensures count { result ≡ min (length piece.now) (MOST_HELD - length self.old) }
         ensures kept { self.new ≡ self.old ++ take result piece.now }
     {
-        let count = piece.len().min(MOST - self.len);
+        let count = piece.len().min(MOST_HELD - self.len);
         self.bytes[self.len..self.len + count].copy_from_slice(&piece[..count]);
         self.len += count;
         count

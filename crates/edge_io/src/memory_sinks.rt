@@ -14,7 +14,7 @@ pub const MEMORY_SINK_ROOM: usize = 16_777_216;
 
 /// A sink in memory that takes at most so many bytes in a call, and whose calls fail by their
 /// numbers. It has no room before [`MemorySink::ready`], and a write beyond its room fails.
-#[derive(Debug, Drop)]
+#[derive(Drop)]
 pub struct MemorySink {
     sent: Vec<u8>,
     room: usize,
@@ -48,7 +48,7 @@ impl MemorySink {
         }
     }
 
-    /// Takes the memory for its room; want of memory changes nothing.
+    /// Takes the memory for its room; out of memory, nothing changes.
     pub fn ready(&mut self) -> Result<(), NoMemory>
         ensures ok { OnOk result (self.new ≡ record self.old { room = 16777216 }) }
         ensures err { OnErr result (self.new ≡ self.old) }
@@ -92,7 +92,7 @@ impl Sink for MemorySink {
 
 /// A sink in memory that never fails and takes the whole of each piece. It keeps the bytes that fit
 /// its room; a byte past the room is taken and not kept, and from then on it tells nothing.
-#[derive(Debug, Drop)]
+#[derive(Drop)]
 pub struct SteadySink {
     kept: Vec<u8>,
     room: usize,

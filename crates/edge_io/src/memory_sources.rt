@@ -8,7 +8,7 @@ use crate::plans::Plan;
 use crate::{Failed, Source};
 use std::marker::Model;
 
-// Copies the front of `from` to the front of `into`, at most so many bytes, and says how many.
+// Copies the first bytes of `from` to the start of `into`, at most so many, and says how many.
 fn give(from: &[u8], into: &mut [u8], most: usize) -> usize
     ensures count { result ≡ min (min (length into.old) most) (length from.now) }
     ensures bytes { take result into.new ≡ take result from.now }
@@ -20,7 +20,7 @@ fn give(from: &[u8], into: &mut [u8], most: usize) -> usize
 
 /// A source in memory that gives at most so many bytes in a call, and whose calls fail by their
 /// numbers.
-#[derive(Debug, Drop)]
+#[derive(Drop)]
 pub struct MemorySource {
     bytes: Vec<u8>,
     at: usize,
@@ -76,7 +76,7 @@ impl Source for MemorySource {
 }
 
 /// A source in memory that never fails and gives as much as a piece has room for.
-#[derive(Debug, Drop)]
+#[derive(Drop)]
 pub struct SteadySource {
     bytes: Vec<u8>,
     at: usize,

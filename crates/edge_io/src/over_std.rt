@@ -7,8 +7,9 @@ use std::io::{ErrorKind, Read, Write};
 /// How often a call that was interrupted is tried in all.
 const TRIES: u32 = 1000;
 
-/// A source over a reader of std. It tells nothing of its bytes.
-#[derive(Debug, Drop)]
+/// A source over a reader of std. It tells the bytes that its reader tells; std's own readers of
+/// files and of standard input tell none.
+#[derive(Drop)]
 pub struct StdSource<R> {
     reader: R,
     faults: u64,
@@ -25,7 +26,7 @@ impl<R> StdSource<R> {
 }
 
 impl<R: Read> Source for StdSource<R> {
-    ghost left = { λ _. None };
+    ghost left = { λ source. R.remaining source.reader };
 
     ghost faults = { λ source. source.faults };
 
@@ -42,8 +43,8 @@ impl<R: Read> Source for StdSource<R> {
     }
 }
 
-/// A sink over a writer of std. It tells nothing of its bytes.
-#[derive(Debug, Drop)]
+/// A sink over an unbuffered writer of std, which it never flushes. It tells nothing of its bytes.
+#[derive(Drop)]
 pub struct StdSink<W> {
     writer: W,
     faults: u64,

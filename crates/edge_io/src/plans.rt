@@ -6,7 +6,7 @@ use crate::Failed;
 use std::marker::Model;
 
 // Which calls of an object in memory fail, how many were made, and how many failed.
-#[derive(Debug, Drop)]
+#[derive(Drop)]
 pub(crate) struct Plan {
     failing: Vec<u64>,
     made: u64,

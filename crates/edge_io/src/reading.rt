@@ -7,12 +7,15 @@ use std::alloc::{AllocError, Global};
 use std::error::Error;
 use std::fmt;
 
+/// How many bytes are read in one call.
+pub const PIECE: usize = 4096;
+
 /// Why [`read_all`] gave no text.
-#[derive(Clone, Copy, Debug, PartialEq, Eq)]
+#[derive(Clone, Copy, Debug)]
 pub enum ReadRefusal {
     /// The source failed.
     Failed,
-    /// Want of memory.
+    /// Out of memory.
     NoMemory,
 }
 
@@ -44,14 +47,14 @@ impl From<AllocError> for ReadRefusal {
 }
 
 // An empty piece, for one read.
-fn blank_piece() -> [u8; 4096]
-    ensures { length result ≡ 4096 }
+fn blank_piece() -> [u8; PIECE]
+    ensures { length result ≡ PIECE }
 {
-    [0; 4096]
+    [0; PIECE]
 }
 
-/// Reads until the source's end, or until it has given more than `limit` bytes; it gives at most
-/// 4,096 bytes more than `limit`. `Failed` where the source failed.
+/// Reads until the source's end, or until it has given more than `limit` bytes; it reads at most
+/// [`PIECE`] bytes more than `limit`. `Failed` where the source failed.
 pub fn read_all<S: Source>(
     alloc: Global,
     source: &mut S,

@@ -12,8 +12,8 @@ pub trait Sink {
     /// How many calls have failed; it never falls.
     ghost faults: { Self → ℕ };
 
-    /// Takes bytes from the front of `from` and says how many: at least one of a piece that isn't
-    /// empty. `Failed` where the sink failed; then it took none.
+    /// Takes the first bytes of `from` and says how many: at least one of a piece that isn't empty.
+    /// `Failed` where the sink failed; then it took none.
     fn write(&mut self, from: &[u8]) -> Result<usize, Failed>
         ensures short { TakesSome result from.now }
         ensures bytes { Takes (taken self.old) (taken self.new) result from.now }

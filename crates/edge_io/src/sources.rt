@@ -13,7 +13,7 @@ pub trait Source {
     /// How many calls have failed; it never falls.
     ghost faults: { Self → ℕ };
 
-    /// Gives the next bytes into the front of `into` and says how many: at most its length, and 0 of
+    /// Gives the next bytes into the start of `into` and says how many: at most its length, and 0 of
     /// a piece that isn't empty only at the end. `Failed` where the source failed.
     fn read(&mut self, into: &mut [u8]) -> Result<usize, Failed>
         ensures short { ReadsAtMost result into.new }

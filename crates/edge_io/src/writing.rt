@@ -4,7 +4,7 @@ ghost use Rattle.edge_io.specs.Taken.{Sends};
 
 use crate::{Failed, Sink};
 
-/// Writes all of `text`. After `Failed` the sink has taken a front of it.
+/// Writes all of `text`. After `Failed` the sink has taken a prefix of it.
 pub fn send<K: Sink>(sink: &mut K, text: &[u8]) -> Result<(), Failed>
     ensures bytes { Sends (K.taken sink.old) (K.taken sink.new) result text.now }
     ensures cause { HasCause (K.faults sink.old) (K.faults sink.new) result }

@@ -1,5 +1,4 @@
 pub mod Changes
-pub mod Added
 pub mod Spelling
 pub mod Leaves
 pub mod Fields

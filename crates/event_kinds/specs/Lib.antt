@@ -1,6 +1,5 @@
 pub mod Events
 pub mod Texts
-pub mod Adding
 pub mod Entries
 pub mod Readers
 pub mod Reading

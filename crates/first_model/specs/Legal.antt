@@ -6,7 +6,7 @@ use Rattle.base_types.specs.declared.ids.Xid.{Xid}
 use Rattle.base_types.specs.declared.mode.Mode.{Mode}
 use Rattle.base_types.specs.declared.row.Row.TheVariants.{Class, Att, Def, Con, Trg}
 use Rattle.base_types.specs.declared.row_key.RowKey.{RowKey}
-use Rattle.base_types.specs.Keys.{key_of, are_distinct_keys}
+use Rattle.base_types.specs.RowKeys.{key_of, are_distinct_keys}
 use Rattle.event_kinds.specs.declared.entry.Entry.{Entry}
 use Rattle.event_kinds.specs.declared.entry.Event.{Event}
 use Rattle.event_kinds.specs.declared.entry.Event.TheVariants.{Start, Scan, LockOk, LockHeld, Write, Visible, Release, Stop}

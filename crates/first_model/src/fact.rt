@@ -1,7 +1,7 @@
 use base_types::{Mode, Oid, Row, Xid};
 
 /// A version of a catalog row: the row, and the transaction and the command that wrote it.
-#[derive(Clone, Copy, Debug, PartialEq, Eq)]
+#[derive(Clone, Copy)]
 pub struct Version {
     pub row: Row,
     pub xid: Xid,
@@ -9,7 +9,7 @@ pub struct Version {
 }
 
 /// A lock that a backend was granted in a command.
-#[derive(Clone, Copy, Debug, PartialEq, Eq)]
+#[derive(Clone, Copy)]
 pub struct Grant {
     pub backend: u32,
     pub command: u32,

@@ -111,14 +111,14 @@ granted_new : (b c low high : ℕ) (item : Item) → AllByRecursion (λ n. (low 
 granted_new b c low high (items.Add (rows.Class oid own kind fill)) drawn = (record { by = refl; above = drawn.0.0; below = drawn.0.1 }, tt)
 granted_new b c low high item drawn = tt
 
-every-front : (P : ℕ → Type 0) (xs ys : List ℕ) → AllByRecursion P (xs ++ ys) → AllByRecursion P xs × AllByRecursion P ys
-every-front P [] ys all = (tt, all)
-every-front P (x ∷ xs) ys all = let rest = every-front P xs ys all.1 in ((all.0, rest.0), rest.1)
+every-parts : (P : ℕ → Type 0) (xs ys : List ℕ) → AllByRecursion P (xs ++ ys) → AllByRecursion P xs × AllByRecursion P ys
+every-parts P [] ys all = (tt, all)
+every-parts P (x ∷ xs) ys all = let rest = every-parts P xs ys all.1 in ((all.0, rest.0), rest.1)
 
 all_granted_new : (b c low high : ℕ) (changes : List Item) → AllByRecursion (λ n. (low ≤ n) × (n < high)) (flat_map drawn_by changes) → AllByRecursion (IsNew b low high) (flat_map (granted_by b c) changes)
 all_granted_new b c low high [] drawn = tt
 all_granted_new b c low high (item ∷ changes) drawn =
-    let parts = every-front (λ n. (low ≤ n) × (n < high)) (drawn_by item) (flat_map drawn_by changes) drawn in
+    let parts = every-parts (λ n. (low ≤ n) × (n < high)) (drawn_by item) (flat_map drawn_by changes) drawn in
     every-append (IsNew b low high) (granted_by b c item) (flat_map (granted_by b c) changes) (granted_new b c low high item parts.0) (all_granted_new b c low high changes parts.1)
 
 in_range : (low high start len : ℕ) → low ≤ start → start + len ≤ high → AllByRecursion (λ n. (low ≤ n) × (n < high)) (range_with_len start len)

@@ -11,7 +11,7 @@ use Rattle.base_types.specs.declared.row.Row.{Row}
 use Rattle.base_types.specs.declared.row.Row.TheVariants as rows
 use Rattle.base_types.specs.declared.row_key.RowKey.{RowKey}
 use Rattle.base_types.specs.declared.row_key.RowKey.TheVariants as keys
-use Rattle.base_types.specs.Keys.{key_of, same_key}
+use Rattle.base_types.specs.RowKeys.{key_of, same_key}
 use Rattle.base_types.specs.Modes.{conflicts, same_mode}
 use Rattle.base_types.specs.Scans.{same_oid}
 use Rattle.event_kinds.specs.declared.entry.Entry.{Entry}

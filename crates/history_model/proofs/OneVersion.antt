@@ -8,7 +8,7 @@ use Rattle.std.proofs.lemmas.List.Folds.{list_any-append}
 use Rattle.std.proofs.lemmas.Bool.{eqb-true, eq-eqb, both_ways, or_cases, or_parts, and_parts, and_from, or_left, or_right, false_from_ne_true, not-true, leb-true, leb-false, le-leb, lt-leb}
 use Rattle.base_types.specs.declared.row.Row.{Row}
 use Rattle.base_types.specs.declared.row_key.RowKey.{RowKey}
-use Rattle.base_types.specs.Keys.{key_of, same_key, are_distinct_keys}
+use Rattle.base_types.specs.RowKeys.{key_of, same_key, are_distinct_keys}
 use Rattle.event_kinds.specs.declared.entry.Entry.{Entry}
 use Rattle.event_kinds.specs.declared.entry.Event.{Event}
 use Rattle.event_kinds.specs.declared.entry.Event.TheVariants as events
@@ -66,7 +66,7 @@ apart-kept history a c event lawful r hidden v w sv sw apart key b p down seen a
     same : (u : Version) → Stamped history u → OfStamps (λ s row. counts_at after b p s ≡ counts_at history b p s) u
     same u su = stamps-weaker (Touch history) (λ s row. counts_at after b p s ≡ counts_at history b p s) (λ s row touch. counts_at-same history a c event b p s row lawful r (hidden s.xid.0) touch) u su.0
 
--- the Xid stands on the version
+-- a stamp of the version has the Xid
 abbrev marks : ℕ → Version → Bool
 marks x v = (x == v.by.xid.0) || option_map_or (λ s. x == s.xid.0) v.ended false
 

@@ -13,7 +13,7 @@ use Rattle.base_types.specs.declared.row.Row.{Row}
 use Rattle.base_types.specs.declared.row.Row.TheVariants as rows
 use Rattle.base_types.specs.declared.row.ConKind.TheVariants as demands
 use Rattle.base_types.specs.declared.row_key.RowKey.{RowKey}
-use Rattle.base_types.specs.Keys.{key_of, same_key}
+use Rattle.base_types.specs.RowKeys.{key_of, same_key}
 use Rattle.base_types.specs.Modes.{same_mode}
 use Rattle.base_types.specs.Scans.{same_oid}
 use Rattle.row_visibility.specs.declared.version.Version.{Version}

@@ -6,6 +6,7 @@ use Rattle.std.proofs.lemmas.Grind.{fold-append}
 use Rattle.std.proofs.lemmas.List.{length_push}
 use Rattle.std.proofs.Math.Bool.{or-false}
 use Rattle.std.proofs.lemmas.List.Folds.{list_any-append}
+use Rattle.base_types.specs.declared.ids.TheConstants.{FIRST_OID}
 use Rattle.base_types.specs.declared.scan.Purpose.{Purpose}
 use Rattle.event_kinds.specs.declared.entry.Entry.{Entry}
 use Rattle.history_model.specs.Lives.{Unstarted, life_of, life_by, last_event_of}
@@ -33,7 +34,7 @@ held_of-more history e = fold-append (λ old y. held_by y.backend y.command y.ev
 
 -- the next oid after one more entry
 pub next_oid-more : (history : List Entry) (e : Entry) → next_oid (history ++ e ∷ []) ≡ next_oid_by e.event (next_oid history)
-next_oid-more history e = fold-append (λ next y. next_oid_by y.event next) 16384 history (e ∷ [])
+next_oid-more history e = fold-append (λ next y. next_oid_by y.event next) FIRST_OID history (e ∷ [])
 
 -- the last Xid after one more entry
 pub last_xid-more : (history : List Entry) (e : Entry) → last_xid (history ++ e ∷ []) ≡ last_xid_by e.event (last_xid history)
@@ -80,7 +81,7 @@ pub running_transaction_of-other : (history : List Entry) (e : Entry) (b : ℕ) 
     → running_transaction_of (history ++ e ∷ []) b ≡ running_transaction_of history b
 running_transaction_of-other history e b other = own-other b (λ before old y. running_by y.command y.event old) None history e other
 
--- the writes that stand after the backend's own entry
+-- the writes that weren't taken back, after the backend's own entry
 pub lists_of-own : (history : List Entry) (e : Entry) (b : ℕ) → (e.backend == b) ≡ true → lists_of (history ++ e ∷ []) b ≡ lists_by history b e.command e.event (lists_of history b)
 lists_of-own history e b own = own-own b (λ before old y. lists_by before b y.command y.event old) [] history e own
 

@@ -6,7 +6,7 @@ use Rattle.std.specs.Option.{option_map_or, IfSome}
 use Rattle.std.proofs.Math.Bool.{or-false, or-true}
 use Rattle.std.proofs.lemmas.Bool.{eqb-true, eq-eqb, both_ways, and_parts, false_from_ne_true}
 use Rattle.base_types.specs.declared.row.Row.{Row}
-use Rattle.base_types.specs.Keys.{key_of}
+use Rattle.base_types.specs.RowKeys.{key_of}
 use Rattle.event_kinds.specs.declared.entry.Entry.{Entry}
 use Rattle.event_kinds.specs.declared.entry.Event.{Event}
 use Rattle.event_kinds.specs.declared.entry.Event.TheVariants as events

@@ -1,4 +1,4 @@
--- What a running transaction has touched is covered by its messages.
+-- What a running transaction has touched, it has written in a command that wasn't taken back.
 use Rattle.std.proofs.Common.{◌≡◌, ◌≤◌, ◌<◌, ◌+◌, ◌∙◌, ◌⊎◌, inl, inr, ℕ, Bool, true, false, not, Option, Some, None, List, [], ◌∷◌, ◌++◌, ◌==◌, ◌||◌, ◌&&◌, cond, if◌then◌else◌, refl, sym, ap, subst, map, filter, fold, arith, rules}
 use Rattle.std.specs.Prelude.{nat_le, nat_lt, ⊤}
 use Rattle.std.specs.List.{AllByRecursion, list_any, flat_map}

@@ -1,6 +1,7 @@
 -- The oids that writes draw.
 use Rattle.std.specs.Prelude.{ℕ, List, [], ◌∷◌, ◌+◌, length, fold}
 use Rattle.std.specs.List.{flat_map}
+use Rattle.base_types.specs.declared.ids.TheConstants.{FIRST_OID}
 use Rattle.base_types.specs.declared.row.Row.TheVariants.{Class, Def, Con, Trg}
 use Rattle.history_model.specs.Types.{Oid, Item, Add, Entry, Event, Write}
 
@@ -24,4 +25,4 @@ next_oid_by event next = next
 
 -- the oid that is drawn next
 abbrev pub next_oid : List Entry → ℕ
-next_oid history = fold (λ next e. next_oid_by e.event next) 16384 history
+next_oid history = fold (λ next e. next_oid_by e.event next) FIRST_OID history

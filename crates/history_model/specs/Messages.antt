@@ -1,7 +1,7 @@
 -- Invalidation messages, and which scans a message covers.
 use Rattle.std.specs.Prelude.{ℕ, Bool, true, false, not, List, [], ◌∷◌, ◌==◌, ◌&&◌}
 use Rattle.std.specs.List.{list_any}
-use Rattle.base_types.specs.Hashes.{key_hash, cache_number}
+use Rattle.base_types.specs.CacheKeys.{key_hash, cache_number}
 use Rattle.base_types.specs.Scans.{same_oid}
 use Rattle.base_types.specs.declared.key.KeyPart.TheVariants as parts
 use Rattle.base_types.specs.declared.scan.Purpose.TheVariants as scans

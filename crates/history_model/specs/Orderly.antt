@@ -2,7 +2,7 @@
 use Rattle.std.specs.Prelude.{ℕ, Bool, true, false, List, ◌≡◌, ◌<◌, ⊤}
 use Rattle.std.specs.Option.{option_map_or}
 use Rattle.std.specs.List.{list_any, list_all}
-use Rattle.base_types.specs.Keys.{key_of, same_key}
+use Rattle.base_types.specs.RowKeys.{key_of, same_key}
 use Rattle.base_types.specs.Scans.{same_oid}
 use Rattle.base_types.specs.declared.row.Row.TheVariants as rows
 use Rattle.history_model.specs.Types.{Oid, Row, RowKey, Item, Add, Put, Entry, Event, LockOk, LockHeld, Write}

@@ -33,7 +33,7 @@ written_by before b command items = record { command = command; cats = flat_map 
 abbrev pub ends_transaction : ℕ → Option Running → Bool
 ends_transaction from running = option_map_or (λ t. t.first == from) running false
 
--- the writes that stand, after an event of their backend
+-- the writes that weren't taken back, after an event of their backend
 abbrev pub lists_by : List Entry → ℕ → ℕ → Event → List Written → List Written
 lists_by before b command (Write xid items) old = old ++ written_by before b command items ∷ []
 lists_by before b command (Gone from) old = filter (λ w. nat_lt w.command from) old

@@ -2,7 +2,7 @@
 use Rattle.std.specs.Prelude.{ℕ, Bool, true, false, not, Option, Some, None, List, [], ◌∷◌, ◌++◌, ◌||◌, ◌&&◌, nat_le, map, filter, fold}
 use Rattle.std.specs.Option.{option_map_or}
 use Rattle.std.specs.List.{find}
-use Rattle.base_types.specs.Keys.{key_of, same_key}
+use Rattle.base_types.specs.RowKeys.{key_of, same_key}
 use Rattle.base_types.specs.Scans.{scan_of}
 use Rattle.base_types.specs.Fields.{field_text, read_by}
 use Rattle.row_visibility.specs.Seen.{seen_by}

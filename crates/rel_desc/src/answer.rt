@@ -2,7 +2,7 @@ use crate::{CommandError, Value};
 use base_types::{ColType, Field, Kind, Listed, Name, Oid};
 
 /// A field as it is shown.
-#[derive(Debug, Drop)]
+#[derive(Drop)]
 pub struct Shown {
     pub field: Field,
     pub value: Value,
@@ -11,14 +11,14 @@ pub struct Shown {
 }
 
 /// A column as a list shows it.
-#[derive(Clone, Copy, Debug, PartialEq, Eq)]
+#[derive(Clone, Copy)]
 pub struct Column {
     pub name: Name,
     pub col_type: ColType,
 }
 
 /// What a command answers.
-#[derive(Debug, Drop)]
+#[derive(Drop)]
 pub enum Answer {
     /// The command did what it says.
     Ok,

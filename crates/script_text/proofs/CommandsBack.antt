@@ -1,4 +1,4 @@
--- What is read of the tokens of a command's pieces is that command, and its pieces may stand in a line.
+-- What is read of the tokens of a command's pieces is that command, and a line may be made of its pieces.
 use Rattle.std.proofs.Common.{◌≡◌, ◌≤◌, ◌<◌, ℕ, ℤ, nat_abs, Bool, true, false, ◌&&◌, Option, Some, None, List, [], ◌∷◌, ◌++◌, length, nat_le, codes, refl, subst, arith}
 use Rattle.std.specs.List.{AllByRecursion, flat_map, list_all}
 use Rattle.std.specs.Str.{bytes_eq}
@@ -6,7 +6,7 @@ use Rattle.std.proofs.lemmas.Bool.Decides.{nat_tests}
 use Rattle.std.proofs.lemmas.Slice.Eq.{bytes_eq-Decides}
 use Rattle.base_types.specs.Names.{IsName, IsWord, IsText, is_word_byte, is_text_byte, name_fault, short_fault}
 use Rattle.base_types.specs.Words.{type_word, field_word}
-use Rattle.base_types.specs.Commands.{IsCommand, IsSome}
+use Rattle.base_types.specs.Commands.{IsCommand, IsNonEmpty}
 use Rattle.base_types.specs.declared.command.Command.{Command}
 use Rattle.base_types.specs.declared.command.Command.TheVariants.{Begin, Commit, Rollback, Savepoint, Release, RollbackTo, Show, Columns, Column, Regclass, LockTable, OpenRel, Peek, CloseRel, CreateTable, DropTable, RenameTable, AddColumn, DropColumn, RenameColumn, SetDefault, SetStatistics, SetFillfactor, AddCheck, AddForeign, ValidateConstraint, DropConstraint, SetTrigger, CreateTrigger, CreateIndex, DropIndex, RenameIndex}
 use Rattle.base_types.specs.declared.command.NewColumn.{NewColumn}
@@ -16,10 +16,11 @@ use Rattle.base_types.specs.declared.col_type.ColType.{ColType}
 use Rattle.base_types.specs.declared.col_type.ColType.TheVariants as types
 use Rattle.base_types.specs.declared.field.Field.{Field}
 use Rattle.base_types.specs.declared.field.Field.TheVariants as fields
-use Rattle.script_text.specs.Tokens.{tokens, behind, after, is_end, ends}
-use Rattle.script_text.specs.Operands.{if_none, name_of, word_of, text_of, type_of, field_of}
-use Rattle.script_text.specs.Commands.{one_name, names_after, two_names, field_behind, shown_after, bare_command, savepoint_command, name_command, show_command, table_command, enable_command, disable_command, create_trigger_command, rename_index_command, pair_command, regclass_command, weak_mode, strong_mode, mode_behind, lock_command, add_column_command, rename_column_command, default_command, statistics_command, fillfactor_command, enclosed_text, valid_behind, check_behind, check_command, referred_behind, key_behind, foreign_command, columns_at, columns_behind, create_table_command, names_at, names_behind, create_index_command, short_command, alter_command, long_command, command_of}
-use Rattle.script_text.specs.Spelling.{command_pieces, column_pieces, name_pieces, valid_pieces, shown_pieces, mode_words, trigger_words, listed}
+use Rattle.script_text.specs.Tokens.{tokens, is_end}
+use Rattle.script_text.specs.Operands.{if_none, plain_name_of, word_of, check_text_of, type_of, field_of, lock_words}
+use Rattle.script_text.specs.Commands.{columns_at, names_at, command_of}
+use Rattle.script_text.specs.Spelling.{command_pieces, column_pieces, name_pieces, valid_pieces, shown_pieces, trigger_words, listed}
+use Rattle.script_text.proofs.OnLiterals.{command_forms}
 use Rattle.script_text.proofs.Clean.{is_clean, IsPiece}
 use Rattle.script_text.proofs.TokenLaws.{each_byte, name_token, name_piece, word_token, word_piece, text_piece, number_token, number_piece, stat_token, stat_piece, enclosed_tokens, number_back, stat_back}
 
@@ -32,16 +33,16 @@ ReadsBack c = command_of (flat_map tokens (command_pieces c)) ≡ Some c
 faultless : {F : Type 0} (fault : Option F) (text : List ℕ) → fault ≡ None → if_none fault text ≡ Some text
 faultless fault text e = rw e refl
 
-name_back : (name : List ℕ) → IsName name → name_of name ≡ Some name
-unfolding name_of
+name_back : (name : List ℕ) → IsName name → plain_name_of name ≡ Some name
+unfolding plain_name_of
 name_back name h = faultless (name_fault name) name h
 
 word_back : (word : List ℕ) → IsWord word → word_of word ≡ Some word
 unfolding word_of
 word_back word h = faultless (short_fault is_word_byte word) word h
 
-text_back : (text : List ℕ) → IsText text → text_of text ≡ Some text
-unfolding text_of
+text_back : (text : List ℕ) → IsText text → check_text_of text ≡ Some text
+unfolding check_text_of
 text_back text h = faultless (short_fault is_text_byte text) text h
 
 type_back : (t : ColType) → (tokens (type_word t) ≡ type_word t ∷ []) × (type_of (type_word t) ≡ Some t)
@@ -80,37 +81,37 @@ not_closing name h = not_closing_by name (bytes_eq name (codes ")")) refl h
 -- ---- commands of names alone
 
 bare_back : ReadsBack Begin × ReadsBack Commit × ReadsBack Rollback
-unfolding tokens behind after is_end ends command_of short_command bare_command savepoint_command name_command show_command table_command pair_command regclass_command lock_command one_name two_names names_after enable_command disable_command create_trigger_command rename_index_command weak_mode strong_mode mode_behind shown_after field_behind
+unfolding command_forms
 bare_back = (refl, refl, refl)
 
 one_back : (name : List ℕ) → IsName name
     → ReadsBack (Savepoint name) × ReadsBack (Release name) × ReadsBack (RollbackTo name) × ReadsBack (Columns name) × ReadsBack (OpenRel name) × ReadsBack (CloseRel name) × ReadsBack (DropTable name) × ReadsBack (DropIndex name)
-unfolding tokens behind after is_end ends command_of short_command bare_command savepoint_command name_command show_command table_command pair_command regclass_command lock_command one_name two_names names_after enable_command disable_command create_trigger_command rename_index_command weak_mode strong_mode mode_behind shown_after field_behind
+unfolding command_forms
 one_back name h = rw (name_token name h, name_back name h) (refl, refl, refl, refl, refl, refl, refl, refl)
 
 two_back : (name other : List ℕ) → IsName name → IsName other
     → ReadsBack (Column name other) × ReadsBack (RenameTable name other) × ReadsBack (DropColumn name other) × ReadsBack (ValidateConstraint name other) × ReadsBack (DropConstraint name other)
-unfolding tokens behind after is_end ends command_of short_command bare_command savepoint_command name_command show_command table_command pair_command regclass_command lock_command one_name two_names names_after enable_command disable_command create_trigger_command rename_index_command weak_mode strong_mode mode_behind shown_after field_behind
+unfolding command_forms
 two_back name other h k = rw (name_token name h, name_token other k, name_back name h, name_back other k) (refl, refl, refl, refl, refl)
 
 pair_back : (name other : List ℕ) → IsName name → IsName other
     → ReadsBack (SetTrigger name other true) × ReadsBack (SetTrigger name other false) × ReadsBack (RenameIndex name other)
-unfolding tokens behind after is_end ends command_of short_command bare_command savepoint_command name_command show_command table_command pair_command regclass_command lock_command one_name two_names names_after enable_command disable_command create_trigger_command rename_index_command weak_mode strong_mode mode_behind shown_after field_behind
+unfolding command_forms
 pair_back name other h k = rw (name_token name h, name_token other k, name_back name h, name_back other k) (refl, refl, refl)
 
 trigger_back : (name trigger : List ℕ) → IsName name → IsName trigger → ReadsBack (CreateTrigger name trigger)
-unfolding tokens behind after is_end ends command_of short_command bare_command savepoint_command name_command show_command table_command pair_command regclass_command lock_command one_name two_names names_after enable_command disable_command create_trigger_command rename_index_command weak_mode strong_mode mode_behind shown_after field_behind
+unfolding command_forms
 trigger_back name trigger h k = rw (name_token name h, name_token trigger k, name_back trigger k, name_back name h) refl
 
 -- ---- commands with a field, a lock mode or a number
 
 shown_back : (name : List ℕ) (field : Option Field) → IsName name → ReadsBack (Show name field) × ReadsBack (Peek name field)
-unfolding tokens behind after is_end ends command_of short_command bare_command savepoint_command name_command show_command table_command pair_command regclass_command lock_command one_name two_names names_after enable_command disable_command create_trigger_command rename_index_command weak_mode strong_mode mode_behind shown_after field_behind
+unfolding command_forms
 shown_back name None h = rw (name_token name h, name_back name h) (refl, refl)
 shown_back name (Some f) h = let field = field_back f in rw (name_token name h, field.0, name_back name h, field.2, field.1) (refl, refl)
 
 lock_back : (name : List ℕ) (mode : Mode) → IsName name → ReadsBack (LockTable name mode)
-unfolding tokens behind after is_end ends command_of short_command bare_command savepoint_command name_command show_command table_command pair_command regclass_command lock_command one_name two_names names_after enable_command disable_command create_trigger_command rename_index_command weak_mode strong_mode mode_behind shown_after field_behind
+unfolding command_forms
 lock_back name AccessShare h = rw (name_token name h, name_back name h) refl
 lock_back name RowShare h = rw (name_token name h, name_back name h) refl
 lock_back name RowExclusive h = rw (name_token name h, name_back name h) refl
@@ -121,83 +122,83 @@ lock_back name Exclusive h = rw (name_token name h, name_back name h) refl
 lock_back name AccessExclusive h = rw (name_token name h, name_back name h) refl
 
 regclass_back : (oid : ℕ) → oid < 1000000000 → ReadsBack (Regclass (record { 0 = oid }))
-unfolding tokens behind after is_end ends command_of short_command bare_command savepoint_command name_command show_command table_command pair_command regclass_command lock_command one_name two_names names_after enable_command disable_command create_trigger_command rename_index_command weak_mode strong_mode mode_behind shown_after field_behind
+unfolding command_forms
 regclass_back oid h = rw (number_token oid, number_back oid h) refl
 
 -- ---- alterations of a table
 
 add_column_back : (name column : List ℕ) (t : ColType) → IsName name → IsName column → ReadsBack (AddColumn name column t)
-unfolding tokens behind after is_end ends command_of short_command alter_command long_command bare_command savepoint_command name_command show_command table_command pair_command regclass_command lock_command one_name two_names names_after enable_command disable_command create_trigger_command rename_index_command weak_mode strong_mode mode_behind enclosed_text check_behind referred_behind key_behind names_behind columns_behind shown_after field_behind add_column_command rename_column_command default_command statistics_command fillfactor_command foreign_command check_command create_table_command create_index_command valid_behind
+unfolding command_forms
 add_column_back name column t h k = rw (name_token name h, name_token column k, (type_back t).0, name_back name h, name_back column k, (type_back t).1) refl
 
 rename_column_back : (name column to : List ℕ) → IsName name → IsName column → IsName to → ReadsBack (RenameColumn name column to)
-unfolding tokens behind after is_end ends command_of short_command alter_command long_command bare_command savepoint_command name_command show_command table_command pair_command regclass_command lock_command one_name two_names names_after enable_command disable_command create_trigger_command rename_index_command weak_mode strong_mode mode_behind enclosed_text check_behind referred_behind key_behind names_behind columns_behind shown_after field_behind add_column_command rename_column_command default_command statistics_command fillfactor_command foreign_command check_command create_table_command create_index_command valid_behind
+unfolding command_forms
 rename_column_back name column to h k l = rw (name_token name h, name_token column k, name_token to l, name_back name h, name_back column k, name_back to l) refl
 
 default_back : (name column word : List ℕ) → IsName name → IsName column → IsWord word → ReadsBack (SetDefault name column word)
-unfolding tokens behind after is_end ends command_of short_command alter_command long_command bare_command savepoint_command name_command show_command table_command pair_command regclass_command lock_command one_name two_names names_after enable_command disable_command create_trigger_command rename_index_command weak_mode strong_mode mode_behind enclosed_text check_behind referred_behind key_behind names_behind columns_behind shown_after field_behind add_column_command rename_column_command default_command statistics_command fillfactor_command foreign_command check_command create_table_command create_index_command valid_behind
+unfolding command_forms
 default_back name column word h k l = rw (name_token name h, name_token column k, word_token word l, name_back name h, name_back column k, word_back word l) refl
 
 statistics_back : (name column : List ℕ) (stat : ℤ) → IsName name → IsName column → nat_abs stat < 1000000000 → ReadsBack (SetStatistics name column stat)
-unfolding tokens behind after is_end ends command_of short_command alter_command long_command bare_command savepoint_command name_command show_command table_command pair_command regclass_command lock_command one_name two_names names_after enable_command disable_command create_trigger_command rename_index_command weak_mode strong_mode mode_behind enclosed_text check_behind referred_behind key_behind names_behind columns_behind shown_after field_behind add_column_command rename_column_command default_command statistics_command fillfactor_command foreign_command check_command create_table_command create_index_command valid_behind
+unfolding command_forms
 statistics_back name column stat h k l = rw (name_token name h, name_token column k, stat_token stat, name_back name h, name_back column k, stat_back stat l) refl
 
 fillfactor_back : (name : List ℕ) (fill : ℕ) → IsName name → fill < 1000000000 → ReadsBack (SetFillfactor name fill)
-unfolding tokens behind after is_end ends command_of short_command alter_command long_command bare_command savepoint_command name_command show_command table_command pair_command regclass_command lock_command one_name two_names names_after enable_command disable_command create_trigger_command rename_index_command weak_mode strong_mode mode_behind enclosed_text check_behind referred_behind key_behind names_behind columns_behind shown_after field_behind add_column_command rename_column_command default_command statistics_command fillfactor_command foreign_command check_command create_table_command create_index_command valid_behind
+unfolding command_forms
 fillfactor_back name fill h k = rw (name_token name h, number_token fill, name_back name h, number_back fill k) refl
 
 check_back : (name constraint text : List ℕ) (valid : Bool) → IsName name → IsName constraint → IsText text → ReadsBack (AddCheck name constraint text valid)
-unfolding tokens behind after is_end ends command_of short_command alter_command long_command bare_command savepoint_command name_command show_command table_command pair_command regclass_command lock_command one_name two_names names_after enable_command disable_command create_trigger_command rename_index_command weak_mode strong_mode mode_behind enclosed_text check_behind referred_behind key_behind names_behind columns_behind shown_after field_behind add_column_command rename_column_command default_command statistics_command fillfactor_command foreign_command check_command create_table_command create_index_command valid_behind
+unfolding command_forms
 check_back name constraint text true h k l = rw (name_token name h, name_token constraint k, name_back name h, name_back constraint k, enclosed_tokens text [] l, text_back text l) refl
 check_back name constraint text false h k l = rw (name_token name h, name_token constraint k, name_back name h, name_back constraint k, enclosed_tokens text (codes "not" ∷ codes "valid" ∷ []) l, text_back text l) refl
 
 foreign_back : (name constraint column refers ref_column : List ℕ) (valid : Bool) → IsName name → IsName constraint → IsName column → IsName refers → IsName ref_column → ReadsBack (AddForeign name constraint column refers ref_column valid)
-unfolding tokens behind after is_end ends command_of short_command alter_command long_command bare_command savepoint_command name_command show_command table_command pair_command regclass_command lock_command one_name two_names names_after enable_command disable_command create_trigger_command rename_index_command weak_mode strong_mode mode_behind enclosed_text check_behind referred_behind key_behind names_behind columns_behind shown_after field_behind add_column_command rename_column_command default_command statistics_command fillfactor_command foreign_command check_command create_table_command create_index_command valid_behind
+unfolding command_forms
 foreign_back name constraint column refers ref_column true h k l m n = rw (name_token name h, name_token constraint k, name_token column l, name_token refers m, name_token ref_column n, name_back name h, name_back constraint k, name_back column l, name_back refers m, name_back ref_column n) refl
 foreign_back name constraint column refers ref_column false h k l m n = rw (name_token name h, name_token constraint k, name_token column l, name_token refers m, name_token ref_column n, name_back name h, name_back constraint k, name_back column l, name_back refers m, name_back ref_column n) refl
 
 -- ---- commands with a list
 
--- the tokens behind the name of a list's first column, and behind a list's first name
-abbrev behind_column : NewColumn → List NewColumn → List (List ℕ)
-behind_column column columns = flat_map tokens (type_word column.col_type ∷ flat_map (λ c. codes "," ∷ column_pieces c) columns ++ codes ")" ∷ [])
+-- the tokens after the name of a list's first column, and after a list's first name
+abbrev after_column : NewColumn → List NewColumn → List (List ℕ)
+after_column column columns = flat_map tokens (type_word column.col_type ∷ flat_map (λ c. codes "," ∷ column_pieces c) columns ++ codes ")" ∷ [])
 
-abbrev behind_name : List (List ℕ) → List (List ℕ)
-behind_name names = flat_map tokens (flat_map (λ n. codes "," ∷ name_pieces n) names ++ codes ")" ∷ [])
+abbrev after_name : List (List ℕ) → List (List ℕ)
+after_name names = flat_map tokens (flat_map (λ n. codes "," ∷ name_pieces n) names ++ codes ")" ∷ [])
 
-columns_back : (column : NewColumn) (columns : List NewColumn) → IsName column.name → AllByRecursion (λ c. IsName c.name) columns → columns_at (column.name ∷ behind_column column columns) ≡ Some (column ∷ columns)
+columns_back : (column : NewColumn) (columns : List NewColumn) → IsName column.name → AllByRecursion (λ c. IsName c.name) columns → columns_at (column.name ∷ after_column column columns) ≡ Some (column ∷ columns)
 unfolding tokens columns_at is_end
 columns_back column [] h k = let type = type_back column.col_type in rw (type.0, name_back column.name h, type.1) refl
 columns_back column (c ∷ columns) h k = let type = type_back column.col_type in rw (type.0, name_token c.name k.0, name_back column.name h, type.1, columns_back c columns k.0 k.1) refl
 
-names_back : (name : List ℕ) (names : List (List ℕ)) → IsName name → AllByRecursion IsName names → names_at (name ∷ behind_name names) ≡ Some (name ∷ names)
+names_back : (name : List ℕ) (names : List (List ℕ)) → IsName name → AllByRecursion IsName names → names_at (name ∷ after_name names) ≡ Some (name ∷ names)
 unfolding tokens names_at is_end
 names_back name [] h k = rw (name_back name h) refl
 names_back name (n ∷ names) h k = rw (name_token n k.0, name_back name h, names_back n names k.0 k.1) refl
 
-created : (name first : List ℕ) (ts : List (List ℕ)) (columns : List NewColumn) → name_of name ≡ Some name → bytes_eq first (codes ")") ≡ false → columns_at (first ∷ ts) ≡ Some columns
+created : (name first : List ℕ) (ts : List (List ℕ)) (columns : List NewColumn) → plain_name_of name ≡ Some name → bytes_eq first (codes ")") ≡ false → columns_at (first ∷ ts) ≡ Some columns
     → command_of (codes "create" ∷ codes "table" ∷ name ∷ codes "(" ∷ first ∷ ts) ≡ Some (CreateTable name columns)
-unfolding tokens behind after is_end ends command_of short_command alter_command long_command bare_command savepoint_command name_command show_command table_command pair_command regclass_command lock_command one_name two_names names_after enable_command disable_command create_trigger_command rename_index_command weak_mode strong_mode mode_behind enclosed_text check_behind referred_behind key_behind names_behind columns_behind shown_after field_behind add_column_command rename_column_command default_command statistics_command fillfactor_command foreign_command check_command create_table_command create_index_command valid_behind
+unfolding command_forms
 created name first ts columns h k read = rw (h, k, read) refl
 
-indexed : (name on_table : List ℕ) (ts columns : List (List ℕ)) → name_of name ≡ Some name → name_of on_table ≡ Some on_table → names_at ts ≡ Some columns
+indexed : (name on_table : List ℕ) (ts columns : List (List ℕ)) → plain_name_of name ≡ Some name → plain_name_of on_table ≡ Some on_table → names_at ts ≡ Some columns
     → command_of (codes "create" ∷ codes "index" ∷ name ∷ codes "on" ∷ on_table ∷ codes "(" ∷ ts) ≡ Some (CreateIndex name on_table columns)
-unfolding tokens behind after is_end ends command_of short_command alter_command long_command bare_command savepoint_command name_command show_command table_command pair_command regclass_command lock_command one_name two_names names_after enable_command disable_command create_trigger_command rename_index_command weak_mode strong_mode mode_behind enclosed_text check_behind referred_behind key_behind names_behind columns_behind shown_after field_behind add_column_command rename_column_command default_command statistics_command fillfactor_command foreign_command check_command create_table_command create_index_command valid_behind
+unfolding command_forms
 indexed name on_table ts columns h k read = rw (h, k, read) refl
 
 no_columns_back : (name : List ℕ) → IsName name → ReadsBack (CreateTable name [])
-unfolding tokens behind after is_end ends command_of short_command alter_command long_command bare_command savepoint_command name_command show_command table_command pair_command regclass_command lock_command one_name two_names names_after enable_command disable_command create_trigger_command rename_index_command weak_mode strong_mode mode_behind enclosed_text check_behind referred_behind key_behind names_behind columns_behind shown_after field_behind add_column_command rename_column_command default_command statistics_command fillfactor_command foreign_command check_command create_table_command create_index_command valid_behind listed
+unfolding command_forms listed
 no_columns_back name h = rw (name_token name h, name_back name h) refl
 
 table_back : (name : List ℕ) (columns : List NewColumn) → IsName name → AllByRecursion (λ c. IsName c.name) columns → ReadsBack (CreateTable name columns)
 unfolding tokens listed
 table_back name [] h k = no_columns_back name h
-table_back name (c ∷ columns) h k = rw (name_token name h, name_token c.name k.0) (created name c.name (behind_column c columns) (c ∷ columns) (name_back name h) (not_closing c.name k.0) (columns_back c columns k.0 k.1))
+table_back name (c ∷ columns) h k = rw (name_token name h, name_token c.name k.0) (created name c.name (after_column c columns) (c ∷ columns) (name_back name h) (not_closing c.name k.0) (columns_back c columns k.0 k.1))
 
-index_back : (name on_table : List ℕ) (columns : List (List ℕ)) → IsName name → IsName on_table → IsSome columns → AllByRecursion IsName columns → ReadsBack (CreateIndex name on_table columns)
+index_back : (name on_table : List ℕ) (columns : List (List ℕ)) → IsName name → IsName on_table → IsNonEmpty columns → AllByRecursion IsName columns → ReadsBack (CreateIndex name on_table columns)
 unfolding tokens listed
 index_back name on_table [] h k some l = absurd some
-index_back name on_table (n ∷ columns) h k some l = rw (name_token name h, name_token on_table k, name_token n l.0) (indexed name on_table (n ∷ behind_name columns) (n ∷ columns) (name_back name h) (name_back on_table k) (names_back n columns l.0 l.1))
+index_back name on_table (n ∷ columns) h k some l = rw (name_token name h, name_token on_table k, name_token n l.0) (indexed name on_table (n ∷ after_name columns) (n ∷ columns) (name_back name h) (name_back on_table k) (names_back n columns l.0 l.1))
 
 -- the command of its own pieces' tokens
 pub command_back : (c : Command) → IsCommand c → command_of (flat_map tokens (command_pieces c)) ≡ Some c
@@ -278,15 +279,15 @@ field_piece fields.Triggers = fixed (codes "triggers") refl
 field_piece fields.Of = fixed (codes "of") refl
 field_piece fields.Valid = fixed (codes "valid") refl
 
-mode_piece : (m : Mode) → IsPiece (mode_words m)
-mode_piece AccessShare = fixed (codes "access share") refl
-mode_piece RowShare = fixed (codes "row share") refl
-mode_piece RowExclusive = fixed (codes "row exclusive") refl
-mode_piece ShareUpdateExclusive = fixed (codes "share update exclusive") refl
-mode_piece Share = fixed (codes "share") refl
-mode_piece ShareRowExclusive = fixed (codes "share row exclusive") refl
-mode_piece Exclusive = fixed (codes "exclusive") refl
-mode_piece AccessExclusive = fixed (codes "access exclusive") refl
+mode_piece : (m : Mode) → IsPiece (lock_words m)
+mode_piece AccessShare = fixed (lock_words AccessShare) refl
+mode_piece RowShare = fixed (lock_words RowShare) refl
+mode_piece RowExclusive = fixed (lock_words RowExclusive) refl
+mode_piece ShareUpdateExclusive = fixed (lock_words ShareUpdateExclusive) refl
+mode_piece Share = fixed (lock_words Share) refl
+mode_piece ShareRowExclusive = fixed (lock_words ShareRowExclusive) refl
+mode_piece Exclusive = fixed (lock_words Exclusive) refl
+mode_piece AccessExclusive = fixed (lock_words AccessExclusive) refl
 
 trigger_piece : (on : Bool) → IsPiece (trigger_words on)
 trigger_piece true = fixed (codes "enable trigger") refl
@@ -319,7 +320,7 @@ unfolding listed
 names_clean [] h = (fixed (codes ")") refl, tt)
 names_clean (n ∷ names) h = (name_piece n h.0, all_of_both IsPiece (flat_map (λ m. codes "," ∷ name_pieces m) names) (codes ")" ∷ []) (more_names_clean names h.1) (fixed (codes ")") refl, tt))
 
--- the pieces of a command may stand in a line
+-- a line may be made of the pieces of a command
 pub pieces_clean : (c : Command) → IsCommand c → AllByRecursion IsPiece (command_pieces c)
 pieces_clean Begin h = (fixed (codes "begin") refl, tt)
 pieces_clean Commit h = (fixed (codes "commit") refl, tt)
@@ -331,7 +332,7 @@ pieces_clean (Show name field) h = shown_clean (codes "show") name field (fixed 
 pieces_clean (Columns name) h = (fixed (codes "columns") refl, (name_piece name h, tt))
 pieces_clean (Column name column) h = (fixed (codes "column") refl, (name_piece name h.0, (name_piece column h.1, tt)))
 pieces_clean (Regclass oid) h = (fixed (codes "regclass") refl, (number_piece oid.0, tt))
-pieces_clean (LockTable name mode) h = (fixed (codes "lock table") refl, (name_piece name h, (fixed (codes "in") refl, (mode_piece mode, (fixed (codes "mode") refl, tt)))))
+pieces_clean (LockTable name mode) h = (fixed (codes "lock table") refl, (name_piece name h, (mode_piece mode, tt)))
 pieces_clean (OpenRel name) h = (fixed (codes "open") refl, (name_piece name h, tt))
 pieces_clean (Peek name field) h = shown_clean (codes "peek") name field (fixed (codes "peek") refl) h
 pieces_clean (CloseRel name) h = (fixed (codes "close") refl, (name_piece name h, tt))

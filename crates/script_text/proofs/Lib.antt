@@ -1,17 +1,18 @@
-mod Rows
-pub mod Splitting
-pub mod Numbers
-pub mod Drafting
-pub mod Following
-pub mod Parting
-pub mod Turning
-pub mod Bounds
-pub mod Listing
-pub mod Made
-pub mod Distinct
+mod WorkedScripts
+pub mod OnLiterals
+pub mod TokenLengths
+pub mod DigitBounds
+pub mod DraftLimits
+pub mod LineByLine
+pub mod LineLengths
+pub mod Finding
+pub mod StepItems
+pub mod QueueSizes
+pub mod ItemByItem
+pub mod ReadCommands
 pub mod Clean
 pub mod TokenLaws
-pub mod Joints
+pub mod JoinedTokens
 pub mod LineLaws
 pub mod LinesBack
 pub mod CommandsBack

@@ -11,15 +11,15 @@ use Rattle.base_types.specs.Names.{is_digit}
 use Rattle.base_types.specs.Scenario.{IsQueueSize, IsBackend, AreTurns, step_count}
 use Rattle.base_types.specs.declared.command.Command.{Command}
 use Rattle.base_types.specs.declared.command.Turns.{Turns}
-use Rattle.script_text.specs.Tokens.{tokens, behind, after}
+use Rattle.script_text.specs.Tokens.{tokens, after_words, after}
 use Rattle.script_text.specs.Operands.{number_within}
 use Rattle.script_text.specs.Commands.{command_of}
-use Rattle.script_text.specs.LineForms.{is_size, size_of, first_of, from_behind, ring_of, backends_of, all_turns, backend_of, count_behind, steps_of, addressed}
-use Rattle.script_text.specs.Grammar.{Draft, blank, with_ring, with_backends, with_steps, with_command, with_end, ring_line, backends_line, steps_line, command_line, body_line, tokens_line}
+use Rattle.script_text.specs.LineForms.{is_size, size_of, first_of, from_part, ring_of, backends_of, all_turns, backend_of, count_part, steps_of, addressed}
+use Rattle.script_text.specs.Grammar.{Draft, empty_draft, with_ring, with_backends, with_steps, with_command, with_end, ring_line, backends_line, steps_line, command_line, body_line, tokens_line}
 use Rattle.script_text.specs.Spelling.{turns_pieces, from_pieces}
 use Rattle.script_text.proofs.TokenLaws.{number_token, decimal_digits, digits_back, number_back}
-use Rattle.script_text.proofs.Splitting.{is_zero}
-use Rattle.script_text.proofs.Turning.{first_turns}
+use Rattle.script_text.proofs.TokenLengths.{is_zero}
+use Rattle.script_text.proofs.StepItems.{first_turns}
 
 -- ---- numbers
 
@@ -30,7 +30,7 @@ within_tests : (least most n : ℕ) → least ≤ n → n ≤ most → (nat_le l
 within_tests least most n low high = (grind (arith, nat_tests), grind (arith, nat_tests))
 
 -- a number within bounds is read as what it is
-pub within_back : (least most n : ℕ) → least ≤ n → n ≤ most → most < 1000000000 → number_within least most (decimal n) ≡ Some n
+within_back : (least most n : ℕ) → least ≤ n → n ≤ most → most < 1000000000 → number_within least most (decimal n) ≡ Some n
 unfolding number_within
 within_back least most n low high few = let tests = within_tests least most n low high in rw (number_back n (omega arith), tests.0, tests.1) refl
 
@@ -42,7 +42,7 @@ digits_not [] b bs h k = refl
 digits_not (d ∷ ds) b bs h k = rw (digit_not d b (and_parts (is_digit d) (list_all is_digit ds) h).0 k) refl
 
 -- a number is no word
-pub no_word : (n b : ℕ) (bs : List ℕ) → is_digit b ≡ false → bytes_eq (decimal n) (b ∷ bs) ≡ false
+no_word : (n b : ℕ) (bs : List ℕ) → is_digit b ≡ false → bytes_eq (decimal n) (b ∷ bs) ≡ false
 no_word n b bs h = digits_not (decimal n) b bs (decimal_digits n) h
 
 -- ---- the queue
@@ -80,11 +80,11 @@ size_cases : (n : ℕ) → IsQueueSize n → is_size n ≡ true
 size_cases n h = rw h.is (size_power h.power (omega (arith, h.is, h.least)) (omega (arith, h.is, h.most)))
 
 -- `ring` and its tokens
-pub ring_tokens : (size : ℕ) → flat_map tokens (codes "ring" ∷ decimal size ∷ []) ≡ codes "ring" ∷ decimal size ∷ []
+ring_tokens : (size : ℕ) → flat_map tokens (codes "ring" ∷ decimal size ∷ []) ≡ codes "ring" ∷ decimal size ∷ []
 unfolding tokens
 ring_tokens size = rw (number_token size) refl
 
-pub ring_from_tokens : (size from : ℕ) → flat_map tokens (codes "ring" ∷ decimal size ∷ codes "from" ∷ decimal from ∷ []) ≡ codes "ring" ∷ decimal size ∷ codes "from" ∷ decimal from ∷ []
+ring_from_tokens : (size from : ℕ) → flat_map tokens (codes "ring" ∷ decimal size ∷ codes "from" ∷ decimal from ∷ []) ≡ codes "ring" ∷ decimal size ∷ codes "from" ∷ decimal from ∷ []
 unfolding tokens
 ring_from_tokens size from = rw (number_token size, number_token from) refl
 
@@ -99,28 +99,28 @@ first_back : (size from : ℕ) → size ≤ 4096 → from < size * 262144 → fi
 unfolding first_of
 first_back size from most below = rw (digits_back 10 from (omega arith) (omega arith) (omega arith), below_test from (size * 262144) below) refl
 
-ring_by : (size : ℕ) (ds : List ℕ) → size_of ds ≡ Some size → tokens_line blank (codes "ring" ∷ ds ∷ []) ≡ Ok (with_ring blank (size, 0))
-unfolding tokens_line ring_line ring_of after behind from_behind tokens
+ring_by : (size : ℕ) (ds : List ℕ) → size_of ds ≡ Some size → tokens_line empty_draft (codes "ring" ∷ ds ∷ []) ≡ Ok (with_ring empty_draft (size, 0))
+unfolding tokens_line ring_line ring_of after after_words from_part tokens
 ring_by size ds e = rw e refl
 
-ring_from_by : (size from : ℕ) (ds es : List ℕ) → size_of ds ≡ Some size → first_of size es ≡ Some from → tokens_line blank (codes "ring" ∷ ds ∷ codes "from" ∷ es ∷ []) ≡ Ok (with_ring blank (size, from))
-unfolding tokens_line ring_line ring_of after behind from_behind tokens
+ring_from_by : (size from : ℕ) (ds es : List ℕ) → size_of ds ≡ Some size → first_of size es ≡ Some from → tokens_line empty_draft (codes "ring" ∷ ds ∷ codes "from" ∷ es ∷ []) ≡ Ok (with_ring empty_draft (size, from))
+unfolding tokens_line ring_line ring_of after after_words from_part tokens
 ring_from_by size from ds es e f = rw (e, f) refl
 
-ring_back_by : (size from : ℕ) (none : Bool) → (from == 0) ≡ none → IsQueueSize size → from < size * 262144 → tokens_line blank (flat_map tokens (codes "ring" ∷ decimal size ∷ from_pieces from)) ≡ Ok (with_ring blank (size, from))
+ring_back_by : (size from : ℕ) (none : Bool) → (from == 0) ≡ none → IsQueueSize size → from < size * 262144 → tokens_line empty_draft (flat_map tokens (codes "ring" ∷ decimal size ∷ from_pieces from)) ≡ Ok (with_ring empty_draft (size, from))
 ring_back_by size from true e h below =
-    rw (is_zero from e) (ap (tokens_line blank) (ring_tokens size) ∙ ring_by size (decimal size) (size_back size h))
+    rw (is_zero from e) (ap (tokens_line empty_draft) (ring_tokens size) ∙ ring_by size (decimal size) (size_back size h))
 ring_back_by size from false e h below =
-    rw e (ap (tokens_line blank) (ring_from_tokens size from) ∙ ring_from_by size from (decimal size) (decimal from) (size_back size h) (first_back size from h.most below))
+    rw e (ap (tokens_line empty_draft) (ring_from_tokens size from) ∙ ring_from_by size from (decimal size) (decimal from) (size_back size h) (first_back size from h.most below))
 
 -- the line of the queue
-pub ring_back : (size from : ℕ) → IsQueueSize size → from < size * 262144 → tokens_line blank (flat_map tokens (codes "ring" ∷ decimal size ∷ from_pieces from)) ≡ Ok (with_ring blank (size, from))
+pub ring_back : (size from : ℕ) → IsQueueSize size → from < size * 262144 → tokens_line empty_draft (flat_map tokens (codes "ring" ∷ decimal size ∷ from_pieces from)) ≡ Ok (with_ring empty_draft (size, from))
 ring_back size from h below = ring_back_by size from (from == 0) refl h below
 
 -- ---- the backends
 
 backends_by : (draft : Draft) (n : ℕ) (ds : List ℕ) → draft.asked.backends ≡ 0 → number_within 1 64 ds ≡ Some n → tokens_line draft (codes "backends" ∷ ds ∷ []) ≡ Ok (with_backends draft n)
-unfolding tokens_line backends_line backends_of after behind tokens
+unfolding tokens_line backends_line backends_of after after_words tokens
 backends_by draft n ds none e = rw (none, e) refl
 
 backends_tokens : (n : ℕ) → flat_map tokens (codes "backends" ∷ decimal n ∷ []) ≡ codes "backends" ∷ decimal n ∷ []
@@ -131,18 +131,18 @@ backends_tokens n = rw (number_token n) refl
 pub backends_back : (draft : Draft) (n : ℕ) → draft.asked.backends ≡ 0 → IsBackend 64 n → tokens_line draft (flat_map tokens (codes "backends" ∷ decimal n ∷ [])) ≡ Ok (with_backends draft n)
 backends_back draft n none h = ap (tokens_line draft) (backends_tokens n) ∙ backends_by draft n (decimal n) none (within_back 1 64 n h.0 h.1 (omega arith))
 
--- ---- the lines behind it
+-- ---- the lines after it
 
 -- the end
 pub end_back : (draft : Draft) → (draft.asked.backends == 0) ≡ false → draft.has_end ≡ false → tokens_line draft (flat_map tokens (codes "end" ∷ [])) ≡ Ok (with_end draft)
-unfolding tokens_line body_line behind tokens
+unfolding tokens_line body_line after_words tokens
 end_back draft some open_yet = rw (some, open_yet) refl
 
 command_by : (draft : Draft) (b : ℕ) (c : Command) (ds : List ℕ) (ts : List (List ℕ)) → (draft.asked.backends == 0) ≡ false → draft.has_end ≡ false → draft.asked.steps ≡ []
     → (bytes_eq ds (codes "ring") ≡ false) × (bytes_eq ds (codes "end") ≡ false) × (bytes_eq ds (codes "steps") ≡ false)
     → number_within 1 draft.asked.backends ds ≡ Some b → command_of ts ≡ Some c → nat_le 20000 (length draft.asked.commands) ≡ false
     → tokens_line draft (ds ∷ codes ":" ∷ ts) ≡ Ok (with_command draft b c)
-unfolding tokens_line body_line command_line addressed behind tokens
+unfolding tokens_line body_line command_line addressed after_words tokens
 command_by draft b c ds ts some open_yet none words number command few =
     rw (words.0, some, words.1, words.2, number, none, command, few, open_yet) refl
 
@@ -163,7 +163,7 @@ placed_back draft b c pieces most h open_yet none few command =
 
 -- ---- steps
 
-item_back : (n b c : ℕ) (ds : List ℕ) (ts rest : List (List ℕ)) (turns : List Turns) → backend_of n ds ≡ Some b → count_behind ts ≡ Some (c, rest) → all_turns n rest ≡ Some turns
+item_back : (n b c : ℕ) (ds : List ℕ) (ts rest : List (List ℕ)) (turns : List Turns) → backend_of n ds ≡ Some b → count_part ts ≡ Some (c, rest) → all_turns n rest ≡ Some turns
     → all_turns n (ds ∷ ts) ≡ Some (record { backend = b; count = c } ∷ turns)
 item_back n b c ds ts rest turns backend count others = first_turns n ds ts ∙ rw (backend, count, others) refl
 
@@ -174,22 +174,22 @@ many_tokens : (b c : ℕ) (rest : List (List ℕ)) → flat_map tokens ((decimal
 unfolding tokens
 many_tokens b c rest = rw (number_token b, number_token c) refl
 
-count_from : (b : ℕ) (ts : List (List ℕ)) → count_behind (decimal b ∷ ts) ≡ Some (1, decimal b ∷ ts)
-unfolding count_behind
+count_from : (b : ℕ) (ts : List (List ℕ)) → count_part (decimal b ∷ ts) ≡ Some (1, decimal b ∷ ts)
+unfolding count_part
 count_from b ts = rw (no_word b 42 [] refl) refl
 
-alone_by : (b c : ℕ) (one : Bool) (rest : List (List ℕ)) → let ts = flat_map tokens (cond one (decimal b ∷ []) (decimal b ∷ codes "*" ∷ decimal c ∷ []) ++ rest) in count_behind ts ≡ Some (1, ts)
+alone_by : (b c : ℕ) (one : Bool) (rest : List (List ℕ)) → let ts = flat_map tokens (cond one (decimal b ∷ []) (decimal b ∷ codes "*" ∷ decimal c ∷ []) ++ rest) in count_part ts ≡ Some (1, ts)
 alone_by b c true rest = rw (one_tokens b rest) (count_from b (flat_map tokens rest))
 alone_by b c false rest = rw (many_tokens b c rest) (count_from b (codes "*" ∷ decimal c ∷ flat_map tokens rest))
 
--- no count stands in front of other steps
-alone : (turns : List Turns) → let ts = flat_map tokens (flat_map turns_pieces turns) in count_behind ts ≡ Some (1, ts)
-unfolding count_behind
+-- other steps don't begin with a count
+alone : (turns : List Turns) → let ts = flat_map tokens (flat_map turns_pieces turns) in count_part ts ≡ Some (1, ts)
+unfolding count_part
 alone [] = refl
 alone (t ∷ turns) = alone_by t.backend t.count (t.count == 1) (flat_map turns_pieces turns)
 
-count_many : (c : ℕ) (rest : List (List ℕ)) → 1 ≤ c → c ≤ 1000000 → count_behind (codes "*" ∷ decimal c ∷ rest) ≡ Some (c, rest)
-unfolding count_behind
+count_many : (c : ℕ) (rest : List (List ℕ)) → 1 ≤ c → c ≤ 1000000 → count_part (codes "*" ∷ decimal c ∷ rest) ≡ Some (c, rest)
+unfolding count_part
 count_many c rest some few = rw (within_back 1 1000000 c some few (omega arith)) refl
 
 is_one : (n : ℕ) → (n == 1) ≡ true → n ≡ 1
@@ -213,7 +213,7 @@ turns_back n (t ∷ turns) most h few =
 
 steps_by : (draft : Draft) (ts : List (List ℕ)) (turns : List Turns) → (draft.asked.backends == 0) ≡ false → draft.has_end ≡ false → 1 ≤ length turns → all_turns draft.asked.backends ts ≡ Some turns
     → nat_lt 1000000 (sum_by step_count draft.asked.steps + step_count turns) ≡ false → tokens_line draft (codes "steps" ∷ ts) ≡ Ok (with_steps draft turns)
-unfolding tokens_line body_line steps_line steps_of all_turns behind tokens
+unfolding tokens_line body_line steps_line steps_of all_turns after_words tokens
 steps_by draft [] [] some open_yet more read few = absurd (omega arith)
 steps_by draft [] (t ∷ turns) some open_yet more read few = absurd cc
 steps_by draft (t ∷ ts) turns some open_yet more read few = rw (some, read, few, open_yet) refl

@@ -1,5 +1,5 @@
--- The tokens of a text that is put together of others, and what single ones mean.
-use Rattle.std.proofs.Common.{◌≡◌, ◌<◌, ◌≤◌, ◌^◌, ◌/◌, ◌%◌, ◌-◌, ◌+◌, ◌*◌, ℕ, ℤ, pos, negsuc, zero, suc, Bool, true, false, not, ◌==◌, cond, List, [], ◌∷◌, ◌++◌, length, Some, codes, decimal, fold, refl, ap, ◌∙◌, arith, rules}
+-- The tokens of a text made of other texts, and what single ones mean.
+use Rattle.std.proofs.Common.{◌≡◌, ◌<◌, ◌≤◌, ◌^◌, ◌/◌, ◌%◌, ℕ, ℤ, pos, negsuc, zero, suc, Bool, true, false, not, ◌==◌, cond, List, [], ◌∷◌, ◌++◌, length, Some, codes, decimal, fold, refl, ap, ◌∙◌, arith, rules}
 use Rattle.std.specs.Prelude.{nat_abs, nat_lt}
 use Rattle.std.specs.Fmt.{digits, digits_onto, digit_glyph, signed_decimal}
 use Rattle.std.specs.Str.{bytes_eq}
@@ -12,12 +12,12 @@ use Rattle.std.proofs.lemmas.Str.Parse.{IsNumeralModel, numerals_by_fold}
 use Rattle.std.proofs.lemmas.Fmt.{digits_value-decimal, length-decimal-le}
 use Rattle.base_types.specs.Names.{IsName, IsWord, IsText, is_digit, is_name_byte, is_word_byte, is_text_byte, number_of_digits, digit_more}
 use Rattle.base_types.proofs.Names.{name_parts, word_parts, text_parts}
-use Rattle.script_text.specs.Lines.{is_blank, with_byte}
+use Rattle.script_text.specs.TextLines.{is_blank, with_byte}
 use Rattle.script_text.specs.Tokens.{tokens, in_word, is_mark, goes_on}
-use Rattle.script_text.specs.Operands.{number_after, number_of, stat_of}
+use Rattle.script_text.specs.Operands.{number_of, stat_of}
 use Rattle.script_text.specs.Commands.{enclosed}
 use Rattle.script_text.proofs.Clean.{is_clean, IsPiece}
-use Rattle.script_text.proofs.Splitting.{no_blank}
+use Rattle.script_text.proofs.TokenLengths.{no_blank}
 
 -- ---- tests of each byte
 
@@ -60,7 +60,7 @@ onto_some (suc k) n acc h =
     let ds = digit_glyph false (n % 10) ∷ acc in
     cond_both (n / 10 == 0) ds (digits_onto k 10 false (n / 10) ds) (λ t. 1 ≤ length t) (λ last. omega arith) (λ more. onto_some k (n / 10) ds (omega arith))
 
-pub decimal_some : (n : ℕ) → 1 ≤ length (decimal n)
+decimal_some : (n : ℕ) → 1 ≤ length (decimal n)
 unfolding digits
 decimal_some n =
     let ds = digit_glyph false (n % 10) ∷ [] in
@@ -100,13 +100,13 @@ small_enough most n few lt = let top : 10 ^ most ≤ 10 ^ 10 = pow-le-pow_right 
 
 -- ---- one token
 
--- a byte in front of a longer token
+-- a byte before a longer token
 pub longer : (b : ℕ) (bs : List ℕ) → in_word b ≡ true → goes_on bs ≡ true → tokens (b ∷ bs) ≡ with_byte b (tokens bs)
 unfolding tokens
 longer b bs word more = rw (word, no_blank b word, more) refl
 
 -- bytes of a longer token alone are one token
-pub one_token : (word : List ℕ) → 1 ≤ length word → AllByRecursion (λ b. in_word b ≡ true) word → tokens word ≡ word ∷ []
+one_token : (word : List ℕ) → 1 ≤ length word → AllByRecursion (λ b. in_word b ≡ true) word → tokens word ≡ word ∷ []
 unfolding tokens
 one_token [] some h = absurd (omega arith)
 one_token (x ∷ []) some h = rw (h.0, no_blank x h.0) refl
@@ -179,25 +179,20 @@ unfolding tokens
 inside [] h = record { joined = refl; open_all = tt }
 inside (b ∷ bs) h = rw h.0.0 (inside_by b bs (not (is_mark b)) (goes_on bs) h.0.1 (inside bs h.1))
 
-closed_behind : (ts rest : List (List ℕ)) → AllByRecursion (λ t. bytes_eq t (codes ")") ≡ false) ts → enclosed (ts ++ codes ")" ∷ rest) ≡ Some (flat_map (λ t. t) ts, rest)
+enclosed_of : (ts rest : List (List ℕ)) → AllByRecursion (λ t. bytes_eq t (codes ")") ≡ false) ts → enclosed (ts ++ codes ")" ∷ rest) ≡ Some (flat_map (λ t. t) ts, rest)
 unfolding enclosed
-closed_behind [] rest h = refl
-closed_behind (t ∷ ts) rest h = rw (h.0, closed_behind ts rest h.1) refl
+enclosed_of [] rest h = refl
+enclosed_of (t ∷ ts) rest h = rw (h.0, enclosed_of ts rest h.1) refl
 
 pub enclosed_tokens : (text : List ℕ) (rest : List (List ℕ)) → IsText text → enclosed (tokens text ++ codes ")" ∷ rest) ≡ Some (text, rest)
 enclosed_tokens text rest h =
     let parts : AreInside text (tokens text) = inside text (each_byte is_text_byte (λ b. (is_blank b ≡ false) × ((b == 41) ≡ false)) text_not_blank text (whole_text text h).bytes) in
-    closed_behind (tokens text) rest parts.open_all ∙ ap (λ (t : List ℕ). Some (t, rest)) parts.joined
+    enclosed_of (tokens text) rest parts.open_all ∙ ap (λ (t : List ℕ). Some (t, rest)) parts.joined
 
 -- ---- numbers
 
 own_digits : IsNumeralModel (λ ds. list_all is_digit ds ≡ true) number_of_digits
 own_digits = numerals_by_fold _ (search rules) (fold digit_more) (search rules)
-
-read_digits : (n : ℕ) (ds : List ℕ) → list_all is_digit ds ≡ true → number_after n ds ≡ Some (fold digit_more n ds)
-unfolding number_after
-read_digits n [] h = refl
-read_digits n (d ∷ ds) h = let parts = and_parts (is_digit d) (list_all is_digit ds) h in rw parts.0 (read_digits (n * 10 + (d - 48)) ds parts.1)
 
 fits : (most len : ℕ) → 1 ≤ len → len ≤ most → ((len == 0) ≡ false) × (nat_lt most len ≡ false)
 fits most len some few = (grind (arith, nat_tests), grind (arith, nat_tests))
@@ -208,7 +203,7 @@ unfolding number_of
 digits_back most n some few lt =
     let wide : n < 2 ^ 64 = small_enough most n few lt in
     let len = fits most (length (decimal n)) (decimal_some n) (length-decimal-le most n some lt wide) in
-    rw (len.0, len.1) (read_digits 0 (decimal n) (decimal_digits n) ∙ ap Some (digits_value-decimal own_digits n wide))
+    rw (len.0, len.1, decimal_digits n) (ap Some (digits_value-decimal own_digits n wide))
 
 pub number_back : (n : ℕ) → n < 1000000000 → number_of 9 (decimal n) ≡ Some n
 number_back n lt = digits_back 9 n (omega arith) (omega arith) lt

@@ -1,19 +1,20 @@
--- The forms of commands, over the tokens of a line behind the colon.
+-- The forms of commands, over the tokens of a line after the colon.
 use Rattle.std.specs.Prelude.{◌≡◌, ℕ, Bool, true, false, Option, Some, None, List, [], ◌∷◌, ◌++◌, option_map, codes, if◌then◌else◌}
+use Rattle.std.specs.List.{find}
 use Rattle.std.specs.Str.{bytes_eq}
 use Rattle.std.specs.Option.{option_or}
 use Rattle.base_types.specs.declared.command.Command.{Command}
 use Rattle.base_types.specs.declared.command.Command.TheVariants.{Begin, Commit, Rollback, Savepoint, Release, RollbackTo, Show, Columns, Column, Regclass, LockTable, OpenRel, Peek, CloseRel, CreateTable, DropTable, RenameTable, AddColumn, DropColumn, RenameColumn, SetDefault, SetStatistics, SetFillfactor, AddCheck, AddForeign, ValidateConstraint, DropConstraint, SetTrigger, CreateTrigger, CreateIndex, DropIndex, RenameIndex}
 use Rattle.base_types.specs.declared.command.NewColumn.{NewColumn}
 use Rattle.base_types.specs.declared.mode.Mode.{Mode}
-use Rattle.base_types.specs.declared.mode.Mode.TheVariants.{AccessShare, RowShare, RowExclusive, ShareUpdateExclusive, Share, ShareRowExclusive, Exclusive, AccessExclusive}
+use Rattle.base_types.specs.Words.{modes}
 use Rattle.base_types.specs.declared.field.Field.{Field}
 use Rattle.script_text.specs.Tokens.{◌>>=◌, said, after, taken, is_end, ends, done}
-use Rattle.script_text.specs.Operands.{number_of, stat_of, name_of, word_of, text_of, type_of, field_of}
+use Rattle.script_text.specs.Operands.{number_of, stat_of, plain_name_of, word_of, check_text_of, type_of, field_of, lock_words}
 
--- the name behind these words, and the tokens behind it
+-- the name after these words, and the tokens after it
 abbrev pub name_after : List ℕ → List (List ℕ) → Option (List ℕ × List (List ℕ))
-name_after text ts = after text name_of ts
+name_after text ts = after text plain_name_of ts
 
 -- these words, a name, and the end
 unfoldable pub one_name : List ℕ → List (List ℕ) → Option (List ℕ)
@@ -21,7 +22,7 @@ one_name text ts = do
   name ← name_after text ts
   done [] name.1 name.0
 
--- these words, a name, further words and a name, and the tokens behind them
+-- these words, a name, further words and a name, and the tokens after them
 unfoldable pub names_after : List ℕ → List ℕ → List (List ℕ) → Option ((List ℕ × List ℕ) × List (List ℕ))
 names_after text further ts = do
   first ← name_after text ts
@@ -58,18 +59,19 @@ name_command ts = option_or (option_map Columns (one_name (codes "columns") ts))
     (option_map DropIndex (one_name (codes "drop index") ts)))))
 
 -- nothing, or a field
-unfoldable pub field_behind : List (List ℕ) → Option (Option Field)
-field_behind ts = if is_end ts then Some None else do
+unfoldable pub optional_field : List (List ℕ) → Option (Option Field)
+optional_field ts = if is_end ts then Some None else do
   field ← taken field_of ts
   done [] field.1 (Some field.0)
 
--- show and peek, with a field or without
+-- these words, a name, and a field or none
 unfoldable pub shown_after : List ℕ → List (List ℕ) → Option (List ℕ × Option Field)
 shown_after text ts = do
   name ← name_after text ts
-  field ← field_behind name.1
+  field ← optional_field name.1
   Some (name.0, field)
 
+-- show and peek
 unfoldable pub show_command : List (List ℕ) → Option Command
 show_command ts = option_or (option_map (λ s. Show s.0 s.1) (shown_after (codes "show") ts)) (option_map (λ s. Peek s.0 s.1) (shown_after (codes "peek") ts))
 
@@ -81,36 +83,12 @@ table_command ts = option_or (option_map (λ n. Column n.0 n.1) (two_names (code
     (option_or (option_map (λ n. ValidateConstraint n.0 n.1) (two_names (codes "alter table") (codes "validate constraint") ts))
     (option_map (λ n. DropConstraint n.0 n.1) (two_names (codes "alter table") (codes "drop constraint") ts)))))
 
--- alter table NAME enable trigger NAME
-unfoldable pub enable_command : List (List ℕ) → Option Command
-enable_command ts = do
-  names ← two_names (codes "alter table") (codes "enable trigger") ts
-  Some (SetTrigger names.0 names.1 true)
-
--- alter table NAME disable trigger NAME
-unfoldable pub disable_command : List (List ℕ) → Option Command
-disable_command ts = do
-  names ← two_names (codes "alter table") (codes "disable trigger") ts
-  Some (SetTrigger names.0 names.1 false)
-
--- create trigger NAME on NAME
-unfoldable pub create_trigger_command : List (List ℕ) → Option Command
-create_trigger_command ts = do
-  names ← two_names (codes "create trigger") (codes "on") ts
-  Some (CreateTrigger names.1 names.0)
-
--- alter index NAME rename to NAME
-unfoldable pub rename_index_command : List (List ℕ) → Option Command
-rename_index_command ts = do
-  names ← two_names (codes "alter index") (codes "rename to") ts
-  Some (RenameIndex names.0 names.1)
-
 -- commands of triggers and the renaming of an index
 unfoldable pub pair_command : List (List ℕ) → Option Command
-pair_command ts = option_or (enable_command ts)
-    (option_or (disable_command ts)
-    (option_or (create_trigger_command ts)
-    (rename_index_command ts)))
+pair_command ts = option_or (option_map (λ n. SetTrigger n.0 n.1 true) (two_names (codes "alter table") (codes "enable trigger") ts))
+    (option_or (option_map (λ n. SetTrigger n.0 n.1 false) (two_names (codes "alter table") (codes "disable trigger") ts))
+    (option_or (option_map (λ n. CreateTrigger n.1 n.0) (two_names (codes "create trigger") (codes "on") ts))
+    (option_map (λ n. RenameIndex n.0 n.1) (two_names (codes "alter index") (codes "rename to") ts))))
 
 -- regclass OID
 unfoldable pub regclass_command : List (List ℕ) → Option Command
@@ -118,31 +96,15 @@ regclass_command ts = do
   oid ← after (codes "regclass") (number_of 9) ts
   done [] oid.1 (Regclass (record { 0 = oid.0 }))
 
--- one of the weaker lock modes by its words, and the end
-unfoldable pub weak_mode : List (List ℕ) → Option Mode
-weak_mode ts = if ends (codes "in access share mode") ts then Some AccessShare
-    else if ends (codes "in row share mode") ts then Some RowShare
-    else if ends (codes "in row exclusive mode") ts then Some RowExclusive
-    else if ends (codes "in share update exclusive mode") ts then Some ShareUpdateExclusive
-    else None
-
--- one of the stronger ones
-unfoldable pub strong_mode : List (List ℕ) → Option Mode
-strong_mode ts = if ends (codes "in share mode") ts then Some Share
-    else if ends (codes "in share row exclusive mode") ts then Some ShareRowExclusive
-    else if ends (codes "in exclusive mode") ts then Some Exclusive
-    else if ends (codes "in access exclusive mode") ts then Some AccessExclusive
-    else None
-
 -- a lock mode by its words, and the end
-unfoldable pub mode_behind : List (List ℕ) → Option Mode
-mode_behind ts = option_or (weak_mode ts) (strong_mode ts)
+unfoldable pub lock_mode : List (List ℕ) → Option Mode
+lock_mode ts = find (λ mode. ends (lock_words mode) ts) modes
 
 -- lock table NAME in MODE mode
 unfoldable pub lock_command : List (List ℕ) → Option Command
 lock_command ts = do
   name ← name_after (codes "lock table") ts
-  mode ← mode_behind name.1
+  mode ← lock_mode name.1
   Some (LockTable name.0 mode)
 
 -- alter table NAME add column NAME TYPE
@@ -180,7 +142,7 @@ fillfactor_command ts = do
   fill ← after (codes "set (fillfactor =") (number_of 9) name.1
   done (codes ")") fill.1 (SetFillfactor name.0 fill.0)
 
--- the tokens up to a closing parenthesis as one text, and the tokens behind it
+-- the tokens up to a closing parenthesis as one text, and the tokens after it
 unfoldable pub enclosed : List (List ℕ) → Option (List ℕ × List (List ℕ))
 enclosed [] = None
 enclosed (t ∷ ts) = if bytes_eq t (codes ")") then Some ([], ts) else option_map (λ r. (t ++ r.0, r.1)) (enclosed ts)
@@ -189,53 +151,53 @@ enclosed (t ∷ ts) = if bytes_eq t (codes ")") then Some ([], ts) else option_m
 unfoldable pub enclosed_text : List (List ℕ) → Option (List ℕ × List (List ℕ))
 enclosed_text ts = do
   inside ← enclosed ts
-  text ← text_of inside.0
+  text ← check_text_of inside.0
   Some (text, inside.1)
 
 -- nothing for a constraint that is valid at once, or `not valid`
-unfoldable pub valid_behind : List (List ℕ) → Option Bool
-valid_behind ts = if is_end ts then Some true else done (codes "not valid") ts false
+unfoldable pub validity : List (List ℕ) → Option Bool
+validity ts = if is_end ts then Some true else done (codes "not valid") ts false
 
 -- check (TEXT), and whether it is valid at once
-unfoldable pub check_behind : List (List ℕ) → Option (List ℕ × Bool)
-check_behind ts = do
+unfoldable pub check_part : List (List ℕ) → Option (List ℕ × Bool)
+check_part ts = do
   rest ← said (codes "check (") ts
   text ← enclosed_text rest
-  valid ← valid_behind text.1
+  valid ← validity text.1
   Some (text.0, valid)
 
 -- alter table NAME add constraint NAME check (TEXT)
 unfoldable pub check_command : List (List ℕ) → Option Command
 check_command ts = do
   names ← names_after (codes "alter table") (codes "add constraint") ts
-  what ← check_behind names.1
+  what ← check_part names.1
   Some (AddCheck names.0.0 names.0.1 what.0 what.1)
 
 -- (NAME), and whether it is valid at once
-unfoldable pub referred_behind : List (List ℕ) → Option (List ℕ × Bool)
-referred_behind ts = do
+unfoldable pub referred_part : List (List ℕ) → Option (List ℕ × Bool)
+referred_part ts = do
   ref_column ← name_after (codes "(") ts
   rest ← said (codes ")") ref_column.1
-  valid ← valid_behind rest
+  valid ← validity rest
   Some (ref_column.0, valid)
 
 -- foreign key (NAME) references NAME (NAME), and whether it is valid at once
-unfoldable pub key_behind : List (List ℕ) → Option (List ℕ × List ℕ × List ℕ × Bool)
-key_behind ts = do
+unfoldable pub key_part : List (List ℕ) → Option (List ℕ × List ℕ × List ℕ × Bool)
+key_part ts = do
   key ← names_after (codes "foreign key (") (codes ") references") ts
-  referred ← referred_behind key.1
+  referred ← referred_part key.1
   Some (key.0.0, key.0.1, referred.0, referred.1)
 
 -- alter table NAME add constraint NAME foreign key (NAME) references NAME (NAME)
 unfoldable pub foreign_command : List (List ℕ) → Option Command
 foreign_command ts = do
   names ← names_after (codes "alter table") (codes "add constraint") ts
-  key ← key_behind names.1
+  key ← key_part names.1
   Some (AddForeign names.0.0 names.0.1 key.0 key.1 key.2 key.3)
 
 -- an item of a list, alone at a closing parenthesis and the end, and with the others at a comma
-abbrev pub items_behind : {X : Type 0} → X → List ℕ → List (List ℕ) → Option (List X) → Option (List X)
-items_behind item mark ts others = if bytes_eq mark (codes ",") then option_map (λ items. item ∷ items) others else if bytes_eq mark (codes ")") then (if is_end ts then Some (item ∷ []) else None) else None
+abbrev pub items_after : {X : Type 0} → X → List ℕ → List (List ℕ) → Option (List X) → Option (List X)
+items_after item mark ts others = if bytes_eq mark (codes ",") then option_map (λ items. item ∷ items) others else if bytes_eq mark (codes ")") then (if is_end ts then Some (item ∷ []) else None) else None
 
 -- what is taken of a list at a time: an item, and whether others follow; no item where there is no list
 abbrev pub Item : {X : Type 0} → (List (List ℕ) → Option (List X)) → List (List ℕ) → List (List ℕ) → Option (X × Bool) → Type 0
@@ -249,13 +211,13 @@ columns_at [] = None
 columns_at (a ∷ []) = None
 columns_at (a ∷ b ∷ []) = None
 columns_at (a ∷ b ∷ mark ∷ ts) = do
-  name ← name_of a
+  name ← plain_name_of a
   col_type ← type_of b
-  items_behind (record { name = name; col_type = col_type }) mark ts (columns_at ts)
+  items_after (record { name = name; col_type = col_type }) mark ts (columns_at ts)
 
 -- (NAME TYPE, ..), or empty parentheses
-unfoldable pub columns_behind : List (List ℕ) → Option (List NewColumn)
-columns_behind ts = if ends (codes "()") ts then Some [] else do
+unfoldable pub enclosed_columns : List (List ℕ) → Option (List NewColumn)
+enclosed_columns ts = if ends (codes "()") ts then Some [] else do
   rest ← said (codes "(") ts
   columns_at rest
 
@@ -263,7 +225,7 @@ columns_behind ts = if ends (codes "()") ts then Some [] else do
 unfoldable pub create_table_command : List (List ℕ) → Option Command
 create_table_command ts = do
   name ← name_after (codes "create table") ts
-  columns ← columns_behind name.1
+  columns ← enclosed_columns name.1
   Some (CreateTable name.0 columns)
 
 -- names with commas between them, up to a closing parenthesis and the end
@@ -271,12 +233,12 @@ unfoldable pub names_at : List (List ℕ) → Option (List (List ℕ))
 names_at [] = None
 names_at (a ∷ []) = None
 names_at (a ∷ mark ∷ ts) = do
-  name ← name_of a
-  items_behind name mark ts (names_at ts)
+  name ← plain_name_of a
+  items_after name mark ts (names_at ts)
 
 -- (NAME, ..)
-unfoldable pub names_behind : List (List ℕ) → Option (List (List ℕ))
-names_behind ts = do
+unfoldable pub enclosed_names : List (List ℕ) → Option (List (List ℕ))
+enclosed_names ts = do
   rest ← said (codes "(") ts
   names_at rest
 
@@ -284,10 +246,10 @@ names_behind ts = do
 unfoldable pub create_index_command : List (List ℕ) → Option Command
 create_index_command ts = do
   names ← names_after (codes "create index") (codes "on") ts
-  columns ← names_behind names.1
+  columns ← enclosed_names names.1
   Some (CreateIndex names.0.0 names.0.1 columns)
 
--- the commands that take no memory
+-- the commands that take no memory; in groups, so that the check meets a few forms at a time
 unfoldable pub short_command : List (List ℕ) → Option Command
 short_command ts = option_or (bare_command ts)
     (option_or (savepoint_command ts)

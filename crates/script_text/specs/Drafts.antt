@@ -11,9 +11,10 @@ use Rattle.script_text.specs.declared.fault.ScriptFault.TheVariants.{Bad}
 use Rattle.script_text.specs.declared.fault.ScriptCause.{ScriptCause}
 use Rattle.script_text.specs.declared.fault.LineFault.{LineFault}
 use Rattle.script_text.specs.declared.fault.LineFault.TheVariants.{Breaks, NoMemory}
+use Rattle.script_text.specs.declared.limits.TheConstants.{MOST_BACKENDS, MOST_COMMANDS, MOST_STEPS, QUEUE_ROUNDS}
 use Rattle.script_text.specs.Grammar.{Draft, Reading}
 
--- the line has this effect, or breaks this rule; want of memory says nothing
+-- the line has this effect, or breaks this rule; where memory was refused, nothing is said
 abbrev pub Takes : Draft → Result (Unit {0}) LineFault → Result Draft ScriptCause → Type 0
 Takes next (Ok done) effect = effect ≡ Ok next
 Takes next (Err (Breaks cause)) effect = effect ≡ Err cause
@@ -22,15 +23,15 @@ Takes next (Err NoMemory) effect = ⊤
 -- the ranges and limits of scripts, but for a number of backends that isn't known yet
 pub record IsDraft (asked : Scenario) : Type 0 where
   pub size : IsQueueSize asked.size
-  pub from : asked.from < asked.size * 262144
-  pub backends : asked.backends ≤ 64
-  pub commands : length asked.commands ≤ 20000
+  pub from : asked.from < asked.size * QUEUE_ROUNDS
+  pub backends : asked.backends ≤ MOST_BACKENDS
+  pub commands : length asked.commands ≤ MOST_COMMANDS
   pub placed : AllByRecursion (λ p. IsBackend asked.backends p.backend) asked.commands
   pub spelled : AllByRecursion (λ p. IsCommand p.command) asked.commands
   pub turns : AllByRecursion (λ line. (1 ≤ length line) × AllByRecursion (AreTurns asked.backends) line) asked.steps
-  pub steps : sum_by step_count asked.steps ≤ 1000000
+  pub steps : sum_by step_count asked.steps ≤ MOST_STEPS
 
--- the same was read, or the same fault was found; want of memory says nothing
+-- the same was read, or the same fault was found; where memory was refused, nothing is said
 abbrev pub Reads : Result ScriptRead ScriptFault → Result Reading (ℕ × ScriptCause) → Type 0
 Reads (Ok read) found = found ≡ Ok (record { script = read.script; has_ring = read.has_ring; rest_at = read.rest_at })
 Reads (Err (Bad line cause)) found = found ≡ Err (line, cause)
@@ -44,4 +45,4 @@ fault_at NoMemory line = faults.NoMemory
 -- the number of all steps, within the limit
 pub record IsCounted (total : ℕ) (steps : List (List Turns)) : Type 0 where
   pub is : total ≡ sum_by step_count steps
-  pub most : total ≤ 1000000
+  pub most : total ≤ MOST_STEPS

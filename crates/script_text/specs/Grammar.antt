@@ -8,12 +8,14 @@ use Rattle.script_text.specs.declared.fault.ScriptCause.{ScriptCause}
 use Rattle.script_text.specs.declared.fault.ScriptCause.TheVariants.{BadByte, BadRing, NoBackends, BadCount, NoEnd, BadSteps, TooManySteps, UnknownBackend, LateCommand, BadCommand, TooManyCommands, AfterEnd}
 use Rattle.script_text.specs.declared.fault.Rest.{Rest}
 use Rattle.script_text.specs.declared.fault.Rest.TheVariants.{Refused, Given}
-use Rattle.script_text.specs.Lines.{lines_of, bare, counts, is_bad_byte, small}
+use Rattle.script_text.specs.declared.limits.TheConstants.{MOST_COMMANDS, MOST_STEPS, QUEUE_SIZE}
+use Rattle.script_text.specs.TextLines.{text_lines, bare, counts, is_bad_byte, small}
 use Rattle.script_text.specs.Tokens.{tokens, said}
 use Rattle.script_text.specs.LineForms.{begins, none_left, ring_of, backends_of, steps_of, addressed}
 use Rattle.script_text.specs.Commands.{command_of}
 
 infixl 10 ◌>>=◌
+-- a value, and what is made of it; or the rule that is broken
 abbrev pub ◌>>=◌ : {A B C : Type 0} → Result A C → (A → Result B C) → Result B C
 (Ok x) >>= f = f x
 (Err e) >>= f = Err e
@@ -30,25 +32,30 @@ pub record Draft : Type 0 where
   pub has_end : Bool
 
 -- what holds before the first line
-abbrev pub blank : Draft
-blank = record { asked = record { size = 4096; from = 0; backends = 0; commands = []; steps = [] }; has_ring = false; has_end = false }
+abbrev pub empty_draft : Draft
+empty_draft = record { asked = record { size = QUEUE_SIZE; from = 0; backends = 0; commands = []; steps = [] }; has_ring = false; has_end = false }
 
+-- the queue of a `ring` line
 abbrev pub with_ring : Draft → ℕ × ℕ → Draft
 with_ring draft ring = record draft { asked = record draft.asked { size = ring.0; from = ring.1 }; has_ring = true }
 
+-- the number of backends
 abbrev pub with_backends : Draft → ℕ → Draft
 with_backends draft backends = record draft { asked = record draft.asked { backends = backends } }
 
+-- one more line of steps
 abbrev pub with_steps : Draft → List Turns → Draft
 with_steps draft turns = record draft { asked = record draft.asked { steps = draft.asked.steps ++ turns ∷ [] } }
 
+-- one more command
 abbrev pub with_command : Draft → ℕ → Command → Draft
 with_command draft backend command = record draft { asked = record draft.asked { commands = draft.asked.commands ++ record { backend = backend; command = command } ∷ [] } }
 
+-- the `end` line
 abbrev pub with_end : Draft → Draft
 with_end draft = record draft { has_end = true }
 
--- a line that begins with `ring`, which stands before all others
+-- a line that begins with `ring`, which comes before all others
 unfoldable pub ring_line : Draft → List (List ℕ) → Result Draft ScriptCause
 ring_line draft ts = if draft.has_ring || nat_lt 0 draft.asked.backends then Err BadRing else do
   ring ← or_cause (ring_of ts) BadRing
@@ -64,9 +71,9 @@ backends_line draft ts = if not (begins (codes "backends") ts) then Err NoBacken
 unfoldable pub steps_line : Draft → List (List ℕ) → Result Draft ScriptCause
 steps_line draft ts = do
   turns ← or_cause (steps_of draft.asked.backends ts) BadSteps
-  if nat_lt 1000000 (sum_by step_count draft.asked.steps + step_count turns) then Err TooManySteps else Ok (with_steps draft turns)
+  if nat_lt MOST_STEPS (sum_by step_count draft.asked.steps + step_count turns) then Err TooManySteps else Ok (with_steps draft turns)
 
--- no line of steps came yet
+-- a line of steps came already
 abbrev pub has_steps : List (List Turns) → Bool
 has_steps [] = false
 has_steps (turns ∷ lines) = true
@@ -77,14 +84,14 @@ command_line draft ts = do
   command ← or_cause (addressed draft.asked.backends ts) UnknownBackend
   if has_steps draft.asked.steps then Err LateCommand else do
     read ← or_cause (command_of command.1) BadCommand
-    if nat_le 20000 (length draft.asked.commands) then Err TooManyCommands else Ok (with_command draft command.0 read)
+    if nat_le MOST_COMMANDS (length draft.asked.commands) then Err TooManyCommands else Ok (with_command draft command.0 read)
 
 -- the line is `end` alone
 abbrev pub is_end_line : Option (List (List ℕ)) → Bool
 is_end_line None = false
 is_end_line (Some ts) = none_left ts
 
--- a line behind that of the backends
+-- a line after that of the backends
 unfoldable pub body_line : Draft → List (List ℕ) → Result Draft ScriptCause
 body_line draft ts = if is_end_line (said (codes "end") ts) then Ok (with_end draft) else if begins (codes "steps") ts then steps_line draft ts else command_line draft ts
 
@@ -105,7 +112,7 @@ line_after draft line = if list_any is_bad_byte line then Err BadByte else token
 unfoldable pub any_line : Draft → List ℕ → Result Draft ScriptCause
 any_line draft line = if counts (bare line) then line_after draft (bare line) else Ok draft
 
--- what was read: the script, whether it has a `ring` line, and the place behind what was read
+-- what was read: the script, whether it has a `ring` line, and the place right after the `end` line's line feed
 pub record Reading : Type 0 where
   pub script : Scenario
   pub has_ring : Bool
@@ -115,21 +122,25 @@ pub record Reading : Type 0 where
 abbrev pub at_end : Draft → ℕ → ℕ → Result Reading (ℕ × ScriptCause)
 at_end draft number place = if draft.asked.backends == 0 then Err (number, NoBackends) else if draft.has_end then Ok (record { script = draft.asked; has_ring = draft.has_ring; rest_at = place }) else Err (number, NoEnd)
 
--- reading stops behind the `end` line, where a rest is given
+-- reading stops after the `end` line, where a rest is given
 abbrev pub stops : Rest → Draft → Bool
 stops Given draft = draft.has_end
 stops Refused draft = false
 
--- what comes of a line: its fault, the end of reading, or what the lines behind it give
+-- the place right after a line, and after the `end` line that came before it if one did
+abbrev pub place_after : Draft → ℕ → List ℕ → ℕ
+place_after draft place line = if draft.has_end then place else place + length line
+
+-- what comes of a line: its fault, the end of reading, or what the lines after it give
 abbrev pub line_taken : Rest → ℕ → ℕ → Result Draft ScriptCause → (Draft → Result Reading (ℕ × ScriptCause)) → Result Reading (ℕ × ScriptCause)
 line_taken rest number place (Err cause) others = Err (number, cause)
 line_taken rest number place (Ok next) others = if stops rest next then at_end next number place else others next
 
--- the lines from the one with this number on, which stands at this place of the text
+-- the lines from the one with this number on, where the lines before it, up to the `end` line, end at this place
 unfoldable pub lines_from : Rest → Draft → ℕ → ℕ → List (List ℕ) → Result Reading (ℕ × ScriptCause)
 lines_from rest draft number place [] = at_end draft number place
-lines_from rest draft number place (line ∷ lines) = line_taken rest number (place + length line) (any_line draft line) (λ next. lines_from rest next (number + 1) (place + length line) lines)
+lines_from rest draft number place (line ∷ lines) = line_taken rest number (place_after draft place line) (any_line draft line) (λ next. lines_from rest next (number + 1) (place_after draft place line) lines)
 
 -- the script of a text
 unfoldable pub script_of : Rest → List ℕ → Result Reading (ℕ × ScriptCause)
-script_of rest text = lines_from rest blank 1 0 (lines_of text)
+script_of rest text = lines_from rest empty_draft 1 0 (text_lines text)

@@ -1,5 +1,4 @@
-pub mod Built
-pub mod Lines
+pub mod TextLines
 pub mod Tokens
 pub mod Operands
 pub mod Commands

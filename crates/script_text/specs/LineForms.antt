@@ -2,6 +2,7 @@
 use Rattle.std.specs.Prelude.{◌≡◌, ℕ, Bool, true, false, Option, Some, None, List, [], ◌∷◌, ◌*◌, ◌==◌, ◌||◌, nat_lt, option_map, codes, if◌then◌else◌}
 use Rattle.std.specs.Str.{bytes_eq}
 use Rattle.base_types.specs.declared.command.Turns.{Turns}
+use Rattle.script_text.specs.declared.limits.TheConstants.{MOST_BACKENDS, MOST_STEPS, QUEUE_ROUNDS}
 use Rattle.script_text.specs.Tokens.{◌>>=◌, said, taken, after}
 use Rattle.script_text.specs.Operands.{number_of, number_within}
 
@@ -16,8 +17,8 @@ none_left [] = true
 none_left (t ∷ ts) = false
 
 -- the value, where no tokens are left
-abbrev pub closed : {X : Type 0} → List (List ℕ) → X → Option X
-closed ts x = if none_left ts then Some x else None
+abbrev pub if_none_left : {X : Type 0} → List (List ℕ) → X → Option X
+if_none_left ts x = if none_left ts then Some x else None
 
 -- the queue may have that size
 abbrev pub is_size : ℕ → Bool
@@ -39,28 +40,28 @@ if_below bound (Some n) = if nat_lt n bound then Some n else None
 
 -- the number of the first message, of ten digits at most and 262,144 times as many as the queue holds
 unfoldable pub first_of : ℕ → List ℕ → Option ℕ
-first_of size text = if_below (size * 262144) (number_of 10 text)
+first_of size text = if_below (size * QUEUE_ROUNDS) (number_of 10 text)
 
 -- nothing for 0, or `from` and the number of the first message
-unfoldable pub from_behind : ℕ → List (List ℕ) → Option ℕ
-from_behind size ts = if none_left ts then Some 0 else do
+unfoldable pub from_part : ℕ → List (List ℕ) → Option ℕ
+from_part size ts = if none_left ts then Some 0 else do
   from ← after (codes "from") (first_of size) ts
-  closed from.1 from.0
+  if_none_left from.1 from.0
 
 -- ring SIZE, or ring SIZE from NUMBER
 unfoldable pub ring_of : List (List ℕ) → Option (ℕ × ℕ)
 ring_of ts = do
   size ← after (codes "ring") size_of ts
-  from ← from_behind size.0 size.1
+  from ← from_part size.0 size.1
   Some (size.0, from)
 
 -- backends NUMBER
 unfoldable pub backends_of : List (List ℕ) → Option ℕ
 backends_of ts = do
-  backends ← after (codes "backends") (number_within 1 64) ts
-  closed backends.1 backends.0
+  backends ← after (codes "backends") (number_within 1 MOST_BACKENDS) ts
+  if_none_left backends.1 backends.0
 
--- this many steps of a backend, and others behind them
+-- this many steps of a backend, and others after them
 abbrev pub with_turns : Option ℕ → Option ℕ → Option (List Turns) → Option (List Turns)
 with_turns backend count others = do
   b ← backend
@@ -73,23 +74,23 @@ backend_of backends text = number_within 1 backends text
 
 -- a count of steps
 abbrev pub count_of : List ℕ → Option ℕ
-count_of text = number_within 1 1000000 text
+count_of text = number_within 1 MOST_STEPS text
 
 -- the token is an asterisk
 abbrev pub is_times : List ℕ → Bool
 is_times t = bytes_eq t (codes "*")
 
--- the steps of a line: a backend has one, or behind an asterisk as many as a number says
+-- the steps of a line: a backend has one, or after an asterisk as many as a number says
 unfoldable pub all_turns : ℕ → List (List ℕ) → Option (List Turns)
 all_turns backends [] = Some []
 all_turns backends (b ∷ []) = with_turns (backend_of backends b) (Some 1) (Some [])
 all_turns backends (b ∷ t ∷ []) = if is_times t then None else with_turns (backend_of backends b) (Some 1) (all_turns backends (t ∷ []))
 all_turns backends (b ∷ t ∷ c ∷ ts) = if is_times t then with_turns (backend_of backends b) (count_of c) (all_turns backends ts) else with_turns (backend_of backends b) (Some 1) (all_turns backends (t ∷ c ∷ ts))
 
--- one step, or behind an asterisk how many, and the tokens behind that
-unfoldable pub count_behind : List (List ℕ) → Option (ℕ × List (List ℕ))
-count_behind [] = Some (1, [])
-count_behind (t ∷ ts) = if is_times t then taken count_of ts else Some (1, t ∷ ts)
+-- one step, or after an asterisk how many, and the tokens after that
+unfoldable pub count_part : List (List ℕ) → Option (ℕ × List (List ℕ))
+count_part [] = Some (1, [])
+count_part (t ∷ ts) = if is_times t then taken count_of ts else Some (1, t ∷ ts)
 
 -- what is taken of a line's steps at a time
 abbrev pub NextTurns : ℕ → List (List ℕ) → List (List ℕ) → Option Turns → Type 0

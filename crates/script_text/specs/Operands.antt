@@ -1,22 +1,20 @@
--- What single tokens mean: numbers, names, words, types and fields.
-use Rattle.std.specs.Prelude.{ℕ, ℤ, pos, neg_ℤ, Option, Some, None, List, [], ◌∷◌, ◌==◌, ◌+◌, ◌-◌, ◌*◌, ◌||◌, ◌&&◌, nat_lt, nat_le, length, option_map, is_none, codes, if◌then◌else◌}
+-- What single tokens mean: numbers, names, words, types and fields; and how lock modes are said.
+use Rattle.std.specs.Prelude.{ℕ, ℤ, Bool, false, pos, neg_ℤ, Option, Some, None, List, [], ◌∷◌, ◌==◌, ◌||◌, ◌&&◌, not, nat_lt, nat_le, length, option_map, is_none, codes, if◌then◌else◌}
+use Rattle.std.specs.List.{list_all, find}
 use Rattle.std.specs.Str.{bytes_eq}
-use Rattle.base_types.specs.Names.{is_digit, name_fault, short_fault, is_word_byte, is_text_byte}
+use Rattle.base_types.specs.Names.{is_digit, number_of_digits, name_fault, short_fault, is_word_byte, is_text_byte}
+use Rattle.base_types.specs.Words.{type_word, field_word, col_types, all_fields}
+use Rattle.base_types.specs.declared.mode.Mode.{Mode}
+use Rattle.base_types.specs.declared.mode.Mode.TheVariants.{AccessShare, RowShare, RowExclusive, ShareUpdateExclusive, Share, ShareRowExclusive, Exclusive, AccessExclusive}
 use Rattle.base_types.specs.declared.col_type.ColType.{ColType}
-use Rattle.base_types.specs.declared.field.Field.{Field}
 use Rattle.base_types.specs.declared.col_type.ColType.TheVariants as types
-use Rattle.base_types.specs.declared.field.Field.TheVariants as fields
+use Rattle.base_types.specs.declared.field.Field.{Field}
 
--- the number that digits write behind those of n
-unfoldable pub number_after : ℕ → List ℕ → Option ℕ
-number_after n [] = Some n
-number_after n (byte ∷ bytes) = if is_digit byte then number_after (n * 10 + (byte - 48)) bytes else None
-
--- a decimal number of so many digits at most
+-- the number of a text of at most so many digits
 unfoldable pub number_of : ℕ → List ℕ → Option ℕ
-number_of most text = if length text == 0 then None else if nat_lt most (length text) then None else number_after 0 text
+number_of most text = if (length text == 0) || nat_lt most (length text) || not (list_all is_digit text) then None else Some (number_of_digits text)
 
--- the number, if it is within bounds
+-- the number, if it lies within bounds
 abbrev pub within : ℕ → ℕ → Option ℕ → Option ℕ
 within least most None = None
 within least most (Some n) = if nat_le least n && nat_le n most then Some n else None
@@ -25,7 +23,7 @@ within least most (Some n) = if nat_le least n && nat_le n most then Some n else
 unfoldable pub number_within : ℕ → ℕ → List ℕ → Option ℕ
 number_within least most text = within least most (number_of 9 text)
 
--- a number that may have a minus in front
+-- a number that may begin with a minus
 unfoldable pub stat_of : List ℕ → Option ℤ
 stat_of [] = None
 stat_of (byte ∷ bytes) = if byte == 45 then option_map (λ n. neg_ℤ (pos n)) (number_of 9 bytes) else option_map (λ n. pos n) (number_of 9 (byte ∷ bytes))
@@ -34,41 +32,41 @@ stat_of (byte ∷ bytes) = if byte == 45 then option_map (λ n. neg_ℤ (pos n))
 abbrev pub if_none : {F : Type 0} → Option F → List ℕ → Option (List ℕ)
 if_none fault text = if is_none fault then Some text else None
 
--- a name
-unfoldable pub name_of : List ℕ → Option (List ℕ)
-name_of text = if_none (name_fault text) text
+-- a name, which isn't that of a dropped column
+unfoldable pub plain_name_of : List ℕ → Option (List ℕ)
+plain_name_of text = if_none (name_fault text) text
 
 -- the word of a default
 unfoldable pub word_of : List ℕ → Option (List ℕ)
 word_of text = if_none (short_fault is_word_byte text) text
 
 -- the text of a check
-unfoldable pub text_of : List ℕ → Option (List ℕ)
-text_of text = if_none (short_fault is_text_byte text) text
+unfoldable pub check_text_of : List ℕ → Option (List ℕ)
+check_text_of text = if_none (short_fault is_text_byte text) text
 
--- a column's type, some by two words
+-- the text is another word for a type
+abbrev pub is_other_word : List ℕ → ColType → Bool
+is_other_word text types.Bool = bytes_eq text (codes "boolean")
+is_other_word text types.Int2 = bytes_eq text (codes "smallint")
+is_other_word text types.Int4 = bytes_eq text (codes "integer") || bytes_eq text (codes "int")
+is_other_word text types.Int8 = bytes_eq text (codes "bigint")
+is_other_word text col_type = false
+
+-- a column's type, by its name or another word for it
 unfoldable pub type_of : List ℕ → Option ColType
-type_of text = if bytes_eq text (codes "bool") || bytes_eq text (codes "boolean") then Some types.Bool
-    else if bytes_eq text (codes "int2") || bytes_eq text (codes "smallint") then Some types.Int2
-    else if bytes_eq text (codes "int4") || bytes_eq text (codes "integer") || bytes_eq text (codes "int") then Some types.Int4
-    else if bytes_eq text (codes "int8") || bytes_eq text (codes "bigint") then Some types.Int8
-    else if bytes_eq text (codes "text") then Some types.Text
-    else if bytes_eq text (codes "bytea") then Some types.Bytea
-    else if bytes_eq text (codes "date") then Some types.Date
-    else if bytes_eq text (codes "timestamptz") then Some types.Timestamptz
-    else None
+type_of text = find (λ col_type. bytes_eq text (type_word col_type) || is_other_word text col_type) col_types
 
 -- a field of a descriptor
 unfoldable pub field_of : List ℕ → Option Field
-field_of text = if bytes_eq text (codes "name") then Some fields.Name
-    else if bytes_eq text (codes "columns") then Some fields.Columns
-    else if bytes_eq text (codes "defaults") then Some fields.Defaults
-    else if bytes_eq text (codes "statistics") then Some fields.Statistics
-    else if bytes_eq text (codes "fillfactor") then Some fields.Fillfactor
-    else if bytes_eq text (codes "constraints") then Some fields.Constraints
-    else if bytes_eq text (codes "referenced") then Some fields.Referenced
-    else if bytes_eq text (codes "indexes") then Some fields.Indexes
-    else if bytes_eq text (codes "triggers") then Some fields.Triggers
-    else if bytes_eq text (codes "of") then Some fields.Of
-    else if bytes_eq text (codes "valid") then Some fields.Valid
-    else None
+field_of text = find (λ field. bytes_eq text (field_word field)) all_fields
+
+-- how `lock table` says a lock mode
+abbrev pub lock_words : Mode → List ℕ
+lock_words AccessShare = codes "in access share mode"
+lock_words RowShare = codes "in row share mode"
+lock_words RowExclusive = codes "in row exclusive mode"
+lock_words ShareUpdateExclusive = codes "in share update exclusive mode"
+lock_words Share = codes "in share mode"
+lock_words ShareRowExclusive = codes "in share row exclusive mode"
+lock_words Exclusive = codes "in exclusive mode"
+lock_words AccessExclusive = codes "in access exclusive mode"

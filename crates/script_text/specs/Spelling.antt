@@ -1,5 +1,5 @@
 -- The text of a script.
-use Rattle.std.specs.Prelude.{ℕ, Bool, true, false, not, Option, Some, None, List, [], ◌∷◌, ◌++◌, ◌-◌, ◌==◌, ◌&&◌, ◌||◌, length, get_or, fold, flat_map, codes, decimal, if◌then◌else◌}
+use Rattle.std.specs.Prelude.{◌≡◌, Result, OnOk, ℕ, Bool, true, false, not, Option, Some, None, List, [], ◌∷◌, ◌++◌, ◌-◌, ◌==◌, ◌&&◌, ◌||◌, length, get_or, fold, flat_map, codes, decimal, if◌then◌else◌}
 use Rattle.std.specs.Fmt.{signed_decimal}
 use Rattle.base_types.specs.Words.{type_word, field_word}
 use Rattle.base_types.specs.Scenario.{Scenario}
@@ -8,40 +8,33 @@ use Rattle.base_types.specs.declared.command.Command.TheVariants.{Begin, Commit,
 use Rattle.base_types.specs.declared.command.NewColumn.{NewColumn}
 use Rattle.base_types.specs.declared.command.Placed.{Placed}
 use Rattle.base_types.specs.declared.command.Turns.{Turns}
-use Rattle.base_types.specs.declared.mode.Mode.{Mode}
-use Rattle.base_types.specs.declared.mode.Mode.TheVariants.{AccessShare, RowShare, RowExclusive, ShareUpdateExclusive, Share, ShareRowExclusive, Exclusive, AccessExclusive}
 use Rattle.base_types.specs.declared.field.Field.{Field}
+use Rattle.script_text.specs.declared.limits.TheConstants.{QUEUE_SIZE}
+use Rattle.script_text.specs.Operands.{lock_words}
 
--- no blank stands behind this byte: LF, an opening parenthesis, an asterisk
-abbrev pub takes_none_behind : ℕ → Bool
-takes_none_behind byte = (byte == 10) || (byte == 40) || (byte == 42)
+-- no blank comes after this byte: a line feed, an opening parenthesis, an asterisk
+abbrev pub takes_none_after : ℕ → Bool
+takes_none_after byte = (byte == 10) || (byte == 40) || (byte == 42)
 
--- no blank stands before this byte: LF, a closing parenthesis, a comma, a colon, an asterisk
+-- no blank comes before this byte: a line feed, a closing parenthesis, a comma, a colon, an asterisk
 abbrev pub takes_none_before : ℕ → Bool
 takes_none_before byte = (byte == 10) || (byte == 41) || (byte == 44) || (byte == 58) || (byte == 42)
 
--- a blank stands between a text and the piece behind it, as in front of a text it doesn't
+-- a blank is due between a text and the piece after it; none is due at the start of a text
 abbrev pub needs_blank : List ℕ → List ℕ → Bool
-needs_blank text piece = not (takes_none_behind (get_or text (length text - 1) 10)) && not (takes_none_before (get_or piece 0 10))
+needs_blank text piece = not (takes_none_after (get_or text (length text - 1) 10)) && not (takes_none_before (get_or piece 0 10))
 
--- a text with a piece behind it
+-- a text with a piece after it
 unfoldable pub with_piece : List ℕ → List ℕ → List ℕ
 with_piece text piece = if needs_blank text piece then text ++ 32 ∷ [] ++ piece else text ++ piece
 
--- a text with pieces behind it
+-- a text with pieces after it
 abbrev pub with_pieces : List ℕ → List (List ℕ) → List ℕ
 with_pieces text pieces = fold with_piece text pieces
 
--- a lock mode in words
-abbrev pub mode_words : Mode → List ℕ
-mode_words AccessShare = codes "access share"
-mode_words RowShare = codes "row share"
-mode_words RowExclusive = codes "row exclusive"
-mode_words ShareUpdateExclusive = codes "share update exclusive"
-mode_words Share = codes "share"
-mode_words ShareRowExclusive = codes "share row exclusive"
-mode_words Exclusive = codes "exclusive"
-mode_words AccessExclusive = codes "access exclusive"
+-- these pieces were added at the end of a text; where memory was refused, no more is known of it
+abbrev pub AddsPieces : {T E : Type 0} → List ℕ → List ℕ → Result T E → List (List ℕ) → Type 0
+AddsPieces old new result pieces = OnOk result (new ≡ with_pieces old pieces)
 
 -- the words of a constraint that isn't valid at once
 abbrev pub valid_pieces : Bool → List (List ℕ)
@@ -58,9 +51,11 @@ abbrev pub shown_pieces : List ℕ → List ℕ → Option Field → List (List 
 shown_pieces words name None = words ∷ name ∷ []
 shown_pieces words name (Some field) = words ∷ name ∷ field_word field ∷ []
 
+-- a column in its pieces
 abbrev pub column_pieces : NewColumn → List (List ℕ)
 column_pieces column = column.name ∷ type_word column.col_type ∷ []
 
+-- a name as a piece
 abbrev pub name_pieces : List ℕ → List (List ℕ)
 name_pieces name = name ∷ []
 
@@ -81,7 +76,7 @@ command_pieces (Show name field) = shown_pieces (codes "show") name field
 command_pieces (Columns name) = codes "columns" ∷ name ∷ []
 command_pieces (Column name column) = codes "column" ∷ name ∷ column ∷ []
 command_pieces (Regclass oid) = codes "regclass" ∷ decimal oid.0 ∷ []
-command_pieces (LockTable name mode) = codes "lock table" ∷ name ∷ codes "in" ∷ mode_words mode ∷ codes "mode" ∷ []
+command_pieces (LockTable name mode) = codes "lock table" ∷ name ∷ lock_words mode ∷ []
 command_pieces (OpenRel name) = codes "open" ∷ name ∷ []
 command_pieces (Peek name field) = shown_pieces (codes "peek") name field
 command_pieces (CloseRel name) = codes "close" ∷ name ∷ []
@@ -126,7 +121,7 @@ from_pieces from = if from == 0 then [] else codes "from" ∷ decimal from ∷ [
 
 -- the queue, where it isn't what holds without a line
 abbrev pub ring_pieces : ℕ → ℕ → List (List ℕ)
-ring_pieces size from = if (size == 4096) && (from == 0) then [] else codes "ring" ∷ decimal size ∷ from_pieces from ++ line_end ∷ []
+ring_pieces size from = if (size == QUEUE_SIZE) && (from == 0) then [] else codes "ring" ∷ decimal size ∷ from_pieces from ++ line_end ∷ []
 
 -- the text of a script
 unfoldable pub script_spelling : Scenario → List ℕ

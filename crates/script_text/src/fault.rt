@@ -6,12 +6,12 @@ use thiserror::Error;
 
 /// The rule that a line breaks, in the order in which a line is tested. Its text is its name and
 /// what is wrong with the line.
-#[derive(Clone, Copy, Debug, PartialEq, Eq, Error)]
+#[derive(Clone, Copy, Debug, Error)]
 pub enum ScriptCause {
     /// A line that counts holds printable ASCII and tabs alone.
     #[error("BadByte: the line holds a byte that is neither printable ASCII nor a tab")]
     BadByte,
-    /// A `ring` line has its form and stands before the others.
+    /// A `ring` line has its form and comes before the others.
     #[error("BadRing: a ring line must come first and read 'ring N' or 'ring N from M', with N a power of two from 64 to 4096 and M below 262144 times N")]
     BadRing,
     /// The first line that counts, but for a `ring` line, is a `backends` line.
@@ -46,21 +46,21 @@ pub enum ScriptCause {
     AfterEnd,
 }
 
-/// Whether the input may go on behind the `end` line.
-#[derive(Clone, Copy, Debug, PartialEq, Eq)]
+/// Whether the input may go on after the `end` line.
+#[derive(Clone, Copy)]
 pub enum Rest {
     /// Nothing that counts may follow.
     Refused,
-    /// Reading stops behind the `end` line.
+    /// Reading stops after the `end` line.
     Given,
 }
 
-/// Why a line was not taken.
-#[derive(Clone, Copy, Debug, PartialEq, Eq)]
-pub enum LineFault {
-    /// It breaks a rule.
+// Why a line was not taken.
+#[derive(Clone, Copy)]
+pub(crate) enum LineFault {
+    // It breaks a rule.
     Breaks(ScriptCause),
-    /// Want of memory.
+    // Memory was refused.
     NoMemory,
 }
 
@@ -73,18 +73,18 @@ impl From<base_types::NoMemory> for LineFault {
 }
 
 /// Why there is no script.
-#[derive(Clone, Copy, Debug, PartialEq, Eq)]
+#[derive(Clone, Copy)]
 pub enum ScriptFault {
     /// The first line that breaks a rule, from 1, and the first rule that it breaks. A fault of the
     /// input's end names the line after the last one.
     Bad { line: u32, cause: ScriptCause },
-    /// Want of memory.
+    /// Memory was refused.
     NoMemory,
 }
 
 impl LineFault {
-    /// The fault of a script whose line with this number has this one.
-    pub fn at_line(self, line: u32) -> ScriptFault
+    // The fault of a script whose line with this number has this one.
+    pub(crate) fn at_line(self, line: u32) -> ScriptFault
         ensures { result ≡ fault_at self line }
     {
         match self {

@@ -1,48 +1,31 @@
-ghost use Rattle.std.specs.Prelude.{◌≡◌, ◌≤◌, ◌<◌, ◌^◌, IfSome, length};
+ghost use Rattle.std.specs.Prelude.{◌≡◌, ◌≤◌, ◌<◌, ◌^◌, ◌||◌, true, Some, IfSome, length};
+ghost use Rattle.std.specs.List.{list_all};
 ghost use Rattle.std.specs.Str.{bytes_eq};
-ghost use Rattle.base_types.specs.Names.{is_digit as digit};
-ghost use Rattle.script_text.specs.Operands.{number_after, number_of, number_within as within_bounds, stat_of, name_of, word_of, text_of, type_of, field_of};
+ghost use Rattle.base_types.specs.Names.{is_digit as digit, number_of_digits};
+ghost use Rattle.base_types.specs.Words.{type_word};
+ghost use Rattle.script_text.specs.Operands.{number_of, number_within as within_bounds, stat_of, plain_name_of, word_of, check_text_of, type_of, field_of, is_other_word as other_word, lock_words as words_of_lock};
 
-use base_types::{ColType, Field, Name, Text, Word};
+use base_types::{ColType, Field, Mode, Name, Text, Word, is_digit, number_up_to};
 
-/// The number of a text of at most so many digits, 10 or fewer; `None` for any other text.
-#[tactic(auto, unfolding(crate::specs::Operands::number_of))]
-pub fn number(text: &[u8], most: usize) -> Option<u64>
+// The greatest number of ten digits.
+const TEN_DIGITS: u64 = 9_999_999_999;
+
+// The number of a text of at most so many digits, 10 or fewer; `None` for any other text.
+#[tactic(auto, using(crate::proofs::DigitBounds::few_digits), unfolding(crate::specs::Operands::number_of))]
+pub(crate) fn number(text: &[u8], most: usize) -> Option<u64>
     requires { most ≤ 10 }
     ensures value { result ≡ number_of most text.now }
     ensures bound { IfSome result (λ n. n < 10 ^ most) }
 {
-    if text.is_empty() || text.len() > most {
+    if text.is_empty() || text.len() > most || !are_digits(text) {
         return None;
     }
     digits(text)
 }
 
-// The number that at most ten digits write.
-fn digits(text: &[u8]) -> Option<u64>
-    requires { length text.now ≤ 10 }
-    ensures value { result ≡ number_after 0 text.now }
-    ensures bound { IfSome result (λ n. n < 10 ^ length text.now) }
-{
-    let mut number = 0u64;
-    for byte in text {
-        if !is_digit(*byte) {
-            return None;
-        }
-        number = number * 10 + u64::from(*byte - b'0');
-    }
-    Some(number)
-}
-
-fn is_digit(byte: u8) -> bool
-    ensures { result ≡ digit byte }
-{
-    byte.is_ascii_digit()
-}
-
-/// The number of a text of at most nine digits, where it lies within bounds.
+// A number of at most nine digits that lies within bounds.
 #[tactic(auto, unfolding(crate::specs::Operands::number_within))]
-pub fn number_within(text: &[u8], least: u32, most: u32) -> Option<u32>
+pub(crate) fn number_within(text: &[u8], least: u32, most: u32) -> Option<u32>
     ensures value { result ≡ within_bounds least most text.now }
     ensures bounds { IfSome result (λ n. (least ≤ n) × (n ≤ most)) }
 {
@@ -54,9 +37,9 @@ pub fn number_within(text: &[u8], least: u32, most: u32) -> Option<u32>
     }
 }
 
-/// A number of at most nine digits that may have a minus in front.
+// A number of at most nine digits that may begin with a minus.
 #[tactic(auto, unfolding(crate::specs::Operands::stat_of))]
-pub fn stat(text: &[u8]) -> Option<i32>
+pub(crate) fn stat(text: &[u8]) -> Option<i32>
     ensures { result ≡ stat_of text.now }
 {
     let [first, digits @ ..] = text else {
@@ -69,91 +52,111 @@ pub fn stat(text: &[u8]) -> Option<i32>
     }
 }
 
-/// The name that a text is.
-#[tactic(auto, unfolding(crate::specs::Operands::name_of))]
-pub fn name(text: &[u8]) -> Option<Name>
-    ensures { result ≡ name_of text.now }
+// The name that a text is.
+#[tactic(auto, unfolding(crate::specs::Operands::plain_name_of))]
+pub(crate) fn name(text: &[u8]) -> Option<Name>
+    ensures { result ≡ plain_name_of text.now }
 {
     Name::new(text).ok()
 }
 
-/// The word of a default that a text is.
+// The word of a default that a text is.
 #[tactic(auto, unfolding(crate::specs::Operands::word_of))]
-pub fn word(text: &[u8]) -> Option<Word>
+pub(crate) fn word(text: &[u8]) -> Option<Word>
     ensures { result ≡ word_of text.now }
 {
     Word::new(text).ok()
 }
 
-/// The text of a check that a text is.
-#[tactic(auto, unfolding(crate::specs::Operands::text_of))]
-pub fn check_text(text: &[u8]) -> Option<Text>
-    ensures { result ≡ text_of text.now }
+// The text of a check that a text is.
+#[tactic(auto, unfolding(crate::specs::Operands::check_text_of))]
+pub(crate) fn check_text(text: &[u8]) -> Option<Text>
+    ensures { result ≡ check_text_of text.now }
 {
     Text::new(text).ok()
 }
 
-/// The type of a column, by one of its words.
-#[tactic(auto, unfolding(crate::specs::Operands::type_of))]
-pub fn col_type(text: &[u8]) -> Option<ColType>
+// The type of a column, by its name or another word for it.
+#[tactic(auto, using(crate::proofs::Finding::finds, crate::proofs::Finding::finds_later, crate::proofs::Finding::finds_none), unfolding(crate::specs::Operands::type_of))]
+pub(crate) fn col_type(text: &[u8]) -> Option<ColType>
     ensures { result ≡ type_of text.now }
 {
-    if is(text, "bool") || is(text, "boolean") {
-        Some(ColType::Bool)
-    } else if is(text, "int2") || is(text, "smallint") {
-        Some(ColType::Int2)
-    } else if is(text, "int4") || is(text, "integer") || is(text, "int") {
-        Some(ColType::Int4)
-    } else if is(text, "int8") || is(text, "bigint") {
-        Some(ColType::Int8)
-    } else if is(text, "text") {
-        Some(ColType::Text)
-    } else if is(text, "bytea") {
-        Some(ColType::Bytea)
-    } else if is(text, "date") {
-        Some(ColType::Date)
-    } else if is(text, "timestamptz") {
-        Some(ColType::Timestamptz)
-    } else {
-        None
+    for col_type in ColType::ALL {
+        if is_type(text, col_type) {
+            return Some(col_type);
+        }
     }
+    None
 }
 
-/// The field of a descriptor with this name.
-#[tactic(auto, unfolding(crate::specs::Operands::field_of))]
-pub fn field(text: &[u8]) -> Option<Field>
+// The field of a descriptor with this name.
+#[tactic(auto, using(crate::proofs::Finding::finds, crate::proofs::Finding::finds_later, crate::proofs::Finding::finds_none), unfolding(crate::specs::Operands::field_of))]
+pub(crate) fn field(text: &[u8]) -> Option<Field>
     ensures { result ≡ field_of text.now }
 {
-    if is(text, "name") {
-        Some(Field::Name)
-    } else if is(text, "columns") {
-        Some(Field::Columns)
-    } else if is(text, "defaults") {
-        Some(Field::Defaults)
-    } else if is(text, "statistics") {
-        Some(Field::Statistics)
-    } else if is(text, "fillfactor") {
-        Some(Field::Fillfactor)
-    } else if is(text, "constraints") {
-        Some(Field::Constraints)
-    } else if is(text, "referenced") {
-        Some(Field::Referenced)
-    } else if is(text, "indexes") {
-        Some(Field::Indexes)
-    } else if is(text, "triggers") {
-        Some(Field::Triggers)
-    } else if is(text, "of") {
-        Some(Field::Of)
-    } else if is(text, "valid") {
-        Some(Field::Valid)
-    } else {
-        None
+    for field in Field::ALL {
+        if text == field.word() {
+            return Some(field);
+        }
     }
+    None
 }
 
-/// A text is this word.
-pub fn is(text: &[u8], word: &str) -> bool
+// A text is this word.
+pub(crate) fn is(text: &[u8], word: &str) -> bool
     ensures { result ≡ bytes_eq text.now word.now }
 {
     text == word.as_bytes()
+}
+
+// How `lock table` says a lock mode.
+pub(crate) fn lock_words(mode: Mode) -> &'static str
+    ensures { result.now ≡ words_of_lock mode }
+{
+    match mode {
+        Mode::AccessShare => "in access share mode",
+        Mode::RowShare => "in row share mode",
+        Mode::RowExclusive => "in row exclusive mode",
+        Mode::ShareUpdateExclusive => "in share update exclusive mode",
+        Mode::Share => "in share mode",
+        Mode::ShareRowExclusive => "in share row exclusive mode",
+        Mode::Exclusive => "in exclusive mode",
+        Mode::AccessExclusive => "in access exclusive mode",
+    }
+}
+
+// All bytes are digits.
+fn are_digits(text: &[u8]) -> bool
+    ensures { result ≡ list_all digit text.now }
+{
+    text.iter().all(|byte| is_digit(*byte))
+}
+
+// The number that at most ten digits write.
+fn digits(text: &[u8]) -> Option<u64>
+    requires few { length text.now ≤ 10 }
+    requires digits { list_all digit text.now ≡ true }
+    ensures { result ≡ Some (number_of_digits text.now) }
+{
+    number_up_to(TEN_DIGITS, text)
+}
+
+// The type has this name, or this other word.
+fn is_type(text: &[u8], col_type: ColType) -> bool
+    ensures { result ≡ bytes_eq text.now (type_word col_type) || other_word text.now col_type }
+{
+    text == col_type.word() || is_other_word(text, col_type)
+}
+
+// A text is another word for the type.
+fn is_other_word(text: &[u8], col_type: ColType) -> bool
+    ensures { result ≡ other_word text.now col_type }
+{
+    match col_type {
+        ColType::Bool => is(text, "boolean"),
+        ColType::Int2 => is(text, "smallint"),
+        ColType::Int4 => is(text, "integer") || is(text, "int"),
+        ColType::Int8 => is(text, "bigint"),
+        _ => false,
+    }
 }

@@ -5,7 +5,7 @@ use base_types::{Listed, Placed, Turns};
 use std::marker::Model;
 
 /// A script within its ranges and limits.
-#[derive(Debug, Drop)]
+#[derive(Drop)]
 pub struct Script {
     size: u32,
     from: u64,

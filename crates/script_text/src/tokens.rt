@@ -1,14 +1,14 @@
 ghost use Rattle.std.specs.Prelude.{◌≡◌, ◌≤◌, ◌<◌, IsTrue, MatchOption, List, [], ◌∷◌, ℕ, None, Some, length, take, drop, codes};
 ghost use Rattle.std.specs.List.{prefix_len};
-ghost use Rattle.script_text.specs.Lines.{is_blank as blank, counts as line_counts};
+ghost use Rattle.script_text.specs.TextLines.{is_blank as blank, counts as line_counts};
 ghost use Rattle.script_text.specs.LineForms.{none_left, begins as first_is};
 ghost use Rattle.script_text.specs.Tokens.{tokens, said, ends, is_mark as mark, in_word as inside, goes_on, StartsToken};
 
 use std::marker::Model;
 
-/// The tokens of a line that aren't taken yet, which contracts see as a list.
+// The tokens of a line that aren't taken yet, which contracts see as a list.
 #[derive(Drop)]
-pub struct Tokens<'a> {
+pub(crate) struct Tokens<'a> {
     rest: &'a [u8],
 }
 
@@ -22,29 +22,29 @@ impl<'a> Model for Tokens<'a> {
 }
 
 impl<'a> Tokens<'a> {
-    /// The tokens of a line.
-    pub fn of(line: &'a [u8]) -> Tokens<'a>
+    // The tokens of a line.
+    pub(crate) fn of(line: &'a [u8]) -> Tokens<'a>
         ensures { result ≡ tokens line.now }
     {
         Tokens { rest: line }
     }
 
-    /// The text behind what was taken.
-    pub fn text(&self) -> &'a [u8]
+    // The text after what was taken.
+    pub(crate) fn text(&self) -> &'a [u8]
         ensures { tokens result.now ≡ self.now }
     {
         self.rest
     }
 
-    /// No token is left.
-    pub fn is_empty(&self) -> bool
+    // No token is left.
+    pub(crate) fn is_empty(&self) -> bool
         ensures { result ≡ none_left self.now }
     {
         Tokens::of(self.rest).next().is_none()
     }
 
-    /// The next token is this word.
-    pub fn begins(&self, word: &str) -> bool
+    // The next token is this word.
+    pub(crate) fn begins(&self, word: &str) -> bool
         ensures { result ≡ first_is word.now self.now }
     {
         match Tokens::of(self.rest).next() {
@@ -53,8 +53,8 @@ impl<'a> Tokens<'a> {
         }
     }
 
-    /// Takes the next token; `None` where none is left.
-    pub fn next(&mut self) -> Option<&'a [u8]>
+    // Takes the next token; `None` where none is left.
+    pub(crate) fn next(&mut self) -> Option<&'a [u8]>
         ensures { MatchOption result ((self.old ≡ []) × (self.new ≡ [])) (λ token. self.old ≡ token.now ∷ self.new) }
     {
         let line = without_blanks(self.rest);
@@ -67,9 +67,9 @@ impl<'a> Tokens<'a> {
         Some(token)
     }
 
-    /// Takes the tokens of these words; `None` where others stand in front.
-    #[tactic(auto, unfolding(crate::specs::Tokens::behind))]
-    pub fn words(&mut self, words: &str) -> Option<()>
+    // Takes the tokens of these words; `None` where the next ones are others.
+    #[tactic(auto, unfolding(crate::specs::Tokens::after_words))]
+    pub(crate) fn words(&mut self, words: &str) -> Option<()>
         ensures { MatchOption result (said words.now self.old ≡ None) (λ _. said words.now self.old ≡ Some self.new) }
     {
         let mut wanted = Tokens::of(words.as_bytes());
@@ -83,8 +83,8 @@ impl<'a> Tokens<'a> {
     }
 }
 
-/// A line without the blanks in front.
-pub fn without_blanks(line: &[u8]) -> &[u8]
+// A line without the blanks that it begins with.
+pub(crate) fn without_blanks(line: &[u8]) -> &[u8]
     ensures value { result.now ≡ drop (prefix_len blank line.now) line.now }
     ensures same { tokens result.now ≡ tokens line.now }
     ensures starts { StartsToken result.now }
@@ -92,7 +92,7 @@ pub fn without_blanks(line: &[u8]) -> &[u8]
     &line[blanks(line)..]
 }
 
-// The number of blanks in front of a line's first token.
+// The number of blanks before a line's first token.
 fn blanks(line: &[u8]) -> usize
     ensures value { result ≡ prefix_len blank line.now }
     ensures within { result ≤ length line.now }
@@ -100,7 +100,7 @@ fn blanks(line: &[u8]) -> usize
     line.iter().take_while(|byte| is_blank(**byte)).count()
 }
 
-// The number of bytes of longer tokens in front.
+// The number of bytes of a longer token that a line begins with.
 fn word_len(line: &[u8]) -> usize
     ensures value { result ≡ prefix_len inside line.now }
     ensures within { result ≤ length line.now }
@@ -108,7 +108,7 @@ fn word_len(line: &[u8]) -> usize
     line.iter().take_while(|byte| in_word(**byte)).count()
 }
 
-// The length of the token that stands in front, where no blank does.
+// The length of the first token of a line that begins with no blank.
 fn token_len(line: &[u8]) -> usize
     requires starts { StartsToken line.now }
     requires some { 0 < length line.now }

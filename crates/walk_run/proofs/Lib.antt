@@ -1,4 +1,4 @@
-pub mod SameScan
+pub mod Distinct
 pub mod Behind
 pub mod Shown
 pub mod Seen

@@ -28,13 +28,13 @@ use Rattle.walk_run.specs.declared.backend.Backend.{Backend}
 use Rattle.walk_run.specs.declared.backend.Found.{Found}
 use Rattle.walk_run.specs.declared.backend.Read.{Read}
 use Rattle.walk_run.specs.declared.backend.Stage.TheVariants as stages
-use Rattle.walk_run.specs.declared.segment.Scanned.{Scanned}
+use Rattle.base_types.specs.declared.scanned.Scanned.{Scanned}
 use Rattle.walk_run.specs.Entries.{entry_of}
 use Rattle.walk_run.specs.Left.{entries_left, owed_count}
 use Rattle.walk_run.specs.Reads.{next_owed_of}
 use Rattle.walk_run.specs.Segment.{Scans}
 use Rattle.walk_run.specs.Stands.{StageStands, ReadStands, ReadsStand, BackendStands, Steps, lock_of}
-use Rattle.walk_run.proofs.SameScan.{same_scan-true, same_scan-itself}
+use Rattle.base_types.proofs.SameScan.{same_scan-true, same_scan-itself}
 use Rattle.walk_run.proofs.Quiet.{itself, built_is_build, IsAt-quiet, IsJudged-quiet, ReadStands-quiet, Steps-quiet}
 use Rattle.walk_run.proofs.Looking.{IsFound-quiet}
 

@@ -12,7 +12,7 @@ use Rattle.first_model.specs.declared.fact.Version.{Version}
 use Rattle.first_model.specs.declared.fact.Grant.{Grant}
 use Rattle.first_model.specs.Transactions.{is_committed, runs_as}
 use Rattle.first_model.specs.Versions.{versions_of, answer_of, sees}
-use Rattle.walk_run.specs.declared.segment.Scanned.{Scanned}
+use Rattle.base_types.specs.declared.scanned.Scanned.{Scanned}
 use Rattle.walk_run.specs.Entries.{entry_of}
 use Rattle.walk_run.specs.Segment.{KeepsFolds, Scans}
 

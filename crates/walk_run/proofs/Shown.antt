@@ -40,7 +40,7 @@ use Rattle.walk_run.specs.declared.backend.Stage.TheVariants as stages
 use Rattle.walk_run.specs.Ends.{MayEnd}
 use Rattle.walk_run.specs.Reads.{next_owed_of, shown_by, answer_by}
 use Rattle.walk_run.specs.Stands.{own_grants, lock_of, IsJudged, IsFound, StageStands, ReadStands, ReadsStand, BackendStands}
-use Rattle.walk_run.proofs.SameScan.{same_scan-true}
+use Rattle.base_types.proofs.SameScan.{same_scan-true}
 use Rattle.walk_run.proofs.Behind.{are_others, place_read-front, before_read-front, rows_read-front, own_grants-front}
 
 -- what holds of each element by one fact holds by a weaker one

@@ -11,7 +11,7 @@ use Rattle.base_types.specs.declared.mode.Mode.TheVariants.{AccessExclusive}
 use Rattle.base_types.specs.declared.row_key.RowKey.TheVariants as keys
 use Rattle.base_types.specs.declared.command.Command.TheVariants.{CreateTable}
 use Rattle.base_types.specs.declared.command.NewColumn.{NewColumn}
-use Rattle.base_types.specs.Keys.{same_key, are_distinct_keys}
+use Rattle.base_types.specs.RowKeys.{same_key, are_distinct_keys}
 use Rattle.base_types.specs.Scans.{same_oid}
 use Rattle.base_types.specs.Scenario.{Scenario}
 use Rattle.event_kinds.specs.declared.entry.Entry.{Entry}

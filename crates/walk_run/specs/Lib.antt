@@ -1,3 +1,4 @@
+pub mod Built
 pub mod Entries
 pub mod Segment
 pub mod Left

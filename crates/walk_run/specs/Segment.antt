@@ -16,7 +16,7 @@ use Rattle.first_model.specs.Versions.{versions_of, answer_of}
 use Rattle.first_model.specs.Held.{held_of, first_conflict}
 use Rattle.first_model.specs.Legal.{next_oid}
 use Rattle.first_model.specs.Plays.{table_rows}
-use Rattle.walk_run.specs.declared.segment.Scanned.{Scanned}
+use Rattle.base_types.specs.declared.scanned.Scanned.{Scanned}
 use Rattle.walk_run.specs.declared.segment.Locked.{Locked}
 use Rattle.walk_run.specs.declared.segment.Locked.TheVariants.{Granted, Refused}
 use Rattle.walk_run.specs.Entries.{entry_of}

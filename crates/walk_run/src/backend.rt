@@ -1,30 +1,29 @@
 ghost use Rattle.std.specs.Prelude.{◌≡◌, ◌≢◌, ◌≤◌, ◌+◌, ◌↔◌, ◌==◌, [], ℕ, true, List, length, not, slice_get, OnOk, IsTrue};
 ghost use Rattle.std.specs.List.{list_any, find, position};
-ghost use Rattle.base_types.specs.Scans.{same_scan as scans_match, build_scans};
+ghost use Rattle.base_types.specs.Scans.{same_scan as scans_match};
 ghost use Rattle.first_model.specs.Plays.{commands_of};
 ghost use Rattle.walk_run.specs.Reads.{next_owed_of, found_in, first_own_from};
 
 use crate::answers::{absent, shown};
-use crate::scans::same_scan;
-use crate::segment::{Locked, Scanned, Segment};
+use crate::segment::{Locked, Segment};
 use base_types::{
-    Command, Kind, Listed, Mode, Name, NewColumn, NoMemory, Oid, Placed, Purpose, Row, Xid,
+    Command, Kind, Listed, Mode, Name, NewColumn, NoMemory, Oid, Placed, Purpose, Row, Scanned,
+    Xid, same_scan, table_scans,
 };
 use event_kinds::Line;
-use out_text::answer_text;
-use rel_desc::{Answer, CommandError};
+use rel_desc::{Answer, CommandError, answer_text};
 use script_text::Script;
 use std::alloc::Global;
 
 /// A relation that a lookup found.
-#[derive(Clone, Copy, Debug, PartialEq, Eq)]
+#[derive(Clone, Copy)]
 pub struct Found {
     pub rel: Oid,
     pub kind: Kind,
 }
 
 /// What a backend has done for its command at hand.
-#[derive(Clone, Copy, Debug)]
+#[derive(Clone, Copy)]
 pub enum Stage {
     /// It hasn't joined.
     Unstarted,
@@ -75,7 +74,7 @@ impl Backend {
     ghost use Rattle.walk_run.specs.Ends.{MayEnd};
     ghost use Rattle.first_model.specs.Legal.{IsLegal};
     ghost use Rattle.first_model.specs.Settled.{OneWriter};
-    ghost use Rattle.script_text.specs.Built.{is_built};
+    ghost use Rattle.walk_run.specs.Built.{is_built};
 
     /// The backend of this number, which hasn't joined.
     pub fn new(alloc: Global, id: u32, commands: &[Placed]) -> Backend
@@ -399,20 +398,6 @@ fn first_unread(reads: &[Read], scans: &[Purpose]) -> Option<Purpose>
     ensures { result ≡ find (λ scan. not (list_any (λ r. scans_match r.purpose scan) reads.now)) scans.now }
 {
     scans.iter().find(|scan| !has_read(reads, scan)).copied()
-}
-
-// The scans that build the descriptor of a table, in order.
-fn table_scans(rel: Oid) -> [Purpose; 6]
-    ensures { result ≡ build_scans Kind.Table rel }
-{
-    [
-        Purpose::Class(rel),
-        Purpose::Attribute(rel),
-        Purpose::AttrDef(rel),
-        Purpose::Constraint(rel),
-        Purpose::Index(rel),
-        Purpose::Trigger(rel),
-    ]
 }
 
 // Whether a scan is among those kept.

@@ -14,9 +14,10 @@
 
 mod answers;
 mod backend;
-mod scans;
+mod built;
 mod segment;
 mod walking;
 
-pub use segment::{Locked, Scanned, Segment};
+pub use built::is_built;
+pub use segment::{Locked, Segment};
 pub use walking::{World, walk};

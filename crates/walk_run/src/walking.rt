@@ -1,7 +1,7 @@
 ghost use Rattle.std.specs.Prelude.{◌≡◌, ◌-◌, [], ◌∷◌, true, replicate, OnOk, IfOk};
 ghost use Rattle.std.specs.List.{AllByRecursion, flat_map};
 ghost use Rattle.base_types.specs.Scenario.{IsBackend, AreTurns, turns_of, schedule_of};
-ghost use Rattle.script_text.specs.Built.{is_built};
+ghost use Rattle.walk_run.specs.Built.{is_built};
 ghost use Rattle.walk_run.specs.Walks.{IsWalk};
 
 use crate::backend::Backend;

@@ -1,6 +1,0 @@
-use Rattle.script_text.specs.Tokens.{tokens}
-use Rattle.script_text.proofs.Made.{long_made}
-use Rattle.script_text.proofs.draft.command.Goals as goal
-
-pub returns-clause-spelled : goal.returns-clause-spelled
-returns-clause-spelled c = long_made (tokens c.args.line.now) c.long.result c.long.ensures
