@@ -1,5 +1,6 @@
 pub mod Reading
 pub mod Settling
+pub mod HeldLocks
 pub mod Given
 pub mod TwoCreators
 pub mod NewOids

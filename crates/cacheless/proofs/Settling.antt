@@ -1,16 +1,22 @@
 -- What a backend does without an entry leaves where its commands settle; and where it waits for an entry, they are settled.
-use Rattle.std.proofs.Common.{◌≡◌, ◌∙◌, Bool, true, false, ◌&&◌, Some, None, List, [], ◌∷◌, ◌++◌, refl, sym, ap, is_none}
+use Rattle.std.proofs.Common.{◌≡◌, ◌∙◌, Bool, true, false, ◌&&◌, ◌||◌, Some, None, List, [], ◌∷◌, ◌++◌, refl, sym, ap, subst, map, take, is_none}
+use Rattle.std.specs.List.{list_any, flat_map}
+use Rattle.std.proofs.lemmas.List.Folds.{list_any-append}
 use Rattle.std.proofs.Math.Bool.{and-false}
+use Rattle.base_types.specs.Scans.{same_scan, build_scans}
 use Rattle.base_types.specs.declared.row.Row.{Row}
+use Rattle.base_types.specs.declared.scan.Purpose.{Purpose}
 use Rattle.base_types.specs.declared.command.Command.{Command}
+use Rattle.base_types.proofs.SameScan.{same_scan-itself}
 use Rattle.event_kinds.specs.declared.entry.Event.{Event}
 use Rattle.ddl_effect.specs.Plans.{Plan, Done, Fails, Absent, NotBuilt, Do, Act}
 use Rattle.history_model.specs.Writes.{is_empty}
+use Rattle.cacheless.specs.declared.opening.Opening.{Opening}
 use Rattle.cacheless.specs.Facts.{Facts}
-use Rattle.cacheless.specs.Session.{Session, outcome_of, is_settled, first_of}
-use Rattle.cacheless.specs.Owed.{owed_at_start, owed_after, owed_of}
+use Rattle.cacheless.specs.Session.{Session, Outcome, Unsettled, Well, Badly, outcome_of, is_settled, first_of}
+use Rattle.cacheless.specs.Owed.{OwesScan, owed_at_start, owed_after, unusable, builds_owed, act_owed, scans_owed, owed_of, is_next_scan}
 use Rattle.cacheless.specs.Ends.{end_left}
-use Rattle.cacheless.specs.Settled.{done_here, acted_on, acted, act_done, is_finished, next_session, settled}
+use Rattle.cacheless.specs.Settled.{gives, done_here, acted_on, acted, act_done, is_finished, next_session, settled}
 
 -- an act that is done here
 pub settled-act : (facts : Facts) (command : Command) (rest : List Command) (s : Session) (act : Act) (plan : List Row → Plan) (given : List Row)
@@ -78,3 +84,53 @@ pub finishes : (facts : Facts) (command : Command) (rest : List Command) (s : Se
     → is_settled (outcome_of s.left) ≡ true → end_left facts command s ≡ None → is_empty (owed_of facts command s) ≡ true
     → settled facts (command ∷ rest) s ≡ settled facts rest (next_session command (first_of rest) s)
 finishes facts command rest s out none free = settled-finish facts command rest s (acted-out facts command s out) (simp (out, none, free))
+
+is_empty-after : {X : Type 0} (xs ys : List X) → is_empty ys ≡ false → is_empty (xs ++ ys) ≡ false
+is_empty-after [] ys h = h
+is_empty-after (x ∷ xs) ys h = refl
+
+is_empty-map : {X Y : Type 0} (f : X → Y) (xs : List X) → is_empty (map f xs) ≡ is_empty xs
+is_empty-map f [] = refl
+is_empty-map f (x ∷ xs) = refl
+
+acted_on-owed : (facts : Facts) (p : Plan) (s : Session) → is_empty (elim (outcome_of p) [ Badly ↦ [] | other ↦ builds_owed facts s.opened ++ act_owed facts s.read p ]) ≡ false → acted_on facts p s ≡ s
+acted_on-owed facts Done s owed = refl
+acted_on-owed facts (Fails error) s owed = refl
+acted_on-owed facts (Absent name) s owed = refl
+acted_on-owed facts NotBuilt s owed = refl
+acted_on-owed facts (Do act rest) s owed = ap (λ o. elim o [ None ↦ s | Some given ↦ acted_on facts (rest given) (act_done act given (rest given) s) ]) (ap (λ t. elim t [ true ↦ gives facts s.locks act | false ↦ None ]) owed)
+
+-- a scan is owed
+pub waits-scans : (facts : Facts) (command : Command) (rest : List Command) (s : Session) → is_empty (scans_owed facts s) ≡ false → settled facts (command ∷ rest) s ≡ s
+waits-scans facts command rest s owed = settled-waits facts command rest s
+    (elim (is_empty (owed_at_start facts command s ++ owed_after facts.last)) as (λ t. elim t [ true ↦ acted_on facts s.left s | false ↦ s ] ≡ s) [ true ↦ acted_on-owed facts s.left s owed | false ↦ refl ])
+    (ap (λ t. is_settled (outcome_of s.left) && is_none (end_left facts command s) && t)
+    (is_empty-after (owed_at_start facts command s ++ owed_after facts.last) (map OwesScan (scans_owed facts s)) (is_empty-map OwesScan (scans_owed facts s) ∙ owed))
+    ∙ and-false (is_settled (outcome_of s.left) && is_none (end_left facts command s)))
+
+first_of_each : (facts : Facts) (opened : List Opening) (scan : Purpose) (more : List Purpose) → builds_owed facts opened ≡ scan ∷ more
+    → list_any (same_scan scan) (flat_map (λ o. take 1 (unusable facts (build_scans o.kind o.rel))) opened) ≡ true
+first_of_each facts [] scan more is = absurd (cc)
+first_of_each facts (o ∷ opened) scan more is = by_lacking (unusable facts (build_scans o.kind o.rel)) is (first_of_each facts opened scan more)
+  where
+    rest : List Purpose
+    rest = flat_map (λ p. take 1 (unusable facts (build_scans p.kind p.rel))) opened
+
+    by_lacking : (lacking : List Purpose) → lacking ++ builds_owed facts opened ≡ scan ∷ more → (builds_owed facts opened ≡ scan ∷ more → list_any (same_scan scan) rest ≡ true) → list_any (same_scan scan) (take 1 lacking ++ rest) ≡ true
+    by_lacking [] at others = others at
+    by_lacking (x ∷ xs) at others = let same : scan ≡ x = cc in ap (λ t. t || list_any (same_scan scan) rest) (subst (λ y. same_scan scan y ≡ true) same (same_scan-itself scan))
+
+-- the first scan that is owed for a descriptor may be made
+pub next_build : (facts : Facts) (s : Session) (scan : Purpose) (more : List Purpose) → is_settled (outcome_of s.left) ≡ false → builds_owed facts s.opened ≡ scan ∷ more → is_next_scan scan facts s ≡ true
+next_build facts s scan more unsettled is = by_outcome (outcome_of s.left) unsettled
+  where
+    builds : List Purpose
+    builds = flat_map (λ o. take 1 (unusable facts (build_scans o.kind o.rel))) s.opened
+
+    acts : List Purpose
+    acts = take 1 (act_owed facts s.read s.left)
+
+    by_outcome : (o : Outcome) → is_settled o ≡ false → list_any (same_scan scan) (elim o [ Badly ↦ [] | other ↦ builds ++ acts ]) ≡ true
+    by_outcome Unsettled un = list_any-append (same_scan scan) builds acts ∙ ap (λ t. t || list_any (same_scan scan) acts) (first_of_each facts s.opened scan more is)
+    by_outcome Well un = absurd (cc)
+    by_outcome Badly un = absurd (cc)
