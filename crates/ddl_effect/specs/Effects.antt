@@ -1,0 +1,44 @@
+-- What a plan comes to over rows, with no history.
+use Rattle.std.specs.Prelude.{ℕ, Option, Some, None, List, [], ◌∷◌}
+use Rattle.base_types.specs.declared.scan.Purpose.TheVariants as scans
+use Rattle.ddl_effect.specs.Types.{Oid, Row, Purpose, Draft, CommandError}
+use Rattle.ddl_effect.specs.Plans.{Act, Lookup, Column, Read, Write, Plan, Done, Fails, Absent, Do, NotBuilt}
+
+-- nothing, the first cause that the rows show, a name that no row has, or the changes of a write
+pub data Effect : Type 0 where
+  Nothing : Effect
+  Refuses : (error : CommandError) → Effect
+  Unknown : (name : List ℕ) → Effect
+  Writes : (draft : Draft) → Effect
+
+-- what an act gives: the rows of the scan on which it rests
+abbrev pub given_over : (Purpose → List Row) → Act → List Row
+given_over rows (Lookup name mode) = rows (scans.RelName name)
+given_over rows (Column rel name) = rows (scans.AttName rel name)
+given_over rows (Read scan) = rows scan
+given_over rows act = []
+
+-- what a plan comes to
+abbrev pub effect_of : (Purpose → List Row) → Plan → Effect
+effect_of rows Done = Nothing
+effect_of rows (Fails error) = Refuses error
+effect_of rows (Absent name) = Unknown name
+effect_of rows NotBuilt = Nothing
+effect_of rows (Do (Write draft) rest) = Writes draft
+effect_of rows (Do act rest) = effect_of rows (rest (given_over rows act))
+
+-- the row of the relation with which a lookup ended, if it ended with one
+abbrev pub row_found : (Purpose → List Row) → Option Oid → List Row
+row_found rows None = []
+row_found rows (Some rel) = rows (scans.Class rel)
+
+-- the same where the names that were looked up are those of the relations with which the lookups ended, and of no others
+abbrev pub effect_at : (Purpose → List Row) → List (Option Oid) → Plan → Effect
+effect_at rows found Done = Nothing
+effect_at rows found (Fails error) = Refuses error
+effect_at rows found (Absent name) = Unknown name
+effect_at rows found NotBuilt = Nothing
+effect_at rows found (Do (Write draft) rest) = Writes draft
+effect_at rows [] (Do (Lookup name mode) rest) = effect_at rows [] (rest (rows (scans.RelName name)))
+effect_at rows (rel ∷ found) (Do (Lookup name mode) rest) = effect_at rows found (rest (row_found rows rel))
+effect_at rows found (Do act rest) = effect_at rows found (rest (given_over rows act))

@@ -1,0 +1,7 @@
+pub mod Types
+pub mod Plans
+pub mod Effects
+pub mod Commands
+pub mod Drawing
+pub mod Blocks
+pub mod Stages

@@ -1,0 +1,41 @@
+-- Plans: what a command does, an act at a time, by the rows that each act gives.
+use Rattle.std.specs.Prelude.{ℕ, Bool, true, false, List, [], ◌∷◌}
+use Rattle.base_types.specs.Scans.{build_scans}
+use Rattle.base_types.specs.declared.scan.Purpose.TheVariants as scans
+use Rattle.ddl_effect.specs.Types.{Oid, Mode, Kind, Row, Purpose, Draft, CommandError}
+
+-- what a command may do: find a relation by its name and lock it, open a descriptor, find a column, read rows of an open descriptor, lock a further relation, write
+pub data Act : Type 0 where
+  Lookup : (name : List ℕ) → (mode : Mode) → Act
+  Open : (rel : Oid) → (kind : Kind) → Act
+  Column : (rel : Oid) → (name : List ℕ) → Act
+  Read : (scan : Purpose) → Act
+  Lock : (rel : Oid) → (mode : Mode) → Act
+  Write : (draft : Draft) → Act
+
+-- what is left of a command: nothing, an error, the error that no relation has a name, an act and what comes after it, or what isn't built yet and so never ends
+pub data Plan : Type 0 where
+  Done : Plan
+  Fails : (error : CommandError) → Plan
+  Absent : (name : List ℕ) → Plan
+  Do : (act : Act) → (rest : List Row → Plan) → Plan
+  NotBuilt : Plan
+
+-- the plan after its first act, which gave these rows
+abbrev pub after_act : List Row → Plan → Plan
+after_act given (Do act rest) = rest given
+after_act given plan = plan
+
+-- the command has a plan
+abbrev pub is_built : Plan → Bool
+is_built NotBuilt = false
+is_built plan = true
+
+-- the scans on which an act rests
+abbrev pub rests_on : Act → List Purpose
+rests_on (Lookup name mode) = scans.RelName name ∷ []
+rests_on (Open rel kind) = build_scans kind rel
+rests_on (Column rel name) = scans.AttName rel name ∷ []
+rests_on (Read scan) = scan ∷ []
+rests_on (Lock rel mode) = []
+rests_on (Write draft) = []
