@@ -7,7 +7,7 @@ BEGIN {
         put((i % 64 + 1) ": " command(i))
     }
     put("end")
-    # blanks behind the last line don't count
+    # blanks after the last line don't count
     while (left > 1) {
         printf " "
         left--

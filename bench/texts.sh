@@ -9,7 +9,7 @@ cd "$(dirname "${BASH_SOURCE[0]}")/.." || exit 1
 need_program text_bench
 lines=${1:-1000000}
 
-# The seconds of a word on an input, and whether it gave back what is wanted.
+# The seconds of an argument on an input, and whether it wrote what is wanted.
 measure() {
     local begun ended status
     begun=$(now)

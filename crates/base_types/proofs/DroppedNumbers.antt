@@ -1,5 +1,5 @@
 -- The number in a dropped column's name.
-use Rattle.std.proofs.Common.{IfSome, IfNone, Option, Some, None, ◌≡◌, ◌<◌, ◌≤◌, ◌+◌, ◌-◌, ◌∙◌, ℕ, true, fold, List, [], ◌∷◌, ◌++◌, length, take, drop, get_or, codes, decimal, ap, sym, subst, arith, rules}
+use Rattle.std.proofs.Common.{◌≡◌, ◌<◌, ◌≤◌, ◌+◌, ◌-◌, ◌∙◌, ℕ, true, fold, List, [], ◌∷◌, ◌++◌, length, take, drop, get_or, codes, decimal, ap, sym, subst, arith, rules}
 use Rattle.std.specs.Str.{all_ascii_digits}
 use Rattle.std.proofs.lemmas.List.{take_more, take-append-drop, length-append}
 use Rattle.std.proofs.Math.Seq.{take-append_seam}
@@ -12,8 +12,8 @@ grows : (n : ℕ) (digits : List ℕ) → n ≤ fold digit_more n digits
 grows n [] = omega arith
 grows n (d ∷ digits) = omega (arith, grows (digit_more n d) digits)
 
-front_below : (digits : List ℕ) (k : ℕ) → number_of_digits (take k digits) ≤ number_of_digits digits
-front_below digits k =
+prefix_below : (digits : List ℕ) (k : ℕ) → number_of_digits (take k digits) ≤ number_of_digits digits
+prefix_below digits k =
     let whole : number_of_digits digits ≡ fold digit_more (number_of_digits (take k digits)) (drop k digits) =
     ap number_of_digits (sym (take-append-drop k digits)) ∙ fold-append digit_more 0 (take k digits) (drop k digits) in
     omega (arith, whole, grows (number_of_digits (take k digits)) (drop k digits))
@@ -24,7 +24,7 @@ over most digits i number within same high =
     let byte = get_or digits i 0 in
     let one : number_of_digits (take (i + 1) digits) ≡ digit_more number byte =
     ap number_of_digits (take_more digits i 0 within) ∙ fold-append digit_more 0 (take i digits) (byte ∷ []) ∙ ap (λ n. digit_more n byte) (sym same) in
-    omega (arith, front_below digits (i + 1), one, high)
+    omega (arith, prefix_below digits (i + 1), one, high)
 
 own : IsNumeralModel (λ ds. all_ascii_digits ds ≡ true) number_of_digits
 own = numerals_by_fold _ (search rules) (fold digit_more) (search rules)

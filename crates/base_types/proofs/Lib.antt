@@ -6,3 +6,4 @@ pub mod Joining
 pub mod DroppedNumbers
 pub mod SameScan
 pub mod ScanOrder
+pub mod InLine

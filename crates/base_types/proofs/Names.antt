@@ -1,5 +1,5 @@
 -- What the bytes of a name, a word or a check's text are.
-use Rattle.std.proofs.Common.{◌||◌, ◌++◌, ◌∙◌, inl, inr, nat_le, get_or, codes, decimal, ap, sym, subst, rules, ◌≡◌, ◌<◌, ◌≤◌, ℕ, Bool, true, false, not, ◌&&◌, ◌==◌, ◌+◌, nat_lt, cond, Option, Some, None, List, [], ◌∷◌, length, refl, arith}
+use Rattle.std.proofs.Common.{◌||◌, ◌++◌, inl, inr, nat_le, codes, decimal, ap, sym, subst, rules, ◌≡◌, ◌<◌, ◌≤◌, ℕ, Bool, true, false, not, ◌&&◌, ◌==◌, ◌+◌, nat_lt, cond, Option, Some, None, List, [], ◌∷◌, length, refl, arith}
 use Rattle.std.specs.List.{position_from, list_all, AllPass}
 use Rattle.std.proofs.lemmas.List.Sums.{AllPass-from_list_all}
 use Rattle.std.proofs.lemmas.List.Elements.{All-append, All-weaker}
@@ -60,19 +60,6 @@ name_parts text h =
     let long = untaken (nat_lt 63 (length text)) _ _ empty.1 in
     let digit = untaken (begins_with_digit text) _ _ long.1 in
     record { some = not_empty (length text) empty.0; short = not_long (length text) long.0; bytes = each_passes is_name_byte text (no_place (first_refused is_name_byte text) digit.1) }
-
-pub name_front : (text : List ℕ) → IsName text → begins_with_digit text ≡ false
-name_front text h =
-    let empty = untaken (length text == 0) _ _ h in
-    let long = untaken (nat_lt 63 (length text)) _ _ empty.1 in
-    (untaken (begins_with_digit text) _ _ long.1).0
-
--- a byte that the test refuses stands nowhere
-pub stands_nowhere : (allowed : ℕ → Bool) (text : List ℕ) (byte : ℕ) → AllPass allowed text → allowed byte ≡ false → (k d : ℕ) → k < length text → get_or text k d ≡ byte → ⊥
-stands_nowhere allowed text byte passes refused k d within is =
-    let here : allowed (get_or text k d) ≡ true = passes k d within in
-    let there : allowed (get_or text k d) ≡ false = ap allowed is ∙ refused in
-    cc
 
 or_more : (a b c : Bool) → b ≡ true → a || b || c ≡ true
 or_more true b c h = refl

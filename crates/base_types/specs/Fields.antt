@@ -1,5 +1,5 @@
 -- The fields of a descriptor: which a kind has, which scan reads one, and its text.
-use Rattle.std.specs.Prelude.{ℕ, Bool, true, Option, Some, None, List, [], ◌∷◌, ◌++◌, codes, decimal, ◌==◌, if◌then◌else◌, ℤ}
+use Rattle.std.specs.Prelude.{ℕ, Bool, Option, Some, None, List, [], ◌∷◌, ◌++◌, codes, decimal, ◌==◌, if◌then◌else◌, ℤ}
 use Rattle.std.specs.Fmt.{signed_decimal}
 use Rattle.std.specs.List.{filter_map, join_by, list_any}
 use Rattle.base_types.specs.Types.{Oid, Row, Purpose, Kind, Field, ConKind, ColType, IndexState}

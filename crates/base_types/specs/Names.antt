@@ -1,6 +1,8 @@
 -- Which bytes make a name, a word or the text of a check, and what is wrong with others.
-use Rattle.std.specs.Prelude.{◌≡◌, ℕ, Bool, false, Option, Some, None, List, [], ◌∷◌, ◌==◌, ◌&&◌, ◌||◌, ◌⊎◌, ◌++◌, ◌<◌, ◌≤◌, ◌+◌, ◌*◌, ◌-◌, not, nat_le, nat_lt, length, fold, codes, decimal, if◌then◌else◌}
-use Rattle.std.specs.List.{position_from}
+use Rattle.std.specs.Prelude.{◌≡◌, ℕ, Bool, true, false, Option, Some, None, List, [], ◌∷◌, ◌==◌, ◌&&◌, ◌||◌, ◌⊎◌, ◌++◌, ◌<◌, ◌≤◌, ◌+◌, ◌*◌, ◌-◌, not, nat_le, nat_lt, length, fold, codes, decimal, if◌then◌else◌}
+use Rattle.std.specs.List.{position_from, list_all}
+use Rattle.base_types.specs.declared.dropped.TheConstants.{MOST_COLUMNS}
+use Rattle.base_types.specs.declared.short_text.TheConstants.{LONGEST_TEXT}
 use Rattle.base_types.specs.declared.name_fault.NameFault.{NameFault}
 use Rattle.base_types.specs.declared.name_fault.NameFault.TheVariants.{Empty, TooLong, BadByte}
 
@@ -24,7 +26,7 @@ is_word_byte byte = is_name_byte byte || (byte == 45)
 abbrev pub is_text_byte : ℕ → Bool
 is_text_byte byte = is_word_byte byte || (nat_le 60 byte && nat_le byte 62) || (nat_le 42 byte && nat_le byte 43)
 
--- the fault of a byte that may not stand, if there is one
+-- the fault of a byte that is not allowed, if there is one
 abbrev pub bad_byte : Option ℕ → Option NameFault
 bad_byte None = None
 bad_byte (Some at) = Some (BadByte at)
@@ -38,13 +40,13 @@ abbrev pub begins_with_digit : List ℕ → Bool
 begins_with_digit [] = false
 begins_with_digit (byte ∷ bytes) = is_digit byte
 
--- the first fault of 1 to 63 bytes that the test allows
+-- the first fault of a text that should have 1 to 63 bytes, all of which the test allows
 abbrev pub short_fault : (ℕ → Bool) → List ℕ → Option NameFault
-short_fault allowed text = if length text == 0 then Some Empty else if nat_lt 63 (length text) then Some TooLong else bad_byte (first_refused allowed text)
+short_fault allowed text = if length text == 0 then Some Empty else if nat_lt LONGEST_TEXT (length text) then Some TooLong else bad_byte (first_refused allowed text)
 
 -- the first fault of a name, which may not begin with a digit
 abbrev pub name_fault : List ℕ → Option NameFault
-name_fault text = if length text == 0 then Some Empty else if nat_lt 63 (length text) then Some TooLong else if begins_with_digit text then Some (BadByte 0) else bad_byte (first_refused is_name_byte text)
+name_fault text = if length text == 0 then Some Empty else if nat_lt LONGEST_TEXT (length text) then Some TooLong else if begins_with_digit text then Some (BadByte 0) else bad_byte (first_refused is_name_byte text)
 
 -- the bytes are a name
 abbrev pub IsName : List ℕ → Type 0
@@ -65,7 +67,7 @@ dropped_name num = codes "........pg.dropped." ++ decimal num ++ codes "........
 -- the bytes are the name of the dropped column of this number
 pub record IsDropped (num : ℕ) (text : List ℕ) : Type 0 where
   pub some : 0 < num
-  pub most : num ≤ 1600
+  pub most : num ≤ MOST_COLUMNS
   pub is : text ≡ dropped_name num
 
 -- the bytes are the name of a dropped column
@@ -83,3 +85,11 @@ digit_more number byte = number * 10 + (byte - 48)
 -- the number that digits write
 abbrev pub number_of_digits : List ℕ → ℕ
 number_of_digits digits = fold digit_more 0 digits
+
+-- a byte that is no line's end
+abbrev pub in_line : ℕ → Bool
+in_line byte = not (byte == 10)
+
+-- the bytes hold no line's end
+abbrev pub IsInLine : List ℕ → Type 0
+IsInLine text = list_all in_line text ≡ true

@@ -6,6 +6,11 @@ use crate::{Name, number_up_to};
 /// The most columns of a table, with those that were dropped (`MaxHeapAttributeNumber`).
 pub const MOST_COLUMNS: u32 = 1600;
 
+// How many bytes of such a name come before its number, and how many after it.
+const BEFORE: usize = 19;
+
+const AFTER: usize = 8;
+
 // The number of the dropped column that has this name.
 pub(crate) fn dropped_number(text: &[u8]) -> Option<u32>
     ensures some { IfSome result (λ num. IsDropped num text.now) }
@@ -31,9 +36,9 @@ fn shown_number(text: &[u8]) -> Option<u32>
     ensures same { IfSome result (λ num. (m : ℕ) → IsDropped m text.now → m ≡ num) }
     ensures none { IfNone result ((m : ℕ) → IsDropped m text.now → ⊥) }
 {
-    if text.len() < 28 {
+    if text.len() < BEFORE + 1 + AFTER {
         return None;
     }
-    let number = number_up_to(u64::from(MOST_COLUMNS), &text[19..text.len() - 8])?;
+    let number = number_up_to(u64::from(MOST_COLUMNS), &text[BEFORE..text.len() - AFTER])?;
     Some(number as u32)
 }

@@ -1,9 +1,10 @@
 /// What a backend gets from the queue of invalidation messages (`SIGetDataEntries` in
 /// `src/backend/storage/ipc/sinvaladt.c`).
+// used by the queue of messages, which is not built yet
 #[derive(Clone, Copy)]
 pub enum Fetched {
     /// So many messages.
     Messages(u32),
-    /// It was too far behind: it has to drop all that it cached.
+    /// It had fallen too far back, so it has to drop all that it cached.
     Reset,
 }

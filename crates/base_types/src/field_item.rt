@@ -1,16 +1,20 @@
-ghost use Rattle.std.specs.Prelude.{◌≡◌, ◌≤◌, ◌+◌, ◌++◌, ◌∷◌, [], length, Some, codes, decimal};
+ghost use Rattle.std.specs.Prelude.{◌≡◌, ◌<◌, ◌≤◌, ◌+◌, ◌^◌, ◌++◌, ◌∷◌, [], length, Some, IfSome, codes, decimal};
+ghost use Rattle.std.specs.List.{All};
+ghost use Rattle.base_types.specs.declared.nums.TheConstants.{MOST_INDEX_COLUMNS};
 ghost use Rattle.std.specs.Fmt.{signed_decimal};
+ghost use Rattle.base_types.specs.Names.{IsInLine};
 ghost use Rattle.base_types.specs.Words.{fill_text, nums_text, state_word, type_word, on_word as word_of_on, valid_word as word_of_valid};
 ghost use Rattle.base_types.specs.Fields.{item_of as item_in, item_of_class as of_class, item_of_column as of_column, item_of_default as of_default, item_of_index as of_index, item_of_constraint as of_constraint, item_of_trigger as of_trigger, constraint_text, referring_item as item_from};
 
 use crate::{
-    ColType, ConKind, Field, IndexState, LINE_ROOM, LineBuffer, Name, Nums, Oid, Row, Text, Word,
-    on_word, valid_word,
+    ColType, ConKind, Field, IndexState, LINE_ROOM, LONGEST_TEXT, LineBuffer, Name, Nums, Oid, Row,
+    Text, Word, on_word, valid_word,
 };
 
 /// What a row adds to a field of the relation.
 pub fn item_of(field: Field, rel: Oid, row: &Row) -> Option<LineBuffer>
-    ensures { result ≡ item_in field rel row.now }
+    ensures text { result ≡ item_in field rel row.now }
+    ensures in_line { IfSome result IsInLine }
 {
     match row {
         Row::Class { name, fill, .. } => item_of_class(field, name, *fill),
@@ -48,7 +52,8 @@ pub fn item_of(field: Field, rel: Oid, row: &Row) -> Option<LineBuffer>
 
 // What a relation's row adds to a field.
 fn item_of_class(field: Field, name: &Name, fill: Option<u32>) -> Option<LineBuffer>
-    ensures { result ≡ of_class field name.now fill }
+    ensures text { result ≡ of_class field name.now fill }
+    ensures in_line { IfSome result IsInLine }
 {
     match field {
         Field::Name => Some(name_item(name)),
@@ -65,7 +70,8 @@ fn item_of_column(
     col_type: ColType,
     stat: i32,
 ) -> Option<LineBuffer>
-    ensures { result ≡ of_column field num name.now col_type stat }
+    ensures text { result ≡ of_column field num name.now col_type stat }
+    ensures in_line { IfSome result IsInLine }
 {
     match field {
         Field::Columns => Some(column_item(name, col_type)),
@@ -76,7 +82,8 @@ fn item_of_column(
 
 // What the row of a default adds.
 fn item_of_default(field: Field, num: u32, word: &Word) -> Option<LineBuffer>
-    ensures { result ≡ of_default field num word.now }
+    ensures text { result ≡ of_default field num word.now }
+    ensures in_line { IfSome result IsInLine }
 {
     match field {
         Field::Defaults => Some(default_item(num, word)),
@@ -92,7 +99,8 @@ fn item_of_index(
     state: IndexState,
     nums: &Nums,
 ) -> Option<LineBuffer>
-    ensures { result ≡ of_index field index table state nums.now }
+    ensures text { result ≡ of_index field index table state nums.now }
+    ensures in_line { IfSome result IsInLine }
 {
     match field {
         Field::Indexes => Some(index_item(index, state, nums)),
@@ -112,7 +120,8 @@ fn item_of_constraint(
     valid: bool,
     what: &ConKind,
 ) -> Option<LineBuffer>
-    ensures { result ≡ of_constraint field rel oid of name.now valid what.now }
+    ensures text { result ≡ of_constraint field rel oid of name.now valid what.now }
+    ensures in_line { IfSome result IsInLine }
 {
     match field {
         Field::Constraints if of.0 == rel.0 => Some(constraint_item(name, valid, what)),
@@ -123,7 +132,8 @@ fn item_of_constraint(
 
 // What the row of a trigger adds.
 fn item_of_trigger(field: Field, name: &Name, on: bool) -> Option<LineBuffer>
-    ensures { result ≡ of_trigger field name.now on }
+    ensures text { result ≡ of_trigger field name.now on }
+    ensures in_line { IfSome result IsInLine }
 {
     match field {
         Field::Triggers => Some(trigger_item(name, on)),
@@ -131,17 +141,21 @@ fn item_of_trigger(field: Field, name: &Name, on: bool) -> Option<LineBuffer>
     }
 }
 
+#[tactic(auto, using(crate::proofs::InLine::name_in_line))]
 fn name_item(name: &Name) -> LineBuffer
     ensures text { result ≡ name.now }
-    ensures short { length result ≤ 63 }
+    ensures short { length result ≤ LONGEST_TEXT }
+    ensures in_line { IsInLine result }
 {
     let mut line = LineBuffer::new();
     line.push(name.as_bytes());
     line
 }
 
+#[tactic(auto, using(crate::proofs::InLine::joined_in_line, crate::proofs::InLine::type_in_line))]
 fn column_item(name: &Name, col_type: ColType) -> LineBuffer
-    ensures { result ≡ name.now ++ codes ":" ++ type_word col_type }
+    ensures text { result ≡ name.now ++ codes ":" ++ type_word col_type }
+    ensures in_line { IsInLine result }
 {
     let mut line = name_item(name);
     line.push(b":");
@@ -149,8 +163,10 @@ fn column_item(name: &Name, col_type: ColType) -> LineBuffer
     line
 }
 
+#[tactic(auto, using(crate::proofs::InLine::joined_in_line, crate::proofs::InLine::decimal_in_line, crate::proofs::InLine::word_in_line))]
 fn default_item(num: u32, word: &Word) -> LineBuffer
-    ensures { result ≡ decimal num ++ codes "=" ++ word.now }
+    ensures text { result ≡ decimal num ++ codes "=" ++ word.now }
+    ensures in_line { IsInLine result }
 {
     let mut line = LineBuffer::new();
     line.push_number(num);
@@ -159,8 +175,10 @@ fn default_item(num: u32, word: &Word) -> LineBuffer
     line
 }
 
+#[tactic(auto, using(crate::proofs::InLine::joined_in_line, crate::proofs::InLine::decimal_in_line, crate::proofs::InLine::signed_in_line))]
 fn statistics_item(num: u32, stat: i32) -> LineBuffer
-    ensures { result ≡ decimal num ++ codes ":" ++ signed_decimal stat }
+    ensures text { result ≡ decimal num ++ codes ":" ++ signed_decimal stat }
+    ensures in_line { IsInLine result }
 {
     let mut line = LineBuffer::new();
     line.push_number(num);
@@ -169,16 +187,20 @@ fn statistics_item(num: u32, stat: i32) -> LineBuffer
     line
 }
 
+#[tactic(auto, using(crate::proofs::InLine::fill_in_line))]
 fn fill_item(fill: Option<u32>) -> LineBuffer
-    ensures { result ≡ fill_text fill }
+    ensures text { result ≡ fill_text fill }
+    ensures in_line { IsInLine result }
 {
     let mut line = LineBuffer::new();
     push_fill(&mut line, fill);
     line
 }
 
+#[tactic(auto, using(crate::proofs::InLine::joined_in_line, crate::proofs::InLine::decimal_in_line, crate::proofs::InLine::valid_in_line, crate::proofs::InLine::text_in_line))]
 fn constraint_item(name: &Name, valid: bool, what: &ConKind) -> LineBuffer
-    ensures { result ≡ name.now ++ constraint_text valid what.now }
+    ensures text { result ≡ name.now ++ constraint_text valid what.now }
+    ensures in_line { IsInLine result }
 {
     let mut line = name_item(name);
     match what {
@@ -195,19 +217,30 @@ fn constraint_item(name: &Name, valid: bool, what: &ConKind) -> LineBuffer
         } => {
             line.push(b":fk:");
             line.push(valid_word(valid));
-            line.push(b":");
-            line.push_number(*num);
-            line.push(b":");
-            line.push_number(refrel.0);
-            line.push(b":");
-            line.push_number(*refnum);
+            push_after_colon(&mut line, *num);
+            push_after_colon(&mut line, refrel.0);
+            push_after_colon(&mut line, *refnum);
         }
     }
     line
 }
 
+// Adds a number after a colon.
+#[tactic(auto, using(crate::proofs::InLine::joined_in_line, crate::proofs::InLine::decimal_in_line))]
+fn push_after_colon(line: &mut LineBuffer, number: u32)
+    requires { length line.old + 11 ≤ LINE_ROOM }
+    ensures text { line.new ≡ line.old ++ codes ":" ++ decimal number }
+    ensures short { length line.new ≤ length line.old + 11 }
+    ensures in_line { IsInLine line.old → IsInLine line.new }
+{
+    line.push(b":");
+    line.push_number(number);
+}
+
+#[tactic(auto, using(crate::proofs::InLine::joined_in_line, crate::proofs::InLine::decimal_in_line))]
 fn referring_item(rel: Oid, oid: Oid, of: Oid, what: &ConKind) -> Option<LineBuffer>
-    ensures { result ≡ item_from rel oid of what.now }
+    ensures text { result ≡ item_from rel oid of what.now }
+    ensures in_line { IfSome result IsInLine }
 {
     match what {
         ConKind::Foreign { refrel, refnum, .. } if refrel.0 == rel.0 => {
@@ -223,8 +256,10 @@ fn referring_item(rel: Oid, oid: Oid, of: Oid, what: &ConKind) -> Option<LineBuf
     }
 }
 
+#[tactic(auto, using(crate::proofs::InLine::joined_in_line, crate::proofs::InLine::decimal_in_line, crate::proofs::InLine::state_in_line, crate::proofs::InLine::nums_in_line))]
 fn index_item(index: Oid, state: IndexState, nums: &Nums) -> LineBuffer
-    ensures { result ≡ decimal index.0 ++ codes ":" ++ state_word state ++ codes ":" ++ nums_text nums.now }
+    ensures text { result ≡ decimal index.0 ++ codes ":" ++ state_word state ++ codes ":" ++ nums_text nums.now }
+    ensures in_line { IsInLine result }
 {
     let mut line = LineBuffer::new();
     line.push_number(index.0);
@@ -235,8 +270,10 @@ fn index_item(index: Oid, state: IndexState, nums: &Nums) -> LineBuffer
     line
 }
 
+#[tactic(auto, using(crate::proofs::InLine::joined_in_line, crate::proofs::InLine::on_in_line))]
 fn trigger_item(name: &Name, on: bool) -> LineBuffer
-    ensures { result ≡ name.now ++ codes ":" ++ word_of_on on }
+    ensures text { result ≡ name.now ++ codes ":" ++ word_of_on on }
+    ensures in_line { IsInLine result }
 {
     let mut line = name_item(name);
     line.push(b":");
@@ -244,8 +281,10 @@ fn trigger_item(name: &Name, on: bool) -> LineBuffer
     line
 }
 
+#[tactic(auto, using(crate::proofs::InLine::joined_in_line, crate::proofs::InLine::decimal_in_line, crate::proofs::InLine::nums_in_line))]
 fn columns_item(table: Oid, nums: &Nums) -> LineBuffer
-    ensures { result ≡ decimal table.0 ++ codes ":" ++ nums_text nums.now }
+    ensures text { result ≡ decimal table.0 ++ codes ":" ++ nums_text nums.now }
+    ensures in_line { IsInLine result }
 {
     let mut line = LineBuffer::new();
     line.push_number(table.0);
@@ -254,8 +293,10 @@ fn columns_item(table: Oid, nums: &Nums) -> LineBuffer
     line
 }
 
+#[tactic(auto, using(crate::proofs::InLine::state_in_line))]
 fn state_item(state: IndexState) -> LineBuffer
-    ensures { result ≡ state_word state }
+    ensures text { result ≡ state_word state }
+    ensures in_line { IsInLine result }
 {
     let mut line = LineBuffer::new();
     line.push(state.word());
@@ -267,6 +308,7 @@ pub fn push_fill(line: &mut LineBuffer, fill: Option<u32>)
     requires { length line.old + 10 ≤ LINE_ROOM }
     ensures text { line.new ≡ line.old ++ fill_text fill }
     ensures short { length line.new ≤ length line.old + 10 }
+    ensures number { IfSome fill (λ number. number < 2 ^ 32) }
 {
     match fill {
         Some(fill) => line.push_number(fill),
@@ -279,6 +321,8 @@ pub fn push_nums(line: &mut LineBuffer, nums: &Nums)
     requires { length line.old + 352 ≤ LINE_ROOM }
     ensures text { line.new ≡ line.old ++ nums_text nums.now }
     ensures short { length line.new ≤ length line.old + 352 }
+    ensures some { (0 < length nums.now) × (length nums.now ≤ MOST_INDEX_COLUMNS) }
+    ensures numbers { All (λ number. number < 2 ^ 32) nums.now }
 {
     let [first, rest @ ..] = nums.as_slice() else {
         return
@@ -294,6 +338,7 @@ fn push_next(line: &mut LineBuffer, num: u32)
     requires { length line.old + 11 ≤ LINE_ROOM }
     ensures text { line.new ≡ line.old ++ (codes "+" ++ decimal num) }
     ensures short { length line.new ≤ length line.old + 11 }
+    ensures number { num < 2 ^ 32 }
 {
     line.push(b"+");
     line.push_number(num);

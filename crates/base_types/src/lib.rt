@@ -1,14 +1,16 @@
-//! The values that all crates speak of: names, lock modes, catalog rows, scans and commands.
+//! The values that all crates share: names, lock modes, catalog rows, scans and commands.
 //!
-//! Everything here is plain data in the terms of PostgreSQL's catalogs. The tables that the whole
-//! project goes by stand beside the types: which lock modes conflict, which rows a catalog scan
-//! gives and in which order, which lock modes the writers of a field take, and how a field's text is
-//! made of rows. They are definitions of specs/, and the functions here compute them: that is the
-//! promise to the layers above.
+//! Everything here is plain data in the terms of PostgreSQL's catalogs, with the tables that the
+//! whole project relies on: which lock modes conflict, which rows a catalog scan gives and in which
+//! order, which lock modes the writers of a field take, and how a field's text is made of rows. They
+//! are definitions in specs/, and the functions here compute exactly those: that is the promise to
+//! the layers above. What a scan gives is put in order row by row; that it has the selected rows,
+//! each once for each time that it is seen, and no row after one that it comes before, is the
+//! theorem `scan_of-answers` of proofs/ScanOrder.
 //!
 //! A list inside a public type is a [`Listed`], which contracts see as its list. Names, rows, keys
-//! and scans are `Copy`: they keep their bytes in place, and copying one takes no memory. A line of
-//! text is made in a [`LineBuffer`], which takes none either:
+//! and scans are `Copy`: they keep their bytes in place, and a copy allocates nothing. A line of
+//! text is built in a [`LineBuffer`], which allocates nothing either:
 //!
 //! ```text
 //! let mut line = LineBuffer::new();
@@ -18,9 +20,18 @@
 //! line.push(mode.word());
 //! ```
 //!
+//! Longer texts are added to a vector by [`add_text`]; [`whole_or_nothing`] takes a half-added one
+//! back.
+//!
 //! Names, words and texts are made of bytes by [`Name::new`], [`Word::new`] and [`Text::new`], which
-//! tell the first fault of any others. A dropped column has a name of another form, as in the
-//! server; [`Name::dropped`] makes it and [`Name::new_or_dropped`] reads it.
+//! report the first fault of any others, and the types keep it: each [`Name`] is spelled as a column
+//! of PostgreSQL may be. A dropped column has a name of another form, as in the server;
+//! [`Name::dropped`] makes it and [`Name::new_or_dropped`] reads it.
+//!
+//! Where it differs from the server: a name has small letters, digits and `_` alone (no quoted names
+//! and no other letters); there are two kinds of relations, eight types of columns and six catalogs,
+//! each with the columns that the caches read; there are no schemas, so a relation is found by its
+//! name alone; and the hash of a cache's key is one that can be computed by hand.
 #![tactic(auto)]
 
 mod adding;

@@ -4,10 +4,10 @@ ghost use Rattle.std.specs.Fmt.{signed_decimal};
 use itoa::Buffer;
 use std::marker::Model;
 
-/// The room of a line.
+/// The most bytes of a line.
 pub const LINE_ROOM: usize = 512;
 
-/// A line of text in the making, of at most 512 bytes. It takes no memory.
+/// A line of text that is being built, of at most 512 bytes. It allocates nothing.
 #[derive(Drop)]
 pub struct LineBuffer {
     bytes: [u8; LINE_ROOM],

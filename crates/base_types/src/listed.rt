@@ -19,7 +19,7 @@ impl<T> Model for Listed<T> {
 }
 
 impl<T> Listed<T> {
-    /// The empty list, which takes no memory.
+    /// The empty list, which allocates nothing.
     pub fn new(alloc: Global) -> Listed<T>
         ensures { result ≡ [] }
     {
@@ -51,7 +51,7 @@ impl<T> Listed<T> {
 }
 
 impl<T: Drop> Listed<T> {
-    /// Adds an item at the end; want of memory changes nothing.
+    /// Adds an item at the end; out of memory, nothing changes.
     pub fn push(&mut self, item: T) -> Result<(), NoMemory>
         ensures ok { OnOk result (self.new ≡ self.old ++ item ∷ []) }
         ensures err { OnErr result (self.new ≡ self.old) }

@@ -31,59 +31,30 @@ pub(crate) fn is_among(mode: Mode, modes: &[Mode]) -> bool
 }
 
 // The modes that conflict with a mode, in rising order.
+#[rattlefmt::skip]
 fn conflicting_modes(mode: Mode) -> &'static [Mode]
     ensures { result.now ≡ modes_against mode }
 {
     match mode {
         Mode::AccessShare => &[Mode::AccessExclusive],
         Mode::RowShare => &[Mode::Exclusive, Mode::AccessExclusive],
-        Mode::RowExclusive => &[
-            Mode::Share,
-            Mode::ShareRowExclusive,
-            Mode::Exclusive,
-            Mode::AccessExclusive,
-        ],
-        Mode::ShareUpdateExclusive => &[
-            Mode::ShareUpdateExclusive,
-            Mode::Share,
-            Mode::ShareRowExclusive,
-            Mode::Exclusive,
-            Mode::AccessExclusive,
-        ],
-        Mode::Share => &[
-            Mode::RowExclusive,
-            Mode::ShareUpdateExclusive,
-            Mode::ShareRowExclusive,
-            Mode::Exclusive,
-            Mode::AccessExclusive,
-        ],
-        Mode::ShareRowExclusive => &[
-            Mode::RowExclusive,
-            Mode::ShareUpdateExclusive,
-            Mode::Share,
-            Mode::ShareRowExclusive,
-            Mode::Exclusive,
-            Mode::AccessExclusive,
-        ],
-        Mode::Exclusive => &[
-            Mode::RowShare,
-            Mode::RowExclusive,
-            Mode::ShareUpdateExclusive,
-            Mode::Share,
-            Mode::ShareRowExclusive,
-            Mode::Exclusive,
-            Mode::AccessExclusive,
-        ],
-        Mode::AccessExclusive => &[
-            Mode::AccessShare,
-            Mode::RowShare,
-            Mode::RowExclusive,
-            Mode::ShareUpdateExclusive,
-            Mode::Share,
-            Mode::ShareRowExclusive,
-            Mode::Exclusive,
-            Mode::AccessExclusive,
-        ],
+        Mode::RowExclusive =>
+            &[Mode::Share, Mode::ShareRowExclusive, Mode::Exclusive, Mode::AccessExclusive],
+        Mode::ShareUpdateExclusive =>
+            &[Mode::ShareUpdateExclusive, Mode::Share, Mode::ShareRowExclusive, Mode::Exclusive,
+              Mode::AccessExclusive],
+        Mode::Share =>
+            &[Mode::RowExclusive, Mode::ShareUpdateExclusive, Mode::ShareRowExclusive,
+              Mode::Exclusive, Mode::AccessExclusive],
+        Mode::ShareRowExclusive =>
+            &[Mode::RowExclusive, Mode::ShareUpdateExclusive, Mode::Share,
+              Mode::ShareRowExclusive, Mode::Exclusive, Mode::AccessExclusive],
+        Mode::Exclusive =>
+            &[Mode::RowShare, Mode::RowExclusive, Mode::ShareUpdateExclusive, Mode::Share,
+              Mode::ShareRowExclusive, Mode::Exclusive, Mode::AccessExclusive],
+        Mode::AccessExclusive =>
+            &[Mode::AccessShare, Mode::RowShare, Mode::RowExclusive, Mode::ShareUpdateExclusive,
+              Mode::Share, Mode::ShareRowExclusive, Mode::Exclusive, Mode::AccessExclusive],
     }
 }
 

@@ -4,7 +4,7 @@ use std::alloc::{AllocError, AllocFailed};
 use std::error::Error;
 use std::fmt;
 
-/// Want of memory, the one refusal that no clause ties to its cause.
+/// Out of memory. Any allocation may fail, so no contract says when.
 #[derive(Clone, Copy, Debug)]
 pub struct NoMemory;
 

@@ -27,7 +27,7 @@ impl Name {
     ghost use Rattle.std.specs.Prelude.{◌<◌};
     ghost use Rattle.base_types.specs.Names.{IsName, IsAnyName, IsDroppedName, dropped_name, name_fault as first_fault};
 
-    /// The name of these bytes: 1 to 63 small letters, digits and `_`, with no digit in front.
+    /// The name of these bytes: 1 to 63 small letters, digits and `_`, and no digit first.
     /// `Err` has the first fault.
     pub fn new(text: &[u8]) -> Result<Name, NameFault>
         ensures ok { IfOk result (λ name. (name ≡ text.now) × IsName text.now) }

@@ -1,16 +1,16 @@
 ghost use Rattle.std.specs.Prelude.{◌≡◌, ◌<◌, IfSome, length};
 ghost use Rattle.base_types.specs.Names.{is_name_byte as byte_of_name, is_word_byte as byte_of_word, is_text_byte as byte_of_text, bad_byte as fault_at, name_fault as fault_of_name, short_fault, first_refused};
 
-use crate::{NameFault, is_digit};
+use crate::{LONGEST_TEXT, NameFault, is_digit};
 
 // The first fault of a name.
-pub fn name_fault(text: &[u8]) -> Option<NameFault>
+pub(crate) fn name_fault(text: &[u8]) -> Option<NameFault>
     ensures { result ≡ fault_of_name text.now }
 {
     if text.is_empty() {
         return Some(NameFault::Empty);
     }
-    if text.len() > 63 {
+    if text.len() > LONGEST_TEXT {
         return Some(NameFault::TooLong);
     }
     if is_digit(text[0]) {
@@ -20,32 +20,32 @@ pub fn name_fault(text: &[u8]) -> Option<NameFault>
 }
 
 // The first fault of a word.
-pub fn word_fault(text: &[u8]) -> Option<NameFault>
+pub(crate) fn word_fault(text: &[u8]) -> Option<NameFault>
     ensures { result ≡ short_fault byte_of_word text.now }
 {
     if text.is_empty() {
         return Some(NameFault::Empty);
     }
-    if text.len() > 63 {
+    if text.len() > LONGEST_TEXT {
         return Some(NameFault::TooLong);
     }
     bad_byte(refused_by_word(text))
 }
 
 // The first fault of a check's text.
-pub fn text_fault(text: &[u8]) -> Option<NameFault>
+pub(crate) fn text_fault(text: &[u8]) -> Option<NameFault>
     ensures { result ≡ short_fault byte_of_text text.now }
 {
     if text.is_empty() {
         return Some(NameFault::Empty);
     }
-    if text.len() > 63 {
+    if text.len() > LONGEST_TEXT {
         return Some(NameFault::TooLong);
     }
     bad_byte(refused_by_text(text))
 }
 
-// The first byte that may not stand in a name.
+// The first byte that a name may not have.
 fn refused_by_name(text: &[u8]) -> Option<usize>
     ensures place { result ≡ first_refused byte_of_name text.now }
     ensures within { IfSome result (λ place. place < length text.now) }
@@ -53,7 +53,7 @@ fn refused_by_name(text: &[u8]) -> Option<usize>
     text.iter().position(|byte| !is_name_byte(*byte))
 }
 
-// The first byte that may not stand in a word.
+// The first byte that a word may not have.
 fn refused_by_word(text: &[u8]) -> Option<usize>
     ensures place { result ≡ first_refused byte_of_word text.now }
     ensures within { IfSome result (λ place. place < length text.now) }
@@ -61,7 +61,7 @@ fn refused_by_word(text: &[u8]) -> Option<usize>
     text.iter().position(|byte| !is_word_byte(*byte))
 }
 
-// The first byte that may not stand in a check's text.
+// The first byte that a check's text may not have.
 fn refused_by_text(text: &[u8]) -> Option<usize>
     ensures place { result ≡ first_refused byte_of_text text.now }
     ensures within { IfSome result (λ place. place < length text.now) }

@@ -1,10 +1,10 @@
-/// Why bytes are no name, word or text: what is tested first comes first.
+/// Why bytes are no name, word or text, in the order of the tests.
 #[derive(Clone, Copy, Debug)]
 pub enum NameFault {
     /// There are no bytes.
     Empty,
     /// There are more than 63 bytes.
     TooLong,
-    /// The first byte that may not stand there, counted from 0.
+    /// A byte that is not allowed: the place of the first one, counted from 0.
     BadByte { at: u32 },
 }

@@ -57,7 +57,7 @@ fn padded(nums: &[u32]) -> [u32; MOST_INDEX_COLUMNS]
     requires { length nums.now ≤ MOST_INDEX_COLUMNS }
     ensures { result ≡ with_zeros MOST_INDEX_COLUMNS nums.now }
 {
-    let mut array = [0; 32];
+    let mut array = [0; MOST_INDEX_COLUMNS];
     array[..nums.len()].copy_from_slice(nums);
     array
 }

@@ -1,6 +1,6 @@
 use crate::Oid;
 
-/// What tells a row of a catalog from the others of it.
+/// What identifies a row within its catalog.
 #[derive(Clone, Copy)]
 pub enum RowKey {
     Class(Oid),
@@ -16,6 +16,7 @@ impl RowKey {
     ghost use Rattle.base_types.specs.RowKeys.{same_key};
 
     /// Whether two keys are one.
+    // used by the writers of rows, which are not built yet
     pub fn is(&self, other: &RowKey) -> bool
         ensures { result ≡ same_key self.now other.now }
     {

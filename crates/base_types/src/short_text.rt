@@ -55,7 +55,7 @@ fn padded(text: &[u8]) -> [u8; LONGEST_TEXT]
     requires { length text.now ≤ LONGEST_TEXT }
     ensures { result ≡ with_zeros LONGEST_TEXT text.now }
 {
-    let mut bytes = [0; 63];
+    let mut bytes = [0; LONGEST_TEXT];
     bytes[..text.len()].copy_from_slice(text);
     bytes
 }

@@ -1,17 +1,20 @@
 -- What the program does with the bytes that it reads.
-use Rattle.std.specs.Prelude.{◌≡◌, ◌≤◌, ◌<◌, ⊤, ℕ, Bool, true, false, not, ◌&&◌, Option, Some, None, Ok, Err, List, [], ◌∷◌, codes, length}
+use Rattle.std.specs.Prelude.{◌≡◌, ◌≤◌, ◌<◌, ◌+◌, ⊤, ℕ, IsSomeAnd, Bool, true, false, not, ◌&&◌, Option, Some, None, Ok, Err, List, [], ◌∷◌, codes, length}
 use Rattle.std.specs.Io.KnownBytes.{Consumes, IsAtEnd}
+use Rattle.edge_io.specs.Causes.{Rose}
+use Rattle.edge_io.specs.declared.reading.TheConstants.{PIECE}
 use Rattle.walk_run.specs.Built.{is_built}
 use Rattle.script_text.specs.Grammar.{Reading, script_of}
 use Rattle.script_text.specs.declared.fault.Rest.TheVariants.{Refused}
 use Rattle.script_text.specs.declared.fault.ScriptCause.{ScriptCause}
 use Rattle.history_model.specs.Output.{IsOutput}
+use Rattle.catsync_top.specs.declared.top.TheConstants.{MOST_INPUT}
 use Rattle.catsync_top.specs.declared.status.Status.{Status}
 use Rattle.catsync_top.specs.declared.status.Status.TheVariants as statuses
 
--- the words are `walk` alone
+-- the arguments are `walk` alone
 abbrev pub AreWalk : List (List ℕ) → Type 0
-AreWalk words = words ≡ codes "walk" ∷ []
+AreWalk arguments = arguments ≡ codes "walk" ∷ []
 
 -- the exit status of each status
 abbrev pub exit_code_of : Status → ℕ
@@ -32,7 +35,7 @@ is_ready reading = not reading.has_ring && is_built reading.script
 pub record IsInput (left rest : Option (List ℕ)) (input : List ℕ) : Type 0 where
   pub read : Consumes left rest input
   pub ended : IsAtEnd rest
-  pub short : length input ≤ 1048576
+  pub short : length input ≤ MOST_INPUT
 
 -- the input is a script that can be walked, and an output of the program for that script was written, or a front of one
 pub record Ran (left rest : Option (List ℕ)) (taken now : Option (List ℕ)) (Writes : Option (List ℕ) → Option (List ℕ) → List ℕ → Type 0) : Type 0 where
@@ -51,11 +54,12 @@ pub record IsBad (left rest : Option (List ℕ)) (line : ℕ) (cause : ScriptCau
   pub whole : IsInput left rest input
   pub breaks : script_of Refused input ≡ Err (line, cause)
 
--- more bytes were read than a script may have
+-- more bytes were read than a script may have, and at most one piece too many
 pub record IsTooLong (left rest : Option (List ℕ)) : Type 0 where
   pub input : List ℕ
   pub read : Consumes left rest input
-  pub long : 1048576 < length input
+  pub long : MOST_INPUT < length input
+  pub bounded : length input ≤ MOST_INPUT + PIECE
 
 -- the input is a script of which not all is built
 pub record IsNotYet (left rest : Option (List ℕ)) : Type 0 where
@@ -67,10 +71,18 @@ pub record IsNotYet (left rest : Option (List ℕ)) : Type 0 where
 
 -- the bytes are a script that can be walked
 pub record CanBeWalked (input : List ℕ) : Type 0 where
-  pub short : length input ≤ 1048576
+  pub short : length input ≤ MOST_INPUT
   pub reading : Reading
   pub spelled : script_of Refused input ≡ Ok reading
   pub ready : is_ready reading ≡ true
+
+-- the arguments are `walk` alone, and the source tells that it has a script that can be walked
+abbrev pub CanRun : List (List ℕ) → Option (List ℕ) → Type 0
+CanRun arguments left = AreWalk arguments × IsSomeAnd left CanBeWalked
+
+-- a count of faults didn't rise
+abbrev pub HadNoFault : ℕ → ℕ → Type 0
+HadNoFault before now = Rose before now → ⊥
 
 -- the call did its work, or was refused memory
 abbrev pub IsDoneOrNoMemory : Status → Type 0

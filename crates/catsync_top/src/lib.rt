@@ -1,18 +1,24 @@
 //! The top call of the program, from the bytes of a script to the bytes of its output.
 //!
-//! The order is: words, reading, script, work, writing. Nothing is written before all else is done,
-//! and writing takes no memory.
+//! The order is: arguments, reading, script, work, writing. Each step may refuse, and then nothing
+//! is written. Writing comes when all else is done and takes no memory, so an output is cut short
+//! only where the sink fails.
 //!
 //! The promise: after `Done` the sink took the text of one history that the script allows, complete
 //! and by its schedule, and then exactly the lines that backends without caches print on it. Each
-//! other answer has its cause; want of memory alone is free.
+//! other answer has its cause; only `NoMemory` may come at any time. All of this is said of the
+//! bytes that the source and the sink tell. Those over standard input and output tell none: there
+//! the clauses fix `Usage`, and that `ReadFault` and `WriteFault` come exactly where a count of
+//! faults rose; for the bytes one relies on its being the same generic code.
+//!
+//! ```text
+//! let status = catsync(alloc, &arguments, &mut source, &mut sink, &mut gates);
+//! ```
 #![tactic(auto)]
 
 mod status;
 mod top;
 
+pub use script_text::MOST_BACKENDS;
 pub use status::Status;
 pub use top::{MOST_INPUT, catsync};
-
-#[cfg(test)]
-mod tests;

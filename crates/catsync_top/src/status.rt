@@ -5,12 +5,12 @@ use script_text::ScriptCause;
 use thiserror::Error;
 
 /// How a call of the program ended. Its text is the one that the program prints.
-#[derive(Clone, Copy, Debug, PartialEq, Eq, Error)]
+#[derive(Clone, Copy, Debug, Error)]
 pub enum Status {
     /// All was written, and the input was read to its end.
     #[error("done")]
     Done,
-    /// The words aren't `walk` alone.
+    /// The arguments aren't `walk` alone.
     #[error("usage: catsync walk < SCRIPT > OUTPUT")]
     Usage,
     /// The input isn't a script: the first line that breaks a rule, from 1, and the first rule that
@@ -26,7 +26,7 @@ pub enum Status {
     /// The sink failed.
     #[error("writing failed")]
     WriteFault,
-    /// Memory was refused.
+    /// Out of memory.
     #[error("want of memory")]
     NoMemory,
     /// The input is a script, with a command or a line that isn't built yet.

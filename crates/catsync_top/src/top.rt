@@ -1,26 +1,28 @@
-ghost use Rattle.std.specs.Prelude.{◌≡◌, ◌≢◌, ◌↔◌, map, IsTrue, IfOk, IsSomeAnd};
+ghost use Rattle.std.specs.Prelude.{◌≡◌, ◌≢◌, ◌↔◌, ◌≤◌, map, length, IsTrue, IfOk};
 ghost use Rattle.std.specs.String.{string_bytes};
 ghost use Rattle.edge_io.specs.Causes.{Rose};
 ghost use Rattle.edge_io.specs.Taken.{Grows, GrowsByFront};
-ghost use Rattle.catsync_top.specs.Top.{AreWalk, Ran, IsBad, IsTooLong, IsNotYet, CanBeWalked, IfBadScript, IsDoneOrNoMemory, is_ready as ready_reading};
+ghost use Rattle.catsync_top.specs.Top.{AreWalk, Ran, IsBad, IsTooLong, IsNotYet, CanRun, HadNoFault, IfBadScript, IsDoneOrNoMemory, is_ready as ready_reading};
 
 use crate::Status;
 use base_types::NoMemory;
 use edge_io::{Gate, ReadRefusal, Sink, Source, read_all};
 use out_text::put_output;
-use script_text::{Rest, ScriptFault, ScriptRead, read_script};
+use script_text::{MOST_BACKENDS, Rest, ScriptFault, ScriptRead, read_script};
 use std::alloc::Global;
 use walk_run::{is_built, walk};
 
 /// The most bytes of a script.
 pub const MOST_INPUT: usize = 1_048_576;
 
-/// Runs the program: its words, where it reads, where it writes, and the backends' gates, which
-/// `walk` doesn't ask. It takes memory from `alloc`, and none while it writes.
+/// Runs the program: its arguments, where it reads, where it writes, and a gate for each backend
+/// that a script can have, which `walk` doesn't ask. It takes memory from `alloc`, and none while
+/// it writes.
 ///
-/// The order is: words, reading, script, work, writing.
+/// The order is: arguments, reading, script, work, writing. What is said of the bytes holds as far
+/// as the source and the sink tell them.
 ///
-/// - `Usage`: exactly where the words aren't `walk` alone; nothing is read.
+/// - `Usage`: exactly where the arguments aren't `walk` alone; nothing is read.
 /// - `ReadFault`, `WriteFault`: only where the source's or the sink's count of faults rose.
 /// - `TooLong`: exactly where the source gives more than [`MOST_INPUT`] bytes before its end.
 /// - `BadScript`: exactly where that line is the first that breaks a rule of scripts, and that rule
@@ -30,14 +32,16 @@ pub const MOST_INPUT: usize = 1_048_576;
 /// - `Done`: the input was read to its end, and the whole output was written.
 pub fn catsync<S: Source, K: Sink, G: Gate>(
     alloc: Global,
-    words: &[String],
+    arguments: &[String],
     source: &mut S,
     sink: &mut K,
     gates: &mut Vec<G>,
 ) -> Status
-    // Which words are accepted.
-    ensures usage { result ≡ Status.Usage → AreWalk (map string_bytes words.now) → ⊥ }
-    ensures accepted { result ≢ Status.Usage → AreWalk (map string_bytes words.now) }
+    requires { MOST_BACKENDS ≤ length gates.old.items }
+
+    // Which arguments are accepted.
+    ensures usage { result ≡ Status.Usage → AreWalk (map string_bytes arguments.now) → ⊥ }
+    ensures accepted { result ≢ Status.Usage → AreWalk (map string_bytes arguments.now) }
 
     // What was written, of what was read.
     ensures done { result ≡ Status.Done → Ran (S.left source.old) (S.left source.new) (K.taken sink.old) (K.taken sink.new) Grows }
@@ -58,10 +62,10 @@ pub fn catsync<S: Source, K: Sink, G: Gate>(
     ensures gates { gates.new ≡ gates.old }
 
     // A script that can be walked is walked, where neither source nor sink fails.
-    ensures complete { IsSomeAnd (S.left source.old) CanBeWalked → AreWalk (map string_bytes words.now) → (Rose (S.faults source.old) (S.faults source.new) → ⊥) → (Rose (K.faults sink.old) (K.faults sink.new) → ⊥) → IsDoneOrNoMemory result }
+    ensures complete { CanRun (map string_bytes arguments.now) (S.left source.old) → HadNoFault (S.faults source.old) (S.faults source.new) → HadNoFault (K.faults sink.old) (K.faults sink.new) → IsDoneOrNoMemory result }
 {
     let _ = gates;
-    if !is_walk(words) {
+    if !is_walk(arguments) {
         return Status::Usage;
     }
     let input = match read_all(alloc, source, MOST_INPUT) {
@@ -98,11 +102,11 @@ fn is_ready(alloc: Global, read: &ScriptRead) -> Result<bool, NoMemory>
     Ok(!read.has_ring && is_built(alloc, &read.script)?)
 }
 
-// Whether the words are `walk` alone.
-fn is_walk(words: &[String]) -> bool
-    ensures { IsTrue result ↔ AreWalk (map string_bytes words.now) }
+// Whether the arguments are `walk` alone.
+fn is_walk(arguments: &[String]) -> bool
+    ensures { IsTrue result ↔ AreWalk (map string_bytes arguments.now) }
 {
-    match words {
+    match arguments {
         [word] => word.as_str() == "walk",
         _ => false,
     }

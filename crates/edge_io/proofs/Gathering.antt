@@ -1,4 +1,4 @@
--- What a gathering sink holds, and what the sink behind it has taken.
+-- What a gathering sink holds, and what its sink has taken.
 use Rattle.std.proofs.Common.{◌≡◌, ℕ, ◌+◌, ◌-◌, ◌≤◌, true, List, [], ◌++◌, length, take, drop, Option, None, Some, Result, Ok, Err, refl, sym, ap, ◌∙◌, subst, OnOk, zero-add, append_assoc, append-nil, take-append-drop, length-drop, arith}
 use Rattle.std.proofs.lemmas.List.{drop-take, append_cancel_left, length-take-le}
 use Rattle.std.proofs.lemmas.List.Edits.{take-paste}
@@ -12,7 +12,7 @@ use Rattle.edge_io.specs.Taken.{Grows, Stays, GrowsByFront, Sends}
 use Rattle.edge_io.proofs.Sending.{grows_stays, front_all, front_first, sends_then, part_front}
 use Rattle.edge_io.specs.Gathered.{begins, Gathered, Stood, Gathers, Flushes, told_by}
 
--- bytes that move to the front
+-- bytes that move to the start
 pub moved : (bytes : List ℕ) (len count : ℕ) → count ≤ len → len ≤ length bytes → take (len - count) (copy_within bytes count len 0) ≡ drop count (take len bytes)
 moved bytes len count within fits =
     let rest = len - count in
@@ -75,7 +75,7 @@ begins_then (Some x) (Some y) (Some z) p q =
     let more = drop (length y) z in
     begins_from x z (rest ++ more) (begins_parts y z q ∙ ap (λ l. l ++ more) (begins_parts x y p) ∙ append_assoc x rest more)
 
--- what the sink behind has taken is a front of what the gathering sink tells
+-- what its sink has taken is a prefix of what the gathering sink tells
 pub front_behind : (a b : Option (List ℕ)) (held text : List ℕ) → begins a b ≡ true → GrowsByFront a (append_known b held) text → GrowsByFront a b text
 front_behind a None held text p q = record { front = []; rest = text; parts = refl; grows = tt }
 front_behind None (Some y) held text p q = absurd (false≢true p)
@@ -96,7 +96,7 @@ pub told_nothing_held : (a : Option (List ℕ)) → append_known a [] ≡ a
 told_nothing_held None = refl
 told_nothing_held (Some x) = ap Some (append-nil x)
 
--- where nothing is held any more, the sink behind has taken all
+-- where nothing is held any more, its sink has taken all
 pub grows_behind : (a b : Option (List ℕ)) (text : List ℕ) → Grows a (append_known b []) text → Grows a b text
 grows_behind a None text p = tt
 grows_behind None (Some y) text p = absurd p
@@ -112,7 +112,7 @@ stood_then a b c p q = record { same = q.same ∙ p.same; grows = begins_then a.
 pub flushes_at_first : (a : Gathered) → Flushes a a
 flushes_at_first a = record { stood = stood_at_first a; told = told_stays (told_by a) }
 
--- the sink failed behind a part of a text
+-- the sink failed after a part of a text
 pub gathers_front : {T E : Type 0} (a b c : Gathered) (result : Result T E) (error : E) (text : List ℕ) (i : ℕ) → result ≡ Err error → Stood a b → Stood b c
     → Grows (told_by a) (told_by b) (take i text) → Stays (told_by b) (told_by c) → Gathers a c result text
 gathers_front a b c result error text i e p q sent stays =
@@ -135,7 +135,7 @@ ended : {T E : Type 0} (a c : Option (List ℕ)) (held : List ℕ) (result : Res
 ended a c held (Ok value) text p grown all = grows_behind a c text (subst (λ h. Grows a (append_known c h) text) all grown)
 ended a c held (Err error) text p grown all = front_behind a c held text p (front_all a (append_known c held) text grown)
 
--- a text was gathered from the start, and then what was held was handed on, or a front of it
+-- a text was gathered from the start, and then what was held was handed on, or a prefix of it
 sent_to : {T E U : Type 0} (a b c : Gathered) (before : Result T E) (value : T) (result : Result U E) (text : List ℕ) → a.held ≡ [] → before ≡ Ok value → Gathers a b before text → Flushes b c → OnOk result (c.held ≡ [])
     → Sends a.behind c.behind result text
 sent_to a b c before value result text empty e p q all =
@@ -145,7 +145,7 @@ sent_to a b c before value result text empty e p q all =
     let stood : Stood a c = stood_then a b c p.stood q.stood in
     ended a.behind c.behind c.held result text stood.grows grown all
 
--- the same: what the sink behind has taken at last
+-- the same: what its sink has taken at last
 pub sent_behind : {S T D K : Type 0} (taken : K → Option (List ℕ)) (a b c : Gathered) (first behind last : K) (before : Result S D) (value : S) (result : Result T D) (text : List ℕ) → a.held ≡ [] → a.behind ≡ taken first
     → c.behind ≡ taken behind → before ≡ Ok value → Gathers a b before text → Flushes b c → OnOk result (c.held ≡ []) → behind ≡ last → Sends (taken first) (taken last) result text
 sent_behind taken a b c first behind last before value result text empty began now e p q all same =

@@ -26,11 +26,11 @@ grows_stays a None (Some z) text p q = absurd q
 grows_stays None (Some y) (Some z) text p q = absurd p
 grows_stays (Some x) (Some y) (Some z) text p q = q ∙ p
 
--- a whole text is a front of itself
+-- a whole text is a prefix of itself
 pub front_all : (a b : Option (List ℕ)) (text : List ℕ) → Grows a b text → GrowsByFront a b text
 front_all a b text p = record { front = text; rest = []; parts = sym (append-nil text); grows = p }
 
--- a call that took nothing took a front
+-- a call that took nothing took a prefix
 pub front_none : (a b : Option (List ℕ)) (text : List ℕ) → Stays a b → GrowsByFront a b text
 front_none a b text p =
     let grows = grows_stays a a b [] (grows_by_none a) p in
@@ -71,7 +71,7 @@ loop_more f xs i x a b c h is p q =
     ap (flat_map f) (take_more xs i x h) ∙ flat_map-append f (take i xs) (get_or xs i x ∷ []) ∙ ap (λ l. flat_map f (take i xs) ++ l) (append-nil (f (get_or xs i x)) ∙ ap f (sym is)) in
     subst (Grows a c) (sym one) (grows_then a b c (flat_map f (take i xs)) (f x) p q)
 
--- a front of a front
+-- a prefix of a prefix
 pub front_longer : (a b : Option (List ℕ)) (short text rest : List ℕ) → text ≡ short ++ rest → GrowsByFront a b short → GrowsByFront a b text
 front_longer a b short text rest e p = subst (GrowsByFront a b) (sym e) (front_first a b short rest p)
 
@@ -89,7 +89,7 @@ loop_front f xs i x a b c h is p q =
 pub part_more : (a b c : Option (List ℕ)) (text : List ℕ) (i n : ℕ) → Grows a b (take i text) → Grows b c (take n (drop i text)) → Grows a c (take (i + n) text)
 part_more a b c text i n p q = subst (Grows a c) (sym (take-add i n text)) (grows_then a b c (take i text) (take n (drop i text)) p q)
 
--- the sink failed behind a part of a text
+-- the sink failed after a part of a text
 pub part_front : (a b c : Option (List ℕ)) (text : List ℕ) (i : ℕ) → Grows a b (take i text) → Stays b c → GrowsByFront a c text
 part_front a b c text i p q = record {
   front = take i text;

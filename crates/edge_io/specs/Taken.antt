@@ -1,4 +1,4 @@
--- What a sink has taken, where it tells: it grows by a text, or by a front of one.
+-- What a sink has taken, where it tells: it grows by a text, or by a prefix of one.
 use Rattle.std.specs.Prelude.{◌≡◌, ℕ, ◌<◌, ◌≤◌, List, ◌++◌, length, take, ⊤, Option, None, Some, Result, MatchResult, IfOk}
 
 -- the bytes taken grow by a text; a sink may stop telling, and never tells again
@@ -13,14 +13,14 @@ Stays old None = ⊤
 Stays None (Some after) = ⊥
 Stays (Some before) (Some after) = after ≡ before
 
--- the bytes taken grow by a front of a text
+-- the bytes taken grow by a prefix of a text
 pub record GrowsByFront (old new : Option (List ℕ)) (text : List ℕ) : Type 0 where
   pub front : List ℕ
   pub rest : List ℕ
   pub parts : text ≡ front ++ rest
   pub grows : Grows old new front
 
--- one write takes as many bytes from the front as it says, and none where it fails
+-- one write takes as many of the first bytes as it says, and none where it fails
 abbrev pub Takes : {E : Type 0} → Option (List ℕ) → Option (List ℕ) → Result ℕ E → List ℕ → Type 0
 Takes old new result piece = MatchResult result (λ n. Grows old new (take n piece)) (λ _. Stays old new)
 
@@ -28,6 +28,6 @@ Takes old new result piece = MatchResult result (λ n. Grows old new (take n pie
 abbrev pub TakesSome : {E : Type 0} → Result ℕ E → List ℕ → Type 0
 TakesSome result piece = IfOk result (λ n. (n ≤ length piece) × (0 < length piece → 0 < n))
 
--- a whole text was sent, or a front of it before the sink failed
+-- a whole text was sent, or a prefix of it before the sink failed
 abbrev pub Sends : {T E : Type 0} → Option (List ℕ) → Option (List ℕ) → Result T E → List ℕ → Type 0
 Sends old new result text = MatchResult result (λ _. Grows old new text) (λ _. GrowsByFront old new text)

@@ -59,7 +59,7 @@ impl Held {
         &self.bytes[..self.len]
     }
 
-    // Keeps the front of a piece for which there is room, and says how long it is.
+    // Keeps the prefix of a piece for which there is room, and says how long it is.
     pub(crate) fn keep(&mut self, piece: &[u8]) -> usize
         ensures count { result ≡ min (length piece.now) (MOST_HELD - length self.old) }
         ensures kept { self.new ≡ self.old ++ take result piece.now }

@@ -1,9 +1,8 @@
 -- What a function that reads a whole line answers.
 use Rattle.std.proofs.Common.{◌≡◌, ℕ, List, Option, Some, None, Result, Ok, Err, sym, ap, ◌∙◌}
 use Rattle.std.specs.Prelude.{IfOk}
-use Rattle.event_kinds.specs.declared.fault.EntryFault.{EntryFault}
+use Rattle.event_kinds.specs.Events.{EntryFault, Entry}
 use Rattle.event_kinds.specs.declared.fault.EntryFault.TheVariants as faults
-use Rattle.event_kinds.specs.Events.{Entry}
 use Rattle.event_kinds.specs.Texts.{entry_text}
 use Rattle.event_kinds.specs.Entries.{IsEntry}
 use Rattle.event_kinds.specs.Reading.{entry_at}
@@ -15,10 +14,6 @@ again_of line entry is spelled = ap entry_at spelled ∙ entry_again entry is
 
 one_entry : (a b : Entry) → ◌≡◌ {A = Option Entry} (Some a) (Some b) → a ≡ b
 one_entry a b e = cc
-
--- the text of an entry says which entry it is
-pub entry_injective : (a b : Entry) → IsEntry a → IsEntry b → entry_text a ≡ entry_text b → a ≡ b
-entry_injective a b is-a is-b same = one_entry a b (sym (again_of (entry_text b) a is-a (sym same)) ∙ entry_again b is-b)
 
 pub found_is : (line : List ℕ) (r : Result Entry EntryFault) → YieldsWhole r (entry_at line) → IfOk r (λ entry. (line ≡ entry_text entry) × IsEntry entry)
 found_is line (Ok entry) h = entry_takes line entry h

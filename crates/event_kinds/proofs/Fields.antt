@@ -1,4 +1,4 @@
--- The parts of a line that stand for one value.
+-- The parts of a line that are one value.
 use Rattle.std.proofs.Common.{◌≡◌, ℕ, ℤ, pos, negsuc, zero, suc, ◌^◌, ◌<◌, ◌≤◌, Bool, true, false, not, eqb, ltb, leb, ◌&&◌, ◌||◌, ◌==◌, List, [], ◌∷◌, ◌++◌, length, Option, Some, None, refl, arith, codes, decimal}
 use Rattle.std.specs.Prelude.{IfSome, FitsSigned}
 use Rattle.std.specs.Int.{w32}
@@ -8,20 +8,17 @@ use Rattle.std.proofs.lemmas.Bool.Decides.{nat_tests}
 use Rattle.std.proofs.lemmas.Fmt.{decimal_nonempty}
 use Rattle.std.proofs.lemmas.Option.{some_pair_parts}
 use Rattle.base_types.specs.Names.{is_digit, IsAnyName, IsWord, IsText}
-use Rattle.base_types.specs.Words.{mode_word, kind_word, type_word, state_word, valid_word, live_word, on_word, fill_text, nums_text}
-use Rattle.base_types.specs.declared.mode.Mode.{Mode}
+use Rattle.base_types.specs.Words.{mode_word, kind_word, type_word, state_word, valid_word, live_word, on_word, fill_text, nums_text, modes, col_types}
+use Rattle.event_kinds.specs.Events.{Mode, Kind, ColType, IndexState}
 use Rattle.base_types.specs.declared.mode.Mode.TheVariants.{AccessShare, RowShare, RowExclusive, ShareUpdateExclusive, Share, ShareRowExclusive, Exclusive, AccessExclusive}
-use Rattle.base_types.specs.declared.kind.Kind.{Kind}
 use Rattle.base_types.specs.declared.kind.Kind.TheVariants.{Table, Index}
-use Rattle.base_types.specs.declared.col_type.ColType.{ColType}
 use Rattle.base_types.specs.declared.col_type.ColType.TheVariants as types
-use Rattle.base_types.specs.declared.index_state.IndexState.{IndexState}
 use Rattle.base_types.specs.declared.index_state.IndexState.TheVariants.{Neither, Valid}
 use Rattle.event_kinds.specs.Entries.{IsNumber, AreNums}
 use Rattle.event_kinds.specs.Readers.{Reader, lit_at, pair_at, as_at, check_at, none_at, more_at}
-use Rattle.event_kinds.specs.Reading.{in_token, number_of, name_of, word_of, text_of, worded, modes, col_types, minus, number_at, digits_at, name_at, word_at, text_at, mode_at, kind_at, type_at, state_at, flag_at, signed_at, fill_at, nums_at}
+use Rattle.event_kinds.specs.Reading.{in_token, number_of, any_name_of, word_of, check_text_of, worded, kinds_listed, states, flags, minus, number_at, digits_at, name_at, word_at, text_at, mode_at, kind_at, type_at, state_at, flag_at, signed_at, fill_at, nums_at}
 use Rattle.event_kinds.proofs.Spelling.{both, lit_again, or_first, or_other, stops, Spells, Behind, field_spells, check_spells, behind, as_again, or_behind, more_text, AreUpTo, Repeats, cons_of, first_and_more, more_spells}
-use Rattle.event_kinds.proofs.Leaves.{number_values, digits_values, name_values, word_values, text_values, worded_values, digits_pass}
+use Rattle.event_kinds.proofs.Leaves.{number_values, digits_values, name_values, word_values, text_values, IsReadOfWord, worded_values, digits_pass}
 
 -- no byte of a token follows
 abbrev pub TokenEnds : List ℕ → Type 0
@@ -37,7 +34,7 @@ digits_spells = field_spells is_digit decimal IsNumber number_of digits_values
 
 pub name_spells : Spells (λ text. text) IsAnyName TokenEnds name_at
 unfolding name_at
-name_spells = field_spells in_token (λ text. text) IsAnyName name_of name_values
+name_spells = field_spells in_token (λ text. text) IsAnyName any_name_of name_values
 
 pub word_spells : Spells (λ text. text) IsWord TokenEnds word_at
 unfolding word_at
@@ -45,103 +42,73 @@ word_spells = field_spells in_token (λ text. text) IsWord word_of word_values
 
 pub text_spells : Spells (λ text. text) IsText TokenEnds text_at
 unfolding text_at
-text_spells = field_spells in_token (λ text. text) IsText text_of text_values
+text_spells = field_spells in_token (λ text. text) IsText check_text_of text_values
 
 -- ---- words of a list
 
-mode_again : (mode : Mode) → worded mode_word modes (mode_word mode) ≡ Some mode
-mode_again AccessShare = refl
-mode_again RowShare = refl
-mode_again RowExclusive = refl
-mode_again ShareUpdateExclusive = refl
-mode_again Share = refl
-mode_again ShareRowExclusive = refl
-mode_again Exclusive = refl
-mode_again AccessExclusive = refl
-
-mode_pass : (mode : Mode) → list_all in_token (mode_word mode) ≡ true
-mode_pass AccessShare = refl
-mode_pass RowShare = refl
-mode_pass RowExclusive = refl
-mode_pass ShareUpdateExclusive = refl
-mode_pass Share = refl
-mode_pass ShareRowExclusive = refl
-mode_pass Exclusive = refl
-mode_pass AccessExclusive = refl
+mode_read : (mode : Mode) → IsReadOfWord mode_word modes mode
+mode_read AccessShare = (refl, refl)
+mode_read RowShare = (refl, refl)
+mode_read RowExclusive = (refl, refl)
+mode_read ShareUpdateExclusive = (refl, refl)
+mode_read Share = (refl, refl)
+mode_read ShareRowExclusive = (refl, refl)
+mode_read Exclusive = (refl, refl)
+mode_read AccessExclusive = (refl, refl)
 
 pub mode_spells : Spells mode_word (λ mode. Unit {0}) TokenEnds mode_at
 unfolding mode_at
-mode_spells = field_spells in_token mode_word (λ mode. Unit {0}) (worded mode_word modes) (worded_values mode_word modes mode_again mode_pass)
+mode_spells = field_spells in_token mode_word (λ mode. Unit {0}) (worded mode_word modes) (worded_values mode_word modes mode_read)
 
-type_again : (col_type : ColType) → worded type_word col_types (type_word col_type) ≡ Some col_type
-type_again types.Bool = refl
-type_again types.Int2 = refl
-type_again types.Int4 = refl
-type_again types.Int8 = refl
-type_again types.Text = refl
-type_again types.Bytea = refl
-type_again types.Date = refl
-type_again types.Timestamptz = refl
-
-type_pass : (col_type : ColType) → list_all in_token (type_word col_type) ≡ true
-type_pass types.Bool = refl
-type_pass types.Int2 = refl
-type_pass types.Int4 = refl
-type_pass types.Int8 = refl
-type_pass types.Text = refl
-type_pass types.Bytea = refl
-type_pass types.Date = refl
-type_pass types.Timestamptz = refl
+type_read : (col_type : ColType) → IsReadOfWord type_word col_types col_type
+type_read types.Bool = (refl, refl)
+type_read types.Int2 = (refl, refl)
+type_read types.Int4 = (refl, refl)
+type_read types.Int8 = (refl, refl)
+type_read types.Text = (refl, refl)
+type_read types.Bytea = (refl, refl)
+type_read types.Date = (refl, refl)
+type_read types.Timestamptz = (refl, refl)
 
 pub type_spells : Spells type_word (λ col_type. Unit {0}) TokenEnds type_at
 unfolding type_at
-type_spells = field_spells in_token type_word (λ col_type. Unit {0}) (worded type_word col_types) (worded_values type_word col_types type_again type_pass)
+type_spells = field_spells in_token type_word (λ col_type. Unit {0}) (worded type_word col_types) (worded_values type_word col_types type_read)
 
-kind_again : (kind : Kind) → worded kind_word (Table ∷ Index ∷ []) (kind_word kind) ≡ Some kind
-kind_again Table = refl
-kind_again Index = refl
-
-kind_pass : (kind : Kind) → list_all in_token (kind_word kind) ≡ true
-kind_pass Table = refl
-kind_pass Index = refl
+kind_read : (kind : Kind) → IsReadOfWord kind_word kinds_listed kind
+kind_read Table = (refl, refl)
+kind_read Index = (refl, refl)
 
 pub kind_spells : Spells kind_word (λ kind. Unit {0}) TokenEnds kind_at
 unfolding kind_at
-kind_spells = field_spells in_token kind_word (λ kind. Unit {0}) (worded kind_word (Table ∷ Index ∷ [])) (worded_values kind_word (Table ∷ Index ∷ []) kind_again kind_pass)
+kind_spells = field_spells in_token kind_word (λ kind. Unit {0}) (worded kind_word kinds_listed) (worded_values kind_word kinds_listed kind_read)
 
-state_again : (state : IndexState) → worded state_word (Neither ∷ Valid ∷ []) (state_word state) ≡ Some state
-state_again Neither = refl
-state_again Valid = refl
-
-state_pass : (state : IndexState) → list_all in_token (state_word state) ≡ true
-state_pass Neither = refl
-state_pass Valid = refl
+state_read : (state : IndexState) → IsReadOfWord state_word states state
+state_read Neither = (refl, refl)
+state_read Valid = (refl, refl)
 
 pub state_spells : Spells state_word (λ state. Unit {0}) TokenEnds state_at
 unfolding state_at
-state_spells = field_spells in_token state_word (λ state. Unit {0}) (worded state_word (Neither ∷ Valid ∷ [])) (worded_values state_word (Neither ∷ Valid ∷ []) state_again state_pass)
+state_spells = field_spells in_token state_word (λ state. Unit {0}) (worded state_word states) (worded_values state_word states state_read)
 
 -- a word for each truth value
-pub record Flags (word : Bool → List ℕ) : Type 0 where
-  pub again : (flag : Bool) → worded word (true ∷ false ∷ []) (word flag) ≡ Some flag
-  pub pass : (flag : Bool) → list_all in_token (word flag) ≡ true
+abbrev pub Flags : (Bool → List ℕ) → Type 0
+Flags word = (flag : Bool) → IsReadOfWord word flags flag
 
 pub flag_spells : (word : Bool → List ℕ) → Flags word → Spells word (λ flag. Unit {0}) TokenEnds (flag_at word)
 unfolding flag_at
-flag_spells word f = field_spells in_token word (λ flag. Unit {0}) (worded word (true ∷ false ∷ [])) (worded_values word (true ∷ false ∷ []) f.again f.pass)
-
-by_flag : (P : Bool → Type 0) → P true → P false → (flag : Bool) → P flag
-by_flag P t f true = t
-by_flag P t f false = f
+flag_spells word each = field_spells in_token word (λ flag. Unit {0}) (worded word flags) (worded_values word flags each)
 
 pub valid_flags : Flags valid_word
-valid_flags = record { again = by_flag (λ flag. worded valid_word (true ∷ false ∷ []) (valid_word flag) ≡ Some flag) refl refl; pass = by_flag (λ flag. list_all in_token (valid_word flag) ≡ true) refl refl }
+valid_flags true = (refl, refl)
+valid_flags false = (refl, refl)
 
 pub live_flags : Flags live_word
-live_flags = record { again = by_flag (λ flag. worded live_word (true ∷ false ∷ []) (live_word flag) ≡ Some flag) refl refl; pass = by_flag (λ flag. list_all in_token (live_word flag) ≡ true) refl refl }
+live_flags true = (refl, refl)
+live_flags false = (refl, refl)
 
 pub on_flags : Flags on_word
-on_flags = record { again = by_flag (λ flag. worded on_word (true ∷ false ∷ []) (on_word flag) ≡ Some flag) refl refl; pass = by_flag (λ flag. list_all in_token (on_word flag) ≡ true) refl refl }
+on_flags true = (refl, refl)
+on_flags false = (refl, refl)
 
 -- ---- a number, or a text that no number begins with
 
@@ -166,7 +133,7 @@ IsBelow n = IsNumber n × (ltb 0 n && leb n (2 ^ 31) ≡ true)
 abbrev pub IsAbove : ℕ → Type 0
 IsAbove n = IsNumber n × (ltb n (2 ^ 31) ≡ true)
 
--- a number below 0 behind its sign, and one that isn't below 0
+-- a number below 0 after its sign, and one that isn't below 0
 abbrev below_reader : Reader ℤ
 below_reader = as_at minus (check_at (λ n. ltb 0 n && leb n (2 ^ 31)) number_at)
 

@@ -5,10 +5,11 @@ use Rattle.std.proofs.lemmas.List.{length-append}
 use Rattle.event_kinds.specs.Events.{Item}
 use Rattle.event_kinds.specs.declared.entry.Item.TheVariants as items
 use Rattle.std.proofs.lemmas.Bool.Decides.{nat_tests}
-use Rattle.event_kinds.specs.Texts.{item_text, changes_text, in_line}
+use Rattle.base_types.specs.Names.{in_line}
+use Rattle.event_kinds.specs.Texts.{item_text, changes_text}
 use Rattle.event_kinds.specs.Entries.{IsItem, AreItems}
 use Rattle.event_kinds.specs.Readers.{lit_at, pair_at, more_at}
-use Rattle.event_kinds.specs.Reading.{in_token, add_of, put_of, remove_of, force_of, item_cases, item_at, with_item, rest_items_at, items_cases, items_at}
+use Rattle.event_kinds.specs.Reading.{in_token, force_of, item_cases, item_at, with_item, rest_items_at, items_cases, items_at}
 use Rattle.event_kinds.proofs.Spelling.{stops, Spells, Behind, choose_behind, AreUpTo, Repeats, first_and_more, more_spells, Part, behind_part, again_part}
 use Rattle.event_kinds.proofs.Fields.{TokenEnds}
 use Rattle.event_kinds.proofs.Parts.{number_part}
@@ -17,11 +18,11 @@ use Rattle.event_kinds.proofs.RowLaws.{row_part, key_part}
 item_behind : Behind [] item_text IsItem item_at
 unfolding item_at
 item_behind = choose_behind item_text IsItem item_cases (
-  behind_part row_part (codes "+") add_of item_text IsItem (λ row h. refl) (λ row h. h),
+  behind_part row_part (codes "+") items.Add item_text IsItem (λ row h. refl) (λ row h. h),
   (
-    behind_part row_part (codes "=") put_of item_text IsItem (λ row h. refl) (λ row h. h),
+    behind_part row_part (codes "=") items.Put item_text IsItem (λ row h. refl) (λ row h. h),
     (
-      behind_part key_part (codes "-") remove_of item_text IsItem (λ key h. refl) (λ key h. h),
+      behind_part key_part (codes "-") items.Remove item_text IsItem (λ key h. refl) (λ key h. h),
       (
         behind_part number_part (codes "!") force_of item_text IsItem (λ n h. refl) (λ n h. h),
         tt,
@@ -32,9 +33,9 @@ item_behind = choose_behind item_text IsItem item_cases (
 
 item_again : (item : Item) (rest : List ℕ) → IsItem item → TokenEnds rest → item_at (item_text item ++ rest) ≡ Some (item, rest)
 unfolding item_at lit_at
-item_again (items.Add row) rest is end = again_part row_part add_of row rest is tt
-item_again (items.Put row) rest is end = again_part row_part put_of row rest is tt
-item_again (items.Remove key) rest is end = again_part key_part remove_of key rest is tt
+item_again (items.Add row) rest is end = again_part row_part items.Add row rest is tt
+item_again (items.Put row) rest is end = again_part row_part items.Put row rest is tt
+item_again (items.Remove key) rest is end = again_part key_part items.Remove key rest is tt
 item_again (items.Force rel) rest is end = again_part number_part force_of rel.0 rest is end
 
 pub item_spells : Spells item_text IsItem TokenEnds item_at

@@ -1,22 +1,21 @@
 -- A single value that is read is spelled so, and what is spelled so is read.
-use Rattle.std.proofs.Common.{◌≡◌, ℕ, ◌+◌, ◌^◌, ◌<◌, ◌≤◌, Bool, true, false, cond, ltb, leb, ◌&&◌, ◌||◌, ◌⊎◌, inl, inr, List, [], ◌∷◌, length, take, drop, get_or, Option, Some, None, Result, Ok, Err, refl, sym, ap, subst, ◌∙◌, arith, rules, codes, decimal, fold}
+use Rattle.std.proofs.Common.{◌≡◌, ℕ, ◌^◌, ◌<◌, Bool, true, false, cond, ltb, leb, ◌&&◌, ◌||◌, ◌⊎◌, inl, inr, List, [], ◌∷◌, Option, Some, None, Result, Ok, Err, refl, sym, ap, subst, ◌∙◌, arith, rules, codes, decimal, fold}
 use Rattle.std.specs.Prelude.{is_none, IfOk, IfErr}
 use Rattle.std.specs.Result.{result_ok}
 use Rattle.std.specs.List.{list_all}
 use Rattle.std.specs.Str.{bytes_eq}
 use Rattle.std.proofs.lemmas.Slice.Eq.{bytes_eq-Decides}
-use Rattle.std.proofs.lemmas.List.{take_more, take-append-drop}
-use Rattle.std.proofs.lemmas.List.Sums.{list_all-from_AllPass, fold-append}
+use Rattle.std.proofs.lemmas.List.Sums.{list_all-from_AllPass}
 use Rattle.std.proofs.lemmas.List.Folds.{list_all-append}
 use Rattle.std.proofs.lemmas.Bool.Decides.{nat_tests}
 use Rattle.std.proofs.lemmas.Str.Parse.{IsNumeralModel, numerals_by_fold}
 use Rattle.std.proofs.lemmas.Fmt.{digits_decimal, digits_value-decimal}
 use Rattle.base_types.specs.Names.{digit_more, number_of_digits, is_digit, is_name_byte, is_word_byte, is_text_byte, short_fault, name_fault, dropped_name, IsWord, IsText, IsDropped, IsDroppedName, IsAnyName}
-use Rattle.base_types.specs.declared.name_fault.NameFault.{NameFault}
+use Rattle.event_kinds.specs.Events.{NameFault}
 use Rattle.base_types.proofs.Names.{name_parts, word_parts, text_parts}
 use Rattle.base_types.proofs.DroppedNumbers.{shown}
 use Rattle.event_kinds.specs.Entries.{IsNumber}
-use Rattle.event_kinds.specs.Reading.{in_token, number_of, shown_digits, is_dropped_name, name_of, word_of, text_of, worded}
+use Rattle.event_kinds.specs.Reading.{in_token, number_of, shown_digits, is_dropped_name, any_name_of, word_of, check_text_of, worded}
 use Rattle.event_kinds.proofs.Spelling.{passed, both, Values}
 
 -- a test that each byte passes passes each byte of the list
@@ -125,8 +124,8 @@ name_pass : (text : List ℕ) → IsAnyName text → list_all in_token text ≡ 
 name_pass text (inl plain) = all_by is_name_byte in_token name_byte_in_token text (list_all-from_AllPass is_name_byte text (name_parts text plain).bytes)
 name_pass text (inr dropped) = dropped_pass dropped.0 text dropped.1
 
-pub name_values : Values in_token (λ text. text) IsAnyName name_of
-unfolding name_of
+pub name_values : Values in_token (λ text. text) IsAnyName any_name_of
+unfolding any_name_of
 name_values = record {
   takes = λ bytes text e. let p = passed (is_none (name_fault bytes) || is_dropped_name bytes) bytes text e in
       (p.1, subst IsAnyName p.1 (name_is bytes p.0));
@@ -143,8 +142,8 @@ word_values = record {
   pass = λ text h. all_by is_word_byte in_token word_byte_in_token text (list_all-from_AllPass is_word_byte text (word_parts text h).bytes);
 }
 
-pub text_values : Values in_token (λ text. text) IsText text_of
-unfolding text_of
+pub text_values : Values in_token (λ text. text) IsText check_text_of
+unfolding check_text_of
 text_values = record {
   takes = λ bytes text e. let p = passed (is_none (short_fault is_text_byte bytes)) bytes text e in
       (p.1, subst IsText p.1 (no_fault (short_fault is_text_byte bytes) p.0));
@@ -164,10 +163,13 @@ worded_takes word (y ∷ ys) text x e = found (bytes_eq (word y) text) y x (word
     (λ same is. sym (bytes_same (word y) text same) ∙ ap word is)
     (λ rest. worded_takes word ys text x rest)
 
+-- a value is read of its word, whose bytes are those of a token
+abbrev pub IsReadOfWord : {X : Type 0} → (X → List ℕ) → List X → X → Type 0
+IsReadOfWord word xs x = (worded word xs (word x) ≡ Some x) × (list_all in_token (word x) ≡ true)
+
 -- every value is in the list
-pub worded_values : {X : Type 0} (word : X → List ℕ) (xs : List X) → ((x : X) → worded word xs (word x) ≡ Some x) → ((x : X) → list_all in_token (word x) ≡ true)
-    → Values in_token word (λ x. Unit {0}) (worded word xs)
-worded_values word xs again pass = record { takes = λ text x e. (worded_takes word xs text x e, tt); again = λ x h. again x; pass = λ x h. pass x }
+pub worded_values : {X : Type 0} (word : X → List ℕ) (xs : List X) → ((x : X) → IsReadOfWord word xs x) → Values in_token word (λ x. Unit {0}) (worded word xs)
+worded_values word xs each = record { takes = λ text x e. (worded_takes word xs text x e, tt); again = λ x h. (each x).0; pass = λ x h. (each x).1 }
 
 -- ---- what constructors answer
 
@@ -179,8 +181,8 @@ some_fault : {X : Type 0} (o : Option X) (x : X) → o ≡ Some x → is_none o 
 some_fault o x e = rw e refl
 
 pub name_found : (text : List ℕ) (r : Result (List ℕ) NameFault) → IfOk r (λ name. (name ≡ text) × IsAnyName text)
-    → IfErr r (λ fault. (name_fault text ≡ Some fault) × (IsDroppedName text → ⊥)) → result_ok r ≡ name_of text
-unfolding name_of
+    → IfErr r (λ fault. (name_fault text ≡ Some fault) × (IsDroppedName text → ⊥)) → result_ok r ≡ any_name_of text
+unfolding any_name_of
 name_found text (Ok name) ok err = rw (name_test text ok.1, ok.0) refl
 name_found text (Err fault) ok err =
     let dropped : is_dropped_name text ≡ false = never (is_dropped_name text) (λ yes. err.1 (dropped_yes text yes)) in
@@ -193,28 +195,7 @@ word_found text (Ok word) ok err = rw (ok.1, ok.0) refl
 word_found text (Err fault) ok err = rw (some_fault (short_fault is_word_byte text) fault err) refl
 
 pub text_found : (text : List ℕ) (r : Result (List ℕ) NameFault) → IfOk r (λ made. (made ≡ text) × IsText text)
-    → IfErr r (λ fault. short_fault is_text_byte text ≡ Some fault) → result_ok r ≡ text_of text
-unfolding text_of
+    → IfErr r (λ fault. short_fault is_text_byte text ≡ Some fault) → result_ok r ≡ check_text_of text
+unfolding check_text_of
 text_found text (Ok made) ok err = rw (ok.1, ok.0) refl
 text_found text (Err fault) ok err = rw (some_fault (short_fault is_text_byte text) fault err) refl
-
--- ---- the value of digits
-
-grows : (n : ℕ) (digits : List ℕ) → n ≤ fold digit_more n digits
-grows n [] = omega arith
-grows n (d ∷ digits) = omega (arith, grows (digit_more n d) digits)
-
-front_below : (digits : List ℕ) (k : ℕ) → number_of_digits (take k digits) ≤ number_of_digits digits
-front_below digits k =
-    let whole : number_of_digits digits ≡ fold digit_more (number_of_digits (take k digits)) (drop k digits) =
-    ap number_of_digits (sym (take-append-drop k digits)) ∙ fold-append digit_more 0 (take k digits) (drop k digits) in
-    omega (arith, whole, grows (number_of_digits (take k digits)) (drop k digits))
-
--- a value that is too great stays so with more digits
-pub too_great : (digits : List ℕ) (i number : ℕ) → i < length digits → number ≡ number_of_digits (take i digits)
-    → 2 ^ 32 ≤ digit_more number (get_or digits i 0) → 2 ^ 32 ≤ number_of_digits digits
-too_great digits i number within same high =
-    let byte = get_or digits i 0 in
-    let one : number_of_digits (take (i + 1) digits) ≡ digit_more number byte =
-    ap number_of_digits (take_more digits i 0 within) ∙ fold-append digit_more 0 (take i digits) (byte ∷ []) ∙ ap (λ n. digit_more n byte) (sym same) in
-    omega (arith, front_below digits (i + 1), one, high)

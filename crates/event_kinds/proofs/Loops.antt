@@ -10,21 +10,21 @@ one_turn most turn h = omega arith
 no_turn : (most turn : ℕ) → (turn < most → ⊥) → most - turn ≡ 0
 no_turn most turn h = omega arith
 
--- the fixed text doesn't stand in front: nothing more is read
+-- the bytes don't begin with the fixed text: nothing more is read
 pub loop_stops : {X : Type 0} (lit : List ℕ) (f : Reader X) (most turn : ℕ) (front : List X) (bytes : List ℕ) (whole : Option (List X × List ℕ)) → turn < most
     → lit_at lit bytes ≡ None → with_front front (more_at lit f (most - turn) bytes) ≡ whole → whole ≡ Some (front, bytes)
 unfolding more_at
 loop_stops lit f most turn front bytes whole within missing same =
     sym same ∙ ap (λ n. with_front front (more_at lit f n bytes)) (one_turn most turn within) ∙ rw (missing, or_at) (ap (λ l. Some (l, bytes)) (append-nil front))
 
--- it stands there, and no value behind it
+-- they begin with it, and no value follows
 pub loop_fails : {X : Type 0} (lit : List ℕ) (f : Reader X) (most turn : ℕ) (front : List X) (bytes rest : List ℕ) (whole : Option (List X × List ℕ)) → turn < most
     → lit_at lit bytes ≡ Some rest → f rest ≡ None → with_front front (more_at lit f (most - turn) bytes) ≡ whole → whole ≡ None
 unfolding more_at
 loop_fails lit f most turn front bytes rest whole within found missing same =
     sym same ∙ ap (λ n. with_front front (more_at lit f n bytes)) (one_turn most turn within) ∙ rw (found, or_at, missing) refl
 
--- a value that was read, and what a reader gives behind it
+-- a value that was read, and what a reader gives after it
 abbrev pub read_and : {X : Type 0} → X → Option (List X × List ℕ) → Option (List X × List ℕ)
 read_and {X} x more = as_at {X = X × List X} {Y = List X} (λ p. p.0 ∷ p.1) (pair_at {X = X} {Y = List X} (λ bytes. Some (x, bytes)) (λ bytes. more)) []
 

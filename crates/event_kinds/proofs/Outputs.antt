@@ -5,7 +5,8 @@ use Rattle.std.proofs.Math.Seq.{take-append_seam}
 use Rattle.std.proofs.lemmas.Option.{some_pair_parts}
 use Rattle.std.proofs.lemmas.Bool.Decides.{nat_tests}
 use Rattle.event_kinds.specs.Events.{Entry, Line}
-use Rattle.event_kinds.specs.Texts.{in_line, entry_text, entries_text, lines_text, text_of}
+use Rattle.base_types.specs.Names.{in_line}
+use Rattle.event_kinds.specs.Texts.{entry_text, entries_text, lines_text, text_of}
 use Rattle.event_kinds.specs.Entries.{IsNumber, IsEntry, IsLine, TextsDiffer}
 use Rattle.event_kinds.specs.Readers.{then_at, choose_at}
 use Rattle.event_kinds.specs.Reading.{number_at, entry_cases}
@@ -19,7 +20,7 @@ regrouped e n h l x = simp append_assoc
 line_regrouped : (a b s c t n l x : List ℕ) → ((((a ++ (((b ++ s) ++ c) ++ s)) ++ t) ++ n) ++ l) ++ x ≡ a ++ ((b ++ s) ++ ((c ++ s) ++ (t ++ (n ++ (l ++ x)))))
 line_regrouped a b s c t n l x = simp append_assoc
 
--- what stands behind the first line
+-- what comes after the first line
 behind_entry : (entry : Entry) (history : List Entry) (lines : List Line) → text_of (entry ∷ history) lines ≡ entry_text entry ++ (10 ∷ text_of history lines)
 behind_entry entry history lines = regrouped (entry_text entry) (codes "\n") (entries_text history) (lines_text lines) (codes "end\n")
 

@@ -1,14 +1,11 @@
--- The single values of a line as parts, and parts with a comma, a parenthesis or a blank behind them.
+-- The single values of a line as parts, and parts with a comma, a parenthesis or a blank after them.
 use Rattle.std.proofs.Common.{◌≡◌, ℕ, ℤ, Bool, List, ◌++◌, Option, sym, ap, codes, decimal}
 use Rattle.std.specs.Prelude.{FitsSigned}
 use Rattle.std.specs.Int.{w32}
 use Rattle.std.specs.Fmt.{signed_decimal}
 use Rattle.base_types.specs.Names.{IsAnyName, IsWord, IsText}
 use Rattle.base_types.specs.Words.{mode_word, kind_word, type_word, state_word, fill_text, nums_text}
-use Rattle.base_types.specs.declared.mode.Mode.{Mode}
-use Rattle.base_types.specs.declared.kind.Kind.{Kind}
-use Rattle.base_types.specs.declared.col_type.ColType.{ColType}
-use Rattle.base_types.specs.declared.index_state.IndexState.{IndexState}
+use Rattle.event_kinds.specs.Events.{Mode, Kind, ColType, IndexState}
 use Rattle.event_kinds.specs.Entries.{IsNumber, AreNums}
 use Rattle.event_kinds.specs.Readers.{none_at}
 use Rattle.event_kinds.specs.Reading.{number_at, name_at, word_at, text_at, mode_at, kind_at, type_at, state_at, flag_at, signed_at, fill_at, nums_at}

@@ -1,14 +1,9 @@
 -- What is read of a row or a key is spelled so, and what is spelled so is read.
 use Rattle.std.proofs.Common.{◌≡◌, ℕ, ℤ, Bool, List, [], ◌++◌, Option, Some, refl, ap, ◌∙◌, append_assoc, codes}
 use Rattle.base_types.specs.Words.{valid_word, live_word, on_word}
-use Rattle.base_types.specs.declared.kind.Kind.{Kind}
-use Rattle.base_types.specs.declared.col_type.ColType.{ColType}
-use Rattle.base_types.specs.declared.index_state.IndexState.{IndexState}
-use Rattle.base_types.specs.declared.row.ConKind.{ConKind}
+use Rattle.event_kinds.specs.Events.{Kind, ColType, IndexState, ConKind, Row, RowKey}
 use Rattle.base_types.specs.declared.row.ConKind.TheVariants as kinds
-use Rattle.base_types.specs.declared.row.Row.{Row}
 use Rattle.base_types.specs.declared.row.Row.TheVariants as rows
-use Rattle.base_types.specs.declared.row_key.RowKey.{RowKey}
 use Rattle.base_types.specs.declared.row_key.RowKey.TheVariants as keys
 use Rattle.event_kinds.specs.Texts.{con_text, row_text, key_text}
 use Rattle.event_kinds.specs.Entries.{IsConKind, IsRow, IsKey}
@@ -18,7 +13,7 @@ use Rattle.event_kinds.proofs.Spelling.{Any, Spells, Behind, choose_behind, Part
 use Rattle.event_kinds.proofs.Fields.{TokenEnds, valid_flags, live_flags, on_flags}
 use Rattle.event_kinds.proofs.Parts.{number_part, name_part, word_part, text_part, kind_part, type_part, state_part, signed_part, fill_part, nums_part, flag_part, comma_part, closed_part}
 
--- the columns of each catalog behind its word
+-- the columns of each catalog after its word
 abbrev class_part : Part (ℕ × (List ℕ × (Kind × Option ℕ)))
 class_part = comma_part number_part (λ rest. refl) (comma_part name_part (λ rest. refl) (comma_part kind_part (λ rest. refl) (closed_part fill_part (λ rest. refl))))
 
@@ -37,7 +32,7 @@ check_part = comma_part (flag_part valid_word valid_flags) (λ rest. refl) text_
 abbrev foreign_part : Part (Bool × (ℕ × (ℕ × ℕ)))
 foreign_part = comma_part (flag_part valid_word valid_flags) (λ rest. refl) (comma_part number_part (λ rest. refl) (comma_part number_part (λ rest. refl) number_part))
 
--- what a constraint says behind its name
+-- what a constraint says after its name
 abbrev what_text : Bool × ConKind → List ℕ
 what_text what = con_text what.0 what.1
 

@@ -24,7 +24,7 @@ pub passed : {A : Type 0} (b : Bool) (x y : A) → cond b (Some x) None ≡ Some
 passed false x y e = absurd cc
 passed true x y e = (refl, cc)
 
--- a text is what a reader gives and the bytes behind it, and the other way round where those may follow
+-- a text is what a reader gives and the bytes after it, and the other way round where those may follow
 pub record Spells {X : Type 0} (text : X → List ℕ) (Is : X → Type 0) (Ends : List ℕ → Type 0) (read : Reader X) : Type 0 where
   pub takes : (bytes : List ℕ) (x : X) (rest : List ℕ) → read bytes ≡ Some (x, rest) → (bytes ≡ text x ++ rest) × Is x
   pub again : (x : X) (rest : List ℕ) → Is x → Ends rest → read (text x ++ rest) ≡ Some (x, rest)
@@ -90,7 +90,7 @@ check_spells {X = X} text Is Ends f p s = record {
   again = λ x rest is end. rw (s.again x rest is.0 end, is.1) refl;
 }
 
--- a fixed text and what stands behind it is read as a value of a wider type
+-- a fixed text and what comes after it is read as a value of a wider type
 pub record Behind {X : Type 0} (lit : List ℕ) (text : X → List ℕ) (Is : X → Type 0) (read : Reader X) : Type 0 where
   pub takes : (bytes : List ℕ) (x : X) (rest : List ℕ) → read bytes ≡ Some (x, rest) → (lit ++ bytes ≡ text x ++ rest) × Is x
 
@@ -103,7 +103,7 @@ behind text Is Ends f lit make text' Is' s spelled well = record {
       rw (← parts.0, ← parts.1) (ap (λ l. lit ++ l) t.0 ∙ sym (append_assoc lit (text a) r) ∙ ap (λ l. l ++ r) (sym (spelled a t.1)), well a t.1));
 }
 
--- what is spelled behind the fixed text is read again
+-- what is spelled after the fixed text is read again
 pub as_again : {X Y : Type 0} (text : X → List ℕ) (Is : X → Type 0) (Ends : List ℕ → Type 0) (f : Reader X) (make : X → Y) (x : X) (rest : List ℕ)
     → Spells text Is Ends f → Is x → Ends rest → as_at make f (text x ++ rest) ≡ Some (make x, rest)
 as_again text Is Ends f make x rest s is end = rw (s.again x rest is end) refl
@@ -120,7 +120,7 @@ or_behind text Is lit f g p q = record {
       (λ read. q.takes bytes x rest read);
 }
 
--- the same behind a fixed text
+-- the same after a fixed text
 pub or_within : {X : Type 0} (text : X → List ℕ) (Is : X → Type 0) (outer lit : List ℕ) (f g : Reader X) → Behind (outer ++ lit) text Is f → Behind outer text Is g → Behind outer text Is (or_at lit f g)
 or_within text Is outer lit f g p q = record {
   takes = λ bytes x rest e. or_case (lit_at lit bytes) f g bytes (x, rest) e
@@ -128,15 +128,15 @@ or_within text Is outer lit f g p q = record {
       (λ read. q.takes bytes x rest read);
 }
 
--- the fixed text stands in front
+-- the bytes begin with the fixed text
 pub or_first : {X : Type 0} (lit bytes rest : List ℕ) (f g : Reader X) (y : Option (X × List ℕ)) → lit_at lit bytes ≡ Some rest → f rest ≡ y → or_at lit f g bytes ≡ y
 or_first lit bytes rest f g y found h = rw (found, or_at) h
 
--- it doesn't
+-- they don't
 pub or_other : {X : Type 0} (lit bytes : List ℕ) (f g : Reader X) (y : Option (X × List ℕ)) → lit_at lit bytes ≡ None → g bytes ≡ y → or_at lit f g bytes ≡ y
 or_other lit bytes f g y missing h = rw (missing, or_at) h
 
--- each way to go on reads behind its own text
+-- each way to go on reads after its own text
 abbrev pub AllBehind : {X : Type 0} → (X → List ℕ) → (X → Type 0) → List (List ℕ × Reader X) → Type 0
 AllBehind text Is [] = Unit {0}
 AllBehind text Is (c ∷ cs) = Behind c.0 text Is c.1 × AllBehind text Is cs
@@ -144,10 +144,6 @@ AllBehind text Is (c ∷ cs) = Behind c.0 text Is c.1 × AllBehind text Is cs
 pub choose_behind : {X : Type 0} (text : X → List ℕ) (Is : X → Type 0) (cs : List (List ℕ × Reader X)) → AllBehind text Is cs → Behind [] text Is (choose_at cs)
 choose_behind text Is [] all = record { takes = λ bytes x rest e. absurd cc }
 choose_behind text Is (c ∷ cs) all = or_behind text Is c.0 c.1 (choose_at cs) all.0 (choose_behind text Is cs all.1)
-
--- a part that is a whole for itself
-pub behind_none : {X : Type 0} (text : X → List ℕ) (Is : X → Type 0) (Ends : List ℕ → Type 0) (f : Reader X) → Spells text Is Ends f → Behind [] text Is f
-behind_none text Is Ends f s = record { takes = s.takes }
 
 -- the bytes that follow begin with none that passes the test
 abbrev pub stops : (ℕ → Bool) → List ℕ → Bool
@@ -187,13 +183,6 @@ field_spells p text Is of v = record {
       rw (← parts.0, ← parts.1) (sym (take-append-drop (prefix_len p bytes) bytes) ∙ ap (λ l. l ++ drop (prefix_len p bytes) bytes) t.0, t.1));
   again = λ x rest is end.
       rw (prefix_seam p (text x) rest (v.pass x is) end, take-append_seam (text x) rest, v.again x is, drop-append_seam (text x) rest) refl;
-}
-
--- a value that has no bytes
-pub none_spells : {X : Type 0} (x : X) (Is : X → Type 0) → ((y : X) → Is y → x ≡ y) → Is x → Spells (λ (y : X). []) Is Any (none_at x)
-none_spells x Is one well = record {
-  takes = λ bytes y rest e. let parts = some_pair_parts x y bytes rest e in rw (← parts.0) (parts.1, well);
-  again = λ y rest is end. rw (one y is) refl;
 }
 
 -- ---- more values, a fixed text before each
@@ -278,7 +267,7 @@ pub record Part (X : Type 0) : Type 1 where
   pub read : Reader X
   pub spells : Spells text Is Ends read
 
--- a part with a fixed text behind it
+-- a part with a fixed text after it
 abbrev pub then_part : {X : Type 0} (p : Part X) (lit : List ℕ) → ((rest : List ℕ) → p.Ends (lit ++ rest)) → Part X
 then_part p lit ends = record {
   text = λ x. p.text x ++ lit;
@@ -288,7 +277,7 @@ then_part p lit ends = record {
   spells = then_spells p.text p.Is p.Ends p.read lit p.spells ends;
 }
 
--- one part behind the other
+-- one part after the other
 abbrev pub pair_part : {X Y : Type 0} (p : Part X) (q : Part Y) → ((y : Y) (rest : List ℕ) → q.Is y → q.Ends rest → p.Ends (q.text y ++ rest)) → Part (X × Y)
 pair_part {X = X} {Y = Y} p q ends = record {
   text = λ (v : X × Y). p.text v.0 ++ q.text v.1;

@@ -1,18 +1,14 @@
 -- Which entries have a text: numbers of four bytes, names as columns may have them, words and texts, and a write of something.
-use Rattle.std.specs.Prelude.{◌≡◌, IsTrue, ℕ, List, ⊤, ◌<◌, ◌≤◌, ◌^◌, length, IfSome, FitsSigned}
+use Rattle.std.specs.Prelude.{◌≡◌, ℕ, List, ⊤, ◌<◌, ◌≤◌, ◌^◌, length, IfSome, FitsSigned}
 use Rattle.std.specs.Int.{w32}
-use Rattle.std.specs.List.{AllByRecursion, list_all}
-use Rattle.base_types.specs.Names.{IsAnyName, IsWord, IsText}
-use Rattle.base_types.specs.declared.row.ConKind.{ConKind}
+use Rattle.std.specs.List.{AllByRecursion}
+use Rattle.base_types.specs.Names.{IsAnyName, IsInLine, IsWord, IsText}
+use Rattle.event_kinds.specs.Events.{ConKind, Row, RowKey, Purpose, Item, Event, Entry, Line}
 use Rattle.base_types.specs.declared.row.ConKind.TheVariants as kinds
-use Rattle.base_types.specs.declared.row.Row.{Row}
 use Rattle.base_types.specs.declared.row.Row.TheVariants as rows
-use Rattle.base_types.specs.declared.row_key.RowKey.{RowKey}
 use Rattle.base_types.specs.declared.row_key.RowKey.TheVariants as keys
-use Rattle.base_types.specs.declared.scan.Purpose.{Purpose}
 use Rattle.base_types.specs.declared.scan.Purpose.TheVariants as scans
-use Rattle.event_kinds.specs.Events.{Item, Event, Entry, Line}
-use Rattle.event_kinds.specs.Texts.{in_line, text_of}
+use Rattle.event_kinds.specs.Texts.{text_of}
 use Rattle.event_kinds.specs.declared.entry.Item.TheVariants as items
 use Rattle.event_kinds.specs.declared.entry.Event.TheVariants as events
 
@@ -92,17 +88,33 @@ IsEvent (events.Gone from) = IsNumber from
 IsEvent events.Fail = ⊤
 IsEvent events.Stop = ⊤
 
+-- an event, but for the changes of a write
+abbrev pub IsHead : Event → Type 0
+IsHead (events.Write xid changes) = IsNumber xid.0
+IsHead event = IsEvent event
+
+-- a write changes something
+abbrev pub HasChange : Event → Type 0
+HasChange (events.Write xid changes) = 0 < length changes
+HasChange event = ⊤
+
 -- an entry
 pub record IsEntry (entry : Entry) : Type 0 where
   pub backend : IsNumber entry.backend
   pub command : IsNumber entry.command
   pub event : IsEvent entry.event
 
+-- an entry, but for the changes of a write
+pub record IsEntryHead (entry : Entry) : Type 0 where
+  pub backend : IsNumber entry.backend
+  pub command : IsNumber entry.command
+  pub event : IsHead entry.event
+
 -- an answer line: numbers of four bytes, and a text without a line's end
 pub record IsLine (line : Line) : Type 0 where
   pub backend : IsNumber line.backend
   pub command : IsNumber line.command
-  pub text : IsTrue (list_all in_line line.text)
+  pub text : IsInLine line.text
 
 -- different pairs of a history and its answer lines have different texts
 abbrev pub TextsDiffer : Type 0

@@ -1,6 +1,6 @@
 -- The text of each fault of reading.
 use Rattle.std.specs.Prelude.{ℕ, List, codes}
-use Rattle.event_kinds.specs.declared.fault.EntryFault.{EntryFault}
+use Rattle.event_kinds.specs.Events.{EntryFault}
 use Rattle.event_kinds.specs.declared.fault.EntryFault.TheVariants as faults
 
 -- why no entry was read

@@ -1,4 +1,4 @@
--- How parts of a line are read: a reader gives the value in front and the bytes behind it, or nothing.
+-- How parts of a line are read: a reader gives the first value and the bytes after it, or nothing.
 use Rattle.std.specs.Prelude.{◌≡◌, ℕ, zero, suc, Bool, nat_eq, Option, Some, None, List, [], ◌∷◌, ◌++◌, length, take, drop, if◌then◌else◌}
 use Rattle.std.specs.List.{starts_with, prefix_len}
 
@@ -12,19 +12,19 @@ None >>= f = None
 abbrev pub Reader : Type 0 → Type 0
 Reader X = List ℕ → Option (X × List ℕ)
 
--- the bytes behind a fixed text
+-- the bytes after a fixed text
 unfoldable pub lit_at : List ℕ → List ℕ → Option (List ℕ)
 lit_at text bytes = if starts_with nat_eq bytes text then Some (drop (length text) bytes) else None
 
--- the bytes in front that pass a test, as a value
+-- the first bytes, as many as pass a test, as a value
 abbrev pub field_at : {X : Type 0} → (ℕ → Bool) → (List ℕ → Option X) → Reader X
 field_at p of bytes = of (take (prefix_len p bytes) bytes) >>= λ x. Some (x, drop (prefix_len p bytes) bytes)
 
--- one part behind the other
+-- one part after the other
 abbrev pub pair_at : {X Y : Type 0} → Reader X → Reader Y → Reader (X × Y)
 pair_at f g bytes = f bytes >>= λ x. g x.1 >>= λ y. Some ((x.0, y.0), y.1)
 
--- a part with a fixed text behind it
+-- a part with a fixed text after it
 abbrev pub then_at : {X : Type 0} → Reader X → List ℕ → Reader X
 then_at f text bytes = f bytes >>= λ x. lit_at text x.1 >>= λ rest. Some (x.0, rest)
 
@@ -40,11 +40,11 @@ check_at p f bytes = f bytes >>= λ x. if p x.0 then Some x else None
 abbrev pub none_at : {X : Type 0} → X → Reader X
 none_at x bytes = Some (x, bytes)
 
--- a fixed text says how to go on behind it, or else another reader reads
+-- a fixed text says how to go on after it, or else another reader reads
 abbrev pub or_at : {X : Type 0} → List ℕ → Reader X → Reader X → Reader X
 or_at text behind other bytes = elim (lit_at text bytes) [ None ↦ other bytes | Some rest ↦ behind rest ]
 
--- the first of some fixed texts that stands in front says how to go on behind it
+-- the first of some fixed texts that the bytes begin with says how to go on after it
 abbrev pub choose_at : {X : Type 0} → List (List ℕ × Reader X) → Reader X
 choose_at [] bytes = None
 choose_at (c ∷ cs) bytes = or_at c.0 c.1 (choose_at cs) bytes

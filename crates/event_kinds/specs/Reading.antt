@@ -3,24 +3,14 @@ use Rattle.std.specs.Prelude.{ℕ, ℤ, pos, negsuc, zero, suc, Bool, true, fals
 use Rattle.std.specs.List.{find}
 use Rattle.std.specs.Str.{bytes_eq}
 use Rattle.base_types.specs.Names.{is_digit, is_word_byte, is_text_byte, short_fault, name_fault, number_of_digits, dropped_name}
-use Rattle.base_types.specs.Words.{mode_word, kind_word, type_word, state_word, valid_word, live_word, on_word}
-use Rattle.base_types.specs.declared.mode.Mode.{Mode}
-use Rattle.base_types.specs.declared.mode.Mode.TheVariants.{AccessShare, RowShare, RowExclusive, ShareUpdateExclusive, Share, ShareRowExclusive, Exclusive, AccessExclusive}
-use Rattle.base_types.specs.declared.kind.Kind.{Kind}
+use Rattle.base_types.specs.Words.{mode_word, kind_word, type_word, state_word, valid_word, live_word, on_word, modes, col_types}
+use Rattle.event_kinds.specs.Events.{Mode, Kind, ColType, IndexState, ConKind, Row, RowKey, Purpose, Item, Event, Entry}
 use Rattle.base_types.specs.declared.kind.Kind.TheVariants.{Table, Index}
-use Rattle.base_types.specs.declared.col_type.ColType.{ColType}
-use Rattle.base_types.specs.declared.col_type.ColType.TheVariants as types
-use Rattle.base_types.specs.declared.index_state.IndexState.{IndexState}
 use Rattle.base_types.specs.declared.index_state.IndexState.TheVariants.{Neither, Valid}
-use Rattle.base_types.specs.declared.row.ConKind.{ConKind}
 use Rattle.base_types.specs.declared.row.ConKind.TheVariants as kinds
-use Rattle.base_types.specs.declared.row.Row.{Row}
 use Rattle.base_types.specs.declared.row.Row.TheVariants as rows
-use Rattle.base_types.specs.declared.row_key.RowKey.{RowKey}
 use Rattle.base_types.specs.declared.row_key.RowKey.TheVariants as keys
-use Rattle.base_types.specs.declared.scan.Purpose.{Purpose}
 use Rattle.base_types.specs.declared.scan.Purpose.TheVariants as scans
-use Rattle.event_kinds.specs.Events.{Item, Event, Entry}
 use Rattle.event_kinds.specs.declared.entry.Item.TheVariants as items
 use Rattle.event_kinds.specs.declared.entry.Event.TheVariants as events
 use Rattle.event_kinds.specs.Readers.{◌>>=◌, Reader, field_at, pair_at, then_at, as_at, check_at, none_at, or_at, choose_at, more_at}
@@ -42,24 +32,16 @@ unfoldable pub is_dropped_name : List ℕ → Bool
 is_dropped_name text = nat_lt 0 (number_of_digits (shown_digits text)) && nat_le (number_of_digits (shown_digits text)) 1600 && bytes_eq text (dropped_name (number_of_digits (shown_digits text)))
 
 -- a name that a column may have
-unfoldable pub name_of : List ℕ → Option (List ℕ)
-name_of text = if is_none (name_fault text) || is_dropped_name text then Some text else None
+unfoldable pub any_name_of : List ℕ → Option (List ℕ)
+any_name_of text = if is_none (name_fault text) || is_dropped_name text then Some text else None
 
 -- the word of a default
 unfoldable pub word_of : List ℕ → Option (List ℕ)
 word_of text = if is_none (short_fault is_word_byte text) then Some text else None
 
 -- the text of a check
-unfoldable pub text_of : List ℕ → Option (List ℕ)
-text_of text = if is_none (short_fault is_text_byte text) then Some text else None
-
--- the lock modes
-abbrev pub modes : List Mode
-modes = AccessShare ∷ RowShare ∷ RowExclusive ∷ ShareUpdateExclusive ∷ Share ∷ ShareRowExclusive ∷ Exclusive ∷ AccessExclusive ∷ []
-
--- the types of columns
-abbrev pub col_types : List ColType
-col_types = types.Bool ∷ types.Int2 ∷ types.Int4 ∷ types.Int8 ∷ types.Text ∷ types.Bytea ∷ types.Date ∷ types.Timestamptz ∷ []
+unfoldable pub check_text_of : List ℕ → Option (List ℕ)
+check_text_of text = if is_none (short_fault is_text_byte text) then Some text else None
 
 -- the kinds of a relation
 abbrev pub kinds_listed : List Kind
@@ -87,7 +69,7 @@ digits_at = field_at is_digit number_of
 
 -- a name
 unfoldable pub name_at : Reader (List ℕ)
-name_at = field_at in_token name_of
+name_at = field_at in_token any_name_of
 
 -- the word of a default
 unfoldable pub word_at : Reader (List ℕ)
@@ -95,7 +77,7 @@ word_at = field_at in_token word_of
 
 -- the text of a check
 unfoldable pub text_at : Reader (List ℕ)
-text_at = field_at in_token text_of
+text_at = field_at in_token check_text_of
 
 -- a lock mode
 unfoldable pub mode_at : Reader Mode
@@ -135,16 +117,16 @@ unfoldable pub nums_at : Reader (List ℕ)
 nums_at = as_at (λ p. p.0 ∷ p.1) (pair_at digits_at (more_at (codes "+") digits_at 31))
 
 -- a part and a comma
-abbrev pub comma : {X : Type 0} → Reader X → Reader X
-comma f = then_at f (codes ",")
+abbrev pub then_comma : {X : Type 0} → Reader X → Reader X
+then_comma f = then_at f (codes ",")
 
 -- a part and a parenthesis
-abbrev pub closed : {X : Type 0} → Reader X → Reader X
-closed f = then_at f (codes ")")
+abbrev pub then_paren : {X : Type 0} → Reader X → Reader X
+then_paren f = then_at f (codes ")")
 
 -- a part and a blank
-abbrev pub blank : {X : Type 0} → Reader X → Reader X
-blank f = then_at f (codes " ")
+abbrev pub then_blank : {X : Type 0} → Reader X → Reader X
+then_blank f = then_at f (codes " ")
 
 -- ---- rows
 
@@ -180,29 +162,29 @@ check_of t = (t.0, kinds.Check t.1)
 abbrev pub foreign_of : Bool × (ℕ × (ℕ × ℕ)) → Bool × ConKind
 foreign_of t = (t.0, kinds.Foreign t.1.0 (record { 0 = t.1.1.0 }) t.1.1.1)
 
--- what stands behind `class(`
+-- what comes after `class(`
 unfoldable pub class_at : Reader Row
-class_at = as_at class_of (pair_at (comma number_at) (pair_at (comma name_at) (pair_at (comma kind_at) (closed fill_at))))
+class_at = as_at class_of (pair_at (then_comma number_at) (pair_at (then_comma name_at) (pair_at (then_comma kind_at) (then_paren fill_at))))
 
--- what stands behind `att(`
+-- what comes after `att(`
 unfoldable pub att_at : Reader Row
-att_at = as_at att_of (pair_at (comma number_at) (pair_at (comma number_at) (pair_at (comma name_at) (pair_at (comma type_at) (pair_at (comma signed_at) (closed (flag_at live_word)))))))
+att_at = as_at att_of (pair_at (then_comma number_at) (pair_at (then_comma number_at) (pair_at (then_comma name_at) (pair_at (then_comma type_at) (pair_at (then_comma signed_at) (then_paren (flag_at live_word)))))))
 
--- what stands behind `def(`
+-- what comes after `def(`
 unfoldable pub def_at : Reader Row
-def_at = as_at def_of (pair_at (comma number_at) (pair_at (comma number_at) (pair_at (comma number_at) (closed word_at))))
+def_at = as_at def_of (pair_at (then_comma number_at) (pair_at (then_comma number_at) (pair_at (then_comma number_at) (then_paren word_at))))
 
--- what stands behind `ind(`
+-- what comes after `ind(`
 unfoldable pub ind_at : Reader Row
-ind_at = as_at ind_of (pair_at (comma number_at) (pair_at (comma number_at) (pair_at (comma state_at) (closed nums_at))))
+ind_at = as_at ind_of (pair_at (then_comma number_at) (pair_at (then_comma number_at) (pair_at (then_comma state_at) (then_paren nums_at))))
 
--- what stands behind `c,` in a constraint
+-- what comes after `c,` in a constraint
 unfoldable pub check_con_at : Reader (Bool × ConKind)
-check_con_at = as_at check_of (pair_at (comma (flag_at valid_word)) text_at)
+check_con_at = as_at check_of (pair_at (then_comma (flag_at valid_word)) text_at)
 
--- what stands behind `f,` in a constraint
+-- what comes after `f,` in a constraint
 unfoldable pub foreign_con_at : Reader (Bool × ConKind)
-foreign_con_at = as_at foreign_of (pair_at (comma (flag_at valid_word)) (pair_at (comma number_at) (pair_at (comma number_at) number_at)))
+foreign_con_at = as_at foreign_of (pair_at (then_comma (flag_at valid_word)) (pair_at (then_comma number_at) (pair_at (then_comma number_at) number_at)))
 
 -- the ways to go on for what_at
 abbrev pub what_cases : List (List ℕ × Reader (Bool × ConKind))
@@ -212,13 +194,13 @@ what_cases = (codes "c,", check_con_at) ∷ (codes "f,", foreign_con_at) ∷ []
 unfoldable pub what_at : Reader (Bool × ConKind)
 what_at = choose_at what_cases
 
--- what stands behind `con(`
+-- what comes after `con(`
 unfoldable pub con_at : Reader Row
-con_at = as_at con_of (pair_at (comma number_at) (pair_at (comma number_at) (pair_at (comma name_at) (closed what_at))))
+con_at = as_at con_of (pair_at (then_comma number_at) (pair_at (then_comma number_at) (pair_at (then_comma name_at) (then_paren what_at))))
 
--- what stands behind `trg(`
+-- what comes after `trg(`
 unfoldable pub trg_at : Reader Row
-trg_at = as_at trg_of (pair_at (comma number_at) (pair_at (comma number_at) (pair_at (comma name_at) (closed (flag_at on_word)))))
+trg_at = as_at trg_of (pair_at (then_comma number_at) (pair_at (then_comma number_at) (pair_at (then_comma name_at) (then_paren (flag_at on_word)))))
 
 -- the ways to go on for row_at
 abbrev pub row_cases : List (List ℕ × Reader Row)
@@ -254,7 +236,7 @@ key_trg_of n = keys.Trg (record { 0 = n })
 
 -- the ways to go on for key_at
 abbrev pub key_cases : List (List ℕ × Reader RowKey)
-key_cases = (codes "class(", as_at key_class_of (closed number_at)) ∷ (codes "att(", as_at key_att_of (pair_at (comma number_at) (closed number_at))) ∷ (codes "def(", as_at key_def_of (closed number_at)) ∷ (codes "ind(", as_at key_ind_of (closed number_at)) ∷ (codes "con(", as_at key_con_of (closed number_at)) ∷ (codes "trg(", as_at key_trg_of (closed number_at)) ∷ []
+key_cases = (codes "class(", as_at key_class_of (then_paren number_at)) ∷ (codes "att(", as_at key_att_of (pair_at (then_comma number_at) (then_paren number_at))) ∷ (codes "def(", as_at key_def_of (then_paren number_at)) ∷ (codes "ind(", as_at key_ind_of (then_paren number_at)) ∷ (codes "con(", as_at key_con_of (then_paren number_at)) ∷ (codes "trg(", as_at key_trg_of (then_paren number_at)) ∷ []
 
 -- a row's key
 unfoldable pub key_at : Reader RowKey
@@ -262,31 +244,19 @@ key_at = choose_at key_cases
 
 -- ---- changes
 
--- the change that adds a row
-abbrev pub add_of : Row → Item
-add_of row = items.Add row
-
--- the change that puts a row in the place of another
-abbrev pub put_of : Row → Item
-put_of row = items.Put row
-
--- the change that removes a row
-abbrev pub remove_of : RowKey → Item
-remove_of key = items.Remove key
-
 -- the change that forces a message
 abbrev pub force_of : ℕ → Item
 force_of n = items.Force (record { 0 = n })
 
 -- the ways to go on for item_at
 abbrev pub item_cases : List (List ℕ × Reader Item)
-item_cases = (codes "+", as_at add_of row_at) ∷ (codes "=", as_at put_of row_at) ∷ (codes "-", as_at remove_of key_at) ∷ (codes "!", as_at force_of number_at) ∷ []
+item_cases = (codes "+", as_at items.Add row_at) ∷ (codes "=", as_at items.Put row_at) ∷ (codes "-", as_at items.Remove key_at) ∷ (codes "!", as_at force_of number_at) ∷ []
 
 -- a change
 unfoldable pub item_at : Reader Item
 item_at = choose_at item_cases
 
--- a change in front of others
+-- a change before others
 abbrev pub with_item : Item × List Item → List Item
 with_item p = p.0 ∷ p.1
 
@@ -303,10 +273,6 @@ unfoldable pub items_at : Reader (List Item)
 items_at = choose_at items_cases
 
 -- ---- scans
-
--- the scan of a relation by its name
-abbrev pub rel_name_of : List ℕ → Purpose
-rel_name_of name = scans.RelName name
 
 -- the scan of a relation by its oid
 abbrev pub rel_oid_of : ℕ → Purpose
@@ -358,55 +324,35 @@ relation_scan_at = or_at (codes "attlist ") (as_at att_list_of number_at) (or_at
 
 -- a scan
 unfoldable pub purpose_at : Reader Purpose
-purpose_at = or_at (codes "relname ") (as_at rel_name_of name_at) (or_at (codes "reloid ") (as_at rel_oid_of number_at) (or_at (codes "attname ") (as_at att_name_of (pair_at (blank number_at) name_at)) relation_scan_at))
+purpose_at = or_at (codes "relname ") (as_at scans.RelName name_at) (or_at (codes "reloid ") (as_at rel_oid_of number_at) (or_at (codes "attname ") (as_at att_name_of (pair_at (then_blank number_at) name_at)) relation_scan_at))
 
 -- ---- events
 
--- a fetch of so many messages
-abbrev pub fetch_of : ℕ → Event
-fetch_of n = events.Fetch n
-
 -- a lock, granted or held by another
-abbrev pub lock_of : ℕ × (Mode × Option (ℕ × Mode)) → Event
-lock_of (rel, (mode, None)) = events.LockOk (record { 0 = rel }) mode
-lock_of (rel, (mode, Some held)) = events.LockHeld (record { 0 = rel }) mode held.0 held.1
+abbrev pub lock_event_of : ℕ × (Mode × Option (ℕ × Mode)) → Event
+lock_event_of (rel, (mode, None)) = events.LockOk (record { 0 = rel }) mode
+lock_event_of (rel, (mode, Some held)) = events.LockHeld (record { 0 = rel }) mode held.0 held.1
 
--- a lock given back
-abbrev pub unlock_of : ℕ × Mode → Event
-unlock_of t = events.Unlock (record { 0 = t.0 }) t.1
+-- a lock released
+abbrev pub unlock_event_of : ℕ × Mode → Event
+unlock_event_of t = events.Unlock (record { 0 = t.0 }) t.1
 
 -- a scan and how many rows came
-abbrev pub scan_of : Purpose × ℕ → Event
-scan_of t = events.Scan t.0 t.1
+abbrev pub scan_event_of : Purpose × ℕ → Event
+scan_event_of t = events.Scan t.0 t.1
 
 -- a write of changes
-abbrev pub write_of : ℕ × List Item → Event
-write_of t = events.Write (record { 0 = t.0 }) t.1
+abbrev pub write_event_of : ℕ × List Item → Event
+write_event_of t = events.Write (record { 0 = t.0 }) t.1
 
 -- a clash with a row, or with a running transaction
-abbrev pub clash_of : List ℕ × (Bool × ℕ) → Event
-clash_of (name, (true, n)) = events.ClashRow name (record { 0 = n })
-clash_of (name, (false, n)) = events.ClashRunning name (record { 0 = n })
+abbrev pub clash_event_of : List ℕ × (Bool × ℕ) → Event
+clash_event_of (name, (true, n)) = events.ClashRow name (record { 0 = n })
+clash_event_of (name, (false, n)) = events.ClashRunning name (record { 0 = n })
 
 -- a transaction committed
 abbrev pub visible_of : ℕ → Event
 visible_of n = events.Visible (record { 0 = n })
-
--- so many messages put into the queue
-abbrev pub publish_of : ℕ → Event
-publish_of n = events.Publish n
-
--- locks given back from a command on
-abbrev pub release_of : ℕ → Event
-release_of n = events.Release n
-
--- writes taken back from a command on
-abbrev pub gone_of : ℕ → Event
-gone_of n = events.Gone n
-
--- who holds a lock, and in which mode
-abbrev pub held_of : ℕ × Mode → Option (ℕ × Mode)
-held_of t = Some t
 
 -- a row has the name
 abbrev pub of_row : ℕ → Bool × ℕ
@@ -416,21 +362,21 @@ of_row n = (true, n)
 abbrev pub of_running : ℕ → Bool × ℕ
 of_running n = (false, n)
 
--- a fetch, behind its word
+-- a fetch, after its word
 unfoldable pub fetch_at : Reader Event
-fetch_at = or_at (codes "reset") (none_at events.FetchReset) (as_at fetch_of number_at)
+fetch_at = or_at (codes "reset") (none_at events.FetchReset) (as_at events.Fetch number_at)
 
 -- the ways to go on for holder_at
 abbrev pub holder_cases : List (List ℕ × Reader (Option (ℕ × Mode)))
-holder_cases = (codes "ok", none_at None) ∷ (codes "held ", as_at held_of (pair_at (blank number_at) mode_at)) ∷ []
+holder_cases = (codes "ok", none_at None) ∷ (codes "held ", as_at Some (pair_at (then_blank number_at) mode_at)) ∷ []
 
 -- whether a lock was granted, or who holds it
 unfoldable pub holder_at : Reader (Option (ℕ × Mode))
 holder_at = choose_at holder_cases
 
--- a lock, behind its word
+-- a lock, after its word
 unfoldable pub lock_event_at : Reader Event
-lock_event_at = as_at lock_of (pair_at (blank number_at) (pair_at (blank mode_at) holder_at))
+lock_event_at = as_at lock_event_of (pair_at (then_blank number_at) (pair_at (then_blank mode_at) holder_at))
 
 -- the ways to go on for owner_at
 abbrev pub owner_cases : List (List ℕ × Reader (Bool × ℕ))
@@ -442,7 +388,7 @@ owner_at = choose_at owner_cases
 
 -- the ways to go on for number_event_at
 abbrev pub number_event_cases : List (List ℕ × Reader Event)
-number_event_cases = (codes "visible ", as_at visible_of number_at) ∷ (codes "publish ", as_at publish_of number_at) ∷ (codes "release ", as_at release_of number_at) ∷ (codes "gone ", as_at gone_of number_at) ∷ (codes "fail", none_at events.Fail) ∷ (codes "stop", none_at events.Stop) ∷ []
+number_event_cases = (codes "visible ", as_at visible_of number_at) ∷ (codes "publish ", as_at events.Publish number_at) ∷ (codes "release ", as_at events.Release number_at) ∷ (codes "gone ", as_at events.Gone number_at) ∷ (codes "fail", none_at events.Fail) ∷ (codes "stop", none_at events.Stop) ∷ []
 
 -- an event whose text is a word and a number, or that ends something
 unfoldable pub number_event_at : Reader Event
@@ -452,21 +398,21 @@ number_event_at = choose_at number_event_cases
 unfoldable pub short_event_at : Reader Event
 short_event_at = or_at (codes "start") (none_at events.Start) (or_at (codes "look yes") (none_at (events.Look true)) (or_at (codes "look no") (none_at (events.Look false)) (or_at (codes "fetch ") fetch_at number_event_at)))
 
--- a lock given back, behind its word
+-- a lock released, after its word
 unfoldable pub unlock_event_at : Reader Event
-unlock_event_at = as_at unlock_of (pair_at (blank number_at) mode_at)
+unlock_event_at = as_at unlock_event_of (pair_at (then_blank number_at) mode_at)
 
--- a scan, behind its word
+-- a scan, after its word
 unfoldable pub scan_event_at : Reader Event
-scan_event_at = as_at scan_of (pair_at (then_at purpose_at (codes " rows ")) number_at)
+scan_event_at = as_at scan_event_of (pair_at (then_at purpose_at (codes " rows ")) number_at)
 
--- a write, behind its word
+-- a write, after its word
 unfoldable pub write_event_at : Reader Event
-write_event_at = as_at write_of (pair_at number_at items_at)
+write_event_at = as_at write_event_of (pair_at number_at items_at)
 
--- a clash, behind its word
+-- a clash, after its word
 unfoldable pub clash_event_at : Reader Event
-clash_event_at = as_at clash_of (pair_at (blank name_at) owner_at)
+clash_event_at = as_at clash_event_of (pair_at (then_blank name_at) owner_at)
 
 -- an event
 unfoldable pub event_at : Reader Event
@@ -475,12 +421,12 @@ event_at = or_at (codes "lock ") lock_event_at (or_at (codes "unlock ") unlock_e
 -- ---- entries
 
 -- the entry of a backend, a command and an event
-abbrev pub entry_of : ℕ × (ℕ × Event) → Entry
-entry_of t = record { backend = t.0; command = t.1.0; event = t.1.1 }
+abbrev pub placed_of : ℕ × (ℕ × Event) → Entry
+placed_of t = record { backend = t.0; command = t.1.0; event = t.1.1 }
 
--- an entry, behind the letter of its line
+-- an entry, after the letter of its line
 unfoldable pub placed_at : Reader Entry
-placed_at = as_at entry_of (pair_at (blank number_at) (pair_at (blank number_at) event_at))
+placed_at = as_at placed_of (pair_at (then_blank number_at) (pair_at (then_blank number_at) event_at))
 
 -- nothing is left
 abbrev pub ends_here : {X : Type 0} → X × List ℕ → Option X

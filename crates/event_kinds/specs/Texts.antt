@@ -1,18 +1,13 @@
 -- The text of each row, scan, event, entry and answer line.
-use Rattle.std.specs.Prelude.{ℕ, Bool, true, false, not, ◌==◌, List, [], ◌++◌, codes, decimal}
+use Rattle.std.specs.Prelude.{ℕ, Bool, true, false, List, [], ◌++◌, codes, decimal}
 use Rattle.std.specs.Fmt.{signed_decimal}
 use Rattle.std.specs.List.{flat_map}
-use Rattle.base_types.specs.declared.ids.Oid.{Oid}
-use Rattle.base_types.specs.declared.row.ConKind.{ConKind}
+use Rattle.event_kinds.specs.Events.{Oid, ConKind, Row, RowKey, Purpose, Item, Event, Entry, Line}
 use Rattle.base_types.specs.declared.row.ConKind.TheVariants as kinds
-use Rattle.base_types.specs.declared.row.Row.{Row}
 use Rattle.base_types.specs.declared.row.Row.TheVariants as rows
-use Rattle.base_types.specs.declared.row_key.RowKey.{RowKey}
 use Rattle.base_types.specs.declared.row_key.RowKey.TheVariants as keys
-use Rattle.base_types.specs.declared.scan.Purpose.{Purpose}
 use Rattle.base_types.specs.declared.scan.Purpose.TheVariants as scans
 use Rattle.base_types.specs.Words.{mode_word, kind_word, type_word, state_word, valid_word, live_word, on_word, fill_text, nums_text}
-use Rattle.event_kinds.specs.Events.{Item, Event, Entry, Line}
 use Rattle.event_kinds.specs.declared.entry.Item.TheVariants as items
 use Rattle.event_kinds.specs.declared.entry.Event.TheVariants as events
 
@@ -20,7 +15,7 @@ use Rattle.event_kinds.specs.declared.entry.Event.TheVariants as events
 abbrev pub oid_text : Oid → List ℕ
 oid_text oid = decimal oid.0
 
--- what a constraint's row says behind its name
+-- what a constraint's row says after its name
 abbrev pub con_text : Bool → ConKind → List ℕ
 con_text valid (kinds.Check text) = codes "c," ++ valid_word valid ++ codes "," ++ text
 con_text valid (kinds.Foreign num refrel refnum) = codes "f," ++ valid_word valid ++ codes "," ++ decimal num ++ codes "," ++ oid_text refrel ++ codes "," ++ decimal refnum
@@ -34,7 +29,7 @@ row_text (rows.Ind index table state nums) = codes "ind(" ++ oid_text index ++ c
 row_text (rows.Con oid rel name valid what) = codes "con(" ++ oid_text oid ++ codes "," ++ oid_text rel ++ codes "," ++ name ++ codes "," ++ con_text valid what ++ codes ")"
 row_text (rows.Trg oid rel name on) = codes "trg(" ++ oid_text oid ++ codes "," ++ oid_text rel ++ codes "," ++ name ++ codes "," ++ on_word on ++ codes ")"
 
--- a row's key, written as the front of its row
+-- a row's key, written as the beginning of its row
 abbrev pub key_text : RowKey → List ℕ
 key_text (keys.Class oid) = codes "class(" ++ oid_text oid ++ codes ")"
 key_text (keys.Att rel num) = codes "att(" ++ oid_text rel ++ codes "," ++ decimal num ++ codes ")"
@@ -85,7 +80,7 @@ event_text (events.Gone from) = codes "gone " ++ decimal from
 event_text events.Fail = codes "fail"
 event_text events.Stop = codes "stop"
 
--- an event's text, but of a write what stands in front of its changes
+-- an event's text, but of a write what comes before its changes
 abbrev pub event_head : Event → List ℕ
 event_head (events.Write xid changes) = codes "write " ++ decimal xid.0
 event_head event = event_text event
@@ -103,7 +98,7 @@ place_text backend command = decimal backend ++ codes " " ++ decimal command ++ 
 abbrev pub entry_text : Entry → List ℕ
 entry_text entry = codes "h " ++ place_text entry.backend entry.command ++ event_text entry.event
 
--- an entry's line, but of a write what stands in front of its changes
+-- an entry's line, but of a write what comes before its changes
 abbrev pub entry_head : Entry → List ℕ
 entry_head entry = codes "h " ++ place_text entry.backend entry.command ++ event_head entry.event
 
@@ -130,10 +125,6 @@ entries_text history = flat_map (λ entry. ended (entry_text entry)) history
 -- the answer lines
 abbrev pub lines_text : List Line → List ℕ
 lines_text lines = flat_map (λ line. ended (line_text line)) lines
-
--- a byte that is no line's end
-abbrev pub in_line : ℕ → Bool
-in_line byte = not (byte == 10)
 
 -- a history and its answer lines, and the line `end`
 abbrev pub text_of : List Entry → List Line → List ℕ

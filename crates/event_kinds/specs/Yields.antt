@@ -1,6 +1,6 @@
 -- What a reading function answers that takes memory.
 use Rattle.std.specs.Prelude.{◌≡◌, ℕ, ⊤, Option, Some, None, Result, Ok, Err, List}
-use Rattle.event_kinds.specs.declared.fault.EntryFault.{EntryFault}
+use Rattle.event_kinds.specs.Events.{EntryFault}
 use Rattle.event_kinds.specs.declared.fault.EntryFault.TheVariants as faults
 
 -- nothing is read where the fault is `Bad`

@@ -1,18 +1,18 @@
 ghost use Rattle.std.specs.Prelude.{◌≡◌, ◌≤◌, None, Some, MatchOption, length};
 ghost use Rattle.std.specs.List.{prefix_len};
-ghost use Rattle.base_types.specs.Names.{is_digit};
+ghost use Rattle.base_types.specs.Names.{is_digit as digit};
 ghost use Rattle.event_kinds.specs.Reading.{in_token};
 
 use crate::value::{
-    is_digit_byte, is_token_byte, kind_of, live_of, mode_of, name_of, number_of, on_of, state_of,
-    text_of, type_of, valid_of, word_of,
+    is_token_byte, kind_of, live_of, mode_of, name_of, number_of, on_of, state_of, text_of,
+    type_of, valid_of, word_of,
 };
-use base_types::{ColType, IndexState, Kind, Mode, Name, Text, Word};
+use base_types::{ColType, IndexState, Kind, Mode, Name, Text, Word, is_digit};
 use std::marker::Model;
 
 // The bytes of a line that are still to be read.
 #[derive(Drop)]
-pub struct Cursor<'a> {
+pub(crate) struct Cursor<'a> {
     rest: &'a [u8],
 }
 
@@ -31,22 +31,22 @@ impl<'a> Cursor<'a> {
     ghost use Rattle.event_kinds.specs.Readers.{Gives, lit_at};
     ghost use Rattle.event_kinds.specs.Reading.{number_at, digits_at, name_at, word_at, text_at, mode_at, kind_at, type_at, state_at, flag_at};
 
-    pub fn new(line: &'a [u8]) -> Cursor<'a>
+    pub(crate) fn new(line: &'a [u8]) -> Cursor<'a>
         ensures { result ≡ line.now }
     {
         Cursor { rest: line }
     }
 
     // How many bytes are left.
-    pub fn len(&self) -> usize
+    pub(crate) fn len(&self) -> usize
         ensures { result ≡ length self.now }
     {
         self.rest.len()
     }
 
-    // A fixed text. Where it doesn't stand in front, nothing is read.
+    // A fixed text. Where the bytes don't begin with it, nothing is read.
     #[tactic(auto, unfolding(crate::specs::Readers::lit_at))]
-    pub fn eat(&mut self, text: &[u8]) -> Option<()>
+    pub(crate) fn eat(&mut self, text: &[u8]) -> Option<()>
         ensures { MatchOption result ((lit_at text.now self.old ≡ None) × (self.new ≡ self.old)) (λ _. lit_at text.now self.old ≡ Some self.new) }
     {
         if !self.rest.starts_with(text) {
@@ -58,7 +58,7 @@ impl<'a> Cursor<'a> {
 
     // A number.
     #[tactic(auto, unfolding(crate::specs::Reading::number_at))]
-    pub fn number(&mut self) -> Option<u32>
+    pub(crate) fn number(&mut self) -> Option<u32>
         ensures { Gives result self.new (number_at self.old) }
     {
         let (token, rest) = self.rest.split_at(token_len(self.rest));
@@ -69,7 +69,7 @@ impl<'a> Cursor<'a> {
 
     // A number that any byte but a digit ends.
     #[tactic(auto, unfolding(crate::specs::Reading::digits_at))]
-    pub fn digits(&mut self) -> Option<u32>
+    pub(crate) fn digits(&mut self) -> Option<u32>
         ensures { Gives result self.new (digits_at self.old) }
     {
         let (token, rest) = self.rest.split_at(digits_len(self.rest));
@@ -80,7 +80,7 @@ impl<'a> Cursor<'a> {
 
     // A name, also the one of a dropped column.
     #[tactic(auto, unfolding(crate::specs::Reading::name_at))]
-    pub fn name(&mut self) -> Option<Name>
+    pub(crate) fn name(&mut self) -> Option<Name>
         ensures { Gives result self.new (name_at self.old) }
     {
         let (token, rest) = self.rest.split_at(token_len(self.rest));
@@ -91,7 +91,7 @@ impl<'a> Cursor<'a> {
 
     // The word of a default.
     #[tactic(auto, unfolding(crate::specs::Reading::word_at))]
-    pub fn word(&mut self) -> Option<Word>
+    pub(crate) fn word(&mut self) -> Option<Word>
         ensures { Gives result self.new (word_at self.old) }
     {
         let (token, rest) = self.rest.split_at(token_len(self.rest));
@@ -102,7 +102,7 @@ impl<'a> Cursor<'a> {
 
     // The text of a check.
     #[tactic(auto, unfolding(crate::specs::Reading::text_at))]
-    pub fn text(&mut self) -> Option<Text>
+    pub(crate) fn text(&mut self) -> Option<Text>
         ensures { Gives result self.new (text_at self.old) }
     {
         let (token, rest) = self.rest.split_at(token_len(self.rest));
@@ -113,7 +113,7 @@ impl<'a> Cursor<'a> {
 
     // A lock mode.
     #[tactic(auto, unfolding(crate::specs::Reading::mode_at))]
-    pub fn mode(&mut self) -> Option<Mode>
+    pub(crate) fn mode(&mut self) -> Option<Mode>
         ensures { Gives result self.new (mode_at self.old) }
     {
         let (token, rest) = self.rest.split_at(token_len(self.rest));
@@ -124,7 +124,7 @@ impl<'a> Cursor<'a> {
 
     // A table or an index.
     #[tactic(auto, unfolding(crate::specs::Reading::kind_at))]
-    pub fn kind(&mut self) -> Option<Kind>
+    pub(crate) fn kind(&mut self) -> Option<Kind>
         ensures { Gives result self.new (kind_at self.old) }
     {
         let (token, rest) = self.rest.split_at(token_len(self.rest));
@@ -135,7 +135,7 @@ impl<'a> Cursor<'a> {
 
     // The type of a column.
     #[tactic(auto, unfolding(crate::specs::Reading::type_at))]
-    pub fn col_type(&mut self) -> Option<ColType>
+    pub(crate) fn col_type(&mut self) -> Option<ColType>
         ensures { Gives result self.new (type_at self.old) }
     {
         let (token, rest) = self.rest.split_at(token_len(self.rest));
@@ -146,7 +146,7 @@ impl<'a> Cursor<'a> {
 
     // Whether an index is valid.
     #[tactic(auto, unfolding(crate::specs::Reading::state_at))]
-    pub fn state(&mut self) -> Option<IndexState>
+    pub(crate) fn state(&mut self) -> Option<IndexState>
         ensures { Gives result self.new (state_at self.old) }
     {
         let (token, rest) = self.rest.split_at(token_len(self.rest));
@@ -157,7 +157,7 @@ impl<'a> Cursor<'a> {
 
     // Whether a constraint is known to hold.
     #[tactic(auto, unfolding(crate::specs::Reading::flag_at))]
-    pub fn valid(&mut self) -> Option<bool>
+    pub(crate) fn valid(&mut self) -> Option<bool>
         ensures { Gives result self.new (flag_at valid_word self.old) }
     {
         let (token, rest) = self.rest.split_at(token_len(self.rest));
@@ -168,7 +168,7 @@ impl<'a> Cursor<'a> {
 
     // Whether a column is live.
     #[tactic(auto, unfolding(crate::specs::Reading::flag_at))]
-    pub fn live(&mut self) -> Option<bool>
+    pub(crate) fn live(&mut self) -> Option<bool>
         ensures { Gives result self.new (flag_at live_word self.old) }
     {
         let (token, rest) = self.rest.split_at(token_len(self.rest));
@@ -179,7 +179,7 @@ impl<'a> Cursor<'a> {
 
     // Whether a trigger is enabled.
     #[tactic(auto, unfolding(crate::specs::Reading::flag_at))]
-    pub fn on(&mut self) -> Option<bool>
+    pub(crate) fn on(&mut self) -> Option<bool>
         ensures { Gives result self.new (flag_at on_word self.old) }
     {
         let (token, rest) = self.rest.split_at(token_len(self.rest));
@@ -189,7 +189,7 @@ impl<'a> Cursor<'a> {
     }
 }
 
-// How many bytes stand in front of a blank, a comma, a parenthesis or a line's end.
+// How many bytes come before a blank, a comma, a parenthesis or a line's end.
 fn token_len(bytes: &[u8]) -> usize
     ensures text { result ≡ prefix_len in_token bytes.now }
     ensures short { result ≤ length bytes.now }
@@ -202,13 +202,13 @@ fn token_len(bytes: &[u8]) -> usize
     bytes.len()
 }
 
-// How many digits stand in front.
+// How many digits come first.
 fn digits_len(bytes: &[u8]) -> usize
-    ensures text { result ≡ prefix_len is_digit bytes.now }
+    ensures text { result ≡ prefix_len digit bytes.now }
     ensures short { result ≤ length bytes.now }
 {
     for (i, byte) in bytes.iter().enumerate() {
-        if !is_digit_byte(*byte) {
+        if !is_digit(*byte) {
             return i;
         }
     }

@@ -7,7 +7,7 @@ pub enum Item {
     Add(Row),
     /// A row in the place of the one with its key.
     Put(Row),
-    /// The row with this key goes.
+    /// The row with this key is deleted.
     Remove(RowKey),
     /// No change of a row, but a message for this relation.
     Force(Oid),
@@ -16,19 +16,20 @@ pub enum Item {
 /// What a backend did.
 #[derive(Drop)]
 pub enum Event {
-    /// It joined the queue (`SharedInvalBackendInit`).
+    /// It joined the queue (`SharedInvalBackendInit`, sinvaladt.c).
     Start,
-    /// It read its has-messages word.
+    /// It looked whether it has messages (`hasMessages`, sinvaladt.c).
     Look {
         yes: bool,
     },
-    /// It took messages from the queue, 1 to 32 of them (`SIGetDataEntries`).
+    /// It took messages from the queue, 1 to 32 of them (`SIGetDataEntries`, sinvaladt.c).
     Fetch {
         count: u32,
     },
-    /// It had fallen too far behind, and was told to reset all it caches.
+    /// It had fallen too far behind, and was told to reset all that it caches (`resetState`,
+    /// sinvaladt.c).
     FetchReset,
-    /// It was granted a lock (`LockAcquire`).
+    /// It was granted a lock (`LockAcquire`, lock.c).
     LockOk {
         rel: Oid,
         mode: Mode,
@@ -40,17 +41,17 @@ pub enum Event {
         holder: u32,
         held: Mode,
     },
-    /// It gave a lock back (`LockRelease`).
+    /// It released a lock (`LockRelease`, lock.c).
     Unlock {
         rel: Oid,
         mode: Mode,
     },
-    /// It scanned a catalog, and so many rows came (`systable_beginscan`).
+    /// It scanned a catalog, and so many rows came (`systable_getnext`, genam.c).
     Scan {
         purpose: Purpose,
         rows: u32,
     },
-    /// It changed catalog rows, all at once.
+    /// It changed catalog rows, all at once (`CatalogTupleInsert` and its like, indexing.c).
     Write {
         xid: Xid,
         items: Listed<Item>,
@@ -65,25 +66,28 @@ pub enum Event {
         name: Name,
         xid: Xid,
     },
-    /// Its transaction is committed.
+    /// Its transaction is committed (`ProcArrayEndTransaction`, procarray.c).
     Visible {
         xid: Xid,
     },
-    /// It put its next messages into the queue, 1 to 64 of them (`SIInsertDataEntries`).
+    /// It put its next messages into the queue, 1 to 64 of them (`SIInsertDataEntries`,
+    /// sinvaladt.c).
     Publish {
         count: u32,
     },
-    /// It gave back the locks that it was granted in commands of this number and above.
+    /// It released the locks that it was granted in commands of this number and above
+    /// (`LockReleaseAll`, lock.c).
     Release {
         from: u32,
     },
-    /// What it wrote in commands of this number and above is taken back.
+    /// What it wrote in commands of this number and above is undone (`AbortSubTransaction`,
+    /// xact.c).
     Gone {
         from: u32,
     },
-    /// Memory was refused to it.
+    /// It ran out of memory.
     Fail,
-    /// It left the queue.
+    /// It left the queue (`CleanupInvalidationState`, sinvaladt.c).
     Stop,
 }
 

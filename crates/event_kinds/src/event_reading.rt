@@ -10,7 +10,7 @@ impl<'a> Cursor<'a> {
 
     // A change of a write.
     #[tactic(auto, unfolding(crate::specs::Reading::item_at))]
-    pub fn item(&mut self) -> Option<Item>
+    pub(crate) fn item(&mut self) -> Option<Item>
         ensures { Gives result self.new (item_at self.old) }
     {
         if self.eat(b"+").is_some() {
@@ -87,7 +87,7 @@ impl<'a> Cursor<'a> {
 
     // Events whose texts are one word or a word and a number.
     #[tactic(auto, unfolding(crate::specs::Reading::short_event_at))]
-    pub fn short_event(&mut self) -> Option<Event>
+    pub(crate) fn short_event(&mut self) -> Option<Event>
         ensures { Gives result self.new (short_event_at self.old) }
     {
         if self.eat(b"start").is_some() {
@@ -139,7 +139,7 @@ impl<'a> Cursor<'a> {
         None
     }
 
-    // A fetch, behind its word.
+    // A fetch, after its word.
     #[tactic(auto, unfolding(crate::specs::Reading::fetch_at))]
     fn fetch(&mut self) -> Option<Event>
         ensures { Gives result self.new (fetch_at self.old) }
@@ -168,9 +168,9 @@ impl<'a> Cursor<'a> {
         None
     }
 
-    // A lock, behind its word.
+    // A lock, after its word.
     #[tactic(auto, unfolding(crate::specs::Reading::lock_event_at))]
-    pub fn lock_event(&mut self) -> Option<Event>
+    pub(crate) fn lock_event(&mut self) -> Option<Event>
         ensures { Gives result self.new (lock_event_at self.old) }
     {
         let rel = Oid(self.number()?);
@@ -188,9 +188,9 @@ impl<'a> Cursor<'a> {
         }
     }
 
-    // An unlock, behind its word.
+    // An unlock, after its word.
     #[tactic(auto, unfolding(crate::specs::Reading::unlock_event_at))]
-    pub fn unlock_event(&mut self) -> Option<Event>
+    pub(crate) fn unlock_event(&mut self) -> Option<Event>
         ensures { Gives result self.new (unlock_event_at self.old) }
     {
         let rel = Oid(self.number()?);
@@ -199,9 +199,9 @@ impl<'a> Cursor<'a> {
         Some(Event::Unlock { rel, mode })
     }
 
-    // A scan, behind its word.
+    // A scan, after its word.
     #[tactic(auto, unfolding(crate::specs::Reading::scan_event_at))]
-    pub fn scan_event(&mut self) -> Option<Event>
+    pub(crate) fn scan_event(&mut self) -> Option<Event>
         ensures { Gives result self.new (scan_event_at self.old) }
     {
         let purpose = self.purpose()?;
@@ -224,9 +224,9 @@ impl<'a> Cursor<'a> {
         None
     }
 
-    // A clash, behind its word.
+    // A clash, after its word.
     #[tactic(auto, unfolding(crate::specs::Reading::clash_event_at))]
-    pub fn clash_event(&mut self) -> Option<Event>
+    pub(crate) fn clash_event(&mut self) -> Option<Event>
         ensures { Gives result self.new (clash_event_at self.old) }
     {
         let name = self.name()?;

@@ -5,11 +5,11 @@ use std::error::Error;
 use std::fmt;
 
 /// Why no entry was read of a line.
-#[derive(Clone, Copy, Debug, PartialEq, Eq)]
+#[derive(Clone, Copy, Debug)]
 pub enum EntryFault {
     /// No entry has this text.
     Bad,
-    /// Memory was refused.
+    /// Out of memory.
     NoMemory,
 }
 

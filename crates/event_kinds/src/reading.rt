@@ -2,7 +2,7 @@ ghost use Rattle.std.specs.Prelude.{◌≡◌, List, [], ◌∷◌, ◌++◌, If
 ghost use Rattle.event_kinds.specs.Readers.{with_front};
 ghost use Rattle.event_kinds.specs.Yields.{Yields, YieldsWhole};
 ghost use Rattle.event_kinds.specs.Events.{Item, Entry};
-ghost use Rattle.event_kinds.specs.Entries.{IsEntry, TextsDiffer};
+ghost use Rattle.event_kinds.specs.Entries.{IsEntry};
 ghost use Rattle.event_kinds.specs.Reading.{entry_at};
 ghost use Rattle.event_kinds.specs.Texts.{entry_text};
 
@@ -19,12 +19,6 @@ pub fn read_entry(alloc: Global, line: &[u8]) -> Result<Entry, EntryFault>
 {
     whole_entry(alloc, line)
 }
-
-/// Different pairs of a history and its answer lines have different texts. It does nothing: its
-/// contract is the law.
-pub fn texts_differ()
-    ensures { TextsDiffer }
-{}
 
 // The entry of a whole line.
 #[tactic(auto, unfolding(crate::specs::Reading::entry_at))]
@@ -87,7 +81,7 @@ impl<'a> Cursor<'a> {
         self.short_event().ok_or(EntryFault::Bad)
     }
 
-    // A write, behind its word.
+    // A write, after its word.
     #[tactic(auto, unfolding(crate::specs::Reading::write_event_at))]
     fn write_event(&mut self, alloc: Global) -> Result<Event, EntryFault>
         ensures { Yields result self.new (write_event_at self.old) }

@@ -6,11 +6,11 @@ use base_types::{ConKind, Nums, Oid, Row, RowKey};
 
 // Rows and their keys.
 impl<'a> Cursor<'a> {
-    ghost use Rattle.event_kinds.specs.Reading.{class_at, att_at, def_at, ind_at, check_con_at, foreign_con_at, what_at, con_at, trg_at, row_at, key_at, number_at, digits_at, signed_at, fill_at, nums_at, closed};
+    ghost use Rattle.event_kinds.specs.Reading.{class_at, att_at, def_at, ind_at, check_con_at, foreign_con_at, what_at, con_at, trg_at, row_at, key_at, number_at, digits_at, signed_at, fill_at, nums_at, then_paren};
 
     // A row.
     #[tactic(auto, unfolding(crate::specs::Reading::row_at))]
-    pub fn row(&mut self) -> Option<Row>
+    pub(crate) fn row(&mut self) -> Option<Row>
         ensures { Gives result self.new (row_at self.old) }
     {
         if self.eat(b"class(").is_some() {
@@ -255,7 +255,7 @@ impl<'a> Cursor<'a> {
 
     // A number and a parenthesis.
     fn last_number(&mut self) -> Option<u32>
-        ensures { Gives result self.new (closed number_at self.old) }
+        ensures { Gives result self.new (then_paren number_at self.old) }
     {
         let number = self.number()?;
         self.eat(b")")?;
@@ -264,7 +264,7 @@ impl<'a> Cursor<'a> {
 
     // A row's key.
     #[tactic(auto, unfolding(crate::specs::Reading::key_at))]
-    pub fn key(&mut self) -> Option<RowKey>
+    pub(crate) fn key(&mut self) -> Option<RowKey>
         ensures { Gives result self.new (key_at self.old) }
     {
         if self.eat(b"class(").is_some() {

@@ -8,7 +8,7 @@ use base_types::LineBuffer;
 use edge_io::{Failed, GatheringSink, Sink};
 use event_kinds::{Entry, Item, changes_in, push_entry_head, push_item};
 
-/// Writes an entry as a line. After `Failed` the sink has taken a front of it.
+/// Writes an entry as a line. After `Failed` the sink has taken a prefix of it.
 pub fn put_entry<K: Sink>(sink: &mut K, entry: &Entry) -> Result<(), Failed>
     ensures bytes { Sends (K.taken sink.old) (K.taken sink.new) result (ended (entry_text entry.now)) }
     ensures cause { HasCause (K.faults sink.old) (K.faults sink.new) result }
@@ -63,7 +63,7 @@ fn gather_changes<K: Sink>(out: &mut GatheringSink<'_, K>, changes: &[Item]) -> 
     Ok(())
 }
 
-// A change of a write behind a blank.
+// A change of a write after a blank.
 fn gather_change<K: Sink>(out: &mut GatheringSink<'_, K>, change: &Item) -> Result<(), Failed>
     ensures bytes { Gathers (gathered K.taken out.old) (gathered K.taken out.new) result (codes " " ++ item_text change.now) }
     ensures cause { HasCause (K.faults out.old.sink.now) (K.faults out.new.sink.now) result }

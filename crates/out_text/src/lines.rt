@@ -8,7 +8,7 @@ use base_types::LineBuffer;
 use edge_io::{Failed, GatheringSink, Sink};
 use event_kinds::{Line, push_line_head};
 
-/// Writes an answer line. After `Failed` the sink has taken a front of it.
+/// Writes an answer line. After `Failed` the sink has taken a prefix of it.
 pub fn put_line<K: Sink>(sink: &mut K, line: &Line) -> Result<(), Failed>
     ensures bytes { Sends (K.taken sink.old) (K.taken sink.new) result (ended (line_text line.now)) }
     ensures cause { HasCause (K.faults sink.old) (K.faults sink.new) result }

@@ -9,7 +9,7 @@ use crate::lines::gather_lines;
 use edge_io::{Failed, GatheringSink, Sink};
 use event_kinds::{Entry, Line};
 
-/// Writes a history, the answer lines and the line `end`. After `Failed` the sink has taken a front
+/// Writes a history, the answer lines and the line `end`. After `Failed` the sink has taken a prefix
 /// of it.
 pub fn put_output<K: Sink>(sink: &mut K, history: &[Entry], lines: &[Line]) -> Result<(), Failed>
     ensures bytes { Sends (K.taken sink.old) (K.taken sink.new) result (text_of history.now lines.now) }

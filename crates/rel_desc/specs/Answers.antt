@@ -2,19 +2,14 @@
 use Rattle.std.specs.Prelude.{ℕ, Option, Some, None, List, [], ◌++◌, codes, decimal}
 use Rattle.std.specs.Fmt.{signed_decimal}
 use Rattle.std.specs.List.{flat_map, join_by}
-use Rattle.base_types.specs.declared.ids.Oid.{Oid}
-use Rattle.base_types.specs.declared.kind.Kind.{Kind}
+use Rattle.rel_desc.specs.Types.{Oid, Kind, CommandError, Shown, Column, Answer}
 use Rattle.base_types.specs.declared.kind.Kind.TheVariants.{Table, Index}
 use Rattle.base_types.specs.Words.{mode_word, type_word, field_word}
 use Rattle.base_types.specs.Fields.{or_dash}
-use Rattle.rel_desc.specs.declared.error.CommandError.{CommandError}
 use Rattle.rel_desc.specs.declared.error.CommandError.TheVariants as errors
-use Rattle.rel_desc.specs.declared.answer.Shown.{Shown}
-use Rattle.rel_desc.specs.declared.answer.Column.{Column}
-use Rattle.rel_desc.specs.declared.answer.Answer.{Answer}
 use Rattle.rel_desc.specs.declared.answer.Answer.TheVariants as answers
 
--- where a value was read, behind one that others may change
+-- where a value was read, after one that others may change
 abbrev pub as_of_text : Option ℕ → List ℕ
 as_of_text None = []
 as_of_text (Some at) = codes " as of " ++ decimal at
@@ -71,6 +66,27 @@ error_text (errors.TriggerExists name) = codes "42710 trigger " ++ name ++ codes
 error_text (errors.OutOfRange value) = codes "22023 value " ++ signed_decimal value ++ codes " is out of range"
 error_text errors.TooManyColumns = codes "54011 too many columns"
 error_text errors.WantOfMemory = codes "53200 want of memory"
+
+-- the name that an error speaks of; some speak of none
+abbrev pub error_name : CommandError → List ℕ
+error_name (errors.NoSavepoint name) = name
+error_name (errors.NotOpen name) = name
+error_name (errors.NoRelation name at) = name
+error_name (errors.NoIndex name at) = name
+error_name (errors.NoConstraint name) = name
+error_name (errors.NoTrigger name) = name
+error_name (errors.NameInUse name xid) = name
+error_name (errors.RelationExists name) = name
+error_name (errors.NotTable name) = name
+error_name (errors.NotIndex name) = name
+error_name (errors.NoField name field) = name
+error_name (errors.Depends name) = name
+error_name (errors.ColumnUsed name) = name
+error_name (errors.ColumnExists name) = name
+error_name (errors.NoColumn name) = name
+error_name (errors.ConstraintExists name) = name
+error_name (errors.TriggerExists name) = name
+error_name error = []
 
 -- an answer
 abbrev pub answer_text : Answer → List ℕ

@@ -5,7 +5,7 @@ use base_types::{Field, Mode, Name, Oid, Xid};
 pub enum CommandError {
     /// 25P02: the block has failed, and this command isn't one that ends or mends it.
     BlockFailed,
-    /// 25P01: the command wants a transaction block.
+    /// 25P01: the command needs a transaction block.
     NoBlock,
     /// 3B001: the block has no savepoint of this name.
     NoSavepoint { name: Name },
@@ -49,6 +49,6 @@ pub enum CommandError {
     OutOfRange { value: i64 },
     /// 54011: more columns than a table or an index may have.
     TooManyColumns,
-    /// 53200: memory was refused.
+    /// 53200: out of memory.
     WantOfMemory,
 }

@@ -2,7 +2,7 @@ ghost use Rattle.std.specs.Prelude.{◌≡◌};
 
 use std::marker::Model;
 
-/// The text of one field of a relation.
+/// The text of one field of a relation, without a line's end.
 #[derive(Drop)]
 pub struct Value {
     text: Vec<u8>,
@@ -10,15 +10,22 @@ pub struct Value {
 
 impl Model for Value {
     ghost use Rattle.std.specs.Prelude.{List, ℕ};
+    ghost use Rattle.base_types.specs.Names.{IsInLine};
 
     ghost Value = { List ℕ };
 
     ghost view = { λ value. value.text.items };
+
+    ghost invariant = { λ value. IsInLine value.text.items };
 }
 
 impl Value {
-    /// The value with this text.
+    ghost use Rattle.base_types.specs.Names.{IsInLine};
+
+    /// The value with this text, as [`base_types::field_text`] gives it. Condition: no byte of it
+    /// ends a line.
     pub fn new(text: Vec<u8>) -> Value
+        requires { IsInLine text.items }
         ensures { result ≡ text.items }
     {
         Value { text }
@@ -26,7 +33,8 @@ impl Value {
 
     /// The text of the value.
     pub fn text(&self) -> &[u8]
-        ensures { result.now ≡ self.now }
+        ensures text { result.now ≡ self.now }
+        ensures in_line { IsInLine self.now }
     {
         self.text.as_slice()
     }

@@ -1,4 +1,4 @@
--- Texts that a line may be put together of.
+-- Texts that a line may be made of.
 use Rattle.std.proofs.Common.{◌≡◌, ◌≤◌, ℕ, Bool, true, ◌&&◌, not, List, length}
 use Rattle.std.specs.Prelude.{nat_le}
 use Rattle.std.specs.List.{AllByRecursion}

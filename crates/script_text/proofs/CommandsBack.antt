@@ -1,4 +1,4 @@
--- What is read of the tokens of a command's pieces is that command, and its pieces may stand in a line.
+-- What is read of the tokens of a command's pieces is that command, and a line may be made of its pieces.
 use Rattle.std.proofs.Common.{◌≡◌, ◌≤◌, ◌<◌, ℕ, ℤ, nat_abs, Bool, true, false, ◌&&◌, Option, Some, None, List, [], ◌∷◌, ◌++◌, length, nat_le, codes, refl, subst, arith}
 use Rattle.std.specs.List.{AllByRecursion, flat_map, list_all}
 use Rattle.std.specs.Str.{bytes_eq}
@@ -16,7 +16,7 @@ use Rattle.base_types.specs.declared.col_type.ColType.{ColType}
 use Rattle.base_types.specs.declared.col_type.ColType.TheVariants as types
 use Rattle.base_types.specs.declared.field.Field.{Field}
 use Rattle.base_types.specs.declared.field.Field.TheVariants as fields
-use Rattle.script_text.specs.Tokens.{tokens, after_words, is_end}
+use Rattle.script_text.specs.Tokens.{tokens, is_end}
 use Rattle.script_text.specs.Operands.{if_none, plain_name_of, word_of, check_text_of, type_of, field_of, lock_words}
 use Rattle.script_text.specs.Commands.{columns_at, names_at, command_of}
 use Rattle.script_text.specs.Spelling.{command_pieces, column_pieces, name_pieces, valid_pieces, shown_pieces, trigger_words, listed}
@@ -159,7 +159,7 @@ foreign_back name constraint column refers ref_column false h k l m n = rw (name
 
 -- ---- commands with a list
 
--- the tokens behind the name of a list's first column, and behind a list's first name
+-- the tokens after the name of a list's first column, and after a list's first name
 abbrev after_column : NewColumn → List NewColumn → List (List ℕ)
 after_column column columns = flat_map tokens (type_word column.col_type ∷ flat_map (λ c. codes "," ∷ column_pieces c) columns ++ codes ")" ∷ [])
 
@@ -320,7 +320,7 @@ unfolding listed
 names_clean [] h = (fixed (codes ")") refl, tt)
 names_clean (n ∷ names) h = (name_piece n h.0, all_of_both IsPiece (flat_map (λ m. codes "," ∷ name_pieces m) names) (codes ")" ∷ []) (more_names_clean names h.1) (fixed (codes ")") refl, tt))
 
--- the pieces of a command may stand in a line
+-- a line may be made of the pieces of a command
 pub pieces_clean : (c : Command) → IsCommand c → AllByRecursion IsPiece (command_pieces c)
 pieces_clean Begin h = (fixed (codes "begin") refl, tt)
 pieces_clean Commit h = (fixed (codes "commit") refl, tt)

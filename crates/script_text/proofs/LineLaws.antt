@@ -10,14 +10,14 @@ use Rattle.script_text.specs.Tokens.{tokens}
 use Rattle.script_text.specs.Spelling.{needs_blank, takes_none_after, with_piece, with_pieces, line_end}
 use Rattle.script_text.specs.Grammar.{Draft, any_line, line_after, tokens_line}
 use Rattle.script_text.proofs.Clean.{is_clean, IsClean, IsPiece}
-use Rattle.script_text.proofs.Joints.{ending, ending_is, pieces_clean, pieces_tokens}
+use Rattle.script_text.proofs.JoinedTokens.{ending, ending_is, pieces_clean, pieces_tokens}
 
 -- ---- a text's lines
 
 no_lf : (b : ℕ) → is_clean b ≡ true → (b == 10) ≡ false
 no_lf b h = grind (arith, nat_tests)
 
--- clean bytes up to an LF are a line
+-- clean bytes up to a line feed are a line
 pub first_text_line : (text rest : List ℕ) → IsClean text → text_lines (text ++ 10 ∷ rest) ≡ (text ++ 10 ∷ []) ∷ text_lines rest
 unfolding text_lines
 first_text_line [] rest h = refl
@@ -51,7 +51,7 @@ no_cr_last (x ∷ y ∷ text) h = let e : length (x ∷ y ∷ text) - 1 ≡ suc 
 no_cr : (text : List ℕ) → IsClean text → ends_in 13 text ≡ false
 no_cr text h = rw (no_cr_last text h) (and_right (not (length text == 0)) false refl)
 
--- clean bytes and an LF are the bytes
+-- clean bytes and a line feed are the bytes
 bare_line : (text : List ℕ) → IsClean text → bare (text ++ 10 ∷ []) ≡ text
 unfolding bare
 bare_line text h = rw (last_is text 10 10, front_is text 10, no_cr text h) refl
@@ -116,7 +116,7 @@ unfolding tokens
 line_read draft pieces h plain =
     clean_line draft (with_pieces [] pieces) (pieces_clean [] pieces tt h) (plain_counts pieces plain) ∙ ap (tokens_line draft) (pieces_tokens [] pieces tt h)
 
--- ---- one line behind another
+-- ---- one line after another
 
 ending_behind : (text : List ℕ) (b : ℕ) (bs : List ℕ) → ending (text ++ b ∷ bs) ≡ ending (b ∷ bs)
 ending_behind [] b bs = refl
@@ -143,7 +143,7 @@ pieces_behind : (text p : List ℕ) (ps : List (List ℕ)) → 1 ≤ length p �
 pieces_behind text p [] some = refl
 pieces_behind text p (q ∷ ps) some = ap (λ (t : List ℕ). with_pieces t ps) (piece_behind text p q some) ∙ pieces_behind text (with_piece p q) ps (some_more p q some)
 
--- no blank stands behind an LF
+-- no blank comes after a line feed
 first_behind : (text p : List ℕ) → ending text ≡ 10 → with_piece text p ≡ text ++ p
 unfolding with_piece
 first_behind text p e = rw (ending_is text, e) refl
@@ -157,18 +157,18 @@ ended_by : (text : List ℕ) → with_piece text line_end ≡ text ++ 10 ∷ []
 unfolding with_piece
 ended_by text = rw (and_right (not (takes_none_after (get_or text (length text - 1) 10))) false refl) refl
 
--- a text that ends in LF has another behind it that does
+-- a text that ends in a line feed, and another after it that does
 pub record IsAfter (text whole added : List ℕ) : Type 0 where
   pub is : whole ≡ text ++ added
   pub ends : ending whole ≡ 10
 
--- a line of pieces behind a text that ends in LF
+-- a line of pieces after a text that ends in a line feed
 pub line_after_text : (text : List ℕ) (ps : List (List ℕ)) → ending text ≡ 10 → AllByRecursion IsPiece ps → IsAfter text (with_pieces text (ps ++ line_end ∷ [])) (line_text ps)
 line_after_text text ps e h =
     let whole : with_pieces text (ps ++ line_end ∷ []) ≡ (text ++ with_pieces [] ps) ++ 10 ∷ [] = fold-append with_piece text ps (line_end ∷ []) ∙ ended_by (with_pieces text ps) ∙ ap (λ (t : List ℕ). t ++ 10 ∷ []) (at_line_start text ps e h) in
     record { is = whole ∙ append_assoc text (with_pieces [] ps) (10 ∷ []); ends = ap ending whole ∙ ending_behind (text ++ with_pieces [] ps) 10 [] }
 
--- lines behind such a text
+-- lines after such a text
 pub lines_after_text : {X : Type 0} (pieces : X → List (List ℕ)) (xs : List X) (text : List ℕ) → ending text ≡ 10 → AllByRecursion (λ x. AllByRecursion IsPiece (pieces x)) xs
     → IsAfter text (with_pieces text (flat_map (λ x. pieces x ++ line_end ∷ []) xs)) (flat_map (λ x. line_text (pieces x)) xs)
 lines_after_text pieces [] text e h = record { is = sym (append-nil text); ends = e }

@@ -18,8 +18,8 @@ use Rattle.script_text.specs.LineForms.{is_size, size_of, first_of, from_part, r
 use Rattle.script_text.specs.Grammar.{Draft, empty_draft, with_ring, with_backends, with_steps, with_command, with_end, ring_line, backends_line, steps_line, command_line, body_line, tokens_line}
 use Rattle.script_text.specs.Spelling.{turns_pieces, from_pieces}
 use Rattle.script_text.proofs.TokenLaws.{number_token, decimal_digits, digits_back, number_back}
-use Rattle.script_text.proofs.Splitting.{is_zero}
-use Rattle.script_text.proofs.Turning.{first_turns}
+use Rattle.script_text.proofs.TokenLengths.{is_zero}
+use Rattle.script_text.proofs.StepItems.{first_turns}
 
 -- ---- numbers
 
@@ -30,7 +30,7 @@ within_tests : (least most n : ℕ) → least ≤ n → n ≤ most → (nat_le l
 within_tests least most n low high = (grind (arith, nat_tests), grind (arith, nat_tests))
 
 -- a number within bounds is read as what it is
-pub within_back : (least most n : ℕ) → least ≤ n → n ≤ most → most < 1000000000 → number_within least most (decimal n) ≡ Some n
+within_back : (least most n : ℕ) → least ≤ n → n ≤ most → most < 1000000000 → number_within least most (decimal n) ≡ Some n
 unfolding number_within
 within_back least most n low high few = let tests = within_tests least most n low high in rw (number_back n (omega arith), tests.0, tests.1) refl
 
@@ -42,7 +42,7 @@ digits_not [] b bs h k = refl
 digits_not (d ∷ ds) b bs h k = rw (digit_not d b (and_parts (is_digit d) (list_all is_digit ds) h).0 k) refl
 
 -- a number is no word
-pub no_word : (n b : ℕ) (bs : List ℕ) → is_digit b ≡ false → bytes_eq (decimal n) (b ∷ bs) ≡ false
+no_word : (n b : ℕ) (bs : List ℕ) → is_digit b ≡ false → bytes_eq (decimal n) (b ∷ bs) ≡ false
 no_word n b bs h = digits_not (decimal n) b bs (decimal_digits n) h
 
 -- ---- the queue
@@ -80,11 +80,11 @@ size_cases : (n : ℕ) → IsQueueSize n → is_size n ≡ true
 size_cases n h = rw h.is (size_power h.power (omega (arith, h.is, h.least)) (omega (arith, h.is, h.most)))
 
 -- `ring` and its tokens
-pub ring_tokens : (size : ℕ) → flat_map tokens (codes "ring" ∷ decimal size ∷ []) ≡ codes "ring" ∷ decimal size ∷ []
+ring_tokens : (size : ℕ) → flat_map tokens (codes "ring" ∷ decimal size ∷ []) ≡ codes "ring" ∷ decimal size ∷ []
 unfolding tokens
 ring_tokens size = rw (number_token size) refl
 
-pub ring_from_tokens : (size from : ℕ) → flat_map tokens (codes "ring" ∷ decimal size ∷ codes "from" ∷ decimal from ∷ []) ≡ codes "ring" ∷ decimal size ∷ codes "from" ∷ decimal from ∷ []
+ring_from_tokens : (size from : ℕ) → flat_map tokens (codes "ring" ∷ decimal size ∷ codes "from" ∷ decimal from ∷ []) ≡ codes "ring" ∷ decimal size ∷ codes "from" ∷ decimal from ∷ []
 unfolding tokens
 ring_from_tokens size from = rw (number_token size, number_token from) refl
 
@@ -131,7 +131,7 @@ backends_tokens n = rw (number_token n) refl
 pub backends_back : (draft : Draft) (n : ℕ) → draft.asked.backends ≡ 0 → IsBackend 64 n → tokens_line draft (flat_map tokens (codes "backends" ∷ decimal n ∷ [])) ≡ Ok (with_backends draft n)
 backends_back draft n none h = ap (tokens_line draft) (backends_tokens n) ∙ backends_by draft n (decimal n) none (within_back 1 64 n h.0 h.1 (omega arith))
 
--- ---- the lines behind it
+-- ---- the lines after it
 
 -- the end
 pub end_back : (draft : Draft) → (draft.asked.backends == 0) ≡ false → draft.has_end ≡ false → tokens_line draft (flat_map tokens (codes "end" ∷ [])) ≡ Ok (with_end draft)
@@ -182,7 +182,7 @@ alone_by : (b c : ℕ) (one : Bool) (rest : List (List ℕ)) → let ts = flat_m
 alone_by b c true rest = rw (one_tokens b rest) (count_from b (flat_map tokens rest))
 alone_by b c false rest = rw (many_tokens b c rest) (count_from b (codes "*" ∷ decimal c ∷ flat_map tokens rest))
 
--- no count stands in front of other steps
+-- other steps don't begin with a count
 alone : (turns : List Turns) → let ts = flat_map tokens (flat_map turns_pieces turns) in count_part ts ≡ Some (1, ts)
 unfolding count_part
 alone [] = refl

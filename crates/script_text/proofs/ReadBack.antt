@@ -18,14 +18,14 @@ use Rattle.script_text.specs.Spelling.{with_pieces, command_pieces, turns_pieces
 use Rattle.script_text.specs.ReadBack.{writes_ring, IsReadBack}
 use Rattle.script_text.proofs.Clean.{is_clean, IsPiece}
 use Rattle.script_text.proofs.TokenLaws.{each_byte, number_piece, decimal_digits}
-use Rattle.script_text.proofs.Joints.{ending, pieces_clean}
+use Rattle.script_text.proofs.JoinedTokens.{ending, pieces_clean}
 use Rattle.script_text.proofs.LineLaws.{line_text, IsPlain, IsAfter, first_text_line, line_read, line_after_text, lines_after_text}
 use Rattle.script_text.proofs.LinesBack.{not_zero, ring_back, backends_back, placed_back, steps_back, end_back}
 use Rattle.script_text.proofs.CommandsBack as commands
 
 -- ---- texts of whole lines
 
--- reading goes on behind the text, in the draft that its lines lead to
+-- reading goes on after the text, in the draft that its lines lead to
 record Leads (draft : Draft) (text : List ℕ) (next : Draft) : Type 0 where
   pub count : ℕ
   pub reads : (number place : ℕ) (rest : List ℕ) → lines_from Refused draft number place (text_lines (text ++ rest)) ≡ lines_from Refused next (number + count) (place + length text) (text_lines rest)

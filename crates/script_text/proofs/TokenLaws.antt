@@ -1,5 +1,5 @@
--- The tokens of a text that is put together of others, and what single ones mean.
-use Rattle.std.proofs.Common.{◌≡◌, ◌<◌, ◌≤◌, ◌^◌, ◌/◌, ◌%◌, ◌-◌, ◌+◌, ◌*◌, ℕ, ℤ, pos, negsuc, zero, suc, Bool, true, false, not, ◌==◌, cond, List, [], ◌∷◌, ◌++◌, length, Some, codes, decimal, fold, refl, ap, ◌∙◌, arith, rules}
+-- The tokens of a text made of other texts, and what single ones mean.
+use Rattle.std.proofs.Common.{◌≡◌, ◌<◌, ◌≤◌, ◌^◌, ◌/◌, ◌%◌, ℕ, ℤ, pos, negsuc, zero, suc, Bool, true, false, not, ◌==◌, cond, List, [], ◌∷◌, ◌++◌, length, Some, codes, decimal, fold, refl, ap, ◌∙◌, arith, rules}
 use Rattle.std.specs.Prelude.{nat_abs, nat_lt}
 use Rattle.std.specs.Fmt.{digits, digits_onto, digit_glyph, signed_decimal}
 use Rattle.std.specs.Str.{bytes_eq}
@@ -17,7 +17,7 @@ use Rattle.script_text.specs.Tokens.{tokens, in_word, is_mark, goes_on}
 use Rattle.script_text.specs.Operands.{number_of, stat_of}
 use Rattle.script_text.specs.Commands.{enclosed}
 use Rattle.script_text.proofs.Clean.{is_clean, IsPiece}
-use Rattle.script_text.proofs.Splitting.{no_blank}
+use Rattle.script_text.proofs.TokenLengths.{no_blank}
 
 -- ---- tests of each byte
 
@@ -60,7 +60,7 @@ onto_some (suc k) n acc h =
     let ds = digit_glyph false (n % 10) ∷ acc in
     cond_both (n / 10 == 0) ds (digits_onto k 10 false (n / 10) ds) (λ t. 1 ≤ length t) (λ last. omega arith) (λ more. onto_some k (n / 10) ds (omega arith))
 
-pub decimal_some : (n : ℕ) → 1 ≤ length (decimal n)
+decimal_some : (n : ℕ) → 1 ≤ length (decimal n)
 unfolding digits
 decimal_some n =
     let ds = digit_glyph false (n % 10) ∷ [] in
@@ -100,13 +100,13 @@ small_enough most n few lt = let top : 10 ^ most ≤ 10 ^ 10 = pow-le-pow_right 
 
 -- ---- one token
 
--- a byte in front of a longer token
+-- a byte before a longer token
 pub longer : (b : ℕ) (bs : List ℕ) → in_word b ≡ true → goes_on bs ≡ true → tokens (b ∷ bs) ≡ with_byte b (tokens bs)
 unfolding tokens
 longer b bs word more = rw (word, no_blank b word, more) refl
 
 -- bytes of a longer token alone are one token
-pub one_token : (word : List ℕ) → 1 ≤ length word → AllByRecursion (λ b. in_word b ≡ true) word → tokens word ≡ word ∷ []
+one_token : (word : List ℕ) → 1 ≤ length word → AllByRecursion (λ b. in_word b ≡ true) word → tokens word ≡ word ∷ []
 unfolding tokens
 one_token [] some h = absurd (omega arith)
 one_token (x ∷ []) some h = rw (h.0, no_blank x h.0) refl

@@ -6,19 +6,19 @@ use Rattle.base_types.specs.declared.mode.Mode.TheVariants.{ShareRowExclusive}
 use Rattle.base_types.specs.declared.col_type.ColType.TheVariants as types
 use Rattle.script_text.specs.declared.fault.ScriptCause.TheVariants.{BadByte, BadRing, NoBackends, BadCount, NoEnd, BadSteps, TooManySteps, UnknownBackend, LateCommand, BadCommand, AfterEnd}
 use Rattle.script_text.specs.declared.fault.Rest.TheVariants.{Refused, Given}
-use Rattle.script_text.specs.Tokens.{tokens, after_words, after}
+use Rattle.script_text.specs.Tokens.{tokens}
 use Rattle.script_text.specs.Commands.{command_of}
 use Rattle.std.specs.Fmt.{digits}
 use Rattle.script_text.specs.Spelling.{with_piece, listed, script_spelling}
 use Rattle.script_text.specs.Grammar.{script_of}
 use Rattle.script_text.proofs.OnLiterals.{whole_scripts}
 
--- a text with an LF behind each line
+-- a text with a line feed after each line
 abbrev text : List (List ℕ) → List ℕ
 text [] = []
 text (line ∷ lines) = line ++ 10 ∷ text lines
 
--- upper case, a CR, a semicolon, and a last line with no LF
+-- upper case, a carriage return, a semicolon, and a last line with no line feed
 upper_case : script_of Refused (text ((codes "BACKENDS 1" ++ 13 ∷ []) ∷ codes "1: CREATE TABLE t (a INT);" ∷ []) ++ codes "end")
     ≡ Ok (record { script = record { size = 4096; from = 0; backends = 1; commands = record { backend = 1; command = CreateTable (codes "t") (record { name = codes "a"; col_type = types.Int4 } ∷ []) } ∷ []; steps = [] }; has_ring = false; rest_at = 42 })
 unfolding whole_scripts

@@ -1,4 +1,4 @@
--- The forms of commands, over the tokens of a line behind the colon.
+-- The forms of commands, over the tokens of a line after the colon.
 use Rattle.std.specs.Prelude.{◌≡◌, ℕ, Bool, true, false, Option, Some, None, List, [], ◌∷◌, ◌++◌, option_map, codes, if◌then◌else◌}
 use Rattle.std.specs.List.{find}
 use Rattle.std.specs.Str.{bytes_eq}
@@ -12,7 +12,7 @@ use Rattle.base_types.specs.declared.field.Field.{Field}
 use Rattle.script_text.specs.Tokens.{◌>>=◌, said, after, taken, is_end, ends, done}
 use Rattle.script_text.specs.Operands.{number_of, stat_of, plain_name_of, word_of, check_text_of, type_of, field_of, lock_words}
 
--- the name behind these words, and the tokens behind it
+-- the name after these words, and the tokens after it
 abbrev pub name_after : List ℕ → List (List ℕ) → Option (List ℕ × List (List ℕ))
 name_after text ts = after text plain_name_of ts
 
@@ -22,7 +22,7 @@ one_name text ts = do
   name ← name_after text ts
   done [] name.1 name.0
 
--- these words, a name, further words and a name, and the tokens behind them
+-- these words, a name, further words and a name, and the tokens after them
 unfoldable pub names_after : List ℕ → List ℕ → List (List ℕ) → Option ((List ℕ × List ℕ) × List (List ℕ))
 names_after text further ts = do
   first ← name_after text ts
@@ -64,13 +64,14 @@ optional_field ts = if is_end ts then Some None else do
   field ← taken field_of ts
   done [] field.1 (Some field.0)
 
--- show and peek, with a field or without
+-- these words, a name, and a field or none
 unfoldable pub shown_after : List ℕ → List (List ℕ) → Option (List ℕ × Option Field)
 shown_after text ts = do
   name ← name_after text ts
   field ← optional_field name.1
   Some (name.0, field)
 
+-- show and peek
 unfoldable pub show_command : List (List ℕ) → Option Command
 show_command ts = option_or (option_map (λ s. Show s.0 s.1) (shown_after (codes "show") ts)) (option_map (λ s. Peek s.0 s.1) (shown_after (codes "peek") ts))
 
@@ -82,36 +83,12 @@ table_command ts = option_or (option_map (λ n. Column n.0 n.1) (two_names (code
     (option_or (option_map (λ n. ValidateConstraint n.0 n.1) (two_names (codes "alter table") (codes "validate constraint") ts))
     (option_map (λ n. DropConstraint n.0 n.1) (two_names (codes "alter table") (codes "drop constraint") ts)))))
 
--- alter table NAME enable trigger NAME
-unfoldable pub enable_command : List (List ℕ) → Option Command
-enable_command ts = do
-  names ← two_names (codes "alter table") (codes "enable trigger") ts
-  Some (SetTrigger names.0 names.1 true)
-
--- alter table NAME disable trigger NAME
-unfoldable pub disable_command : List (List ℕ) → Option Command
-disable_command ts = do
-  names ← two_names (codes "alter table") (codes "disable trigger") ts
-  Some (SetTrigger names.0 names.1 false)
-
--- create trigger NAME on NAME
-unfoldable pub create_trigger_command : List (List ℕ) → Option Command
-create_trigger_command ts = do
-  names ← two_names (codes "create trigger") (codes "on") ts
-  Some (CreateTrigger names.1 names.0)
-
--- alter index NAME rename to NAME
-unfoldable pub rename_index_command : List (List ℕ) → Option Command
-rename_index_command ts = do
-  names ← two_names (codes "alter index") (codes "rename to") ts
-  Some (RenameIndex names.0 names.1)
-
 -- commands of triggers and the renaming of an index
 unfoldable pub pair_command : List (List ℕ) → Option Command
-pair_command ts = option_or (enable_command ts)
-    (option_or (disable_command ts)
-    (option_or (create_trigger_command ts)
-    (rename_index_command ts)))
+pair_command ts = option_or (option_map (λ n. SetTrigger n.0 n.1 true) (two_names (codes "alter table") (codes "enable trigger") ts))
+    (option_or (option_map (λ n. SetTrigger n.0 n.1 false) (two_names (codes "alter table") (codes "disable trigger") ts))
+    (option_or (option_map (λ n. CreateTrigger n.1 n.0) (two_names (codes "create trigger") (codes "on") ts))
+    (option_map (λ n. RenameIndex n.0 n.1) (two_names (codes "alter index") (codes "rename to") ts))))
 
 -- regclass OID
 unfoldable pub regclass_command : List (List ℕ) → Option Command
@@ -165,7 +142,7 @@ fillfactor_command ts = do
   fill ← after (codes "set (fillfactor =") (number_of 9) name.1
   done (codes ")") fill.1 (SetFillfactor name.0 fill.0)
 
--- the tokens up to a closing parenthesis as one text, and the tokens behind it
+-- the tokens up to a closing parenthesis as one text, and the tokens after it
 unfoldable pub enclosed : List (List ℕ) → Option (List ℕ × List (List ℕ))
 enclosed [] = None
 enclosed (t ∷ ts) = if bytes_eq t (codes ")") then Some ([], ts) else option_map (λ r. (t ++ r.0, r.1)) (enclosed ts)
@@ -272,7 +249,7 @@ create_index_command ts = do
   columns ← enclosed_names names.1
   Some (CreateIndex names.0.0 names.0.1 columns)
 
--- the commands that take no memory
+-- the commands that take no memory; in groups, so that the check meets a few forms at a time
 unfoldable pub short_command : List (List ℕ) → Option Command
 short_command ts = option_or (bare_command ts)
     (option_or (savepoint_command ts)

@@ -14,7 +14,7 @@ use Rattle.script_text.specs.declared.fault.LineFault.TheVariants.{Breaks, NoMem
 use Rattle.script_text.specs.declared.limits.TheConstants.{MOST_BACKENDS, MOST_COMMANDS, MOST_STEPS, QUEUE_ROUNDS}
 use Rattle.script_text.specs.Grammar.{Draft, Reading}
 
--- the line has this effect, or breaks this rule; want of memory says nothing
+-- the line has this effect, or breaks this rule; where memory was refused, nothing is said
 abbrev pub Takes : Draft → Result (Unit {0}) LineFault → Result Draft ScriptCause → Type 0
 Takes next (Ok done) effect = effect ≡ Ok next
 Takes next (Err (Breaks cause)) effect = effect ≡ Err cause
@@ -31,7 +31,7 @@ pub record IsDraft (asked : Scenario) : Type 0 where
   pub turns : AllByRecursion (λ line. (1 ≤ length line) × AllByRecursion (AreTurns asked.backends) line) asked.steps
   pub steps : sum_by step_count asked.steps ≤ MOST_STEPS
 
--- the same was read, or the same fault was found; want of memory says nothing
+-- the same was read, or the same fault was found; where memory was refused, nothing is said
 abbrev pub Reads : Result ScriptRead ScriptFault → Result Reading (ℕ × ScriptCause) → Type 0
 Reads (Ok read) found = found ≡ Ok (record { script = read.script; has_ring = read.has_ring; rest_at = read.rest_at })
 Reads (Err (Bad line cause)) found = found ≡ Err (line, cause)

@@ -15,6 +15,7 @@ use Rattle.script_text.specs.LineForms.{begins, none_left, ring_of, backends_of,
 use Rattle.script_text.specs.Commands.{command_of}
 
 infixl 10 ◌>>=◌
+-- a value, and what is made of it; or the rule that is broken
 abbrev pub ◌>>=◌ : {A B C : Type 0} → Result A C → (A → Result B C) → Result B C
 (Ok x) >>= f = f x
 (Err e) >>= f = Err e
@@ -34,22 +35,27 @@ pub record Draft : Type 0 where
 abbrev pub empty_draft : Draft
 empty_draft = record { asked = record { size = QUEUE_SIZE; from = 0; backends = 0; commands = []; steps = [] }; has_ring = false; has_end = false }
 
+-- the queue of a `ring` line
 abbrev pub with_ring : Draft → ℕ × ℕ → Draft
 with_ring draft ring = record draft { asked = record draft.asked { size = ring.0; from = ring.1 }; has_ring = true }
 
+-- the number of backends
 abbrev pub with_backends : Draft → ℕ → Draft
 with_backends draft backends = record draft { asked = record draft.asked { backends = backends } }
 
+-- one more line of steps
 abbrev pub with_steps : Draft → List Turns → Draft
 with_steps draft turns = record draft { asked = record draft.asked { steps = draft.asked.steps ++ turns ∷ [] } }
 
+-- one more command
 abbrev pub with_command : Draft → ℕ → Command → Draft
 with_command draft backend command = record draft { asked = record draft.asked { commands = draft.asked.commands ++ record { backend = backend; command = command } ∷ [] } }
 
+-- the `end` line
 abbrev pub with_end : Draft → Draft
 with_end draft = record draft { has_end = true }
 
--- a line that begins with `ring`, which stands before all others
+-- a line that begins with `ring`, which comes before all others
 unfoldable pub ring_line : Draft → List (List ℕ) → Result Draft ScriptCause
 ring_line draft ts = if draft.has_ring || nat_lt 0 draft.asked.backends then Err BadRing else do
   ring ← or_cause (ring_of ts) BadRing
@@ -67,7 +73,7 @@ steps_line draft ts = do
   turns ← or_cause (steps_of draft.asked.backends ts) BadSteps
   if nat_lt MOST_STEPS (sum_by step_count draft.asked.steps + step_count turns) then Err TooManySteps else Ok (with_steps draft turns)
 
--- no line of steps came yet
+-- a line of steps came already
 abbrev pub has_steps : List (List Turns) → Bool
 has_steps [] = false
 has_steps (turns ∷ lines) = true
@@ -85,7 +91,7 @@ abbrev pub is_end_line : Option (List (List ℕ)) → Bool
 is_end_line None = false
 is_end_line (Some ts) = none_left ts
 
--- a line behind that of the backends
+-- a line after that of the backends
 unfoldable pub body_line : Draft → List (List ℕ) → Result Draft ScriptCause
 body_line draft ts = if is_end_line (said (codes "end") ts) then Ok (with_end draft) else if begins (codes "steps") ts then steps_line draft ts else command_line draft ts
 
@@ -116,7 +122,7 @@ pub record Reading : Type 0 where
 abbrev pub at_end : Draft → ℕ → ℕ → Result Reading (ℕ × ScriptCause)
 at_end draft number place = if draft.asked.backends == 0 then Err (number, NoBackends) else if draft.has_end then Ok (record { script = draft.asked; has_ring = draft.has_ring; rest_at = place }) else Err (number, NoEnd)
 
--- reading stops behind the `end` line, where a rest is given
+-- reading stops after the `end` line, where a rest is given
 abbrev pub stops : Rest → Draft → Bool
 stops Given draft = draft.has_end
 stops Refused draft = false
@@ -125,7 +131,7 @@ stops Refused draft = false
 abbrev pub place_after : Draft → ℕ → List ℕ → ℕ
 place_after draft place line = if draft.has_end then place else place + length line
 
--- what comes of a line: its fault, the end of reading, or what the lines behind it give
+-- what comes of a line: its fault, the end of reading, or what the lines after it give
 abbrev pub line_taken : Rest → ℕ → ℕ → Result Draft ScriptCause → (Draft → Result Reading (ℕ × ScriptCause)) → Result Reading (ℕ × ScriptCause)
 line_taken rest number place (Err cause) others = Err (number, cause)
 line_taken rest number place (Ok next) others = if stops rest next then at_end next number place else others next

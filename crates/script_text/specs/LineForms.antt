@@ -61,7 +61,7 @@ backends_of ts = do
   backends ← after (codes "backends") (number_within 1 MOST_BACKENDS) ts
   if_none_left backends.1 backends.0
 
--- this many steps of a backend, and others behind them
+-- this many steps of a backend, and others after them
 abbrev pub with_turns : Option ℕ → Option ℕ → Option (List Turns) → Option (List Turns)
 with_turns backend count others = do
   b ← backend
@@ -80,14 +80,14 @@ count_of text = number_within 1 MOST_STEPS text
 abbrev pub is_times : List ℕ → Bool
 is_times t = bytes_eq t (codes "*")
 
--- the steps of a line: a backend has one, or behind an asterisk as many as a number says
+-- the steps of a line: a backend has one, or after an asterisk as many as a number says
 unfoldable pub all_turns : ℕ → List (List ℕ) → Option (List Turns)
 all_turns backends [] = Some []
 all_turns backends (b ∷ []) = with_turns (backend_of backends b) (Some 1) (Some [])
 all_turns backends (b ∷ t ∷ []) = if is_times t then None else with_turns (backend_of backends b) (Some 1) (all_turns backends (t ∷ []))
 all_turns backends (b ∷ t ∷ c ∷ ts) = if is_times t then with_turns (backend_of backends b) (count_of c) (all_turns backends ts) else with_turns (backend_of backends b) (Some 1) (all_turns backends (t ∷ c ∷ ts))
 
--- one step, or behind an asterisk how many, and the tokens behind that
+-- one step, or after an asterisk how many, and the tokens after that
 unfoldable pub count_part : List (List ℕ) → Option (ℕ × List (List ℕ))
 count_part [] = Some (1, [])
 count_part (t ∷ ts) = if is_times t then taken count_of ts else Some (1, t ∷ ts)

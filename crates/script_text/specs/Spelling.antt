@@ -12,23 +12,23 @@ use Rattle.base_types.specs.declared.field.Field.{Field}
 use Rattle.script_text.specs.declared.limits.TheConstants.{QUEUE_SIZE}
 use Rattle.script_text.specs.Operands.{lock_words}
 
--- no blank stands behind this byte: LF, an opening parenthesis, an asterisk
+-- no blank comes after this byte: a line feed, an opening parenthesis, an asterisk
 abbrev pub takes_none_after : ℕ → Bool
 takes_none_after byte = (byte == 10) || (byte == 40) || (byte == 42)
 
--- no blank stands before this byte: LF, a closing parenthesis, a comma, a colon, an asterisk
+-- no blank comes before this byte: a line feed, a closing parenthesis, a comma, a colon, an asterisk
 abbrev pub takes_none_before : ℕ → Bool
 takes_none_before byte = (byte == 10) || (byte == 41) || (byte == 44) || (byte == 58) || (byte == 42)
 
--- a blank stands between a text and the piece behind it, as in front of a text it doesn't
+-- a blank is due between a text and the piece after it; none is due at the start of a text
 abbrev pub needs_blank : List ℕ → List ℕ → Bool
 needs_blank text piece = not (takes_none_after (get_or text (length text - 1) 10)) && not (takes_none_before (get_or piece 0 10))
 
--- a text with a piece behind it
+-- a text with a piece after it
 unfoldable pub with_piece : List ℕ → List ℕ → List ℕ
 with_piece text piece = if needs_blank text piece then text ++ 32 ∷ [] ++ piece else text ++ piece
 
--- a text with pieces behind it
+-- a text with pieces after it
 abbrev pub with_pieces : List ℕ → List (List ℕ) → List ℕ
 with_pieces text pieces = fold with_piece text pieces
 
@@ -51,9 +51,11 @@ abbrev pub shown_pieces : List ℕ → List ℕ → Option Field → List (List 
 shown_pieces words name None = words ∷ name ∷ []
 shown_pieces words name (Some field) = words ∷ name ∷ field_word field ∷ []
 
+-- a column in its pieces
 abbrev pub column_pieces : NewColumn → List (List ℕ)
 column_pieces column = column.name ∷ type_word column.col_type ∷ []
 
+-- a name as a piece
 abbrev pub name_pieces : List ℕ → List (List ℕ)
 name_pieces name = name ∷ []
 

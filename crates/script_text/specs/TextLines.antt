@@ -6,17 +6,17 @@ use Rattle.std.specs.List.{prefix_len}
 abbrev pub is_blank : ℕ → Bool
 is_blank byte = (byte == 32) || (byte == 9)
 
--- a byte in front of the first line, which it belongs to
+-- a byte added at the front of the first line
 abbrev pub with_byte : ℕ → List (List ℕ) → List (List ℕ)
 with_byte byte [] = (byte ∷ []) ∷ []
 with_byte byte (line ∷ lines) = (byte ∷ line) ∷ lines
 
--- the lines of a text, each with the LF that ends it
+-- the lines of a text, each with the line feed that ends it
 unfoldable pub text_lines : List ℕ → List (List ℕ)
 text_lines [] = []
 text_lines (byte ∷ bytes) = if byte == 10 then (byte ∷ []) ∷ text_lines bytes else with_byte byte (text_lines bytes)
 
--- the length of the first line with its LF
+-- the length of the first line with its line feed
 abbrev pub line_len : List ℕ → ℕ
 line_len text = min (prefix_len (λ byte. not (byte == 10)) text + 1) (length text)
 
@@ -28,16 +28,16 @@ ends_in byte text = not (length text == 0) && (get_or text (length text - 1) 0 =
 abbrev pub but_last : List ℕ → List ℕ
 but_last text = take (length text - 1) text
 
--- a line without its LF and the CR before that
+-- a line without its line feed and the carriage return before that
 unfoldable pub bare : List ℕ → List ℕ
 bare line = if ends_in 10 line then (if ends_in 13 (but_last line) then but_last (but_last line) else but_last line) else line
 
--- two dashes stand in front
+-- the text begins with two dashes
 abbrev pub begins_comment : List ℕ → Bool
 begins_comment (a ∷ b ∷ bytes) = (a == 45) && (b == 45)
 begins_comment bytes = false
 
--- the text that a line has behind its blanks makes it count
+-- the text that a line has after its blanks makes it count
 abbrev pub rest_counts : List ℕ → Bool
 rest_counts [] = false
 rest_counts (byte ∷ bytes) = not (begins_comment (byte ∷ bytes))

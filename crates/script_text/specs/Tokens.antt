@@ -1,9 +1,10 @@
--- The tokens of a line, and how they are taken from the front.
+-- The tokens of a line, and how they are taken one after the other.
 use Rattle.std.specs.Prelude.{◌≡◌, ⊤, ℕ, Bool, true, false, Option, Some, None, List, [], ◌∷◌, ◌==◌, ◌||◌, not, option_map, option_and_then, if◌then◌else◌}
 use Rattle.std.specs.Str.{bytes_eq}
 use Rattle.script_text.specs.TextLines.{is_blank, with_byte}
 
 infixl 10 ◌>>=◌
+-- a value, and what is made of it; or none
 abbrev pub ◌>>=◌ : {A B : Type 0} → Option A → (A → Option B) → Option B
 o >>= f = option_and_then f o
 
@@ -25,22 +26,22 @@ unfoldable pub tokens : List ℕ → List (List ℕ)
 tokens [] = []
 tokens (byte ∷ bytes) = if is_blank byte then tokens bytes else if in_word byte then (if goes_on bytes then with_byte byte (tokens bytes) else (byte ∷ []) ∷ tokens bytes) else (byte ∷ []) ∷ tokens bytes
 
--- the tokens behind these words, where they stand in front
+-- the tokens after these words, where the tokens begin with them
 unfoldable pub after_words : List (List ℕ) → List (List ℕ) → Option (List (List ℕ))
 after_words [] ts = Some ts
 after_words (word ∷ words) [] = None
 after_words (word ∷ words) (t ∷ ts) = if bytes_eq t word then after_words words ts else None
 
--- the tokens behind those of a text, where they stand in front
+-- the tokens after those of a text, where the tokens begin with them
 abbrev pub said : List ℕ → List (List ℕ) → Option (List (List ℕ))
 said text ts = after_words (tokens text) ts
 
--- what the first token means, and the tokens behind it
+-- what the first token means, and the tokens after it
 abbrev pub taken : {X : Type 0} → (List ℕ → Option X) → List (List ℕ) → Option (X × List (List ℕ))
 taken of [] = None
 taken of (t ∷ ts) = option_map (λ x. (x, ts)) (of t)
 
--- what the token behind these words means, and the tokens behind it
+-- what the token after these words means, and the tokens after it
 unfoldable pub after : {X : Type 0} → List ℕ → (List ℕ → Option X) → List (List ℕ) → Option (X × List (List ℕ))
 after text of ts = said text ts >>= taken of
 
@@ -55,15 +56,15 @@ abbrev pub ended : Option (List (List ℕ)) → Bool
 ended None = false
 ended (Some ts) = is_end ts
 
--- a command ends behind these words
+-- a command ends after these words
 unfoldable pub ends : List ℕ → List (List ℕ) → Bool
 ends text ts = ended (said text ts)
 
--- the value, where a command ends behind these words
+-- the value, where a command ends after these words
 abbrev pub done : {X : Type 0} → List ℕ → List (List ℕ) → X → Option X
 done text ts x = if ends text ts then Some x else None
 
--- nothing, or a byte that isn't blank in front
+-- the text is empty, or begins with a byte that isn't blank
 abbrev pub StartsToken : List ℕ → Type 0
 StartsToken [] = ⊤
 StartsToken (byte ∷ bytes) = is_blank byte ≡ false

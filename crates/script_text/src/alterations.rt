@@ -32,6 +32,7 @@ pub(crate) fn alter(line: &[u8]) -> Option<Command>
     add_foreign(line)
 }
 
+// alter table NAME add column NAME TYPE
 #[tactic(auto, unfolding(crate::specs::Commands::add_column_command))]
 fn add_column(line: &[u8]) -> Option<Command>
     ensures { result ≡ add_column_command (tokens line.now) }
@@ -50,6 +51,7 @@ fn add_column(line: &[u8]) -> Option<Command>
     }
 }
 
+// alter table NAME rename column NAME to NAME
 #[tactic(auto, unfolding(crate::specs::Commands::rename_column_command))]
 fn rename_column(line: &[u8]) -> Option<Command>
     ensures { result ≡ rename_column_command (tokens line.now) }
@@ -64,6 +66,7 @@ fn rename_column(line: &[u8]) -> Option<Command>
     }
 }
 
+// alter table NAME alter column NAME set default WORD
 #[tactic(auto, unfolding(crate::specs::Commands::default_command))]
 fn set_default(line: &[u8]) -> Option<Command>
     ensures { result ≡ default_command (tokens line.now) }
@@ -78,6 +81,7 @@ fn set_default(line: &[u8]) -> Option<Command>
     }
 }
 
+// alter table NAME alter column NAME set statistics STAT
 #[tactic(auto, unfolding(crate::specs::Commands::statistics_command))]
 fn set_statistics(line: &[u8]) -> Option<Command>
     ensures { result ≡ statistics_command (tokens line.now) }
@@ -92,6 +96,7 @@ fn set_statistics(line: &[u8]) -> Option<Command>
     }
 }
 
+// alter table NAME set (fillfactor = NUMBER)
 #[tactic(auto, unfolding(crate::specs::Commands::fillfactor_command))]
 fn set_fillfactor(line: &[u8]) -> Option<Command>
     ensures { result ≡ fillfactor_command (tokens line.now) }
@@ -106,6 +111,7 @@ fn set_fillfactor(line: &[u8]) -> Option<Command>
     }
 }
 
+// alter table NAME add constraint NAME check (TEXT)
 #[tactic(auto, unfolding(crate::specs::Commands::check_command))]
 fn add_check(line: &[u8]) -> Option<Command>
     ensures { result ≡ check_command (tokens line.now) }
@@ -149,6 +155,7 @@ fn enclosed_text(tokens: &mut Tokens) -> Option<Text>
     }
 }
 
+// alter table NAME add constraint NAME foreign key (NAME) references NAME (NAME)
 #[tactic(auto, unfolding(crate::specs::Commands::foreign_command))]
 fn add_foreign(line: &[u8]) -> Option<Command>
     ensures { result ≡ foreign_command (tokens line.now) }

@@ -6,7 +6,9 @@ ghost use Rattle.script_text.specs.Spelling.{AddsPieces, command_pieces, shown_p
 
 use crate::adding_pieces::{named, number, piece, signed, two_names, words};
 use crate::operands;
-use base_types::{ColType, Command, Field, Listed, Mode, Name, NewColumn, NoMemory, Oid, Text, Word};
+use base_types::{
+    ColType, Command, Field, Listed, Mode, Name, NewColumn, NoMemory, Oid, Text, Word,
+};
 
 // A command: one call for each form.
 #[rattlefmt::skip]
@@ -158,12 +160,7 @@ fn add_column(
 }
 
 // alter table NAME rename column NAME to NAME
-fn rename_column(
-    out: &mut Vec<u8>,
-    name: &Name,
-    column: &Name,
-    to: &Name,
-) -> Result<(), NoMemory>
+fn rename_column(out: &mut Vec<u8>, name: &Name, column: &Name, to: &Name) -> Result<(), NoMemory>
     ensures { AddsPieces out.old.items out.new.items result (codes "alter table" ∷ name.now ∷ codes "rename column" ∷ column.now ∷ codes "to" ∷ to.now ∷ []) }
 {
     altered(out, name, "rename column", column)?;

@@ -11,7 +11,7 @@ pub enum ScriptCause {
     /// A line that counts holds printable ASCII and tabs alone.
     #[error("BadByte: the line holds a byte that is neither printable ASCII nor a tab")]
     BadByte,
-    /// A `ring` line has its form and stands before the others.
+    /// A `ring` line has its form and comes before the others.
     #[error("BadRing: a ring line must come first and read 'ring N' or 'ring N from M', with N a power of two from 64 to 4096 and M below 262144 times N")]
     BadRing,
     /// The first line that counts, but for a `ring` line, is a `backends` line.
@@ -46,12 +46,12 @@ pub enum ScriptCause {
     AfterEnd,
 }
 
-/// Whether the input may go on behind the `end` line.
+/// Whether the input may go on after the `end` line.
 #[derive(Clone, Copy)]
 pub enum Rest {
     /// Nothing that counts may follow.
     Refused,
-    /// Reading stops behind the `end` line.
+    /// Reading stops after the `end` line.
     Given,
 }
 

@@ -35,7 +35,7 @@ pub(crate) fn backends(line: &[u8]) -> Option<u32>
     tokens.is_empty().then_some(backends)
 }
 
-// A backend of so many, and the text behind a colon, where a line has that form.
+// A backend of so many, and the text after a colon, where a line has that form.
 #[tactic(auto, unfolding(crate::specs::LineForms::addressed))]
 pub(crate) fn addressed(line: &[u8], backends: u32) -> Option<(u32, &[u8])>
     ensures value { MatchOption result (addressed_to backends (tokens line.now) ≡ None) (λ x. addressed_to backends (tokens line.now) ≡ Some (x.0, tokens x.1.now)) }
@@ -48,7 +48,7 @@ pub(crate) fn addressed(line: &[u8], backends: u32) -> Option<(u32, &[u8])>
 }
 
 // A size of the queue.
-#[tactic(auto, using(crate::proofs::Bounds::queue_size), unfolding(crate::specs::LineForms::size_of))]
+#[tactic(auto, using(crate::proofs::QueueSizes::queue_size), unfolding(crate::specs::LineForms::size_of))]
 fn size(text: &[u8]) -> Option<u32>
     ensures value { result ≡ size_of text.now }
     ensures size { IfSome result IsQueueSize }

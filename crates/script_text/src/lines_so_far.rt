@@ -68,8 +68,8 @@ impl LinesSoFar {
         self.counting_line(alloc, line)
     }
 
-    // The place right after a line that begins at this place, and the place itself after the
-    // `end` line.
+    // The place right after a line that begins at this place; the place itself, where the `end`
+    // line came before.
     pub(crate) fn place_after(&self, place: usize, line: &[u8]) -> usize
         requires { place + length line.now < 2 ^ 64 }
         ensures value { result ≡ end_of_line self.now place line.now }
@@ -82,7 +82,7 @@ impl LinesSoFar {
         }
     }
 
-    // Reading stops here: behind the `end` line, where a rest is given.
+    // Reading stops here: after the `end` line, where a rest is given.
     pub(crate) fn stops(&self, rest: Rest) -> bool
         ensures { result ≡ stops_here rest self.now }
     {
@@ -92,7 +92,8 @@ impl LinesSoFar {
         }
     }
 
-    // What was read, at the end of the input or of reading: the line and the place behind it.
+    // What was read, at the end of the input or of reading. A line that is missing is missed at
+    // `line`, and the rest begins at `place`.
     pub(crate) fn finish(self, line: u32, place: usize) -> Result<ScriptRead, ScriptFault>
         ensures { Reads result (at_end self line place) }
     {
@@ -180,7 +181,7 @@ impl LinesSoFar {
         Ok(())
     }
 
-    // A body line, behind which no `end` line came before.
+    // A line after that of the backends, where no `end` line came before it.
     fn before_end(&mut self, alloc: Global, line: &[u8]) -> Result<(), LineFault>
         ensures { Takes self.new result (before_end self.old (after_body self.old (tokens line.now))) }
     {
@@ -197,7 +198,7 @@ impl LinesSoFar {
         }
     }
 
-    // A line behind that of the backends.
+    // A line after that of the backends.
     #[tactic(auto, unfolding(crate::specs::Grammar::body_line))]
     fn body_line(&mut self, alloc: Global, line: &[u8]) -> Result<(), LineFault>
         ensures { Takes self.new result (after_body self.old (tokens line.now)) }
@@ -251,7 +252,7 @@ impl LinesSoFar {
 }
 
 // The command of a line's text, if it has the form of one.
-#[tactic(auto, using(crate::proofs::Made::short_made, crate::proofs::Made::alter_made), unfolding(crate::specs::Commands::command_of))]
+#[tactic(auto, using(crate::proofs::ReadCommands::short_made, crate::proofs::ReadCommands::alter_made), unfolding(crate::specs::Commands::command_of))]
 fn command(alloc: Global, line: &[u8]) -> Result<Option<Command>, NoMemory>
     ensures value { IfOk result (λ found. found ≡ command_of (tokens line.now)) }
     ensures spelled { IfOk result (λ found. IfSome found IsCommand) }

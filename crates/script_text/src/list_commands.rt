@@ -18,6 +18,7 @@ pub(crate) fn long(alloc: Global, line: &[u8]) -> Result<Option<Command>, NoMemo
     create_index(alloc, line)
 }
 
+// create table NAME (NAME TYPE, ..)
 #[tactic(auto, unfolding(crate::specs::Commands::create_table_command))]
 fn create_table(alloc: Global, line: &[u8]) -> Result<Option<Command>, NoMemory>
     ensures { IfOk result (λ found. found ≡ create_table_command (tokens line.now)) }
@@ -34,7 +35,10 @@ fn create_table(alloc: Global, line: &[u8]) -> Result<Option<Command>, NoMemory>
 
 // (NAME TYPE, ..), or empty parentheses.
 #[tactic(auto, unfolding(crate::specs::Commands::enclosed_columns))]
-fn enclosed_columns(alloc: Global, tokens: &mut Tokens) -> Result<Option<Listed<NewColumn>>, NoMemory>
+fn enclosed_columns(
+    alloc: Global,
+    tokens: &mut Tokens,
+) -> Result<Option<Listed<NewColumn>>, NoMemory>
     ensures { IfOk result (λ found. found ≡ columns_enclosed tokens.old) }
 {
     if tokens.ends("()") {
@@ -78,6 +82,7 @@ fn next_column(tokens: &mut Tokens) -> Option<(NewColumn, bool)>
     (operands::is(mark, ")") && tokens.is_end()).then_some((column, false))
 }
 
+// create index NAME on NAME (NAME, ..)
 #[tactic(auto, unfolding(crate::specs::Commands::create_index_command))]
 fn create_index(alloc: Global, line: &[u8]) -> Result<Option<Command>, NoMemory>
     ensures { IfOk result (λ found. found ≡ create_index_command (tokens line.now)) }

@@ -11,7 +11,7 @@ use base_types::{ColType, Field, Mode, Name, Text, Word, is_digit, number_up_to}
 const TEN_DIGITS: u64 = 9_999_999_999;
 
 // The number of a text of at most so many digits, 10 or fewer; `None` for any other text.
-#[tactic(auto, using(crate::proofs::Numbers::few_digits), unfolding(crate::specs::Operands::number_of))]
+#[tactic(auto, using(crate::proofs::DigitBounds::few_digits), unfolding(crate::specs::Operands::number_of))]
 pub(crate) fn number(text: &[u8], most: usize) -> Option<u64>
     requires { most ≤ 10 }
     ensures value { result ≡ number_of most text.now }
@@ -77,19 +77,29 @@ pub(crate) fn check_text(text: &[u8]) -> Option<Text>
 }
 
 // The type of a column, by its name or another word for it.
-#[tactic(auto, unfolding(crate::specs::Operands::type_of))]
+#[tactic(auto, using(crate::proofs::Finding::finds, crate::proofs::Finding::finds_later, crate::proofs::Finding::finds_none), unfolding(crate::specs::Operands::type_of))]
 pub(crate) fn col_type(text: &[u8]) -> Option<ColType>
     ensures { result ≡ type_of text.now }
 {
-    ColType::ALL.into_iter().find(|col_type| is_type(text, *col_type))
+    for col_type in ColType::ALL {
+        if is_type(text, col_type) {
+            return Some(col_type);
+        }
+    }
+    None
 }
 
 // The field of a descriptor with this name.
-#[tactic(auto, unfolding(crate::specs::Operands::field_of))]
+#[tactic(auto, using(crate::proofs::Finding::finds, crate::proofs::Finding::finds_later, crate::proofs::Finding::finds_none), unfolding(crate::specs::Operands::field_of))]
 pub(crate) fn field(text: &[u8]) -> Option<Field>
     ensures { result ≡ field_of text.now }
 {
-    Field::ALL.into_iter().find(|field| text == field.word())
+    for field in Field::ALL {
+        if text == field.word() {
+            return Some(field);
+        }
+    }
+    None
 }
 
 // A text is this word.

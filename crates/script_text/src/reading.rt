@@ -12,7 +12,7 @@ use std::alloc::Global;
 #[derive(Drop)]
 pub struct ScriptRead {
     pub script: Script,
-    /// A `ring` line stood in front.
+    /// Whether there is a `ring` line.
     pub has_ring: bool,
     /// The place right after the `end` line's line feed; the length of the input where that line
     /// has none.
@@ -20,7 +20,7 @@ pub struct ScriptRead {
 }
 
 /// Reads a script. Each input that has the form of one is read; `Bad` names the first line that
-/// breaks a rule, and the first rule that it breaks. Where a rest is given, reading stops behind
+/// breaks a rule, and the first rule that it breaks. Where a rest is given, reading stops after
 /// the `end` line. Condition: fewer than 2^32 - 1 bytes.
 pub fn read_script(alloc: Global, bytes: &[u8], rest: Rest) -> Result<ScriptRead, ScriptFault>
     requires { length bytes.now + 1 < 2 ^ 32 }

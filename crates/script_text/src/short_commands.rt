@@ -1,11 +1,13 @@
 ghost use Rattle.std.specs.Prelude.{◌≡◌, Option, List, ℕ};
 ghost use Rattle.script_text.specs.Tokens.{tokens};
-ghost use Rattle.script_text.specs.Commands.{one_name as one_name_of, two_names as two_names_of, bare_command, savepoint_command, name_command, optional_field as field_of_show, shown_after, show_command, table_command, enable_command, disable_command, create_trigger_command, rename_index_command, pair_command, regclass_command, lock_mode as mode_of_lock, lock_command, short_command};
+ghost use Rattle.script_text.specs.Commands.{one_name as one_name_of, two_names as two_names_of, bare_command, savepoint_command, name_command, optional_field as field_of_show, shown_after, show_command, table_command, pair_command, regclass_command, lock_mode as mode_of_lock, lock_command, short_command};
 
 use crate::operands;
 use crate::tokens::Tokens;
 use base_types::{Command, Field, Mode, Name, Oid};
 
+// The command without a list or operands of an alteration that a line is, if it is one. The groups are
+// there for the check, which reads a function of many forms slowly.
 #[tactic(auto, unfolding(crate::specs::Commands::short_command))]
 pub(crate) fn short(line: &[u8]) -> Option<Command>
     ensures { result ≡ short_command (tokens line.now) }
@@ -34,6 +36,7 @@ pub(crate) fn short(line: &[u8]) -> Option<Command>
     lock(line)
 }
 
+// begin, commit, rollback
 #[tactic(auto, unfolding(crate::specs::Commands::bare_command))]
 fn bare(line: &[u8]) -> Option<Command>
     ensures { result ≡ bare_command (tokens line.now) }
@@ -50,6 +53,7 @@ fn bare(line: &[u8]) -> Option<Command>
     }
 }
 
+// savepoint, release, rollback to
 #[tactic(auto, unfolding(crate::specs::Commands::savepoint_command))]
 fn savepoint(line: &[u8]) -> Option<Command>
     ensures { result ≡ savepoint_command (tokens line.now) }
@@ -70,6 +74,7 @@ fn savepoint(line: &[u8]) -> Option<Command>
     Some(Command::RollbackTo(name))
 }
 
+// The other commands with one name.
 #[tactic(auto, unfolding(crate::specs::Commands::name_command))]
 fn named(line: &[u8]) -> Option<Command>
     ensures { result ≡ name_command (tokens line.now) }
@@ -100,6 +105,7 @@ fn one_name(line: &[u8], words: &str) -> Option<Name>
     tokens.ends("").then_some(name)
 }
 
+// show NAME, peek NAME, with a field or none
 #[tactic(auto, unfolding(crate::specs::Commands::show_command))]
 fn show(line: &[u8]) -> Option<Command>
     ensures { result ≡ show_command (tokens line.now) }
@@ -134,6 +140,7 @@ fn optional_field(mut tokens: Tokens) -> Option<Option<Field>>
     tokens.ends("").then_some(Some(field))
 }
 
+// Commands of a table and one more name.
 #[tactic(auto, unfolding(crate::specs::Commands::table_command))]
 fn table(line: &[u8]) -> Option<Command>
     ensures { result ≡ table_command (tokens line.now) }
@@ -164,62 +171,33 @@ fn two_names(line: &[u8], words: &str, further: &str) -> Option<(Name, Name)>
     tokens.ends("").then_some(names)
 }
 
+// Commands of triggers, and the renaming of an index.
 #[tactic(auto, unfolding(crate::specs::Commands::pair_command))]
 fn pair(line: &[u8]) -> Option<Command>
     ensures { result ≡ pair_command (tokens line.now) }
 {
-    if let Some(command) = enable_trigger(line) {
-        return Some(command);
+    if let Some((name, trigger)) = two_names(line, "alter table", "enable trigger") {
+        return Some(Command::SetTrigger {
+            name,
+            trigger,
+            on: true,
+        });
     }
-    if let Some(command) = disable_trigger(line) {
-        return Some(command);
+    if let Some((name, trigger)) = two_names(line, "alter table", "disable trigger") {
+        return Some(Command::SetTrigger {
+            name,
+            trigger,
+            on: false,
+        });
     }
-    if let Some(command) = create_trigger(line) {
-        return Some(command);
+    if let Some((trigger, name)) = two_names(line, "create trigger", "on") {
+        return Some(Command::CreateTrigger { name, trigger });
     }
-    rename_index(line)
-}
-
-#[tactic(auto, unfolding(crate::specs::Commands::enable_command))]
-fn enable_trigger(line: &[u8]) -> Option<Command>
-    ensures { result ≡ enable_command (tokens line.now) }
-{
-    let (name, trigger) = two_names(line, "alter table", "enable trigger")?;
-    Some(Command::SetTrigger {
-        name,
-        trigger,
-        on: true,
-    })
-}
-
-#[tactic(auto, unfolding(crate::specs::Commands::disable_command))]
-fn disable_trigger(line: &[u8]) -> Option<Command>
-    ensures { result ≡ disable_command (tokens line.now) }
-{
-    let (name, trigger) = two_names(line, "alter table", "disable trigger")?;
-    Some(Command::SetTrigger {
-        name,
-        trigger,
-        on: false,
-    })
-}
-
-#[tactic(auto, unfolding(crate::specs::Commands::create_trigger_command))]
-fn create_trigger(line: &[u8]) -> Option<Command>
-    ensures { result ≡ create_trigger_command (tokens line.now) }
-{
-    let (trigger, name) = two_names(line, "create trigger", "on")?;
-    Some(Command::CreateTrigger { name, trigger })
-}
-
-#[tactic(auto, unfolding(crate::specs::Commands::rename_index_command))]
-fn rename_index(line: &[u8]) -> Option<Command>
-    ensures { result ≡ rename_index_command (tokens line.now) }
-{
     let (name, to) = two_names(line, "alter index", "rename to")?;
     Some(Command::RenameIndex { name, to })
 }
 
+// regclass OID
 #[tactic(auto, unfolding(crate::specs::Commands::regclass_command))]
 fn regclass(line: &[u8]) -> Option<Command>
     ensures { result ≡ regclass_command (tokens line.now) }
@@ -233,6 +211,7 @@ fn regclass(line: &[u8]) -> Option<Command>
     }
 }
 
+// lock table NAME in MODE mode
 #[tactic(auto, unfolding(crate::specs::Commands::lock_command))]
 fn lock(line: &[u8]) -> Option<Command>
     ensures { result ≡ lock_command (tokens line.now) }
@@ -244,9 +223,14 @@ fn lock(line: &[u8]) -> Option<Command>
 }
 
 // A lock mode by its words, and the end.
-#[tactic(auto, unfolding(crate::specs::Commands::lock_mode))]
+#[tactic(auto, using(crate::proofs::Finding::finds, crate::proofs::Finding::finds_later, crate::proofs::Finding::finds_none), unfolding(crate::specs::Commands::lock_mode))]
 fn lock_mode(tokens: &Tokens) -> Option<Mode>
     ensures { result ≡ mode_of_lock tokens.now }
 {
-    Mode::ALL.into_iter().find(|mode| tokens.ends(operands::lock_words(*mode)))
+    for mode in Mode::ALL {
+        if tokens.ends(operands::lock_words(mode)) {
+            return Some(mode);
+        }
+    }
+    None
 }

@@ -12,7 +12,11 @@ use std::alloc::Global;
 
 // The steps of a line for a script with so many backends, where the line has that form.
 #[tactic(auto, unfolding(crate::specs::LineForms::steps_of))]
-pub(crate) fn steps(alloc: Global, line: &[u8], backends: u32) -> Result<Option<Listed<Turns>>, NoMemory>
+pub(crate) fn steps(
+    alloc: Global,
+    line: &[u8],
+    backends: u32,
+) -> Result<Option<Listed<Turns>>, NoMemory>
     ensures value { IfOk result (λ found. found ≡ steps_of backends (tokens line.now)) }
     ensures turns { IfOk result (λ found. IfSome found (λ turns. (1 ≤ length turns) × AllByRecursion (AreTurns backends) turns)) }
 {
@@ -59,7 +63,7 @@ fn all_turns(
 }
 
 // Takes a backend of so many, and how many steps it has.
-#[tactic(auto, using(crate::proofs::Turning::no_backend, crate::proofs::Turning::no_count, crate::proofs::Turning::both))]
+#[tactic(auto, using(crate::proofs::StepItems::no_backend, crate::proofs::StepItems::no_count, crate::proofs::StepItems::both))]
 fn next_turns(tokens: &mut Tokens, backends: u32) -> Option<Turns>
     requires { none_left tokens.old ≡ false }
     ensures item { NextTurns backends tokens.old tokens.new result }
@@ -71,7 +75,7 @@ fn next_turns(tokens: &mut Tokens, backends: u32) -> Option<Turns>
     Some(Turns { backend, count })
 }
 
-// One step, or behind an asterisk how many.
+// One step, or after an asterisk how many.
 #[tactic(auto, unfolding(crate::specs::LineForms::count_part))]
 fn count_part(tokens: &mut Tokens) -> Option<u32>
     ensures value { MatchOption result (count_at tokens.old ≡ None) (λ count. count_at tokens.old ≡ Some (count, tokens.new)) }

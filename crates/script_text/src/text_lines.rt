@@ -6,8 +6,8 @@ use crate::tokens::without_blanks;
 use base_types::NoMemory;
 use std::alloc::Global;
 
-// The length of a text's first line with its LF.
-#[tactic(auto, using(crate::proofs::Parting::first_line))]
+// The length of a text's first line with its line feed.
+#[tactic(auto, using(crate::proofs::LineLengths::first_line))]
 pub(crate) fn line_len(text: &[u8]) -> usize
     requires { 0 < length text.now }
     ensures first { text_lines text.now ≡ take result text.now ∷ text_lines (drop result text.now) }
@@ -22,7 +22,7 @@ pub(crate) fn line_len(text: &[u8]) -> usize
     }
 }
 
-// A line without its LF and the CR before that.
+// A line without its line feed and the carriage return before that.
 #[tactic(auto, unfolding(crate::specs::TextLines::bare))]
 pub(crate) fn bare(line: &[u8]) -> &[u8]
     ensures { result.now ≡ bare_of line.now }
@@ -38,14 +38,14 @@ pub(crate) fn bare(line: &[u8]) -> &[u8]
 }
 
 // A line counts: it has more than blanks and isn't a comment.
-#[tactic(auto, using(crate::proofs::Parting::counts_after_blanks))]
+#[tactic(auto, using(crate::proofs::LineLengths::counts_after_blanks))]
 pub(crate) fn counts(line: &[u8]) -> bool
     ensures { result ≡ line_counts line.now }
 {
     rest_counts(without_blanks(line))
 }
 
-// A byte stands in the line that no line may hold which counts.
+// The line has a byte that no line that counts may have.
 pub(crate) fn has_bad_byte(line: &[u8]) -> bool
     ensures { result ≡ list_any bad_byte line.now }
 {
@@ -63,7 +63,7 @@ pub(crate) fn in_small_letters(alloc: Global, line: &[u8]) -> Result<Vec<u8>, No
     Ok(folded)
 }
 
-// The number of bytes before the first LF.
+// The number of bytes before the first line feed.
 fn before_lf(text: &[u8]) -> usize
     ensures value { result ≡ prefix_len (λ byte. not (byte == 10)) text.now }
     ensures within { result ≤ length text.now }
@@ -78,14 +78,14 @@ fn ends_in(text: &[u8], byte: u8) -> bool
     !text.is_empty() && text[text.len() - 1] == byte
 }
 
-// What a line has behind its blanks makes it count.
+// The text that a line has after its blanks makes it count.
 fn rest_counts(text: &[u8]) -> bool
     ensures { result ≡ front_of_line_counts text.now }
 {
     !text.is_empty() && !begins_comment(text)
 }
 
-// Two dashes stand in front.
+// The text begins with two dashes.
 fn begins_comment(text: &[u8]) -> bool
     ensures { result ≡ comment text.now }
 {

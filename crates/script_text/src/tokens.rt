@@ -29,7 +29,7 @@ impl<'a> Tokens<'a> {
         Tokens { rest: line }
     }
 
-    // The text behind what was taken.
+    // The text after what was taken.
     pub(crate) fn text(&self) -> &'a [u8]
         ensures { tokens result.now ≡ self.now }
     {
@@ -67,7 +67,7 @@ impl<'a> Tokens<'a> {
         Some(token)
     }
 
-    // Takes the tokens of these words; `None` where others stand in front.
+    // Takes the tokens of these words; `None` where the next ones are others.
     #[tactic(auto, unfolding(crate::specs::Tokens::after_words))]
     pub(crate) fn words(&mut self, words: &str) -> Option<()>
         ensures { MatchOption result (said words.now self.old ≡ None) (λ _. said words.now self.old ≡ Some self.new) }
@@ -83,7 +83,7 @@ impl<'a> Tokens<'a> {
     }
 }
 
-// A line without the blanks in front.
+// A line without the blanks that it begins with.
 pub(crate) fn without_blanks(line: &[u8]) -> &[u8]
     ensures value { result.now ≡ drop (prefix_len blank line.now) line.now }
     ensures same { tokens result.now ≡ tokens line.now }
@@ -92,7 +92,7 @@ pub(crate) fn without_blanks(line: &[u8]) -> &[u8]
     &line[blanks(line)..]
 }
 
-// The number of blanks in front of a line's first token.
+// The number of blanks before a line's first token.
 fn blanks(line: &[u8]) -> usize
     ensures value { result ≡ prefix_len blank line.now }
     ensures within { result ≤ length line.now }
@@ -100,7 +100,7 @@ fn blanks(line: &[u8]) -> usize
     line.iter().take_while(|byte| is_blank(**byte)).count()
 }
 
-// The number of bytes of longer tokens in front.
+// The number of bytes of a longer token that a line begins with.
 fn word_len(line: &[u8]) -> usize
     ensures value { result ≡ prefix_len inside line.now }
     ensures within { result ≤ length line.now }
@@ -108,7 +108,7 @@ fn word_len(line: &[u8]) -> usize
     line.iter().take_while(|byte| in_word(**byte)).count()
 }
 
-// The length of the token that stands in front, where no blank does.
+// The length of the first token of a line that begins with no blank.
 fn token_len(line: &[u8]) -> usize
     requires starts { StartsToken line.now }
     requires some { 0 < length line.now }

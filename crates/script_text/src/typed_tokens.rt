@@ -8,7 +8,7 @@ use crate::tokens::Tokens;
 use base_types::{ColType, Field, Name, Word};
 
 impl<'a> Tokens<'a> {
-    // Takes these words and a name behind them.
+    // Takes these words and a name after them.
     #[tactic(auto, unfolding(crate::specs::Tokens::after))]
     pub(crate) fn name_after(&mut self, words: &str) -> Option<Name>
         ensures { MatchOption result (after words.now plain_name_of self.old ≡ None) (λ x. after words.now plain_name_of self.old ≡ Some (x, self.new)) }
@@ -27,7 +27,7 @@ impl<'a> Tokens<'a> {
         Some((first, second))
     }
 
-    // Takes these words and a word of a default behind them.
+    // Takes these words and a word of a default after them.
     #[tactic(auto, unfolding(crate::specs::Tokens::after))]
     pub(crate) fn word_after(&mut self, words: &str) -> Option<Word>
         ensures { MatchOption result (after words.now word_of self.old ≡ None) (λ x. after words.now word_of self.old ≡ Some (x, self.new)) }
@@ -36,7 +36,7 @@ impl<'a> Tokens<'a> {
         operands::word(self.next()?)
     }
 
-    // Takes these words and a number behind them, of at most nine digits.
+    // Takes these words and a number after them, of at most nine digits.
     #[tactic(auto, unfolding(crate::specs::Tokens::after))]
     pub(crate) fn number_after(&mut self, words: &str) -> Option<u32>
         ensures { MatchOption result (after words.now (number_of 9) self.old ≡ None) (λ x. after words.now (number_of 9) self.old ≡ Some (x, self.new)) }
@@ -46,7 +46,7 @@ impl<'a> Tokens<'a> {
         Some(number as u32)
     }
 
-    // Takes these words and a number behind them that may have a minus.
+    // Takes these words and a number after them that may have a minus.
     #[tactic(auto, unfolding(crate::specs::Tokens::after))]
     pub(crate) fn stat_after(&mut self, words: &str) -> Option<i32>
         ensures { MatchOption result (after words.now stat_of self.old ≡ None) (λ x. after words.now stat_of self.old ≡ Some (x, self.new)) }
@@ -81,7 +81,7 @@ impl<'a> Tokens<'a> {
         }
     }
 
-    // A command ends behind these words.
+    // A command ends after these words.
     #[tactic(auto, unfolding(crate::specs::Tokens::ends))]
     pub(crate) fn ends(&self, words: &str) -> bool
         ensures { result ≡ ends_behind words.now self.now }

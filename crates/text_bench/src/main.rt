@@ -1,5 +1,5 @@
 //! What `bench/texts.sh` measures: a script read and written back (`script`), the lines of a history
-//! read (`read`), and read and written back (`copy`). Its exit status is 0, or 1 where a word, a text,
+//! read (`read`), and read and written back (`copy`). Its exit status is 0, or 1 where an argument, a text,
 //! memory or the outside fails.
 #![tactic(auto)]
 
@@ -23,11 +23,11 @@ fn main(rt: HostRuntime) -> ExitCode {
 }
 
 fn run<R: Env + AllocGlobal + Input + Print>(rt: &R, alloc: Global) -> Option<()> {
-    let word = env::args(rt).ok()?.nth(1)?;
+    let argument = env::args(rt).ok()?.nth(1)?;
     let mut source = StdSource::new(rt.reader());
     let mut sink = StdSink::new(std::io::writer(rt));
     let input = read_all(alloc, &mut source, MOST_INPUT).ok()?;
-    match word.as_str() {
+    match argument.as_str() {
         "script" => copy_script(alloc, &input, &mut sink),
         "read" => read_entries(alloc, &input).map(|_| ()),
         "copy" => put_output(&mut sink, &read_entries(alloc, &input)?, &[]).ok(),

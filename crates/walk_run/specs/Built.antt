@@ -2,6 +2,7 @@
 use Rattle.std.specs.Prelude.{ℕ, Bool, true, false, None, List, [], ◌∷◌, ◌&&◌, not, nat_le, length, map}
 use Rattle.std.specs.List.{list_any, list_all, flat_map}
 use Rattle.std.specs.Str.{bytes_eq}
+use Rattle.base_types.specs.declared.dropped.TheConstants.{MOST_COLUMNS}
 use Rattle.base_types.specs.declared.command.Command.{Command}
 use Rattle.base_types.specs.declared.command.Command.TheVariants.{CreateTable, Show}
 use Rattle.base_types.specs.Scenario.{Scenario}
@@ -18,7 +19,7 @@ created_by command = []
 
 -- a table of at most 1,600 columns with names of their own, or all of a relation shown
 abbrev pub is_built_command : Command → Bool
-is_built_command (CreateTable name columns) = nat_le (length columns) 1600 && are_distinct (map (λ c. c.name) columns)
+is_built_command (CreateTable name columns) = nat_le (length columns) MOST_COLUMNS && are_distinct (map (λ c. c.name) columns)
 is_built_command (Show name None) = true
 is_built_command command = false
 

@@ -11,8 +11,7 @@ use base_types::{
     Xid, same_scan, table_scans,
 };
 use event_kinds::Line;
-use out_text::answer_text;
-use rel_desc::{Answer, CommandError};
+use rel_desc::{Answer, CommandError, answer_text};
 use script_text::Script;
 use std::alloc::Global;
 

@@ -2,12 +2,10 @@ ghost use Rattle.std.specs.Prelude.{◌≡◌, ◌++◌, ◌&&◌, nat_le, lengt
 ghost use Rattle.std.specs.List.{list_all, flat_map};
 ghost use Rattle.walk_run.specs.Built.{are_distinct as names_differ, created_by, is_built_command as built_command, is_built as built_scenario};
 
-use base_types::{Command, Name, NewColumn, NoMemory, Placed};
+use base_types::{Command, MOST_COLUMNS, Name, NewColumn, NoMemory, Placed};
 use script_text::Script;
 use std::alloc::{AllocError, Global};
 use std::collections::BTreeSet;
-
-const MOST_COLUMNS: usize = 1600;
 
 /// The script can be walked today: it has only tables created, each once and with at most 1,600
 /// columns of names of their own, and whole relations shown.
@@ -47,9 +45,9 @@ fn is_built_command(alloc: Global, command: &Command) -> Result<bool, NoMemory>
 
 // The columns are at most 1,600, with names of their own.
 fn are_columns(alloc: Global, columns: &[NewColumn]) -> Result<bool, NoMemory>
-    ensures { IfOk result (λ built. built ≡ nat_le (length columns.now) 1600 && names_differ (map (λ c. c.name) columns.now)) }
+    ensures { IfOk result (λ built. built ≡ nat_le (length columns.now) MOST_COLUMNS && names_differ (map (λ c. c.name) columns.now)) }
 {
-    if columns.len() > MOST_COLUMNS {
+    if columns.len() > MOST_COLUMNS as usize {
         return Ok(false);
     }
     let names = column_names(alloc, columns)?;

@@ -1,4 +1,4 @@
-ghost use Rattle.std.specs.Prelude.{◌≡◌, ◌+◌, ◌<◌, ◌≤◌, ◌^◌, ◌++◌, ◌∷◌, ◌==◌, ◌&&◌, [], ℕ, false, not, nat_le, length, map, filter, None, vec_len, vec_capacity, unwrap_or, slice_get, OnOk, OnErr, IfOk};
+ghost use Rattle.std.specs.Prelude.{◌≡◌, ◌↔◌, ◌+◌, ◌<◌, ◌≤◌, ◌^◌, ◌++◌, ◌∷◌, ◌==◌, ◌&&◌, [], ℕ, false, not, nat_le, length, map, filter, None, vec_len, vec_capacity, unwrap_or, slice_get, IsTrue, OnOk, OnErr, IfOk};
 ghost use Rattle.base_types.specs.Modes.{conflicts as do_conflict};
 ghost use Rattle.base_types.specs.Scans.{same_oid, scan_of};
 ghost use Rattle.base_types.specs.declared.kind.Kind.TheVariants as kinds;
@@ -18,7 +18,7 @@ use history_model::{Grant, Version};
 use std::alloc::Global;
 use std::marker::Model;
 
-/// The most entries of a history; a call that would go past it answers want of memory.
+/// The most entries of a history; a call that would go past it answers out of memory.
 pub const MOST_ENTRIES: usize = 1 << 31;
 
 /// What the backends share: the history, the rows and the locks.
@@ -251,13 +251,20 @@ fn enter(entries: &mut Vec<Entry>, backend: u32, command: u32, event: Event) -> 
     Ok(())
 }
 
+// Whether a history has as many entries as it may.
+fn is_full(entries: &[Entry]) -> bool
+    ensures { IsTrue result ↔ (2 ^ 31 ≤ length entries.now) }
+{
+    entries.len() >= MOST_ENTRIES
+}
+
 // Makes room for one more entry.
 fn make_room(entries: &mut Vec<Entry>) -> Result<(), NoMemory>
     ensures ok { OnOk result (vec_len entries.new < vec_capacity entries.new) }
     ensures short { OnOk result (vec_len entries.new < 2 ^ 31) }
     ensures same { entries.new.items ≡ entries.old.items }
 {
-    if entries.len() >= MOST_ENTRIES {
+    if is_full(entries.as_slice()) {
         return Err(NoMemory);
     }
     entries.reserve(1)?;

@@ -9,8 +9,8 @@ loop-row-preserved c =
     let before = c.loop-row in
     elim c.match-item_of.branch [
       | in-Some+in_ok-push_item w ↦ rw (w.text-is, w.some-is) (row_adds c.args.field c.args.rel c.args.rows.now before.row-index row before.some before.text.items w.in-Some.item w.push_item.new.text.items
-          before.invariant c.loop-row-test.true c.row-item.is (sym c.item_of.ensures ∙ w.in-Some.is)
+          before.invariant c.loop-row-test.true c.row-item.is (sym c.item_of.ensures.text ∙ w.in-Some.is) (rw w.in-Some.is at c.item_of.ensures.in_line)
           (w.in_ok-push_item.ensures ∙ ap (λ piece. (if before.some then before.text.items ++ codes " " else before.text.items) ++ piece) w.as_bytes.ensures.text))
       | in_default w ↦ rw (w.text-is, w.some-is) (row_passes c.args.field c.args.rel c.args.rows.now before.row-index row before.some before.text.items
-          before.invariant c.loop-row-test.true c.row-item.is (sym c.item_of.ensures ∙ w.in_default.is))
+          before.invariant c.loop-row-test.true c.row-item.is (sym c.item_of.ensures.text ∙ w.in_default.is))
     ]

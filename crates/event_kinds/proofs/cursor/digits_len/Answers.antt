@@ -3,9 +3,9 @@ use Rattle.std.proofs.lemmas.List.Sums.{prefix_len_is}
 use Rattle.base_types.specs.Names.{is_digit}
 use Rattle.event_kinds.proofs.cursor.digits_len.Goals as goal
 
-pub returns-then-not-is_digit_byte-clause-text : goal.returns-then-not-is_digit_byte-clause-text
-returns-then-not-is_digit_byte-clause-text c =
-    let refused : is_digit (get_or c.args.bytes.now c.loop-i.i 0) ≡ false = grind (arith, c.is_digit_byte.ensures, c.if-not-is_digit_byte.true) in
+pub returns-then-not-is_digit-clause-text : goal.returns-then-not-is_digit-clause-text
+returns-then-not-is_digit-clause-text c =
+    let refused : is_digit (get_or c.args.bytes.now c.loop-i.i 0) ≡ false = grind (arith, c.is_digit.ensures, c.if-not-is_digit.true) in
     sym (prefix_len_is is_digit c.args.bytes.now c.loop-i.i 0 (omega arith) c.loop-i.invariant (λ within. refused))
 
 pub returns-clause-text : goal.returns-clause-text

@@ -1,6 +1,6 @@
 use Rattle.std.proofs.Common.{◌≡◌, ◌∙◌, ◌∷◌, ◌<◌, ◌≤◌, ◌+◌, ◌-◌, sym, length, arith}
 use Rattle.script_text.specs.Commands.{enclosed}
-use Rattle.script_text.proofs.Listing.{with_text, as_text_is, unclosed, closed_text, text_ends, text_more, too_long}
+use Rattle.script_text.proofs.ItemByItem.{with_text, as_text_is, unclosed, closed_text, text_ends, text_more, too_long}
 use Rattle.script_text.proofs.alterations.enclosed_text.Goals as goal
 
 pub returns-in_err-token : goal.returns-in_err-token

@@ -1,6 +1,6 @@
 use Rattle.std.proofs.Common.{◌≡◌, ◌≤◌, length}
 use Rattle.script_text.specs.Commands.{enclosed}
-use Rattle.script_text.proofs.Listing.{with_text}
+use Rattle.script_text.proofs.ItemByItem.{with_text}
 use Rattle.script_text.proofs.alterations.enclosed_text.Given as goal
 
 abbrev pub invariant-tokens : goal.invariant-tokens

@@ -1,6 +1,6 @@
 use Rattle.std.proofs.Common.{◌≡◌, length}
 use Rattle.script_text.specs.Commands.{columns_at}
-use Rattle.script_text.proofs.Listing.{with_items}
+use Rattle.script_text.proofs.ItemByItem.{with_items}
 use Rattle.script_text.proofs.list_commands.columns_at.Given as goal
 
 abbrev pub invariant-items : goal.invariant-items

@@ -1,4 +1,4 @@
-use Rattle.script_text.proofs.Numbers.{number_is}
+use Rattle.script_text.proofs.DigitBounds.{number_is}
 use Rattle.script_text.proofs.operands.digits.Goals as goal
 
 pub returns : goal.returns

@@ -1,6 +1,6 @@
 use Rattle.std.proofs.Common.{◌∙◌, sym}
 use Rattle.script_text.specs.LineForms.{all_turns}
-use Rattle.script_text.proofs.Turning.{all_taken}
+use Rattle.script_text.proofs.StepItems.{all_taken}
 use Rattle.script_text.proofs.steps.all_turns.Goals as goal
 
 pub returns-clause-value : goal.returns-clause-value

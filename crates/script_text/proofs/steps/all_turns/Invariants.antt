@@ -2,7 +2,7 @@ use Rattle.std.proofs.Common.{◌≡◌, ◌≤◌, true, false, length}
 use Rattle.std.specs.List.{AllByRecursion}
 use Rattle.base_types.specs.Scenario.{AreTurns}
 use Rattle.script_text.specs.LineForms.{all_turns, none_left}
-use Rattle.script_text.proofs.Listing.{with_items}
+use Rattle.script_text.proofs.ItemByItem.{with_items}
 use Rattle.script_text.proofs.steps.all_turns.Given as goal
 
 abbrev pub invariant-items : goal.invariant-items

@@ -1,5 +1,5 @@
 use Rattle.std.proofs.Common.{sym}
-use Rattle.script_text.proofs.Turning.{no_backend}
+use Rattle.script_text.proofs.StepItems.{no_backend}
 use Rattle.script_text.proofs.steps.next_turns.Goals as goal
 
 pub returns-in_err-backend-clause-item : goal.returns-in_err-backend-clause-item

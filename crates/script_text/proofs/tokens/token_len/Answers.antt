@@ -1,5 +1,5 @@
 use Rattle.std.proofs.Common.{◌∙◌, sym}
-use Rattle.script_text.proofs.Splitting.{word_token, mark_token}
+use Rattle.script_text.proofs.TokenLengths.{word_token, mark_token}
 use Rattle.script_text.proofs.tokens.token_len.Goals as goal
 
 pub returns-then-in_word-clause-token : goal.returns-then-in_word-clause-token

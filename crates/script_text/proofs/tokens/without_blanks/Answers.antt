@@ -1,5 +1,5 @@
 use Rattle.std.proofs.lemmas.List.{take_rest}
-use Rattle.script_text.proofs.Splitting.{skips}
+use Rattle.script_text.proofs.TokenLengths.{skips}
 use Rattle.script_text.proofs.tokens.without_blanks.Goals as goal
 
 pub returns-clause-same : goal.returns-clause-same

@@ -1,7 +1,7 @@
 use Rattle.std.proofs.Common.{◌≡◌, ◌∙◌, ap}
 use Rattle.base_types.specs.Scenario.{Scenario}
 use Rattle.script_text.specs.Grammar.{Draft}
-use Rattle.script_text.proofs.Drafting.{backends_kept}
+use Rattle.script_text.proofs.DraftLimits.{backends_kept}
 use Rattle.script_text.proofs.lines_so_far.LinesSoFar.backends_line.Goals as goal
 
 pub invariant_of-self : goal.invariant_of-self

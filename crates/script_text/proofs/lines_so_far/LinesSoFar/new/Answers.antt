@@ -1,4 +1,4 @@
-use Rattle.script_text.proofs.Drafting.{empty_kept, empty_counted}
+use Rattle.script_text.proofs.DraftLimits.{empty_kept, empty_counted}
 use Rattle.script_text.proofs.lines_so_far.LinesSoFar.new.Goals as goal
 
 pub invariant_of-result : goal.invariant_of-result

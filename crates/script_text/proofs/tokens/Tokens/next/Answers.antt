@@ -1,6 +1,6 @@
 use Rattle.std.proofs.Common.{◌≡◌, ◌∙◌, [], sym}
 use Rattle.script_text.specs.Tokens.{tokens}
-use Rattle.script_text.proofs.Splitting.{no_tokens}
+use Rattle.script_text.proofs.TokenLengths.{no_tokens}
 use Rattle.script_text.proofs.tokens.Tokens.next.Goals as goal
 
 pub returns-then-is_empty : goal.returns-then-is_empty

@@ -1,0 +1,21 @@
+//! The tests of the repository, one file a crate below it.
+//!
+//! They stand in one crate since a crate with tests is proved twice. They test what no clause says:
+//! the definitions against tables from outside, that a call with ample memory succeeds, the texts
+//! that are printed, and what happens where a reader, a writer or a call in its middle fails.
+#![tactic(auto)]
+
+#[cfg(test)]
+mod answers;
+#[cfg(test)]
+mod edge;
+#[cfg(test)]
+mod events;
+#[cfg(test)]
+mod readers;
+#[cfg(test)]
+mod runs;
+#[cfg(test)]
+mod scripts;
+#[cfg(test)]
+mod values;

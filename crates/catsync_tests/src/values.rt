@@ -1,0 +1,270 @@
+use base_types::{
+    CacheId, Catalog, ColType, ConKind, Field, IndexState, Key, KeyPart, Kind, LineBuffer, Listed,
+    Mode, Name, NameFault, Nums, Oid, Purpose, Row, RowKey, Text, Word, conflicts, field_text,
+    goes_before, has_field, key_hash, put_in_order, read_by, selects, writers,
+};
+use std::alloc::Global;
+use std::test::Fail;
+
+// The table of the PostgreSQL manual, "Explicit Locking".
+const CONFLICTS: [&[u8; 8]; 8] = [
+    b".......x",
+    b"......xx",
+    b"....xxxx",
+    b"...xxxxx",
+    b"..xx.xxx",
+    b"..xxxxxx",
+    b".xxxxxxx",
+    b"xxxxxxxx",
+];
+
+// The modes of the writers of each field, as they are written, of tables and then of indexes.
+const WRITERS: [(Kind, Field, &[u8]); 14] = [
+    (Kind::Table, Field::Name, b"name: ax"),
+    (Kind::Table, Field::Columns, b"columns: ax"),
+    (Kind::Table, Field::Defaults, b"defaults: ax"),
+    (Kind::Table, Field::Statistics, b"statistics: su ax"),
+    (Kind::Table, Field::Fillfactor, b"fillfactor: su ax"),
+    (Kind::Table, Field::Constraints, b"constraints: su sr ax"),
+    (Kind::Table, Field::Referenced, b"referenced: sr ax"),
+    (Kind::Table, Field::Indexes, b"indexes: sh ax"),
+    (Kind::Table, Field::Triggers, b"triggers: sr ax"),
+    (Kind::Table, Field::Valid, b"valid:"),
+    (Kind::Index, Field::Name, b"name: su ax"),
+    (Kind::Index, Field::Of, b"of: ax"),
+    (Kind::Index, Field::Valid, b"valid: ax"),
+    (Kind::Index, Field::Columns, b"columns:"),
+];
+
+const BYTES_63: &[u8] = b"a23456789_123456789_123456789_123456789_123456789_123456789_123";
+
+const BYTES_64: &[u8] = b"a23456789_123456789_123456789_123456789_123456789_123456789_1234";
+
+// Bytes that may be a name, and whether they are one.
+const NAMES: [(&[u8], bool); 8] = [
+    (b"t_1", true),
+    (BYTES_63, true),
+    (b"........pg.dropped.1600........", true),
+    (b"", false),
+    (BYTES_64, false),
+    (b"1a", false),
+    (b"a-b", false),
+    (b"........pg.dropped.012........", false),
+];
+
+// Bytes that may be a word, and whether they are one.
+const WORDS: [(&[u8], bool); 5] = [
+    (b"-1a_", true),
+    (BYTES_63, true),
+    (b"", false),
+    (BYTES_64, false),
+    (b"a+", false),
+];
+
+// Bytes that may be a text, and whether they are one.
+const TEXTS: [(&[u8], bool); 5] = [
+    (b"a+b>=-1*c<0", true),
+    (BYTES_63, true),
+    (b"", false),
+    (BYTES_64, false),
+    (b"a,b", false),
+];
+
+pub(crate) fn name(text: &[u8]) -> Result<Name, Fail> {
+    Ok(Name::new(text).ok().ok_or("no name")?)
+}
+
+#[test]
+fn names(rt: HostRuntime) {
+    for (text, good) in NAMES {
+        let found = matches!(Name::new_or_dropped(text), Ok(name) if name.as_bytes() == text);
+        assert_eq!(rt; found, good);
+    }
+}
+
+#[test]
+fn words(rt: HostRuntime) {
+    for (text, good) in WORDS {
+        let found = matches!(Word::new(text), Ok(word) if word.as_bytes() == text);
+        assert_eq!(rt; found, good);
+    }
+}
+
+#[test]
+fn texts(rt: HostRuntime) {
+    for (text, good) in TEXTS {
+        let found = matches!(Text::new(text), Ok(found) if found.as_bytes() == text);
+        assert_eq!(rt; found, good);
+    }
+}
+
+#[test]
+fn the_first_fault_of_a_name(rt: HostRuntime) {
+    assert!(rt; matches!(Name::new(b""), Err(NameFault::Empty)));
+    assert!(rt; matches!(Name::new(BYTES_64), Err(NameFault::TooLong)));
+    assert!(rt; matches!(Name::new(b"aB C"), Err(NameFault::BadByte { at: 1 })));
+}
+
+#[test]
+fn the_name_of_a_dropped_column(rt: HostRuntime) {
+    let dropped = Name::dropped(12);
+    assert_eq!(rt;
+        dropped.as_bytes(),
+        b"........pg.dropped.12........".as_slice()
+    );
+    assert!(rt; Name::new(dropped.as_bytes()).is_err());
+}
+
+#[test]
+fn conflict_table(rt: HostRuntime) {
+    for (a, row) in Mode::ALL.iter().zip(CONFLICTS.iter()) {
+        for (b, mark) in Mode::ALL.iter().zip(row.iter()) {
+            assert_eq!(rt; conflicts(*a, *b), *mark == b'x');
+        }
+    }
+}
+
+#[test]
+fn writers_table(rt: HostRuntime) {
+    for (kind, field, text) in WRITERS {
+        let modes = writers(kind, field);
+        let mut line = LineBuffer::new();
+        line.push(field.word());
+        line.push(b":");
+        for mode in modes.as_slice() {
+            if line.as_bytes().len() < 500 {
+                line.push(b" ");
+                line.push(mode.word());
+            }
+        }
+        assert_eq!(rt; line.as_bytes(), text);
+        assert_eq!(rt; has_field(kind, field), modes.has(Mode::AccessExclusive));
+    }
+}
+
+fn column(num: u32, text: &[u8], live: bool) -> Result<Row, Fail> {
+    Ok(Row::Att {
+        rel: Oid(16384),
+        num,
+        name: name(text)?,
+        col_type: ColType::Int4,
+        stat: -1,
+        live,
+    })
+}
+
+// Three columns of a table, in a scan's order.
+fn scanned(alloc: Global, purpose: &Purpose) -> Result<Vec<Row>, Fail> {
+    let mut given = Vec::new(alloc);
+    put_in_order(purpose, &mut given, column(2, b"a", true)?)?;
+    put_in_order(purpose, &mut given, column(1, b"b", true)?)?;
+    put_in_order(purpose, &mut given, column(3, b"c", false)?)?;
+    Ok(given)
+}
+
+// What fields of the table these columns give.
+const OF_COLUMNS: [(Field, &str); 3] = [
+    (Field::Columns, "b:int4 a:int4"),
+    (Field::Statistics, "1:-1 2:-1"),
+    (Field::Defaults, "-"),
+];
+
+#[test]
+fn scans_by_number(rt: HostRuntime) -> Result<(), Fail> {
+    let given = scanned(rt.alloc(), &read_by(Field::Columns, Oid(16384)))?;
+    for (field, want) in OF_COLUMNS {
+        let text = field_text(rt.alloc(), field, Oid(16384), given.as_slice())?;
+        assert_eq!(rt; text.as_slice(), want.as_bytes());
+    }
+    Ok(())
+}
+
+#[test]
+fn scans_by_name(rt: HostRuntime) -> Result<(), Fail> {
+    let purpose = Purpose::AttList(Oid(16384));
+    let given = scanned(rt.alloc(), &purpose)?;
+    for (row, num) in given.iter().zip([2, 1, 3].iter()) {
+        assert!(rt; selects(&purpose, row));
+        assert!(rt; row.key().is(&RowKey::Att(Oid(16384), *num)));
+    }
+    assert!(rt; goes_before(&purpose, &column(2, b"a", true)?, &column(1, b"b", true)?));
+    Ok(())
+}
+
+fn foreign_key() -> Result<Row, Fail> {
+    Ok(Row::Con {
+        oid: Oid(16390),
+        rel: Oid(16385),
+        name: name(b"k")?,
+        valid: false,
+        what: ConKind::Foreign {
+            num: 2,
+            refrel: Oid(16384),
+            refnum: 1,
+        },
+    })
+}
+
+fn index() -> Row {
+    Row::Ind {
+        index: Oid(16400),
+        table: Oid(16384),
+        state: IndexState::Valid,
+        nums: Nums::new(&[1, 3, 12]),
+    }
+}
+
+// A field of a relation, and its text where there is the foreign key alone.
+const OF_KEY: [(Field, u32, &str); 3] = [
+    (Field::Constraints, 16385, "k:fk:n:2:16384:1"),
+    (Field::Constraints, 16384, "-"),
+    (Field::Referenced, 16384, "16390:16385:1"),
+];
+
+// The same with the index alone.
+const OF_INDEX: [(Field, u32, &str); 3] = [
+    (Field::Indexes, 16384, "16400:v:1+3+12"),
+    (Field::Of, 16400, "16384:1+3+12"),
+    (Field::Valid, 16400, "v"),
+];
+
+#[test]
+fn fields_of_a_foreign_key(rt: HostRuntime) -> Result<(), Fail> {
+    let rows = [foreign_key()?];
+    for (field, rel, want) in OF_KEY {
+        let text = field_text(rt.alloc(), field, Oid(rel), rows.as_slice())?;
+        assert_eq!(rt; text.as_slice(), want.as_bytes());
+    }
+    Ok(())
+}
+
+#[test]
+fn fields_of_an_index(rt: HostRuntime) -> Result<(), Fail> {
+    let rows = [index()];
+    for (field, rel, want) in OF_INDEX {
+        let text = field_text(rt.alloc(), field, Oid(rel), rows.as_slice())?;
+        assert_eq!(rt; text.as_slice(), want.as_bytes());
+    }
+    assert!(rt; matches!(index().catalog(), Catalog::Index));
+    Ok(())
+}
+
+#[test]
+fn hashes(rt: HostRuntime) -> Result<(), Fail> {
+    for text in [b"an", b"c0"] {
+        let by_name = Key::new(&[KeyPart::Name(name(text)?)]);
+        assert_eq!(rt; key_hash(CacheId::RelName, &by_name), 4078);
+    }
+    let by_column = Key::new(&[KeyPart::Oid(Oid(16384)), KeyPart::Name(name(b"a")?)]);
+    assert_eq!(rt; key_hash(CacheId::AttName, &by_column), 85949054);
+    Ok(())
+}
+
+#[test]
+fn lists(rt: HostRuntime) -> Result<(), Fail> {
+    let mut list = Listed::new(rt.alloc());
+    list.push(7u32)?;
+    let list = Listed::from_vec(list.into_vec());
+    assert_eq!(rt; list.as_slice(), [7].as_slice());
+    Ok(())
+}

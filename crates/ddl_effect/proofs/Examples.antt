@@ -1,0 +1,79 @@
+-- What commands come to, by computation.
+use Rattle.std.proofs.Common.{◌≡◌, ℕ, Bool, true, false, None, Some, List, [], ◌∷◌, codes, negsuc, replicate, refl}
+use Rattle.base_types.specs.declared.command.Command.{Command}
+use Rattle.base_types.specs.declared.command.Command.TheVariants as commands
+use Rattle.base_types.specs.declared.command.NewColumn.{NewColumn}
+use Rattle.base_types.specs.declared.col_type.ColType.TheVariants.{Int4}
+use Rattle.base_types.specs.declared.field.Field.TheVariants as fields
+use Rattle.base_types.specs.declared.ids.Oid.{Oid}
+use Rattle.base_types.specs.declared.kind.Kind.TheVariants.{Table, Index}
+use Rattle.base_types.specs.declared.mode.Mode.TheVariants.{AccessShare}
+use Rattle.base_types.specs.declared.row.Row.{Row}
+use Rattle.base_types.specs.declared.row.Row.TheVariants.{Class, Att}
+use Rattle.base_types.specs.declared.scan.Purpose.{Purpose}
+use Rattle.base_types.specs.declared.scan.Purpose.TheVariants.{RelName}
+use Rattle.base_types.specs.declared.change.Change.TheVariants.{Insert}
+use Rattle.rel_desc.specs.declared.error.CommandError.TheVariants as errors
+use Rattle.ddl_effect.specs.Plans.{Fails}
+use Rattle.ddl_effect.specs.Effects.{Nothing, Refuses, Unknown, effect_of, effect_at}
+use Rattle.ddl_effect.specs.Commands.{plan_of, new_table}
+use Rattle.ddl_effect.specs.Drawing.{changes_of}
+use Rattle.ddl_effect.specs.Blocks.{Outside, Inside, Failed, no_block, innermost, refused_by, blocks_well, blocks_badly}
+
+abbrev pub column : List ℕ → NewColumn
+column name = record { name = name; col_type = Int4 }
+
+abbrev pub oid : ℕ → Oid
+oid n = record { 0 = n }
+
+abbrev pub rows_of : Row → Purpose → List Row
+rows_of row (RelName name) = row ∷ []
+rows_of row scan = []
+
+-- one column too many is found before a column that comes twice
+pub too_many_columns : plan_of [] (commands.CreateTable (codes "t") (replicate 1601 (column (codes "a")))) ≡ Fails errors.TooManyColumns
+too_many_columns = refl
+
+-- the first column that repeats an earlier one is named
+pub column_twice : plan_of [] (commands.CreateTable (codes "t") (column (codes "a") ∷ column (codes "b") ∷ column (codes "b") ∷ column (codes "a") ∷ [])) ≡ Fails (errors.ColumnExists (codes "b"))
+column_twice = refl
+
+-- the rows of a new table, with its oid drawn
+pub table_drawn : changes_of 16384 (new_table (codes "t") (column (codes "a") ∷ column (codes "b") ∷ []))
+    ≡ Insert (Class (oid 16384) (codes "t") Table None) ∷ Insert (Att (oid 16384) 1 (codes "a") Int4 (negsuc 0) true) ∷ Insert (Att (oid 16384) 2 (codes "b") Int4 (negsuc 0) true) ∷ []
+table_drawn = refl
+
+-- a table has no field of an index
+pub field_of_index : effect_of (rows_of (Class (oid 16384) (codes "t") Table None)) (plan_of [] (commands.Show (codes "t") (Some fields.Of))) ≡ Refuses (errors.NoField (codes "t") fields.Of)
+field_of_index = refl
+
+-- and an index has it
+pub field_of_its_own : effect_of (rows_of (Class (oid 16384) (codes "i") Index None)) (plan_of [] (commands.Show (codes "i") (Some fields.Of))) ≡ Nothing
+field_of_its_own = refl
+
+-- no row has the name
+pub no_relation : effect_of (λ scan. []) (plan_of [] (commands.Show (codes "t") None)) ≡ Unknown (codes "t")
+no_relation = refl
+
+-- a lookup that ended without a relation has none, whatever the rows say
+pub ended_without : effect_at (rows_of (Class (oid 16384) (codes "t") Table None)) (None ∷ []) (plan_of [] (commands.Show (codes "t") None)) ≡ Unknown (codes "t")
+ended_without = refl
+
+-- a second `begin` does nothing
+pub begun_twice : blocks_well 4 commands.Begin (blocks_well 2 commands.Begin no_block) ≡ blocks_well 2 commands.Begin no_block
+begun_twice = refl
+
+-- what a failed block takes back begins with its first command
+pub failed_from_first : innermost 5 (blocks_badly (blocks_well 2 commands.Begin no_block)).levels ≡ 2
+failed_from_first = refl
+
+-- only the end of a failed block is admitted
+pub failed_block_refuses : refused_by Failed commands.Begin ≡ Some errors.BlockFailed
+failed_block_refuses = refl
+
+pub failed_block_commits : refused_by Failed commands.Commit ≡ None
+failed_block_commits = refl
+
+-- outside a block `commit` and `rollback` do nothing
+pub commit_outside : blocks_well 3 commands.Commit no_block ≡ no_block
+commit_outside = refl

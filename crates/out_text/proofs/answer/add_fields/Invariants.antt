@@ -1,6 +1,0 @@
-use Rattle.std.proofs.Common.{◌≡◌, ◌++◌, take}
-use Rattle.rel_desc.specs.Answers.{shown_list}
-use Rattle.out_text.proofs.answer.add_fields.Given as goal
-
-abbrev pub invariant-loop-shown : goal.invariant-loop-shown
-invariant-loop-shown l = l.out.items ≡ l.fn.out.items ++ shown_list (take l.shown-index l.fields)

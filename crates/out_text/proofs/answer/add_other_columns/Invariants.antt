@@ -1,7 +1,0 @@
-use Rattle.std.proofs.Common.{◌≡◌, ◌++◌, codes, take}
-use Rattle.std.specs.List.{flat_map}
-use Rattle.rel_desc.specs.Answers.{column_text}
-use Rattle.out_text.proofs.answer.add_other_columns.Given as goal
-
-abbrev pub invariant-loop-column : goal.invariant-loop-column
-invariant-loop-column l = l.out.items ≡ l.fn.out.items ++ flat_map (λ column. codes " " ++ column_text column) (take l.column-index l.columns)
