@@ -1,8 +1,9 @@
 -- What a plan comes to over rows, with no history.
 use Rattle.std.specs.Prelude.{◌≡◌, ⊤, ℕ, Option, Some, None, Result, Ok, Err, List, [], ◌∷◌}
 use Rattle.base_types.specs.declared.scan.Purpose.TheVariants as scans
+use Rattle.ddl_effect.specs.declared.want.Want.TheVariants as wants
 use Rattle.ddl_effect.specs.declared.effect.EffectRefusal.TheVariants as refusals
-use Rattle.ddl_effect.specs.Types.{Oid, Row, Purpose, Draft, CommandError, EffectRefusal}
+use Rattle.ddl_effect.specs.Types.{Oid, Row, Purpose, Draft, CommandError, EffectRefusal, Want}
 use Rattle.ddl_effect.specs.Plans.{Act, Lookup, Column, Read, Write, Plan, Done, Fails, Absent, Do, NotBuilt}
 
 -- nothing, the first cause that the rows show, a name that no row has, or the changes of a write
@@ -18,6 +19,13 @@ given_over rows (Lookup name mode) = rows (scans.RelName name)
 given_over rows (Column rel name) = rows (scans.AttName rel name)
 given_over rows (Read scan) = rows scan
 given_over rows act = []
+
+-- the same of a want
+abbrev pub given_for : (Purpose → List Row) → Want → List Row
+given_for rows (wants.Lookup name mode) = rows (scans.RelName name)
+given_for rows (wants.Column rel name) = rows (scans.AttName rel name)
+given_for rows (wants.Read scan) = rows scan
+given_for rows want = []
 
 -- what a plan comes to
 abbrev pub effect_of : (Purpose → List Row) → Plan → Effect

@@ -1,6 +1,6 @@
 ghost use Rattle.std.specs.Prelude.{◌≡◌, true, [], IfOk, MatchOption};
 ghost use Rattle.ddl_effect.specs.Plans.{is_built, after_act};
-ghost use Rattle.ddl_effect.specs.Commands.{plan_of, found as found_rows, showing};
+ghost use Rattle.ddl_effect.specs.Commands.{plan_of, found as found_rows, showing, writing};
 ghost use Rattle.ddl_effect.specs.Stages.{plan_at, want_of};
 
 use crate::table::create_table;
@@ -83,6 +83,17 @@ impl Exec {
             Exec::Done | Exec::Failing(_) | Exec::Missing(_) => return,
         };
         *self = next;
+    }
+
+    /// The draft that it wants written, the command given up. Condition: it wants that.
+    pub fn into_draft(self) -> Draft
+        requires { want_of (plan_at self) ≡ Want.Write }
+        ensures { plan_at self ≡ writing result }
+    {
+        match self {
+            Exec::Writing(draft) => draft,
+            _ => unreachable!(),
+        }
     }
 }
 

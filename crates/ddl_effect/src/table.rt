@@ -1,6 +1,6 @@
 ghost use Rattle.std.specs.Prelude.{◌≡◌, ◌≤◌, [], map, length, IfOk};
 ghost use Rattle.base_types.specs.declared.dropped.TheConstants.{MOST_COLUMNS};
-ghost use Rattle.ddl_effect.specs.Commands.{creating, first_twice as first_repeated, new_table as table_draft, new_column as column_change};
+ghost use Rattle.ddl_effect.specs.Commands.{creating, first_twice as first_repeated, new_table as table_draft, new_column as column_change, table_row};
 ghost use Rattle.ddl_effect.specs.Stages.{plan_at};
 
 use crate::{Draft, Exec};
