@@ -1,7 +1,6 @@
 -- The steps of a lookup and of the lock behind it.
 use Rattle.std.proofs.Common.{◌≡◌, ◌<◌, ◌≤◌, ◌+◌, ◌-◌, ◌∙◌, ◌⊎◌, inl, inr, ℕ, Bool, true, false, not, cond, Option, Some, None, List, [], ◌∷◌, ◌++◌, refl, sym, ap, subst, length, filter, slice_get, arith, rules}
 use Rattle.std.specs.List.{list_any}
-use Rattle.std.proofs.lemmas.Slice.Eq.{bytes_eq-Decides}
 use Rattle.std.proofs.lemmas.Option.{slice_get_within}
 use Rattle.base_types.specs.declared.ids.Oid.{Oid}
 use Rattle.base_types.specs.declared.mode.Mode.{Mode}
@@ -38,6 +37,7 @@ use Rattle.walk_run.specs.Left.{entries_left, owed_count}
 use Rattle.walk_run.specs.Reads.{found_in}
 use Rattle.walk_run.specs.Segment.{Scans, Locks}
 use Rattle.walk_run.specs.Stands.{IsFound, FoundStands, HasLookedUp, StageStands, BackendStands, Steps}
+use Rattle.base_types.proofs.SameScan.{same_scan-itself}
 use Rattle.walk_run.proofs.Lives.{untouched}
 use Rattle.walk_run.proofs.Quiet.{MayEnter, itself, IsAt-quiet, IsJudged-quiet, ReadsStand-quiet, Steps-quiet, refusal-quiet, adds-quiet, holds_none, runs_as-without}
 
@@ -47,7 +47,7 @@ not_for_descriptor name (scans.RelName other) built = absurd (cc)
 not_for_descriptor name scan built = refl
 
 same_name : (name : List ℕ) → same_scan (scans.RelName name) (scans.RelName name) ≡ true
-same_name name = (bytes_eq-Decides name name).1 refl
+same_name name = same_scan-itself (scans.RelName name)
 
 -- what a lookup by name gives is what it finds, a settled table or nothing
 looked_up : (h : List Entry) (b c count : ℕ) (name : List ℕ) → OneWriter h → ((x : ℕ) → runs_as h b x ≡ false)

@@ -1,4 +1,4 @@
-ghost use Rattle.std.specs.Prelude.{◌≡◌, IfOk, IsSome};
+ghost use Rattle.std.specs.Prelude.{◌≡◌, Some, IfOk, IsSome};
 ghost use Rattle.std.specs.List.{Contains, find};
 ghost use Rattle.std.specs.Option.{option_copied};
 ghost use Rattle.base_types.specs.declared.field.Field.{Field};
@@ -50,9 +50,22 @@ fn shown_field(
     requires { IsSome (find (λ r. scans_match r.purpose (scan_of_field field rel)) reads.now) }
     ensures { IfOk result (λ shown. shown ≡ shown_by kind rel field (find (λ r. scans_match r.purpose (scan_of_field field rel)) reads.now)) }
 {
-    let Some(read) = kept(reads, read_by(field, rel)) else {
-        unreachable!()
-    };
+    match kept(reads, read_by(field, rel)) {
+        Some(read) => shown_of(alloc, kind, rel, field, read),
+        None => unreachable!(),
+    }
+}
+
+// One field, from its scan.
+fn shown_of(
+    alloc: Global,
+    kind: Kind,
+    rel: Oid,
+    field: Field,
+    read: &Read,
+) -> Result<Shown, NoMemory>
+    ensures { IfOk result (λ shown. shown ≡ shown_by kind rel field (Some read.now)) }
+{
     Ok(Shown {
         field,
         value: Value::new(field_text(alloc, field, rel, read.rows.as_slice())?),
