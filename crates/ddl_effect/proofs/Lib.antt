@@ -1,1 +1,5 @@
-pub mod Examples
+mod Driven
+mod Examples
+mod Repeated
+mod Scanned
+mod Tables

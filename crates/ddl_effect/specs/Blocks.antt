@@ -28,6 +28,10 @@ no_block = record { block = Outside; levels = [] }
 abbrev pub is_open : Blocks → Bool
 is_open blocks = elim blocks.block [ Outside ↦ false | block ↦ true ]
 
+-- a failed block is open
+abbrev pub is_failed : Blocks → Bool
+is_failed blocks = elim blocks.block [ Failed ↦ true | block ↦ false ]
+
 -- the command ends a block, failed or not
 abbrev pub ends_block : Command → Bool
 ends_block commands.Commit = true

@@ -1,9 +1,9 @@
 -- The plan of each command, one clause a command.
-use Rattle.std.specs.Prelude.{ℕ, Bool, true, false, Option, Some, None, List, [], ◌∷◌, ◌==◌, nat_le, map, filter, length, negsuc, if◌then◌else◌}
+use Rattle.std.specs.Prelude.{ℕ, Bool, true, false, Option, Some, None, List, [], ◌∷◌, ◌++◌, ◌==◌, nat_le, map, filter, length, negsuc, if◌then◌else◌}
 use Rattle.std.specs.List.{list_any, enumerate_from}
 use Rattle.std.specs.Str.{bytes_eq}
-use Rattle.base_types.specs.Fields.{has_field}
 use Rattle.base_types.specs.declared.dropped.TheConstants.{MOST_COLUMNS}
+use Rattle.base_types.specs.Fields.{has_field}
 use Rattle.base_types.specs.declared.row.Row.TheVariants as rows
 use Rattle.base_types.specs.declared.command.Command.TheVariants as commands
 use Rattle.rel_desc.specs.declared.error.CommandError.TheVariants as errors
@@ -39,7 +39,7 @@ writing draft = Do (Write draft) (λ given. Done)
 -- the first name that repeats an earlier one
 abbrev pub first_twice : List (List ℕ) → List (List ℕ) → Option (List ℕ)
 first_twice earlier [] = None
-first_twice earlier (name ∷ names) = if list_any (bytes_eq name) earlier then Some name else first_twice (name ∷ earlier) names
+first_twice earlier (name ∷ names) = if list_any (bytes_eq name) earlier then Some name else first_twice (earlier ++ name ∷ []) names
 
 -- goes on only where no column repeats an earlier one
 abbrev pub if_no_column : Option (List ℕ) → Plan → Plan
@@ -50,13 +50,21 @@ if_no_column (Some name) plan = Fails (errors.ColumnExists name)
 abbrev pub first_new : Oid
 first_new = record { 0 = 1 }
 
+-- the row of a new table
+abbrev pub table_row : List ℕ → Change
+table_row name = Insert (rows.Class first_new name Table None)
+
 -- the row of a new table's column, by its number
 abbrev pub new_column : ℕ × NewColumn → Change
 new_column (num, column) = Insert (rows.Att first_new num column.name column.col_type (negsuc 0) true)
 
 -- the rows of a new table
 abbrev pub new_table : List ℕ → List NewColumn → Draft
-new_table name columns = record { changes = Insert (rows.Class first_new name Table None) ∷ map new_column (enumerate_from 1 columns); forced = []; new_oids = 1 }
+new_table name columns = record { changes = table_row name ∷ map new_column (enumerate_from 1 columns); forced = []; new_oids = 1 }
+
+-- `create table`: at most 1,600 columns, and none twice
+abbrev pub creating : List ℕ → List NewColumn → Plan
+creating name columns = if_passes (nat_le (length columns) MOST_COLUMNS) errors.TooManyColumns (if_no_column (first_twice [] (map (λ c. c.name) columns)) (writing (new_table name columns)))
 
 -- `show`, after its lookup: all fields of the descriptor, or one that the kind has
 abbrev pub showing : List ℕ → Option Field → Oid → Kind → Plan
@@ -69,5 +77,5 @@ plan_of held commands.Begin = Done
 plan_of held commands.Commit = Done
 plan_of held commands.Rollback = Done
 plan_of held (commands.Show name field) = looking_up name AccessShare (showing name field)
-plan_of held (commands.CreateTable name columns) = if_passes (nat_le (length columns) MOST_COLUMNS) errors.TooManyColumns (if_no_column (first_twice [] (map (λ c. c.name) columns)) (writing (new_table name columns)))
+plan_of held (commands.CreateTable name columns) = creating name columns
 plan_of held command = NotBuilt

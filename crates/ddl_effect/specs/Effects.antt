@@ -1,7 +1,9 @@
 -- What a plan comes to over rows, with no history.
-use Rattle.std.specs.Prelude.{ℕ, Option, Some, None, List, [], ◌∷◌}
+use Rattle.std.specs.Prelude.{◌≡◌, ⊤, ℕ, Option, Some, None, Result, Ok, Err, List, [], ◌∷◌}
 use Rattle.base_types.specs.declared.scan.Purpose.TheVariants as scans
-use Rattle.ddl_effect.specs.Types.{Oid, Row, Purpose, Draft, CommandError}
+use Rattle.ddl_effect.specs.declared.want.Want.TheVariants as wants
+use Rattle.ddl_effect.specs.declared.effect.EffectRefusal.TheVariants as refusals
+use Rattle.ddl_effect.specs.Types.{Oid, Row, Purpose, Draft, CommandError, EffectRefusal, Want}
 use Rattle.ddl_effect.specs.Plans.{Act, Lookup, Column, Read, Write, Plan, Done, Fails, Absent, Do, NotBuilt}
 
 -- nothing, the first cause that the rows show, a name that no row has, or the changes of a write
@@ -17,6 +19,13 @@ given_over rows (Lookup name mode) = rows (scans.RelName name)
 given_over rows (Column rel name) = rows (scans.AttName rel name)
 given_over rows (Read scan) = rows scan
 given_over rows act = []
+
+-- the same of a want
+abbrev pub given_for : (Purpose → List Row) → Want → List Row
+given_for rows (wants.Lookup name mode) = rows (scans.RelName name)
+given_for rows (wants.Column rel name) = rows (scans.AttName rel name)
+given_for rows (wants.Read scan) = rows scan
+given_for rows want = []
 
 -- what a plan comes to
 abbrev pub effect_of : (Purpose → List Row) → Plan → Effect
@@ -42,3 +51,16 @@ effect_at rows found (Do (Write draft) rest) = Writes draft
 effect_at rows [] (Do (Lookup name mode) rest) = effect_at rows [] (rest (rows (scans.RelName name)))
 effect_at rows (rel ∷ found) (Do (Lookup name mode) rest) = effect_at rows found (rest (row_found rows rel))
 effect_at rows found (Do act rest) = effect_at rows found (rest (given_over rows act))
+
+-- no change at all
+abbrev pub no_changes : Draft
+no_changes = record { changes = []; forced = []; new_oids = 0 }
+
+-- the answer of the call that works an effect out
+abbrev pub IsEffect : Effect → Result Draft EffectRefusal → Type 0
+IsEffect effect (Err refusals.NoMemory) = ⊤
+IsEffect Nothing (Ok draft) = draft ≡ no_changes
+IsEffect (Writes written) (Ok draft) = draft ≡ written
+IsEffect (Refuses error) (Err (refusals.Cause cause)) = cause ≡ error
+IsEffect (Unknown name) (Err (refusals.Absent absent)) = absent ≡ name
+IsEffect effect result = ⊥

@@ -1,8 +1,15 @@
-use crate::Draft;
-use base_types::{Field, Kind, Mode, Name, Oid};
-use rel_desc::CommandError;
+ghost use Rattle.std.specs.Prelude.{◌≡◌, true, [], IfOk, MatchOption};
+ghost use Rattle.ddl_effect.specs.Plans.{is_built, after_act};
+ghost use Rattle.ddl_effect.specs.Commands.{plan_of, found as found_rows, showing, writing};
+ghost use Rattle.ddl_effect.specs.Stages.{plan_at, want_of};
 
-/// How far a command is.
+use crate::table::create_table;
+use crate::{Draft, Want};
+use base_types::{Command, Field, Kind, Mode, Name, NoMemory, Oid, Row, has_field};
+use rel_desc::CommandError;
+use std::alloc::Global;
+
+/// How far a command is: what is left of its plan.
 #[derive(Drop)]
 pub enum Exec {
     /// It has done what it says.
@@ -11,17 +18,103 @@ pub enum Exec {
     Failing(CommandError),
     /// It failed: no relation has the name.
     Missing(Name),
-    /// `show`: it looks for the relation.
+    /// `show`: it looks for the relation, of which it shows one field or all.
     Finding {
         name: Name,
         mode: Mode,
         field: Option<Field>,
     },
-    /// It opens the descriptor.
+    /// It opens the relation's descriptor.
     Opening {
         rel: Oid,
         kind: Kind,
     },
     /// It writes.
     Writing(Draft),
+}
+
+impl Exec {
+    /// A command at its beginning. Condition: it is built.
+    pub fn new(alloc: Global, command: &Command) -> Result<Exec, NoMemory>
+        requires { is_built (plan_of [] command.now) ≡ true }
+        ensures { IfOk result (λ exec. plan_at exec ≡ plan_of [] command.now) }
+    {
+        match command {
+            Command::Begin | Command::Commit | Command::Rollback => Ok(Exec::Done),
+            Command::Show { name, field } => Ok(Exec::Finding {
+                name: *name,
+                mode: Mode::AccessShare,
+                field: *field,
+            }),
+            Command::CreateTable { name, columns } => {
+                create_table(alloc, *name, columns.as_slice())
+            }
+            _ => unreachable!(),
+        }
+    }
+
+    /// What it wants next.
+    pub fn next(&self) -> Want
+        ensures { result ≡ want_of (plan_at self.now) }
+    {
+        match self {
+            Exec::Done => Want::Done,
+            Exec::Failing(error) => Want::Fails(*error),
+            Exec::Missing(name) => Want::Absent(*name),
+            Exec::Finding { name, mode, .. } => Want::Lookup {
+                name: *name,
+                mode: *mode,
+            },
+            Exec::Opening { rel, kind } => Want::Open {
+                rel: *rel,
+                kind: *kind,
+            },
+            Exec::Writing(_) => Want::Write,
+        }
+    }
+
+    /// What it wanted was done, and gave these rows: those of the scan on which the act rests.
+    pub fn give(&mut self, rows: &[Row])
+        ensures { plan_at self.new ≡ after_act rows.now (plan_at self.old) }
+    {
+        let next = match self {
+            Exec::Finding { name, field, .. } => found(*name, *field, rows),
+            Exec::Opening { .. } | Exec::Writing(_) => Exec::Done,
+            Exec::Done | Exec::Failing(_) | Exec::Missing(_) => return,
+        };
+        *self = next;
+    }
+
+    /// The draft that it wants written, the command given up. Condition: it wants that.
+    pub fn into_draft(self) -> Draft
+        requires { want_of (plan_at self) ≡ Want.Write }
+        ensures { plan_at self ≡ writing result }
+    {
+        match self {
+            Exec::Writing(draft) => draft,
+            _ => unreachable!(),
+        }
+    }
+}
+
+// After the lookup of `show`.
+fn found(name: Name, field: Option<Field>, rows: &[Row]) -> Exec
+    ensures { plan_at result ≡ found_rows name (showing name field) rows.now }
+{
+    match rows.first() {
+        Some(Row::Class { oid, kind, .. }) => found_relation(name, field, *oid, *kind),
+        _ => Exec::Missing(name),
+    }
+}
+
+// After a lookup of `show` that found a relation.
+fn found_relation(name: Name, field: Option<Field>, rel: Oid, kind: Kind) -> Exec
+    ensures { plan_at result ≡ showing name field rel kind }
+{
+    match field {
+        Some(field) if !has_field(kind, field) => {
+            Exec::Failing(CommandError::NoField { name, field })
+        }
+        _ => Exec::Opening { rel, kind },
+    }
 }

@@ -11,7 +11,12 @@
 #![tactic(auto)]
 
 mod draft;
+mod effect;
 mod exec;
+mod table;
+mod want;
 
 pub use draft::Draft;
+pub use effect::{EffectRefusal, Facts};
 pub use exec::Exec;
+pub use want::Want;

@@ -8,6 +8,8 @@
 //! commands.
 #![tactic(auto)]
 
+mod seen;
 mod version;
 
+pub use seen::{StampState, is_own, sees, visible};
 pub use version::{Reader, Stamp, Version};

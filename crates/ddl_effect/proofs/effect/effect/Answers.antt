@@ -1,0 +1,16 @@
+use Rattle.std.proofs.Common.{◌≡◌, ◌∙◌, List, ap, sym, rules}
+use Rattle.ddl_effect.specs.Types.{Row, Purpose}
+use Rattle.base_types.specs.Scans.{scan_of}
+use Rattle.ddl_effect.specs.Effects.{effect_of, given_for}
+use Rattle.ddl_effect.specs.Stages.{plan_at, want_of}
+use Rattle.ddl_effect.proofs.Driven.{effect_of-after}
+use Rattle.ddl_effect.proofs.effect.effect.Goals as goal
+
+pub acts-preserved : goal.acts-preserved
+acts-preserved c =
+    let rows : Purpose → List Row = λ scan. scan_of scan c.args.facts.now.rows in
+    let found : c.in-Ok-rows_for.rows.items ≡ given_for rows c.in_default-next.want = search rules in
+    let given : c.deref.result.now ≡ given_for rows (want_of (plan_at c.acts.exec)) = c.deref.ensures.value ∙ found ∙ ap (given_for rows) (sym c.in_default-next.want-is ∙ c.next.ensures) in
+    ap (effect_of rows) c.give.ensures
+    ∙ effect_of-after rows (plan_at c.acts.exec) c.deref.result.now (λ writes. c.in_default-next.not-Write (c.next.ensures ∙ writes)) given
+    ∙ c.acts.invariant

@@ -1,0 +1,90 @@
+ghost use Rattle.std.specs.Prelude.{◌≡◌, true, IfOk};
+ghost use Rattle.base_types.specs.Scans.{scan_of};
+ghost use Rattle.ddl_effect.specs.Plans.{is_built};
+ghost use Rattle.ddl_effect.specs.Commands.{plan_of};
+ghost use Rattle.ddl_effect.specs.Effects.{effect_of, given_for, no_changes, IsEffect};
+ghost use Rattle.ddl_effect.specs.Stages.{plan_at};
+
+use crate::{Draft, Exec, Want};
+use base_types::{Command, Listed, Name, NoMemory, Oid, Purpose, Row, put_in_order, selects};
+use rel_desc::CommandError;
+use std::alloc::Global;
+
+/// What a command has read, and which relations its session holds open.
+#[derive(Drop)]
+pub struct Facts {
+    pub rows: Listed<Row>,
+    pub opened: Listed<Oid>,
+}
+
+/// Why a command changes nothing.
+#[derive(Clone, Copy)]
+pub enum EffectRefusal {
+    /// The first cause that the facts show.
+    Cause(CommandError),
+    /// The rows have no relation of this name.
+    Absent(Name),
+    /// Out of memory.
+    NoMemory,
+}
+
+/// The changes that a command makes, worked out from facts alone. Condition: the command is built.
+/// `Cause` and `Absent`: exactly where the facts show them.
+pub fn effect(alloc: Global, command: &Command, facts: &Facts) -> Result<Draft, EffectRefusal>
+    requires { is_built (plan_of facts.now.opened command.now) ≡ true }
+    ensures { IsEffect (effect_of (λ scan. scan_of scan facts.now.rows) (plan_of facts.now.opened command.now)) result }
+{
+    let Ok(mut exec) = Exec::new(alloc, command) else {
+        return Err(EffectRefusal::NoMemory);
+    };
+    'acts: loop {
+        match exec.next() {
+            Want::Done => return Ok(no_draft(alloc)),
+            Want::Fails(error) => return Err(EffectRefusal::Cause(error)),
+            Want::Absent(name) => return Err(EffectRefusal::Absent(name)),
+            Want::Write => return Ok(exec.into_draft()),
+            want => {
+                let Ok(rows) = rows_for(alloc, &want, facts.rows.as_slice()) else {
+                    return Err(EffectRefusal::NoMemory);
+                };
+                exec.give(&rows);
+            }
+        }
+    }
+}
+
+// A draft without changes.
+fn no_draft(alloc: Global) -> Draft
+    ensures { result ≡ no_changes }
+{
+    Draft {
+        changes: Listed::new(alloc),
+        forced: Listed::new(alloc),
+        new_oids: 0,
+    }
+}
+
+// The rows of the scan on which a want rests, if it rests on one.
+fn rows_for(alloc: Global, want: &Want, rows: &[Row]) -> Result<Vec<Row>, NoMemory>
+    ensures { IfOk result (λ given. given.items ≡ given_for (λ scan. scan_of scan rows.now) want.now) }
+{
+    match want {
+        Want::Lookup { name, .. } => scan_rows(alloc, &Purpose::RelName(*name), rows),
+        Want::Column { rel, name } => scan_rows(alloc, &Purpose::AttName(*rel, *name), rows),
+        Want::Read(scan) => scan_rows(alloc, scan, rows),
+        _ => Ok(Vec::new(alloc)),
+    }
+}
+
+// The rows that a scan gives.
+fn scan_rows(alloc: Global, scan: &Purpose, rows: &[Row]) -> Result<Vec<Row>, NoMemory>
+    ensures { IfOk result (λ given. given.items ≡ scan_of scan.now rows.now) }
+{
+    let mut given = Vec::new(alloc);
+    for row in rows {
+        if selects(scan, row) {
+            put_in_order(scan, &mut given, *row)?;
+        }
+    }
+    Ok(given)
+}
