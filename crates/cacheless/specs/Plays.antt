@@ -1,5 +1,5 @@
 -- The order in which backends do what their commands say.
-use Rattle.std.specs.Prelude.{ℕ, Bool, true, false, Option, Some, None, List, [], ◌∷◌, ◌≡◌, ◌+◌, ◌==◌, ◌&&◌, nat_lt, nat_le, ⊤, length, is_some, slice_get}
+use Rattle.std.specs.Prelude.{ℕ, Bool, true, false, Option, Some, None, List, [], ◌∷◌, ◌≡◌, ◌+◌, ◌==◌, nat_lt, nat_le, ⊤, length, is_some, slice_get}
 use Rattle.std.specs.Option.{option_map_or}
 use Rattle.std.specs.List.{list_any, flat_map}
 use Rattle.std.specs.Str.{bytes_eq}
@@ -16,7 +16,7 @@ use Rattle.history_model.specs.Changes.{items_of}
 use Rattle.history_model.specs.Drawn.{next_oid}
 use Rattle.cacheless.specs.Types.{Oid, Mode, Draft, Command, Scenario, Entry, Event, Item}
 use Rattle.cacheless.specs.Facts.{Facts, facts_of}
-use Rattle.cacheless.specs.Session.{Session, Counts, number_of}
+use Rattle.cacheless.specs.Session.{Session, number_of}
 use Rattle.cacheless.specs.Owed.{Owes, OwesFetch, owed_after, owed_of, is_next_scan}
 use Rattle.cacheless.specs.Ends.{TakesBack, end_of, end_left, end_of_all, next_of_end}
 use Rattle.cacheless.specs.Settled.{class_oid}

@@ -1,13 +1,11 @@
 -- What commands come to, by computation.
-use Rattle.std.proofs.Common.{◌≡◌, ℕ, Bool, true, false, None, Some, List, [], ◌∷◌, codes, negsuc, replicate, refl}
-use Rattle.base_types.specs.declared.command.Command.{Command}
+use Rattle.std.proofs.Common.{◌≡◌, ℕ, true, None, Some, List, [], ◌∷◌, codes, negsuc, replicate, refl}
 use Rattle.base_types.specs.declared.command.Command.TheVariants as commands
 use Rattle.base_types.specs.declared.command.NewColumn.{NewColumn}
 use Rattle.base_types.specs.declared.col_type.ColType.TheVariants.{Int4}
 use Rattle.base_types.specs.declared.field.Field.TheVariants as fields
 use Rattle.base_types.specs.declared.ids.Oid.{Oid}
 use Rattle.base_types.specs.declared.kind.Kind.TheVariants.{Table, Index}
-use Rattle.base_types.specs.declared.mode.Mode.TheVariants.{AccessShare}
 use Rattle.base_types.specs.declared.row.Row.{Row}
 use Rattle.base_types.specs.declared.row.Row.TheVariants.{Class, Att}
 use Rattle.base_types.specs.declared.scan.Purpose.{Purpose}
@@ -18,7 +16,7 @@ use Rattle.ddl_effect.specs.Plans.{Fails}
 use Rattle.ddl_effect.specs.Effects.{Nothing, Refuses, Unknown, effect_of, effect_at}
 use Rattle.ddl_effect.specs.Commands.{plan_of, new_table}
 use Rattle.ddl_effect.specs.Drawing.{changes_of}
-use Rattle.ddl_effect.specs.Blocks.{Outside, Inside, Failed, no_block, innermost, refused_by, blocks_well, blocks_badly}
+use Rattle.ddl_effect.specs.Blocks.{Failed, no_block, innermost, refused_by, blocks_well, blocks_badly}
 
 abbrev pub column : List ℕ → NewColumn
 column name = record { name = name; col_type = Int4 }

@@ -1,5 +1,4 @@
 -- The plan that is left at each stage of a command.
-use Rattle.std.specs.Prelude.{ℕ}
 use Rattle.ddl_effect.specs.declared.exec.Exec.TheVariants as stages
 use Rattle.ddl_effect.specs.Types.{Exec}
 use Rattle.ddl_effect.specs.Plans.{Plan, Done, Fails, Absent}

@@ -1,8 +1,7 @@
 -- While messages aren't built none is sent, none waits, and none takes a scan away. (All of this goes when they are built.)
-use Rattle.std.proofs.Common.{◌≡◌, ◌+◌, ◌∙◌, ◌≤◌, ℕ, Bool, true, false, not, Option, Some, None, List, [], ◌∷◌, ◌++◌, ◌==◌, ◌&&◌, cond, if◌then◌else◌, refl, sym, ap, filter, drop, take, length, fold, zero, suc, ◌||◌, arith}
+use Rattle.std.proofs.Common.{◌≡◌, ◌∙◌, ℕ, Bool, true, false, Option, Some, None, List, [], ◌∷◌, ◌++◌, ◌==◌, ◌&&◌, if◌then◌else◌, refl, ap, filter, drop, take, length, fold, zero, suc, ◌||◌, arith}
 use Rattle.std.specs.Prelude.{nat_le, nat_lt}
 use Rattle.std.specs.List.{AllByRecursion, flat_map}
-use Rattle.std.specs.Option.{option_map_or}
 use Rattle.std.proofs.Math.Bool.{and-false}
 use Rattle.std.proofs.lemmas.Bool.{false_from_ne_true, ltb-true}
 use Rattle.base_types.specs.declared.scan.Purpose.{Purpose}
@@ -10,7 +9,6 @@ use Rattle.event_kinds.specs.declared.entry.Entry.{Entry}
 use Rattle.event_kinds.specs.declared.entry.Event.{Event}
 use Rattle.event_kinds.specs.declared.entry.Event.TheVariants as events
 use Rattle.event_kinds.specs.declared.entry.Item.{Item}
-use Rattle.history_model.specs.Prefixes.{along, along_own}
 use Rattle.history_model.specs.Lives.{is_alive, life_of}
 use Rattle.history_model.specs.Transactions.{Running, running_transaction_of}
 use Rattle.history_model.specs.Messages.{Message, is_spared}

@@ -1,7 +1,7 @@
 -- Which versions of rows are seen.
-use Rattle.std.specs.Prelude.{ℕ, Bool, false, not, Option, ◌||◌, ◌&&◌, ◌==◌, nat_lt}
+use Rattle.std.specs.Prelude.{ℕ, Bool, false, not, ◌||◌, ◌&&◌, ◌==◌, nat_lt}
 use Rattle.std.specs.Option.{option_map_or}
-use Rattle.row_visibility.specs.Types.{Xid, Stamp, Version, Reader}
+use Rattle.row_visibility.specs.Types.{Stamp, Version, Reader}
 
 -- what a committed transaction did is seen, and what the reader's own did in earlier commands
 abbrev pub sees_stamp : (ℕ → Bool) → Reader → Stamp → Bool
