@@ -28,11 +28,11 @@ started_in number facts = option_map_or (λ t. elim (t.first == number) [ true �
 
 -- there was a look for each scan and grant of the command and for the start of its transaction, and one more
 abbrev pub has_looked : Facts → Session → Bool
-has_looked facts s = nat_lt (s.counts.scans + s.counts.grants + started_in (number_of s) facts) s.counts.looks
+has_looked facts s = nat_lt (s.tally.scans + s.tally.grants + started_in (number_of s) facts) s.tally.looks
 
 -- no fetch has to come first, and the looks of the command stay within their bound
 abbrev pub may_look : Facts → Session → Bool
-may_look facts s = elim (owed_after facts.last) [ OwesFetch ∷ owed ↦ false | owed ↦ nat_le (s.counts.looks + 1) (s.counts.scans + s.counts.grants + 3) ]
+may_look facts s = elim (owed_after facts.last) [ OwesFetch ∷ owed ↦ false | owed ↦ nat_le (s.tally.looks + 1) (s.tally.scans + s.tally.grants + 3) ]
 
 -- the next act asks for this lock
 abbrev pub IsLock : Facts → Plan → Oid → Mode → Type 0
