@@ -1,5 +1,5 @@
 -- What the worked examples are made of.
-use Rattle.std.proofs.Common.{ℕ, true, None, List, [], ◌∷◌, codes, negsuc}
+use Rattle.std.proofs.Common.{ℕ, true, None, List, [], ◌∷◌, negsuc}
 use Rattle.base_types.specs.Scenario.{Scenario}
 use Rattle.base_types.specs.declared.ids.Oid.{Oid}
 use Rattle.base_types.specs.declared.ids.Xid.{Xid}

@@ -1,5 +1,5 @@
 -- What one more entry does to the facts and to the session of a backend.
-use Rattle.std.proofs.Common.{◌≡◌, ◌+◌, ◌∙◌, ℕ, true, false, Some, None, List, [], ◌∷◌, ◌++◌, ◌==◌, ap, length}
+use Rattle.std.proofs.Common.{◌≡◌, ◌+◌, ◌∙◌, ℕ, true, false, None, List, [], ◌∷◌, ◌++◌, ◌==◌, ap, length}
 use Rattle.base_types.specs.Scenario.{Scenario}
 use Rattle.event_kinds.specs.declared.entry.Entry.{Entry}
 use Rattle.history_model.proofs.Prefixes.{own-own, own-other}

@@ -1,6 +1,6 @@
 -- A worked example: a table with one column twice, and a field that a table hasn't.
 use Rattle.std.specs.Fmt.{digits}
-use Rattle.std.proofs.Common.{◌≡◌, ◌≤◌, ◌++◌, ℕ, false, None, Some, List, [], ◌∷◌, codes, refl, sym, arith}
+use Rattle.std.proofs.Common.{◌≡◌, ◌≤◌, ◌++◌, ℕ, false, Some, List, [], ◌∷◌, codes, refl, sym, arith}
 use Rattle.base_types.specs.Scenario.{Scenario}
 use Rattle.base_types.specs.declared.col_type.ColType.TheVariants.{Int4}
 use Rattle.base_types.specs.declared.mode.Mode.TheVariants.{AccessShare}
@@ -10,7 +10,6 @@ use Rattle.base_types.specs.declared.field.Field.TheVariants as fields
 use Rattle.event_kinds.specs.declared.entry.Entry.{Entry}
 use Rattle.event_kinds.specs.declared.entry.Event.TheVariants.{Start, Look, LockOk, Scan, Write, Visible, Release, Stop}
 use Rattle.event_kinds.specs.Texts.{text_of}
-use Rattle.history_model.specs.Legal.{IsLegal}
 use Rattle.history_model.specs.Orderly.{MayComeNext, IsSound}
 use Rattle.history_model.specs.Read.{IsEconomical}
 use Rattle.history_model.proofs.Sound.{sound_is_legal}
@@ -18,7 +17,7 @@ use Rattle.cacheless.specs.Plays.{IsNext, Plays}
 use Rattle.cacheless.specs.Schedule.{FollowsSchedule, IsComplete}
 use Rattle.cacheless.specs.Lines.{lines_of}
 use Rattle.cacheless.specs.Output.{IsOutput}
-use Rattle.cacheless.proofs.Given.{oid, xid, entry, placed, turns, script, creating, new_table}
+use Rattle.cacheless.proofs.Given.{oid, xid, entry, placed, script, creating, new_table}
 
 at_least_1 : 1 ≤ 1
 at_least_1 = omega arith

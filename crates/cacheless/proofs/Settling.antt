@@ -1,5 +1,5 @@
 -- What a backend does without an entry leaves where its commands settle; and where it waits for an entry, they are settled.
-use Rattle.std.proofs.Common.{◌≡◌, ◌∙◌, Bool, true, false, ◌&&◌, ◌||◌, Some, None, List, [], ◌∷◌, ◌++◌, refl, sym, ap, subst, map, take, is_none}
+use Rattle.std.proofs.Common.{◌≡◌, ◌∙◌, true, false, ◌&&◌, ◌||◌, Some, None, List, [], ◌∷◌, ◌++◌, refl, sym, ap, subst, map, take, is_none}
 use Rattle.std.specs.List.{list_any, flat_map}
 use Rattle.std.proofs.lemmas.List.Folds.{list_any-append}
 use Rattle.std.proofs.Math.Bool.{and-false}
@@ -69,7 +69,7 @@ waits-act facts command rest s act plan left none = settled-waits facts command 
   where
     stays : acted facts command s ≡ s
     stays = elim (is_empty (owed_at_start facts command s ++ owed_after facts.last)) as (λ t. elim t [ true ↦ acted_on facts s.left s | false ↦ s ] ≡ s) [
-      true ↦ ap (λ p. acted_on facts p s) left ∙ ap (λ o. elim o [ None ↦ s | Some rows ↦ acted_on facts (plan rows) (act_done act rows (plan rows) s) ]) none
+      | true ↦ ap (λ p. acted_on facts p s) left ∙ ap (λ o. elim o [ None ↦ s | Some rows ↦ acted_on facts (plan rows) (act_done act rows (plan rows) s) ]) none
       | false ↦ refl
     ]
 

@@ -1,5 +1,5 @@
 -- What no history allows, and at the end what it allows beside it: a worked example up to a place, and one entry there.
-use Rattle.std.proofs.Common.{◌≡◌, ◌++◌, ℕ, Bool, true, false, None, Some, List, [], ◌∷◌, slice_get, codes, negsuc, arith}
+use Rattle.std.proofs.Common.{◌≡◌, ◌++◌, true, false, None, [], ◌∷◌, codes, arith}
 use Rattle.base_types.specs.declared.mode.Mode.TheVariants.{AccessShare, AccessExclusive}
 use Rattle.base_types.specs.declared.kind.Kind.TheVariants.{Table, Index}
 use Rattle.base_types.specs.declared.row.Row.TheVariants.{Class}

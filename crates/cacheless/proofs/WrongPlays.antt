@@ -1,5 +1,5 @@
 -- What no command does, and at the end what it may do: a worked example up to a place, and one entry there.
-use Rattle.std.proofs.Common.{◌≡◌, ◌++◌, ℕ, Bool, true, false, None, Some, List, [], ◌∷◌, slice_get, codes, negsuc, arith}
+use Rattle.std.proofs.Common.{◌≡◌, ◌++◌, true, false, None, Some, [], ◌∷◌, slice_get, codes, arith}
 use Rattle.base_types.specs.declared.mode.Mode.TheVariants.{AccessShare, Share}
 use Rattle.base_types.specs.declared.kind.Kind.TheVariants.{Table}
 use Rattle.base_types.specs.declared.row.Row.TheVariants.{Class}

@@ -1,5 +1,5 @@
 -- What a backend has to do before its next act.
-use Rattle.std.specs.Prelude.{ℕ, Bool, true, false, not, Option, Some, None, List, [], ◌∷◌, ◌++◌, ◌==◌, ◌&&◌, ◌||◌, if◌then◌else◌, map, filter, take, is_none}
+use Rattle.std.specs.Prelude.{Bool, true, false, not, Option, Some, None, List, [], ◌∷◌, ◌++◌, ◌==◌, ◌&&◌, ◌||◌, if◌then◌else◌, map, filter, take, is_none}
 use Rattle.std.specs.List.{flat_map, list_any}
 use Rattle.base_types.specs.Scans.{same_scan, build_scans}
 use Rattle.base_types.specs.declared.scan.Purpose.TheVariants as scans

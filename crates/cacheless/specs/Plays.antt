@@ -1,5 +1,5 @@
 -- The order in which backends do what their commands say.
-use Rattle.std.specs.Prelude.{ℕ, Bool, true, false, Option, Some, None, List, [], ◌∷◌, ◌≡◌, ◌+◌, ◌==◌, ◌&&◌, nat_lt, nat_le, ⊤, length, is_some, slice_get}
+use Rattle.std.specs.Prelude.{ℕ, Bool, true, false, Option, Some, None, List, [], ◌∷◌, ◌≡◌, ◌+◌, ◌==◌, nat_lt, nat_le, ⊤, length, is_some, slice_get}
 use Rattle.std.specs.Option.{option_map_or}
 use Rattle.std.specs.List.{list_any, flat_map}
 use Rattle.std.specs.Str.{bytes_eq}
@@ -16,7 +16,7 @@ use Rattle.history_model.specs.Changes.{items_of}
 use Rattle.history_model.specs.Drawn.{next_oid}
 use Rattle.cacheless.specs.Types.{Oid, Mode, Draft, Command, Scenario, Entry, Event, Item}
 use Rattle.cacheless.specs.Facts.{Facts, facts_of}
-use Rattle.cacheless.specs.Session.{Session, Counts, number_of}
+use Rattle.cacheless.specs.Session.{Session, number_of}
 use Rattle.cacheless.specs.Owed.{Owes, OwesFetch, owed_after, owed_of, is_next_scan}
 use Rattle.cacheless.specs.Ends.{TakesBack, end_of, end_left, end_of_all, next_of_end}
 use Rattle.cacheless.specs.Settled.{class_oid}
@@ -28,11 +28,11 @@ started_in number facts = option_map_or (λ t. elim (t.first == number) [ true �
 
 -- there was a look for each scan and grant of the command and for the start of its transaction, and one more
 abbrev pub has_looked : Facts → Session → Bool
-has_looked facts s = nat_lt (s.counts.scans + s.counts.grants + started_in (number_of s) facts) s.counts.looks
+has_looked facts s = nat_lt (s.tally.scans + s.tally.grants + started_in (number_of s) facts) s.tally.looks
 
 -- no fetch has to come first, and the looks of the command stay within their bound
 abbrev pub may_look : Facts → Session → Bool
-may_look facts s = elim (owed_after facts.last) [ OwesFetch ∷ owed ↦ false | owed ↦ nat_le (s.counts.looks + 1) (s.counts.scans + s.counts.grants + 3) ]
+may_look facts s = elim (owed_after facts.last) [ OwesFetch ∷ owed ↦ false | owed ↦ nat_le (s.tally.looks + 1) (s.tally.scans + s.tally.grants + 3) ]
 
 -- the next act asks for this lock
 abbrev pub IsLock : Facts → Plan → Oid → Mode → Type 0

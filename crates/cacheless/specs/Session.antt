@@ -1,6 +1,5 @@
 -- The session of a backend: how far it is in its commands.
-use Rattle.std.specs.Prelude.{ℕ, Bool, true, false, Option, Some, None, List, [], ◌∷◌, ◌++◌, ◌+◌, length, is_some}
-use Rattle.std.specs.Option.{option_map_or}
+use Rattle.std.specs.Prelude.{ℕ, Bool, true, false, Option, Some, None, List, [], ◌∷◌, ◌+◌, length, is_some}
 use Rattle.ddl_effect.specs.Plans.{Plan, Done, Fails, Absent, Do, NotBuilt}
 use Rattle.ddl_effect.specs.Commands.{plan_of}
 use Rattle.ddl_effect.specs.Blocks.{Block, Blocks, refused_by}
@@ -14,7 +13,7 @@ pub record Finished : Type 0 where
   pub judged : ℕ
 
 -- how many looks, scans and grants the running command has made
-pub record Counts : Type 0 where
+pub record Tally : Type 0 where
   pub looks : ℕ
   pub scans : ℕ
   pub grants : ℕ
@@ -29,7 +28,7 @@ pub record Counts : Type 0 where
 --   read       the scan of a name or a column on which the next act rests is made
 --   found      the relations with which its lookups ended
 --   ended      its release is made
---   counts     its looks, scans and grants
+--   tally      its looks, scans and grants
 --   locks      the locks that the backend holds
 --   judged     the number of the backend's last entry but for those that end the running command
 --   last       the number of the backend's last entry
@@ -43,7 +42,7 @@ pub record Session : Type 0 where
   pub read : Bool
   pub found : List (Option Oid)
   pub ended : Bool
-  pub counts : Counts
+  pub tally : Tally
   pub locks : List OwnLock
   pub judged : ℕ
   pub last : ℕ
@@ -84,7 +83,7 @@ at_command blocks finished locks last command = record {
   read = false;
   found = [];
   ended = false;
-  counts = record { looks = 0; scans = 0; grants = 0 };
+  tally = record { looks = 0; scans = 0; grants = 0 };
   locks = locks;
   judged = last;
   last = last;

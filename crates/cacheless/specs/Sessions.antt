@@ -12,7 +12,7 @@ use Rattle.history_model.specs.Prefixes.{along_own}
 use Rattle.cacheless.specs.Types.{Purpose, Command, CommandError, Scenario, Entry, Event}
 use Rattle.cacheless.specs.Facts.{Facts, facts_of}
 use Rattle.cacheless.specs.Locks.{locks_by, cleared}
-use Rattle.cacheless.specs.Session.{Session, Counts, first_of, at_command}
+use Rattle.cacheless.specs.Session.{Session, Tally, first_of, at_command}
 use Rattle.cacheless.specs.Owed.{owes_accept}
 use Rattle.cacheless.specs.Settled.{settled}
 
@@ -31,12 +31,12 @@ abbrev pub written : Plan → Session → Session
 written (Do (Write draft) rest) s = record s { left = rest []; opened = []; read = false }
 written plan s = s
 
--- the counts after an event
-abbrev pub counts_by : Event → Counts → Counts
-counts_by (events.Look some_wait) old = record old { looks = old.looks + 1 }
-counts_by (events.Scan scan rows) old = record old { scans = old.scans + 1 }
-counts_by (events.LockOk rel mode) old = record old { grants = old.grants + 1 }
-counts_by event old = old
+-- the tally after an event
+abbrev pub tally_by : Event → Tally → Tally
+tally_by (events.Look some_wait) old = record old { looks = old.looks + 1 }
+tally_by (events.Scan scan rows) old = record old { scans = old.scans + 1 }
+tally_by (events.LockOk rel mode) old = record old { grants = old.grants + 1 }
+tally_by event old = old
 
 -- what an event changes of the running command
 abbrev pub noted : Event → Session → Session
@@ -59,7 +59,7 @@ ends_command event = false
 -- the session with an event in this entry, before anything else is done
 abbrev pub placed_at : ℕ → ℕ → Event → Session → Session
 placed_at at command event s = record (noted event s) {
-  counts = counts_by event s.counts;
+  tally = tally_by event s.tally;
   locks = locks_by command event s.locks;
   judged = if ends_command event then s.judged else at;
   last = at;

@@ -1,4 +1,5 @@
-//! What a history of entries means: the public definitions of the project, as plain folds and relations.
+//! What a history of entries means, as the walk of today rests on it: plain folds and relations. The
+//! definitions with versions and blocks that take its place are those of history_model and cacheless.
 //!
 //! A history is the list of all entries, oldest first. What it "has" is a fold over it: the versions
 //! of catalog rows, the locks that are held, the transaction that a backend runs, how far a backend

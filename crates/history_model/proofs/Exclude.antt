@@ -1,26 +1,24 @@
 -- Locks exclude each other.
-use Rattle.std.proofs.Common.{◌≡◌, ◌≤◌, ◌<◌, ◌+◌, ◌∙◌, ◌⊎◌, inl, inr, ℕ, Bool, true, false, not, Option, Some, None, List, [], ◌∷◌, ◌++◌, ◌==◌, ◌||◌, ◌&&◌, cond, refl, sym, ap, subst, filter, fold, arith, length, suc, zero}
+use Rattle.std.proofs.Common.{◌≡◌, ◌≤◌, ◌<◌, ◌+◌, ◌∙◌, ℕ, Bool, true, false, not, Some, None, List, [], ◌∷◌, ◌++◌, ◌==◌, ◌&&◌, cond, refl, sym, subst, filter, arith, length, suc, zero}
 use Rattle.std.specs.Prelude.{nat_le, ⊤}
-use Rattle.std.specs.List.{AllByRecursion, list_any, flat_map, find, range_with_len}
-use Rattle.std.proofs.lemmas.Grind.{fold-append}
-use Rattle.std.proofs.lemmas.Bool.{eqb-true, eq-eqb, both_ways, and_parts, not-true}
+use Rattle.std.specs.List.{AllByRecursion, flat_map, find, range_with_len}
+use Rattle.std.proofs.lemmas.Bool.{eqb-true, eq-eqb, both_ways}
 use Rattle.base_types.specs.declared.ids.Oid.{Oid}
 use Rattle.base_types.specs.declared.mode.Mode.{Mode}
 use Rattle.base_types.specs.declared.mode.Mode.TheVariants.{AccessShare, RowShare, RowExclusive, ShareUpdateExclusive, Share, ShareRowExclusive, Exclusive, AccessExclusive}
 use Rattle.base_types.specs.declared.row.Row.TheVariants as rows
-use Rattle.base_types.specs.Modes.{conflicts, same_mode}
+use Rattle.base_types.specs.Modes.{conflicts}
 use Rattle.base_types.specs.Scans.{same_oid}
 use Rattle.event_kinds.specs.declared.entry.Entry.{Entry}
 use Rattle.event_kinds.specs.declared.entry.Event.{Event}
 use Rattle.event_kinds.specs.declared.entry.Event.TheVariants as events
 use Rattle.event_kinds.specs.declared.entry.Item.{Item}
 use Rattle.event_kinds.specs.declared.entry.Item.TheVariants as items
-use Rattle.history_model.specs.Prefixes.{EachEntry}
 use Rattle.history_model.specs.declared.grant.Grant.{Grant}
 use Rattle.history_model.specs.Held.{granted_by, held_by, held_of, first_conflict}
 use Rattle.history_model.specs.Drawn.{drawn_by, next_oid_by, next_oid}
 use Rattle.history_model.proofs.Reading.{held_of-more as held-more, next_oid-more as next-more}
-use Rattle.history_model.proofs.Every.{every-weaker, every, every-append, every-filter, every-both}
+use Rattle.history_model.proofs.Every.{every-weaker, every-append, every-filter, every-both}
 
 conflicts-sym : (a b : Mode) → conflicts a b ≡ conflicts b a
 conflicts-sym AccessShare AccessShare = refl
@@ -173,9 +171,10 @@ locks_by history b c (events.Write xid changes) lawful well =
 
     new_new : AllAgree more more
     new_new = every-weaker (IsNew b low high) (λ g. AllByRecursion (Agree g) more) (λ g new. every-weaker (IsNew b low high) (Agree g) (λ k newer. new_with_new b low high g k new newer) more news) more news
-locks_by history b c (events.Release from) lawful well =
-    (AllAgree-filter (λ g. not ((g.backend == b) && nat_le from g.command)) (held_of history) well.agree,
-    every-filter (λ g. g.rel.0 < next_oid history) (λ g. not ((g.backend == b) && nat_le from g.command)) (held_of history) (every-weaker (λ g. g.rel.0 < next_oid history) (λ g. not ((g.backend == b) && nat_le from g.command) ≡ true → g.rel.0 < next_oid history) (λ g below is. below) (held_of history) well.drawn))
+locks_by history b c (events.Release from) lawful well = (
+  AllAgree-filter (λ g. not ((g.backend == b) && nat_le from g.command)) (held_of history) well.agree,
+  every-filter (λ g. g.rel.0 < next_oid history) (λ g. not ((g.backend == b) && nat_le from g.command)) (held_of history) (every-weaker (λ g. g.rel.0 < next_oid history) (λ g. not ((g.backend == b) && nat_le from g.command) ≡ true → g.rel.0 < next_oid history) (λ g below is. below) (held_of history) well.drawn),
+)
 locks_by history b c event lawful well = (well.agree, well.drawn)
 
 pub LocksWell-more : (history : List Entry) (e : Entry) → IsLockLawful history e → LocksWell history → LocksWell (history ++ e ∷ [])

@@ -1,40 +1,36 @@
 -- What a running transaction has touched it holds a lock on that no other may hold.
-use Rattle.std.proofs.Common.{◌≡◌, ◌≤◌, ◌<◌, ◌+◌, ◌∙◌, ◌⊎◌, inl, inr, ℕ, Bool, true, false, not, Option, Some, None, List, [], ◌∷◌, ◌++◌, ◌==◌, ◌||◌, ◌&&◌, cond, if◌then◌else◌, refl, sym, ap, subst, map, filter, fold, arith, rules}
+use Rattle.std.proofs.Common.{◌≡◌, ◌≤◌, ◌<◌, ◌∙◌, ◌⊎◌, inl, inr, ℕ, Bool, true, false, not, Option, Some, None, List, [], ◌∷◌, ◌++◌, ◌==◌, ◌&&◌, if◌then◌else◌, refl, sym, ap, subst, arith}
 use Rattle.std.specs.Prelude.{nat_le, ⊤}
-use Rattle.std.specs.List.{AllByRecursion, list_any, flat_map}
-use Rattle.std.specs.Option.{option_map_or, IfSome}
-use Rattle.std.proofs.lemmas.Bool.{eqb-true, eq-eqb, both_ways, or_cases, and_parts, and_from, and_left, leb-true, leb-false, le-leb, lt-leb, not_from_false, false_from_ne_true}
+use Rattle.std.specs.List.{AllByRecursion, list_any}
+use Rattle.std.specs.Option.{IfSome}
+use Rattle.std.proofs.lemmas.Bool.{eqb-true, eq-eqb, both_ways, or_cases, and_parts, and_from, leb-true, leb-false, lt-leb, not_from_false, false_from_ne_true}
 use Rattle.base_types.specs.declared.ids.Oid.{Oid}
 use Rattle.base_types.specs.declared.mode.Mode.{Mode}
 use Rattle.base_types.specs.declared.mode.Mode.TheVariants.{ShareUpdateExclusive, ShareRowExclusive, AccessExclusive}
 use Rattle.base_types.specs.declared.row.Row.{Row}
-use Rattle.base_types.specs.declared.row.Row.TheVariants as rows
 use Rattle.base_types.specs.declared.row_key.RowKey.{RowKey}
 use Rattle.base_types.specs.declared.row_key.RowKey.TheVariants as keys
-use Rattle.base_types.specs.RowKeys.{key_of, same_key}
-use Rattle.base_types.specs.Modes.{conflicts, same_mode}
+use Rattle.base_types.specs.RowKeys.{same_key}
+use Rattle.base_types.specs.Modes.{conflicts}
 use Rattle.base_types.specs.Scans.{same_oid}
 use Rattle.event_kinds.specs.declared.entry.Entry.{Entry}
 use Rattle.event_kinds.specs.declared.entry.Event.{Event}
 use Rattle.event_kinds.specs.declared.entry.Event.TheVariants as events
 use Rattle.event_kinds.specs.declared.entry.Item.{Item}
-use Rattle.event_kinds.specs.declared.entry.Item.TheVariants as items
-use Rattle.base_types.specs.declared.ids.Xid.{Xid}
-use Rattle.history_model.specs.Prefixes.{EachEntry, along_own}
 use Rattle.history_model.specs.Transactions.{Running, running_transaction_of, running_by, begun, after_release, has_xid, runs_as}
 use Rattle.row_visibility.specs.declared.version.Version.{Version}
 use Rattle.row_visibility.specs.declared.version.Stamp.{Stamp}
-use Rattle.history_model.specs.Versions.{versions_of, versions_by, change_by, end_by, ends, ended_key, version_of, added_row, is_back, end_back, sees}
+use Rattle.history_model.specs.Versions.{versions_of, versions_by, ends, added_row, is_back}
 use Rattle.history_model.specs.declared.grant.Grant.{Grant}
 use Rattle.history_model.specs.Held.{held_of, held_by}
-use Rattle.history_model.specs.Sent.{Written, lists_of, ends_transaction as ends_at, has_write_from}
+use Rattle.history_model.specs.Sent.{lists_of, ends_transaction as ends_at, has_write_from}
 use Rattle.history_model.specs.Orderly.{main_rel}
-use Rattle.history_model.proofs.Every.{every-weaker, every, every-append, every-map, every-filter, every-both, every-swap, any-weaker, any-filter, any-left, any-right, any-sides}
+use Rattle.history_model.proofs.Every.{every-weaker, every-both, any-weaker, any-filter, any-left}
 use Rattle.history_model.proofs.Lawful.{IsLawful}
 use Rattle.history_model.proofs.Reading.{running_transaction_of-own as running-own, held_of-more as held-more, versions_of-more as versions-more}
 use Rattle.history_model.proofs.Runs.{Draws, runs-before, Runs, Runs-more}
-use Rattle.history_model.proofs.Touched.{entry_of, OfStamps, stamps-weaker, stamps-both, stamps-write, stamps-gone, is_of, Touch, Touched}
-use Rattle.history_model.proofs.Exclude.{Agree, AllAgree, LocksWell}
+use Rattle.history_model.proofs.Touched.{entry_of, OfStamps, stamps-both, stamps-write, stamps-gone, is_of, Touch, Touched}
+use Rattle.history_model.proofs.Exclude.{Agree, AllAgree}
 
 oid_eq : (a b : Oid) → same_oid a b ≡ true → a ≡ b
 oid_eq a b is = let e : a.0 ≡ b.0 = eqb-true a.0 b.0 is in ap {B = Oid} (λ n. record { 0 = n }) e

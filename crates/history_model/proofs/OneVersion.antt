@@ -1,11 +1,11 @@
 -- A backend sees one version of a key.
-use Rattle.std.proofs.Common.{◌≡◌, ◌≤◌, ◌<◌, ◌+◌, ◌∙◌, ◌⊎◌, inl, inr, ℕ, Bool, true, false, not, Option, Some, None, List, [], ◌∷◌, ◌++◌, ◌==◌, ◌||◌, ◌&&◌, cond, if◌then◌else◌, refl, sym, ap, subst, map, filter, fold, arith, rules, append-nil}
+use Rattle.std.proofs.Common.{◌≡◌, ◌≤◌, ◌<◌, ◌∙◌, ◌⊎◌, inl, inr, ℕ, Bool, true, false, not, Option, Some, None, List, [], ◌∷◌, ◌++◌, ◌==◌, ◌||◌, ◌&&◌, refl, sym, ap, subst, map, filter, fold, arith, append-nil}
 use Rattle.std.specs.Prelude.{nat_le, ⊤}
 use Rattle.std.specs.List.{AllByRecursion, list_any, flat_map}
 use Rattle.std.specs.Option.{option_map_or, IfSome}
 use Rattle.std.proofs.Math.Bool.{or-false, or-true}
 use Rattle.std.proofs.lemmas.List.Folds.{list_any-append}
-use Rattle.std.proofs.lemmas.Bool.{eqb-true, eq-eqb, both_ways, or_cases, or_parts, and_parts, and_from, or_left, or_right, false_from_ne_true, not-true, leb-true, leb-false, le-leb, lt-leb}
+use Rattle.std.proofs.lemmas.Bool.{eqb-true, eq-eqb, both_ways, or_cases, or_parts, and_parts, and_from, false_from_ne_true, not-true, leb-false, lt-leb}
 use Rattle.base_types.specs.declared.row.Row.{Row}
 use Rattle.base_types.specs.declared.row_key.RowKey.{RowKey}
 use Rattle.base_types.specs.RowKeys.{key_of, same_key, are_distinct_keys}
@@ -15,22 +15,22 @@ use Rattle.event_kinds.specs.declared.entry.Event.TheVariants as events
 use Rattle.event_kinds.specs.declared.entry.Item.{Item}
 use Rattle.event_kinds.specs.declared.entry.Item.TheVariants as forms
 use Rattle.base_types.specs.declared.ids.Xid.{Xid}
-use Rattle.history_model.specs.Transactions.{Running, running_transaction_of, running_by, has_xid, is_visible, runs_as, is_committed, makes_visible, last_xid}
+use Rattle.history_model.specs.Transactions.{Running, running_transaction_of, running_by, has_xid, is_visible, runs_as, is_committed, makes_visible}
 use Rattle.row_visibility.specs.declared.version.Version.{Version}
 use Rattle.row_visibility.specs.declared.version.Stamp.{Stamp}
 use Rattle.row_visibility.specs.Seen.{seen_by}
-use Rattle.history_model.specs.Versions.{versions_of, versions_by, change_by, end_by, ends, ended_key, version_of, added_row, is_back, end_back, counts, sees}
-use Rattle.history_model.specs.Sent.{Written, lists_of}
+use Rattle.history_model.specs.Versions.{versions_of, versions_by, change_by, end_by, ends, version_of, added_row, is_back, end_back, counts, sees}
+use Rattle.history_model.specs.Sent.{lists_of}
 use Rattle.history_model.specs.Held.{held_of}
 use Rattle.history_model.specs.Writes.{changed_key}
 use Rattle.history_model.specs.Orderly.{main_rel}
-use Rattle.history_model.proofs.Every.{every-weaker, every, every-append, every-map, every-filter, every-both, every-swap, any-left, any-right}
-use Rattle.history_model.proofs.Lawful.{IsLawful, IsLawfulEvent, EndsOnce}
-use Rattle.history_model.proofs.Reading.{running_transaction_of-own as running-own, running_transaction_of-other as running-other, is_committed-more as committed-more, versions_of-more as versions-more}
-use Rattle.history_model.proofs.Runs.{Runs, Runs-more, one_xid, xid-of_write}
-use Rattle.history_model.proofs.Touched.{entry_of, OfStamps, stamps-weaker, stamps-both, is_of, Touch, Touched, HasWrite}
-use Rattle.history_model.proofs.Exclude.{AllAgree, LocksWell}
-use Rattle.history_model.proofs.Guards.{key_eq, key_refl, IsGuarded, Guard, Guards, one_guard, any_with}
+use Rattle.history_model.proofs.Every.{every-weaker, every, every-append, every-map, every-both, every-swap}
+use Rattle.history_model.proofs.Lawful.{IsLawful}
+use Rattle.history_model.proofs.Reading.{running_transaction_of-own as running-own, is_committed-more as committed-more, versions_of-more as versions-more}
+use Rattle.history_model.proofs.Runs.{Runs, Runs-more, one_xid}
+use Rattle.history_model.proofs.Touched.{entry_of, OfStamps, stamps-weaker, stamps-both, is_of, Touch, Touched}
+use Rattle.history_model.proofs.Exclude.{LocksWell}
+use Rattle.history_model.proofs.Guards.{key_refl, IsGuarded, Guard, Guards, one_guard, any_with}
 use Rattle.history_model.proofs.Seen.{counts_at, IsDown, every_command, seen-same, Apart, Pairwise, OneVersion, pair-weaker, pair-map, pair-filter, pair-push, runs-after, counts_at-same}
 
 -- versions of one key are of one relation
@@ -438,8 +438,10 @@ section_write history a c xid changes lawful keyed r touched guards one = fold_a
             new = record { row = row; by = stamp; ended = None }
 
             state_new : State items new
-            state_new = (every (λ x. ends history a x new ≡ true → (b : ℕ) (p : ℕ → Bool) → f b p stamp ≡ false → ⊤) (λ x ends' b p none. tt) items,
-                inr (differ_from (key_of row) items (added_key (λ k. list_any (same_key k) (flat_map changed_key items) ≡ false) item row is parts.0)))
+            state_new = (
+              every (λ x. ends history a x new ≡ true → (b : ℕ) (p : ℕ → Bool) → f b p stamp ≡ false → ⊤) (λ x ends' b p none. tt) items,
+              inr (differ_from (key_of row) items (added_key (λ k. list_any (same_key k) (flat_map changed_key items) ≡ false) item row is parts.0)),
+            )
 
     -- the versions that are there
     uncounted_end : (v : Version) (o : Option Stamp) → IfSome o (λ s. Touch history s v.row) → (counts history a v.by && not (option_map_or (counts history a) o false)) ≡ true → IfSome o (λ s. (someone : ℕ) → runs_as history someone s.xid.0 ≡ false) → (b : ℕ) (p : ℕ → Bool) → IfSome o (λ s. f b p s ≡ false)
@@ -474,10 +476,11 @@ section_write history a c xid changes lawful keyed r touched guards one = fold_a
         (every-swap IsOther changes (versions_of history) keyed.2))
 
     states : AllByRecursion (State changes) (versions_of history)
-    states = every-weaker Old (State changes) (λ v old.
-        (every-weaker (λ item. ends history a item v ≡ true → IfSome v.ended (λ s. (someone : ℕ) → runs_as history someone s.xid.0 ≡ false)) (λ item. ends history a item v ≡ true → (b : ℕ) (p : ℕ → Bool) → f b p stamp ≡ false → IfSome v.ended (λ s. f b p s ≡ false))
-            (λ item none is b p off. uncounted_end v v.ended old.0.1 (and_parts _ (sees history a v) is).1 (none is) b p) changes old.1.0,
-        inl (sees_old v old.0, old.1.1))) (versions_of history) olds
+    states = every-weaker Old (State changes) (λ v old. (
+      every-weaker (λ item. ends history a item v ≡ true → IfSome v.ended (λ s. (someone : ℕ) → runs_as history someone s.xid.0 ≡ false)) (λ item. ends history a item v ≡ true → (b : ℕ) (p : ℕ → Bool) → f b p stamp ≡ false → IfSome v.ended (λ s. f b p s ≡ false))
+          (λ item none is b p off. uncounted_end v v.ended old.0.1 (and_parts _ (sees history a v) is).1 (none is) b p) changes old.1.0,
+      inl (sees_old v old.0, old.1.1),
+    )) (versions_of history) olds
 
 -- one more entry
 apart_by : (history : List Entry) (b c : ℕ) (event : Event) → IsLawful history (entry_of b c event) → KeysLawfully history b c event → Runs history → LocksWell history → Touched history → Guards history → OneRel history → OneVersion history

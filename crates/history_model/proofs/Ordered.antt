@@ -1,14 +1,14 @@
 -- What holds of each sound history: its locks exclude each other, what a running transaction has touched is guarded, and a backend sees one version of a key.
-use Rattle.std.proofs.Common.{◌≡◌, ◌≤◌, ◌<◌, ◌+◌, ◌∙◌, ◌⊎◌, inl, inr, ℕ, Bool, true, false, not, Option, Some, None, List, [], ◌∷◌, ◌++◌, ◌==◌, ◌||◌, ◌&&◌, cond, refl, sym, ap, subst, map, filter, arith}
-use Rattle.std.specs.Prelude.{nat_le, ⊤}
+use Rattle.std.proofs.Common.{◌≡◌, ◌≤◌, ◌∙◌, ◌⊎◌, inl, inr, ℕ, Bool, true, false, not, Option, Some, None, List, [], ◌∷◌, ◌++◌, ◌==◌, ◌||◌, ◌&&◌, cond, refl, sym, ap, subst, map, filter, arith}
+use Rattle.std.specs.Prelude.{nat_le}
 use Rattle.std.specs.List.{AllByRecursion, list_any, list_all, flat_map, find, filter_map, cons_option}
 use Rattle.std.specs.Option.{option_map, option_map_or, IfSome}
 use Rattle.std.proofs.lemmas.List.Folds.{list_any-append, list_all-append}
-use Rattle.std.proofs.lemmas.Bool.{eqb-true, eq-eqb, both_ways, or_cases, or_parts, and_parts, and_from, le-leb, false_from_ne_true, not-true}
+use Rattle.std.proofs.lemmas.Bool.{eqb-true, eq-eqb, both_ways, or_cases, or_parts, and_parts, and_from, le-leb, false_from_ne_true}
 use Rattle.base_types.specs.declared.ids.Oid.{Oid}
 use Rattle.base_types.specs.declared.ids.Xid.{Xid}
 use Rattle.base_types.specs.declared.mode.Mode.{Mode}
-use Rattle.base_types.specs.declared.mode.Mode.TheVariants.{AccessShare, RowShare, RowExclusive, ShareUpdateExclusive, Share, ShareRowExclusive, Exclusive, AccessExclusive}
+use Rattle.base_types.specs.declared.mode.Mode.TheVariants.{AccessExclusive}
 use Rattle.base_types.specs.declared.row.Row.{Row}
 use Rattle.base_types.specs.declared.row.Row.TheVariants as rows
 use Rattle.base_types.specs.declared.row.ConKind.TheVariants as demands
@@ -24,7 +24,6 @@ use Rattle.event_kinds.specs.declared.entry.Event.{Event}
 use Rattle.event_kinds.specs.declared.entry.Event.TheVariants as events
 use Rattle.event_kinds.specs.declared.entry.Item.{Item}
 use Rattle.event_kinds.specs.declared.entry.Item.TheVariants as forms
-use Rattle.history_model.specs.Prefixes.{EachEntry}
 use Rattle.history_model.specs.Lives.{Life, Unstarted, Alive, Stopped, life_of, FollowsLife}
 use Rattle.history_model.specs.Transactions.{Running, running_transaction_of, is_visible, runs_as, is_committed}
 use Rattle.history_model.specs.Versions.{versions_of, rows_of, row_with, ends, ended_key, added_row, old_row, counts, sees}
@@ -32,9 +31,9 @@ use Rattle.history_model.specs.Sent.{Written, lists_of, ends_transaction as ends
 use Rattle.history_model.specs.declared.grant.Grant.{Grant}
 use Rattle.history_model.specs.Held.{granted_by, held_by, held_of, holds}
 use Rattle.history_model.specs.Drawn.{made_by}
-use Rattle.history_model.specs.Writes.{has_row, relations_of, rows_named, is_guarded, IsWriteAllowed}
+use Rattle.history_model.specs.Writes.{has_row, relations_of, is_guarded, IsWriteAllowed}
 use Rattle.history_model.specs.Legal.{FollowsVisible, MayRelease, AllowsEvent}
-use Rattle.history_model.specs.Orderly.{has_key, is_fresh, main_rel, keeps_relation, IsOrderlyWrite, IsOrderlyEvent, MayComeNext, IsSound}
+use Rattle.history_model.specs.Orderly.{has_key, is_fresh, main_rel, keeps_relation, IsOrderlyEvent, MayComeNext, IsSound}
 use Rattle.history_model.proofs.Prefixes.{each-keeps}
 use Rattle.history_model.proofs.Reading.{held_of-more as held-more}
 use Rattle.history_model.proofs.Every.{every-weaker, every, every-append, every-filter, every-both, any-left, any-right}
@@ -215,8 +214,11 @@ all_of_it history b v = seen-same (counts_at history b every_command) (counts hi
 -- of two versions with one key a backend doesn't see both
 pub one_seen : (history : List Entry) (b : ℕ) (vs : List Version) → Pairwise (Apart history) vs → Pairwise (λ v w. key_of v.row ≡ key_of w.row → sees history b v ≡ true → sees history b w ≡ true → ⊥) vs
 one_seen history b [] pairs = tt
-one_seen history b (v ∷ vs) pairs = (every-weaker (Apart history v) (λ w. key_of v.row ≡ key_of w.row → sees history b v ≡ true → sees history b w ≡ true → ⊥)
-    (λ w apart key seen also. apart key b every_command (λ i j low is. refl) (all_of_it history b v ∙ seen) (all_of_it history b w ∙ also)) vs pairs.0, one_seen history b vs pairs.1)
+one_seen history b (v ∷ vs) pairs = (
+  every-weaker (Apart history v) (λ w. key_of v.row ≡ key_of w.row → sees history b v ≡ true → sees history b w ≡ true → ⊥)
+      (λ w apart key seen also. apart key b every_command (λ i j low is. refl) (all_of_it history b v ∙ seen) (all_of_it history b w ∙ also)) vs pairs.0,
+  one_seen history b vs pairs.1,
+)
 
 -- each version that a change ends has a named row
 ended_named : (history : List Entry) (b : ℕ) (N : Row → Type 0) (item : Item) → OneVersion history → IfSome (old_row history b item) N → AllByRecursion (λ v. ends history b item v ≡ true → N v.row) (versions_of history)
@@ -331,11 +333,15 @@ keeps_by history b (forms.Remove key) rels there other keeps = every (KeepsRel (
 keeps_by history b (forms.Force rel) rels there other keeps = every (KeepsRel (forms.Force rel)) (λ v. tt) (versions_of history)
 
 keys_lawful : (history : List Entry) (b c : ℕ) (event : Event) → AllowsEvent history b c event → IsOrderlyEvent history b event → OneRel history → Begun c (running_transaction_of history b) (lists_of history b) → KeysLawfully history b c event
-keys_lawful history b c (events.Write xid items) allows orderly rels k = (k.low, allows.keys, fresh,
-    every-weaker (λ item. IfSome (ended_key item) (λ key. has_row history b key ≡ true) × (AllByRecursion (IsOther item) (versions_of history) × (keeps_relation history b item ≡ true))) (λ item. AllByRecursion (KeepsRel item) (versions_of history))
-    (λ item h. keeps_by history b item rels h.0 h.1.0 h.1.1) items
-    (every-both (λ item. IfSome (ended_key item) (λ key. has_row history b key ≡ true)) (λ item. AllByRecursion (IsOther item) (versions_of history) × (keeps_relation history b item ≡ true)) items (all_kept (has_row history b) ended_key items allows.there)
-    (every-both (λ item. AllByRecursion (IsOther item) (versions_of history)) (λ item. keeps_relation history b item ≡ true) items fresh (all_each (keeps_relation history b) items orderly.keeps))))
+keys_lawful history b c (events.Write xid items) allows orderly rels k = (
+  k.low,
+  allows.keys,
+  fresh,
+  every-weaker (λ item. IfSome (ended_key item) (λ key. has_row history b key ≡ true) × (AllByRecursion (IsOther item) (versions_of history) × (keeps_relation history b item ≡ true))) (λ item. AllByRecursion (KeepsRel item) (versions_of history))
+      (λ item h. keeps_by history b item rels h.0 h.1.0 h.1.1) items
+      (every-both (λ item. IfSome (ended_key item) (λ key. has_row history b key ≡ true)) (λ item. AllByRecursion (IsOther item) (versions_of history) × (keeps_relation history b item ≡ true)) items (all_kept (has_row history b) ended_key items allows.there)
+      (every-both (λ item. AllByRecursion (IsOther item) (versions_of history)) (λ item. keeps_relation history b item ≡ true) items fresh (all_each (keeps_relation history b) items orderly.keeps))),
+)
   where
     fresh : AllByRecursion (λ item. AllByRecursion (IsOther item) (versions_of history)) items
     fresh = every-weaker (λ item. is_fresh history item ≡ true) (λ item. AllByRecursion (IsOther item) (versions_of history)) (fresh_others history) items (all_each (is_fresh history) items orderly.fresh)
@@ -382,10 +388,12 @@ lawful_event history b c events.Start life visible allows orderly k early = of (
     of Unstarted is follows = let none = (k.lives.timely b).unstarted is in (none, (k.lives.timely b).none none)
     of (Alive last) is follows = absurd follows
     of Stopped is follows = absurd follows
-lawful_event history b c (events.Write xid items) life visible allows orderly k early =
-    (hidden_by (is_visible (running_transaction_of history b)) (events.Write xid items) visible (λ f. f), allows.xid_is,
-    every-weaker (IsGuardedItem history b (IsGuarded (held_by b c (events.Write xid items) (held_of history)) b c)) (EndsOnce history b)
-    (λ item guarded. ends_once history b c xid items item (LocksWell-more history (entry_of b c (events.Write xid items)) allows.oids k.locks) k.guards guarded) items (guarded_items history b c xid items k allows early))
+lawful_event history b c (events.Write xid items) life visible allows orderly k early = (
+  hidden_by (is_visible (running_transaction_of history b)) (events.Write xid items) visible (λ f. f),
+  allows.xid_is,
+  every-weaker (IsGuardedItem history b (IsGuarded (held_by b c (events.Write xid items) (held_of history)) b c)) (EndsOnce history b)
+      (λ item guarded. ends_once history b c xid items item (LocksWell-more history (entry_of b c (events.Write xid items)) allows.oids k.locks) k.guards guarded) items (guarded_items history b c xid items k allows early),
+)
 lawful_event history b c (events.Visible xid) life visible allows orderly k early = (hidden_by (is_visible (running_transaction_of history b)) (events.Visible xid) visible (λ f. f), allows.0)
 lawful_event history b c (events.Gone from) life visible allows orderly k early = hidden_by (is_visible (running_transaction_of history b)) (events.Gone from) visible (λ f. f)
 lawful_event history b c (events.Release from) life visible allows orderly k early = λ ends'. released history b from (is_visible (running_transaction_of history b)) refl allows.1 k.lives (running_transaction_of history b) refl ends'

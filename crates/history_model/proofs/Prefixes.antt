@@ -1,5 +1,5 @@
 -- Laws of what holds of each entry and of folds along a history: one more entry, and a prefix.
-use Rattle.std.proofs.Common.{◌≡◌, ◌∙◌, ℕ, true, false, Some, List, [], ◌∷◌, ◌++◌, ◌==◌, if◌then◌else◌, take, slice_get, suc, zero, refl, ap, append_assoc, append-nil, subst, rules}
+use Rattle.std.proofs.Common.{◌≡◌, ◌∙◌, ℕ, true, false, List, [], ◌∷◌, ◌++◌, ◌==◌, if◌then◌else◌, refl, ap, append_assoc, append-nil, subst, rules}
 use Rattle.event_kinds.specs.declared.entry.Entry.{Entry}
 use Rattle.history_model.specs.Prefixes.{EachFrom, EachEntry, along_from, along, along_own}
 

@@ -11,7 +11,7 @@ use Rattle.base_types.specs.declared.scan.Purpose.{Purpose}
 use Rattle.event_kinds.specs.declared.entry.Entry.{Entry}
 use Rattle.history_model.specs.Lives.{Unstarted, life_of, life_by, last_event_of}
 use Rattle.history_model.specs.Transactions.{running_transaction_of, running_by, makes_visible, is_committed, last_xid, last_xid_by}
-use Rattle.history_model.specs.Versions.{versions_of, versions_by, answer_of}
+use Rattle.history_model.specs.Versions.{versions_of, versions_by}
 use Rattle.history_model.specs.Sent.{lists_of, lists_by}
 use Rattle.history_model.specs.Log.{log_of, log_by, position_of, position_by}
 use Rattle.history_model.specs.Held.{held_of, held_by}

@@ -1,16 +1,11 @@
 -- Which backend runs which transaction.
-use Rattle.std.proofs.Common.{◌≡◌, ◌≤◌, ◌<◌, ◌+◌, ◌∙◌, ◌⊎◌, inl, inr, ℕ, Bool, true, false, not, Option, Some, None, List, [], ◌∷◌, ◌++◌, ◌==◌, ◌||◌, ◌&&◌, cond, if◌then◌else◌, refl, sym, ap, subst, arith, unwrap_or, max, rules}
-use Rattle.std.specs.Prelude.{nat_le}
-use Rattle.std.specs.List.{AllByRecursion, list_any}
+use Rattle.std.proofs.Common.{◌≡◌, ◌≤◌, ◌+◌, ◌∙◌, ◌⊎◌, inl, inr, ℕ, Bool, true, false, Option, Some, None, List, [], ◌∷◌, ◌++◌, ◌==◌, ◌||◌, if◌then◌else◌, refl, sym, ap, subst, arith, unwrap_or}
 use Rattle.std.specs.Option.{option_map_or}
 use Rattle.std.proofs.Math.Bool.{or-false, or-true}
-use Rattle.std.proofs.lemmas.Grind.{fold-append}
-use Rattle.std.proofs.lemmas.List.Folds.{list_any-append}
-use Rattle.std.proofs.lemmas.Bool.{eqb-true, eq-eqb, both_ways, or_cases, cases_Bool}
+use Rattle.std.proofs.lemmas.Bool.{eqb-true, eq-eqb, both_ways, or_cases}
 use Rattle.event_kinds.specs.declared.entry.Entry.{Entry}
 use Rattle.event_kinds.specs.declared.entry.Event.{Event}
 use Rattle.event_kinds.specs.declared.entry.Event.TheVariants as events
-use Rattle.history_model.specs.Prefixes.{EachEntry, along_own}
 use Rattle.history_model.specs.Transactions.{Running, begun, running_transaction_of, running_by, after_release, has_xid, is_visible, runs_as, makes_visible, is_committed, last_xid, last_xid_by, xid_for}
 use Rattle.history_model.proofs.Reading.{running_transaction_of-own as running-own, running_transaction_of-other as running-other, is_committed-more as committed-more, last_xid-more}
 use Rattle.history_model.proofs.Lawful.{IsLawful, IsLawfulEvent}
@@ -61,6 +56,7 @@ xid-of_write history b x is = by_running (running_transaction_of history b) is
     by_xid : (o : Option ℕ) → x ≡ unwrap_or o (last_xid history + 1) → (option_map_or (λ y. y == x) o false ≡ true) ⊎ (x ≡ last_xid history + 1)
     by_xid None same = inr same
     by_xid (Some y) same = inl (eq-eqb y x (sym same))
+
     by_running : (r : Option Running) → x ≡ option_map_or (λ t. unwrap_or t.xid (last_xid history + 1)) r (last_xid history + 1) → (has_xid x r ≡ true) ⊎ (x ≡ last_xid history + 1)
     by_running None same = inr same
     by_running (Some t) same = by_xid t.xid same

@@ -1,21 +1,20 @@
 -- How far a backend sees: all that is committed, and of its own what a test of the commands lets through.
-use Rattle.std.proofs.Common.{◌≡◌, ◌≤◌, ◌<◌, ◌+◌, ◌∙◌, ◌⊎◌, inl, inr, ℕ, Bool, true, false, not, Option, Some, None, List, [], ◌∷◌, ◌++◌, ◌==◌, ◌||◌, ◌&&◌, cond, if◌then◌else◌, refl, sym, ap, subst, map, filter, fold, arith, rules, unwrap_or}
-use Rattle.std.specs.Prelude.{nat_le, ⊤}
-use Rattle.std.specs.List.{AllByRecursion, list_any, flat_map}
+use Rattle.std.proofs.Common.{◌≡◌, ◌≤◌, ◌+◌, ◌∙◌, ◌⊎◌, inl, inr, ℕ, Bool, true, false, not, Option, Some, None, List, [], ◌∷◌, ◌++◌, ◌==◌, ◌||◌, ◌&&◌, cond, if◌then◌else◌, refl, sym, ap, subst, map, filter, arith, unwrap_or}
+use Rattle.std.specs.Prelude.{⊤}
+use Rattle.std.specs.List.{AllByRecursion, list_any}
 use Rattle.std.specs.Option.{option_map_or, IfSome}
-use Rattle.std.proofs.Math.Bool.{or-false, or-true}
-use Rattle.std.proofs.lemmas.Bool.{eqb-true, eq-eqb, both_ways, and_parts, false_from_ne_true}
+use Rattle.std.proofs.Math.Bool.{or-false}
+use Rattle.std.proofs.lemmas.Bool.{eqb-true, eq-eqb, both_ways}
 use Rattle.base_types.specs.declared.row.Row.{Row}
 use Rattle.base_types.specs.RowKeys.{key_of}
 use Rattle.event_kinds.specs.declared.entry.Entry.{Entry}
 use Rattle.event_kinds.specs.declared.entry.Event.{Event}
 use Rattle.event_kinds.specs.declared.entry.Event.TheVariants as events
-use Rattle.history_model.specs.Prefixes.{EachEntry}
 use Rattle.history_model.specs.Transactions.{Running, running_transaction_of, running_by, begun, after_release, has_xid, is_visible, runs_as, is_committed, makes_visible, last_xid, xid_for}
 use Rattle.row_visibility.specs.declared.version.Version.{Version}
 use Rattle.row_visibility.specs.declared.version.Stamp.{Stamp}
 use Rattle.row_visibility.specs.Seen.{seen_by}
-use Rattle.history_model.specs.Versions.{versions_of, counts, sees}
+use Rattle.history_model.specs.Versions.{versions_of}
 use Rattle.history_model.specs.Sent.{Written, lists_of, ends_transaction as ends_at}
 use Rattle.history_model.proofs.Every.{every-weaker, every-append, every-both}
 use Rattle.history_model.proofs.Lawful.{IsLawful, IsLawfulEvent}
@@ -90,6 +89,7 @@ xid-same history b x runs = of (running_transaction_of history b) runs
     of_xid : (o : Option ℕ) → option_map_or (λ y. y == x) o false ≡ true → unwrap_or o (last_xid history + 1) ≡ x
     of_xid None is = absurd (cc)
     of_xid (Some y) is = eqb-true y x is
+
     of : (r : Option Running) → has_xid x r ≡ true → option_map_or (λ t. unwrap_or t.xid (last_xid history + 1)) r (last_xid history + 1) ≡ x
     of None is = absurd (cc)
     of (Some t) is = of_xid t.xid is

@@ -1,27 +1,23 @@
 -- What a running transaction has touched, it has written in a command that wasn't taken back.
-use Rattle.std.proofs.Common.{◌≡◌, ◌≤◌, ◌<◌, ◌+◌, ◌∙◌, ◌⊎◌, inl, inr, ℕ, Bool, true, false, not, Option, Some, None, List, [], ◌∷◌, ◌++◌, ◌==◌, ◌||◌, ◌&&◌, cond, if◌then◌else◌, refl, sym, ap, subst, map, filter, fold, arith, rules}
+use Rattle.std.proofs.Common.{◌≡◌, ◌≤◌, ◌∙◌, ◌⊎◌, inl, inr, ℕ, Bool, true, false, not, Option, Some, None, List, [], ◌∷◌, ◌++◌, ◌==◌, ◌&&◌, if◌then◌else◌, refl, sym, ap, subst, map, filter, fold, arith}
 use Rattle.std.specs.Prelude.{nat_le, nat_lt, ⊤}
-use Rattle.std.specs.List.{AllByRecursion, list_any, flat_map}
+use Rattle.std.specs.List.{AllByRecursion, list_any}
 use Rattle.std.specs.Option.{option_map_or, IfSome}
-use Rattle.std.proofs.lemmas.Bool.{eqb-true, eq-eqb, both_ways, or_cases, cases_Bool, and_parts, and_from, or_left, or_right, not_from_false, not-true, leb-false, lt-ltb}
+use Rattle.std.proofs.lemmas.Bool.{eqb-true, eq-eqb, or_left, not-true, leb-false, lt-ltb}
 use Rattle.base_types.specs.declared.row.Row.{Row}
-use Rattle.base_types.specs.declared.scan.Purpose.{Purpose}
-use Rattle.base_types.specs.Scans.{selects}
 use Rattle.event_kinds.specs.declared.entry.Entry.{Entry}
 use Rattle.event_kinds.specs.declared.entry.Event.{Event}
 use Rattle.event_kinds.specs.declared.entry.Event.TheVariants as events
 use Rattle.event_kinds.specs.declared.entry.Item.{Item}
-use Rattle.base_types.specs.declared.ids.Xid.{Xid}
-use Rattle.history_model.specs.Prefixes.{EachEntry, along_own}
 use Rattle.history_model.specs.Transactions.{Running, running_transaction_of, running_by, begun, after_release, has_xid, runs_as, last_xid}
 use Rattle.row_visibility.specs.declared.version.Version.{Version}
 use Rattle.row_visibility.specs.declared.version.Stamp.{Stamp}
 use Rattle.history_model.specs.Versions.{versions_of, versions_by, change_by, end_by, ends, version_of, added_row, is_back, end_back}
-use Rattle.history_model.specs.Sent.{Written, written_by, lists_of, lists_by, ends_transaction}
-use Rattle.history_model.proofs.Reading.{running_transaction_of-own as running-own, running_transaction_of-other as running-other, versions_of-more as versions-more, lists_of-own as lists-own, lists_of-other as lists-other}
-use Rattle.history_model.proofs.Every.{every-weaker, every, every-append, every-map, every-filter, every-both, every-swap, any-weaker, any-filter, any-left, any-right, any-sides, any-flat}
-use Rattle.history_model.proofs.Lawful.{IsLawful, IsLawfulEvent, EndsOnce}
-use Rattle.history_model.proofs.Runs.{last_xid-rises, writes_as, Draws, runs-before, Runs, Runs-more}
+use Rattle.history_model.specs.Sent.{Written, written_by, lists_of, lists_by}
+use Rattle.history_model.proofs.Reading.{running_transaction_of-own as running-own, versions_of-more as versions-more, lists_of-own as lists-own, lists_of-other as lists-other}
+use Rattle.history_model.proofs.Every.{every-weaker, every, every-append, every-map, every-filter, every-both, every-swap, any-filter, any-left, any-right}
+use Rattle.history_model.proofs.Lawful.{IsLawful}
+use Rattle.history_model.proofs.Runs.{last_xid-rises, Draws, runs-before, Runs, Runs-more}
 
 -- both stamps of a version, with its row
 abbrev pub OfStamps : (Stamp → Row → Type 0) → Version → Type 0

@@ -1,5 +1,5 @@
 -- The new names of a write, and who has one in use.
-use Rattle.std.specs.Prelude.{ℕ, Bool, true, false, not, Option, Some, None, List, [], ◌∷◌, ◌++◌, ◌==◌, ◌&&◌, if◌then◌else◌, filter}
+use Rattle.std.specs.Prelude.{ℕ, Bool, false, not, Option, Some, List, [], ◌∷◌, ◌&&◌, if◌then◌else◌, filter}
 use Rattle.std.specs.Option.{option_map_or}
 use Rattle.std.specs.List.{flat_map, list_any}
 use Rattle.std.specs.Str.{bytes_eq}

@@ -1,5 +1,5 @@
 -- The transactions of backends, and what became of each.
-use Rattle.std.specs.Prelude.{ℕ, Bool, true, false, Option, Some, None, List, [], ◌+◌, ◌==◌, if◌then◌else◌, max, fold, unwrap_or}
+use Rattle.std.specs.Prelude.{ℕ, Bool, true, false, Option, Some, None, List, ◌+◌, ◌==◌, if◌then◌else◌, max, fold, unwrap_or}
 use Rattle.std.specs.Option.{option_map_or}
 use Rattle.std.specs.List.{list_any}
 use Rattle.history_model.specs.Types.{Entry, Event, Start, Write, Visible, Publish, Release, Stop}

@@ -1,8 +1,8 @@
 -- Which writes a history allows.
-use Rattle.std.specs.Prelude.{ℕ, Bool, true, false, not, Option, Some, None, List, [], ◌∷◌, ◌≡◌, ◌==◌, ◌&&◌, ◌||◌, length}
+use Rattle.std.specs.Prelude.{ℕ, Bool, true, false, Option, List, [], ◌∷◌, ◌≡◌, ◌==◌, ◌&&◌, ◌||◌, length}
 use Rattle.std.specs.Option.{option_map_or}
 use Rattle.std.specs.List.{flat_map, filter_map, list_any, list_all, range_with_len}
-use Rattle.base_types.specs.RowKeys.{key_of, same_key, are_distinct_keys}
+use Rattle.base_types.specs.RowKeys.{key_of, are_distinct_keys}
 use Rattle.base_types.specs.Scans.{same_oid}
 use Rattle.base_types.specs.declared.row.ConKind.TheVariants as demands
 use Rattle.base_types.specs.declared.row.Row.TheVariants as rows
