@@ -1,6 +1,6 @@
 use crate::readers::CountingSink;
 use crate::values::name;
-use base_types::{ColType, Field, Kind, Listed, Mode, Name, Oid, Xid};
+use base_types::{ColType, Field, Kind, Listed, Mode, Name, Oid, Xid, field_text};
 use edge_io::{Failed, MEMORY_SINK_ROOM, MemorySink, SteadySink};
 use event_kinds::{Entry, Event, Line};
 use out_text::{answer_text, put_entry, put_line, put_output};
@@ -77,9 +77,9 @@ fn errors(name: Name) -> [CommandError; 24] {
 const ANSWER_TEXTS: [&str; 10] = [
     "ok",
     "rolled back",
-    "table 16384; name x; statistics 1:-1 as of 17",
-    "index 16385; name x",
-    "fillfactor 70 as of 5",
+    "table 16384; name -; statistics - as of 17",
+    "index 16385; name -",
+    "fillfactor - as of 5",
     "columns -",
     "columns x:int4 x:timestamptz",
     "column 2 int8",
@@ -87,15 +87,16 @@ const ANSWER_TEXTS: [&str; 10] = [
     "regclass 16384 none as of 13",
 ];
 
-fn shown(alloc: Global, field: Field, text: &[u8], at: Option<u64>) -> Result<Shown, Fail> {
-    let value = Value::new(text.to_vec(alloc)?);
+// A field with the text that it has where no row was read.
+fn shown(alloc: Global, field: Field, at: Option<u64>) -> Result<Shown, Fail> {
+    let value = Value::new(field_text(alloc, field, Oid(16384), &[])?);
     Ok(Shown { field, value, at })
 }
 
 // A relation, with its name and one more field if it has one.
 fn relation(alloc: Global, kind: Kind, rel: Oid, more: Option<Shown>) -> Result<Answer, Fail> {
     let mut fields = Listed::new(alloc);
-    fields.push(shown(alloc, Field::Name, b"x", None)?)?;
+    fields.push(shown(alloc, Field::Name, None)?)?;
     if let Some(more) = more {
         fields.push(more)?;
     }
@@ -115,13 +116,13 @@ fn columns(alloc: Global, name: Name, types: &[ColType]) -> Result<Answer, Fail>
 
 // Each kind of answer, but for errors.
 fn answers(alloc: Global, name: Name) -> Result<[Answer; 10], Fail> {
-    let statistics = shown(alloc, Field::Statistics, b"1:-1", Some(17))?;
+    let statistics = shown(alloc, Field::Statistics, Some(17))?;
     Ok([
         Answer::Ok,
         Answer::RolledBack,
         relation(alloc, Kind::Table, Oid(16384), Some(statistics))?,
         relation(alloc, Kind::Index, Oid(16385), None)?,
-        Answer::One(shown(alloc, Field::Fillfactor, b"70", Some(5))?),
+        Answer::One(shown(alloc, Field::Fillfactor, Some(5))?),
         columns(alloc, name, &[])?,
         columns(alloc, name, &[ColType::Int4, ColType::Timestamptz])?,
         Answer::Column {
