@@ -12,7 +12,7 @@ use Rattle.history_model.specs.Orderly.{MayComeNext, IsSound}
 use Rattle.history_model.specs.Read.{IsEconomical}
 use Rattle.history_model.proofs.Sound.{sound_is_legal}
 use Rattle.cacheless.specs.Plays.{IsNext, Plays}
-use Rattle.cacheless.specs.Schedule.{FollowsSchedule, IsComplete}
+use Rattle.cacheless.specs.Schedule.{FollowsSchedule, AreLooksTrue, IsComplete}
 use Rattle.cacheless.specs.Lines.{lines_of}
 use Rattle.cacheless.specs.Output.{IsOutput}
 use Rattle.cacheless.proofs.Given.{oid, xid, entry, placed, script, creating, new_table}
@@ -236,6 +236,9 @@ create_then_show_economical = (tt, (tt, (tt, (tt, (tt, (tt, (tt, (λ build. absu
 pub create_then_show_follows : FollowsSchedule create_then_show stopped
 create_then_show_follows = (refl, (refl, (refl, (refl, (refl, (refl, (refl, (refl, (refl, (refl, (refl, (refl, (refl, (refl, (refl, (refl, (refl, (refl, (refl, (refl, (refl, (refl, (refl, (refl, tt))))))))))))))))))))))))
 
+pub create_then_show_looks : AreLooksTrue stopped
+create_then_show_looks = (tt, (refl, (tt, (tt, (tt, (refl, (refl, (tt, (tt, (refl, (refl, (tt, (refl, (tt, (refl, (tt, (refl, (tt, (refl, (tt, (refl, (tt, (tt, (tt, tt))))))))))))))))))))))))
+
 pub create_then_show_complete : IsComplete create_then_show stopped
 create_then_show_complete = refl
 
@@ -247,4 +250,4 @@ unfolding digits
 create_then_show_spelled = refl
 
 pub create_then_show_output : IsOutput create_then_show create_then_show_text
-create_then_show_output = record { history = stopped; allowed = record { legal = sound_is_legal stopped create_then_show_sound; plays = create_then_show_plays; economical = create_then_show_economical }; follows = create_then_show_follows; complete = create_then_show_complete; text_is = sym create_then_show_spelled }
+create_then_show_output = record { history = stopped; allowed = record { legal = sound_is_legal stopped create_then_show_sound; plays = create_then_show_plays; economical = create_then_show_economical }; follows = create_then_show_follows; looks = create_then_show_looks; complete = create_then_show_complete; text_is = sym create_then_show_spelled }

@@ -11,7 +11,7 @@ use Rattle.history_model.specs.Orderly.{MayComeNext, IsSound}
 use Rattle.history_model.specs.Read.{IsEconomical}
 use Rattle.history_model.proofs.Sound.{sound_is_legal}
 use Rattle.cacheless.specs.Plays.{IsNext, Plays}
-use Rattle.cacheless.specs.Schedule.{FollowsSchedule, IsComplete}
+use Rattle.cacheless.specs.Schedule.{FollowsSchedule, AreLooksTrue, IsComplete}
 use Rattle.cacheless.specs.Lines.{lines_of}
 use Rattle.cacheless.specs.Output.{IsOutput}
 use Rattle.cacheless.proofs.Given.{xid, entry, placed, script, creating, new_table}
@@ -106,6 +106,9 @@ failed_block_economical = (tt, (tt, (tt, (tt, (λ build. absurd (cc), (tt, (tt, 
 pub failed_block_follows : FollowsSchedule failed_block stopped
 failed_block_follows = (refl, (refl, (refl, (refl, (refl, (refl, (refl, (refl, tt))))))))
 
+pub failed_block_looks : AreLooksTrue stopped
+failed_block_looks = (tt, (refl, (tt, (refl, (tt, (tt, (tt, (tt, tt))))))))
+
 pub failed_block_complete : IsComplete failed_block stopped
 failed_block_complete = refl
 
@@ -117,4 +120,4 @@ unfolding digits
 failed_block_spelled = refl
 
 pub failed_block_output : IsOutput failed_block failed_block_text
-failed_block_output = record { history = stopped; allowed = record { legal = sound_is_legal stopped failed_block_sound; plays = failed_block_plays; economical = failed_block_economical }; follows = failed_block_follows; complete = failed_block_complete; text_is = sym failed_block_spelled }
+failed_block_output = record { history = stopped; allowed = record { legal = sound_is_legal stopped failed_block_sound; plays = failed_block_plays; economical = failed_block_economical }; follows = failed_block_follows; looks = failed_block_looks; complete = failed_block_complete; text_is = sym failed_block_spelled }

@@ -10,7 +10,7 @@ use Rattle.history_model.specs.Orderly.{MayComeNext, IsSound}
 use Rattle.history_model.specs.Read.{IsEconomical}
 use Rattle.history_model.proofs.Sound.{sound_is_legal}
 use Rattle.cacheless.specs.Plays.{IsNext, Plays}
-use Rattle.cacheless.specs.Schedule.{FollowsSchedule, IsComplete}
+use Rattle.cacheless.specs.Schedule.{FollowsSchedule, AreLooksTrue, IsComplete}
 use Rattle.cacheless.specs.Lines.{lines_of}
 use Rattle.cacheless.specs.Output.{IsOutput}
 use Rattle.cacheless.proofs.Given.{xid, entry, placed, script, creating, new_table}
@@ -123,6 +123,9 @@ oids_are_not_drawn_again_economical = (tt, (tt, (tt, (tt, (tt, (tt, (tt, (tt, (t
 pub oids_are_not_drawn_again_follows : FollowsSchedule oids_are_not_drawn_again stopped
 oids_are_not_drawn_again_follows = (refl, (refl, (refl, (refl, (refl, (refl, (refl, (refl, (refl, (refl, tt))))))))))
 
+pub oids_are_not_drawn_again_looks : AreLooksTrue stopped
+oids_are_not_drawn_again_looks = (tt, (refl, (tt, (tt, (tt, (refl, (tt, (tt, (tt, (tt, tt))))))))))
+
 pub oids_are_not_drawn_again_complete : IsComplete oids_are_not_drawn_again stopped
 oids_are_not_drawn_again_complete = refl
 
@@ -134,4 +137,4 @@ unfolding digits
 oids_are_not_drawn_again_spelled = refl
 
 pub oids_are_not_drawn_again_output : IsOutput oids_are_not_drawn_again oids_are_not_drawn_again_text
-oids_are_not_drawn_again_output = record { history = stopped; allowed = record { legal = sound_is_legal stopped oids_are_not_drawn_again_sound; plays = oids_are_not_drawn_again_plays; economical = oids_are_not_drawn_again_economical }; follows = oids_are_not_drawn_again_follows; complete = oids_are_not_drawn_again_complete; text_is = sym oids_are_not_drawn_again_spelled }
+oids_are_not_drawn_again_output = record { history = stopped; allowed = record { legal = sound_is_legal stopped oids_are_not_drawn_again_sound; plays = oids_are_not_drawn_again_plays; economical = oids_are_not_drawn_again_economical }; follows = oids_are_not_drawn_again_follows; looks = oids_are_not_drawn_again_looks; complete = oids_are_not_drawn_again_complete; text_is = sym oids_are_not_drawn_again_spelled }

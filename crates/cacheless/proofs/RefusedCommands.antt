@@ -14,7 +14,7 @@ use Rattle.history_model.specs.Orderly.{MayComeNext, IsSound}
 use Rattle.history_model.specs.Read.{IsEconomical}
 use Rattle.history_model.proofs.Sound.{sound_is_legal}
 use Rattle.cacheless.specs.Plays.{IsNext, Plays}
-use Rattle.cacheless.specs.Schedule.{FollowsSchedule, IsComplete}
+use Rattle.cacheless.specs.Schedule.{FollowsSchedule, AreLooksTrue, IsComplete}
 use Rattle.cacheless.specs.Lines.{lines_of}
 use Rattle.cacheless.specs.Output.{IsOutput}
 use Rattle.cacheless.proofs.Given.{oid, xid, entry, placed, script, creating, new_table}
@@ -145,6 +145,9 @@ refused_commands_economical = (tt, (tt, (tt, (tt, (tt, (tt, (tt, (tt, (tt, (λ b
 pub refused_commands_follows : FollowsSchedule refused_commands stopped
 refused_commands_follows = (refl, (refl, (refl, (refl, (refl, (refl, (refl, (refl, (refl, (refl, (refl, (refl, (refl, (refl, tt))))))))))))))
 
+pub refused_commands_looks : AreLooksTrue stopped
+refused_commands_looks = (tt, (refl, (tt, (refl, (tt, (tt, (tt, (refl, (refl, (tt, (tt, (refl, (tt, (tt, tt))))))))))))))
+
 pub refused_commands_complete : IsComplete refused_commands stopped
 refused_commands_complete = refl
 
@@ -156,4 +159,4 @@ unfolding digits
 refused_commands_spelled = refl
 
 pub refused_commands_output : IsOutput refused_commands refused_commands_text
-refused_commands_output = record { history = stopped; allowed = record { legal = sound_is_legal stopped refused_commands_sound; plays = refused_commands_plays; economical = refused_commands_economical }; follows = refused_commands_follows; complete = refused_commands_complete; text_is = sym refused_commands_spelled }
+refused_commands_output = record { history = stopped; allowed = record { legal = sound_is_legal stopped refused_commands_sound; plays = refused_commands_plays; economical = refused_commands_economical }; follows = refused_commands_follows; looks = refused_commands_looks; complete = refused_commands_complete; text_is = sym refused_commands_spelled }

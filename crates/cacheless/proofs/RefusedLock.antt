@@ -13,7 +13,7 @@ use Rattle.history_model.specs.Orderly.{MayComeNext, IsSound}
 use Rattle.history_model.specs.Read.{IsEconomical}
 use Rattle.history_model.proofs.Sound.{sound_is_legal}
 use Rattle.cacheless.specs.Plays.{IsNext, Plays}
-use Rattle.cacheless.specs.Schedule.{FollowsSchedule, IsComplete}
+use Rattle.cacheless.specs.Schedule.{FollowsSchedule, AreLooksTrue, IsComplete}
 use Rattle.cacheless.specs.Lines.{lines_of}
 use Rattle.cacheless.specs.Output.{IsOutput}
 use Rattle.cacheless.proofs.Given.{oid, xid, entry, placed, turns, script, creating, new_table}
@@ -147,6 +147,9 @@ refused_lock_economical = (tt, (tt, (tt, (tt, (tt, (tt, (tt, (λ build. absurd (
 pub refused_lock_follows : FollowsSchedule refused_lock stopped
 refused_lock_follows = (refl, (refl, (refl, (refl, (refl, (refl, (refl, (refl, (refl, (refl, (refl, (refl, (refl, tt)))))))))))))
 
+pub refused_lock_looks : AreLooksTrue stopped
+refused_lock_looks = (tt, (refl, (tt, (tt, (tt, (refl, (refl, (tt, (tt, (tt, (tt, (tt, (tt, tt)))))))))))))
+
 pub refused_lock_complete : IsComplete refused_lock stopped
 refused_lock_complete = refl
 
@@ -158,4 +161,4 @@ unfolding digits
 refused_lock_spelled = refl
 
 pub refused_lock_output : IsOutput refused_lock refused_lock_text
-refused_lock_output = record { history = stopped; allowed = record { legal = sound_is_legal stopped refused_lock_sound; plays = refused_lock_plays; economical = refused_lock_economical }; follows = refused_lock_follows; complete = refused_lock_complete; text_is = sym refused_lock_spelled }
+refused_lock_output = record { history = stopped; allowed = record { legal = sound_is_legal stopped refused_lock_sound; plays = refused_lock_plays; economical = refused_lock_economical }; follows = refused_lock_follows; looks = refused_lock_looks; complete = refused_lock_complete; text_is = sym refused_lock_spelled }

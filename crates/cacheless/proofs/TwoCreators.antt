@@ -10,7 +10,7 @@ use Rattle.history_model.specs.Orderly.{MayComeNext, IsSound}
 use Rattle.history_model.specs.Read.{IsEconomical}
 use Rattle.history_model.proofs.Sound.{sound_is_legal}
 use Rattle.cacheless.specs.Plays.{IsNext, Plays}
-use Rattle.cacheless.specs.Schedule.{FollowsSchedule, IsComplete}
+use Rattle.cacheless.specs.Schedule.{FollowsSchedule, AreLooksTrue, IsComplete}
 use Rattle.cacheless.specs.Lines.{lines_of}
 use Rattle.cacheless.specs.Output.{IsOutput}
 use Rattle.cacheless.proofs.Given.{oid, xid, entry, placed, turns, script, creating, new_table}
@@ -168,6 +168,9 @@ clash_of_two_creators_economical = (tt, (tt, (tt, (tt, (tt, (tt, (tt, (tt, (tt, 
 pub clash_of_two_creators_follows : FollowsSchedule clash_of_two_creators second_stopped
 clash_of_two_creators_follows = (refl, (refl, (refl, (refl, (refl, (refl, (refl, (refl, (refl, (refl, (refl, (refl, (refl, (refl, tt))))))))))))))
 
+pub clash_of_two_creators_looks : AreLooksTrue second_stopped
+clash_of_two_creators_looks = (tt, (refl, (tt, (tt, (refl, (tt, (tt, (tt, (tt, (tt, (refl, (tt, (tt, (tt, tt))))))))))))))
+
 pub clash_of_two_creators_complete : IsComplete clash_of_two_creators second_stopped
 clash_of_two_creators_complete = refl
 
@@ -179,4 +182,4 @@ unfolding digits
 clash_of_two_creators_spelled = refl
 
 pub clash_of_two_creators_output : IsOutput clash_of_two_creators clash_of_two_creators_text
-clash_of_two_creators_output = record { history = second_stopped; allowed = record { legal = sound_is_legal second_stopped clash_of_two_creators_sound; plays = clash_of_two_creators_plays; economical = clash_of_two_creators_economical }; follows = clash_of_two_creators_follows; complete = clash_of_two_creators_complete; text_is = sym clash_of_two_creators_spelled }
+clash_of_two_creators_output = record { history = second_stopped; allowed = record { legal = sound_is_legal second_stopped clash_of_two_creators_sound; plays = clash_of_two_creators_plays; economical = clash_of_two_creators_economical }; follows = clash_of_two_creators_follows; looks = clash_of_two_creators_looks; complete = clash_of_two_creators_complete; text_is = sym clash_of_two_creators_spelled }

@@ -1,10 +1,12 @@
 -- Whose entry comes next.
-use Rattle.std.specs.Prelude.{ℕ, Bool, true, false, not, Some, List, [], ◌∷◌, ◌≡◌, if◌then◌else◌, filter, drop, slice_get}
+use Rattle.std.specs.Prelude.{ℕ, Bool, true, false, not, Some, List, [], ◌∷◌, ◌≡◌, if◌then◌else◌, filter, drop, slice_get, ⊤}
 use Rattle.std.specs.List.{range_with_len}
-use Rattle.cacheless.specs.Types.{Turns, Scenario, Entry}
+use Rattle.event_kinds.specs.declared.entry.Event.TheVariants.{Look}
+use Rattle.cacheless.specs.Types.{Turns, Scenario, Entry, Event}
 use Rattle.base_types.specs.Scenario.{schedule_of}
 use Rattle.history_model.specs.Prefixes.{EachEntry, along}
 use Rattle.history_model.specs.Lives.{Life, Stopped, life_of}
+use Rattle.history_model.specs.Log.{is_waiting}
 
 -- a life has ended
 abbrev pub is_stopped : Life → Bool
@@ -36,6 +38,15 @@ turns_left scenario history = turns_by scenario history scenario.steps
 -- each entry is of the backend whose turn it is
 abbrev pub FollowsSchedule : Scenario → List Entry → Type 0
 FollowsSchedule scenario history = EachEntry (λ before e. slice_get (turns_left scenario before) 0 ≡ Some e.backend) history
+
+-- a look says no only where nothing waits
+abbrev pub LooksTruly : List Entry → ℕ → Event → Type 0
+LooksTruly before b (Look false) = is_waiting before b ≡ false
+LooksTruly before b event = ⊤
+
+-- each look sees all that was sent before it
+abbrev pub AreLooksTrue : List Entry → Type 0
+AreLooksTrue history = EachEntry (λ before e. LooksTruly before e.backend e.event) history
 
 -- all turns have been taken
 abbrev pub IsComplete : Scenario → List Entry → Type 0
