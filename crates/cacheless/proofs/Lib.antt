@@ -4,7 +4,7 @@ pub mod HeldLocks
 pub mod Given
 pub mod TwoCreators
 pub mod NewOids
-pub mod CreateThenShow
+pub mod ShowWithoutMessages
 pub mod FailedBlock
 pub mod RefusedLock
 pub mod RefusedCommands

@@ -14,7 +14,7 @@ use Rattle.history_model.specs.Writes.{is_empty}
 use Rattle.cacheless.specs.declared.opening.Opening.{Opening}
 use Rattle.cacheless.specs.Facts.{Facts}
 use Rattle.cacheless.specs.Session.{Session, Outcome, Unsettled, Well, Badly, outcome_of, is_settled, first_of}
-use Rattle.cacheless.specs.Owed.{OwesScan, owed_at_start, owed_after, unusable, builds_owed, act_owed, scans_owed, owed_of, is_next_scan}
+use Rattle.cacheless.specs.Owed.{OwesScan, owed_at_start, owed_after, unusable, builds_owed, act_owed, act_next, scans_owed, owed_of, is_next_scan}
 use Rattle.cacheless.specs.Ends.{end_left}
 use Rattle.cacheless.specs.Settled.{gives, done_here, acted_on, acted, act_done, is_finished, next_session, settled}
 
@@ -128,7 +128,7 @@ next_build facts s scan more unsettled is = by_outcome (outcome_of s.left) unset
     builds = flat_map (λ o. take 1 (unusable facts (build_scans o.kind o.rel))) s.opened
 
     acts : List Purpose
-    acts = take 1 (act_owed facts s.read s.left)
+    acts = act_next facts s.read s.left
 
     by_outcome : (o : Outcome) → is_settled o ≡ false → list_any (same_scan scan) (elim o [ Badly ↦ [] | other ↦ builds ++ acts ]) ≡ true
     by_outcome Unsettled un = list_any-append (same_scan scan) builds acts ∙ ap (λ t. t || list_any (same_scan scan) acts) (first_of_each facts s.opened scan more is)

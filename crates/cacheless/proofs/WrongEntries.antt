@@ -1,8 +1,9 @@
 -- What no history allows, and at the end what it allows beside it: a worked example up to a place, and one entry there.
-use Rattle.std.proofs.Common.{◌≡◌, ◌++◌, true, false, None, [], ◌∷◌, codes, arith}
+use Rattle.std.proofs.Common.{negsuc, ◌≡◌, ◌++◌, true, false, None, [], ◌∷◌, codes, arith}
 use Rattle.base_types.specs.declared.mode.Mode.TheVariants.{AccessShare, AccessExclusive}
 use Rattle.base_types.specs.declared.kind.Kind.TheVariants.{Table, Index}
-use Rattle.base_types.specs.declared.row.Row.TheVariants.{Class}
+use Rattle.base_types.specs.declared.row.Row.TheVariants.{Class, Att}
+use Rattle.base_types.specs.declared.col_type.ColType.TheVariants.{Int4}
 use Rattle.base_types.specs.declared.row_key.RowKey.TheVariants as keys
 use Rattle.base_types.specs.declared.scan.Purpose.TheVariants as scans
 use Rattle.event_kinds.specs.declared.entry.Event.TheVariants.{Start, Look, LockOk, LockHeld, Unlock, Scan, Write, ClashRow, ClashRunning, Visible, Publish, Release, Gone, Stop}
@@ -14,7 +15,7 @@ use Rattle.history_model.specs.Orderly.{IsOrderly}
 use Rattle.cacheless.proofs.Given.{oid, xid, entry, new_class, new_column, new_table}
 use Rattle.cacheless.proofs.TwoCreators as creators
 use Rattle.cacheless.proofs.NewOids as oids
-use Rattle.cacheless.proofs.CreateThenShow as show
+use Rattle.cacheless.proofs.ShowWithoutMessages as show
 use Rattle.cacheless.proofs.RefusedLock as refused
 
 -- a write of a name that another running transaction has in use
@@ -110,7 +111,7 @@ pub unguarded_write : MayFollow creators.second_looked_again (entry 2 2 (Write (
 unguarded_write h = search arith
 
 -- a row is replaced that the backend doesn't see
-pub unseen_row_replaced : MayFollow creators.second_looked (entry 2 1 (Write (xid 2) (Put (Class (oid 16384) (codes "y") Table None) ∷ []))) → ⊥
+pub unseen_row_replaced : MayFollow creators.first_written (entry 1 3 (Write (xid 1) (Put (Att (oid 16384) 2 (codes "b") Int4 (negsuc 0) true) ∷ []))) → ⊥
 unseen_row_replaced h = search arith
 
 -- a row is taken away that isn't there
@@ -118,7 +119,7 @@ pub unseen_row_removed : MayFollow oids.looked (entry 1 4 (Write (xid 2) (Remove
 unseen_row_removed h = search arith
 
 -- a table made an index
-pub kind_changed : MayFollow show.locked (entry 1 2 (Write (xid 2) (Put (Class (oid 16384) (codes "t") Index None) ∷ []))) → ⊥
+pub kind_changed : MayFollow creators.first_written (entry 1 3 (Write (xid 1) (Put (Class (oid 16384) (codes "x") Index None) ∷ []))) → ⊥
 kind_changed h = search arith
 
 -- locks are released while the writes under them aren't taken back

@@ -6,7 +6,7 @@ use Rattle.history_model.specs.Sent.{Written, lists_by, lists_of}
 use Rattle.history_model.specs.Read.{usable_by, is_usable, rows_by, rows_read}
 use Rattle.cacheless.specs.Types.{Row, Purpose, Entry, Event}
 
--- its last event, its running transaction, its writes that weren't taken back, which scans are usable, and what the last scan of each kind gave
+-- its last event, its running transaction, its writes that weren't taken back, which scans are usable, and what the last scan for each purpose gave
 pub record Facts : Type 0 where
   pub last : Option Event
   pub running : Option Running

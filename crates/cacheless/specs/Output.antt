@@ -14,7 +14,7 @@ pub record IsAllowed (scenario : Scenario) (history : List Entry) : Type 0 where
   pub plays : Plays scenario history
   pub economical : IsEconomical history
 
--- a text of the program: that of an allowed, complete history that follows the schedule and whose looks see all that was sent, and of exactly its lines
+-- what `walk` may write: the text of an allowed, complete history that follows the schedule and whose looks see all that was sent, and of exactly its lines
 pub record IsOutput (scenario : Scenario) (text : List ℕ) : Type 0 where
   pub history : List Entry
   pub allowed : IsAllowed scenario history

@@ -4,8 +4,8 @@ use Rattle.std.specs.List.{flat_map, list_any}
 use Rattle.base_types.specs.Scans.{same_scan, build_scans}
 use Rattle.base_types.specs.declared.scan.Purpose.TheVariants as scans
 use Rattle.event_kinds.specs.declared.entry.Event.TheVariants as events
-use Rattle.ddl_effect.specs.Plans.{Plan, Do, Lookup, Column, rests_on}
-use Rattle.ddl_effect.specs.Blocks.{Outside, ends_block, refused_by}
+use Rattle.ddl_effect.specs.Plans.{Plan, Do, Lookup, Column, Read, rests_on}
+use Rattle.ddl_effect.specs.Blocks.{Outside, no_block, ends_block, refused_by}
 use Rattle.history_model.specs.Writes.{is_empty}
 use Rattle.cacheless.specs.Types.{Purpose, Command, Event, Opening}
 use Rattle.cacheless.specs.Facts.{Facts}
@@ -26,7 +26,7 @@ owed_after last = []
 
 -- a command outside a block begins a transaction, unless it only ends blocks or the blocks refuse it
 abbrev pub begins : Command → Session → Bool
-begins command s = elim s.blocks.block [ Outside ↦ not (ends_block command) && not s.ended && is_none (refused_by Outside command) | block ↦ false ]
+begins command s = elim s.blocks.block [ Outside ↦ not (ends_block command) && not s.ended && is_none (refused_by no_block command) | block ↦ false ]
 
 -- a transaction starts with a look
 abbrev pub owed_at_start : Facts → Command → Session → List Owes
@@ -55,9 +55,14 @@ scans_owed facts s = elim (outcome_of s.left) [ Badly ↦ [] | other ↦ builds_
 abbrev pub owed_of : Facts → Command → Session → List Owes
 owed_of facts command s = owed_at_start facts command s ++ owed_after facts.last ++ map OwesScan (scans_owed facts s)
 
+-- the first scan that the next act lacks; what it reads of an opened descriptor is scanned in the order of that descriptor
+abbrev pub act_next : Facts → Bool → Plan → List Purpose
+act_next facts read (Do (Read scan) rest) = []
+act_next facts read plan = take 1 (act_owed facts read plan)
+
 -- of each descriptor the first scan that it lacks, and the first that the next act lacks
 abbrev pub scans_next : Facts → Session → List Purpose
-scans_next facts s = elim (outcome_of s.left) [ Badly ↦ [] | other ↦ flat_map (λ o. take 1 (unusable facts (build_scans o.kind o.rel))) s.opened ++ take 1 (act_owed facts s.read s.left) ]
+scans_next facts s = elim (outcome_of s.left) [ Badly ↦ [] | other ↦ flat_map (λ o. take 1 (unusable facts (build_scans o.kind o.rel))) s.opened ++ act_next facts s.read s.left ]
 
 -- a scan may be made now
 abbrev pub is_next_scan : Purpose → Facts → Session → Bool

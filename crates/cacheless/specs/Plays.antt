@@ -49,7 +49,7 @@ abbrev pub IsWrite : ℕ → Plan → List Item → Type 0
 IsWrite next (Do (Write draft) rest) items = items ≡ drafted next draft
 IsWrite next plan items = ⊥
 
--- the names in the relations' rows of a write
+-- the name that a change gives a relation, if it is of such a row
 abbrev pub names_of : Item → List (List ℕ)
 names_of (items.Add (rows.Class oid name kind fill)) = name ∷ []
 names_of (items.Put (rows.Class oid name kind fill)) = name ∷ []

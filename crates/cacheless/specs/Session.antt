@@ -5,7 +5,7 @@ use Rattle.ddl_effect.specs.Commands.{plan_of}
 use Rattle.ddl_effect.specs.Blocks.{Block, Blocks, refused_by}
 use Rattle.cacheless.specs.Types.{Oid, Command, CommandError, Opening, OwnLock}
 
--- a finished command: the block as it began, the error that the blocks or an entry showed, the relations with which its lookups ended, and the number of the entry where it is judged
+-- a finished command: whether it began in a block, the error that the blocks or an entry showed, the relations with which its lookups ended, and the number of the entry where it is judged
 pub record Finished : Type 0 where
   pub block : Block
   pub refused : Option CommandError
@@ -57,28 +57,32 @@ first_of [] = None
 first_of (command ∷ rest) = Some command
 
 -- why the blocks refuse a command, if there is one and they do
-abbrev pub refused_first : Block → Option Command → Option CommandError
-refused_first block None = None
-refused_first block (Some command) = refused_by block command
+abbrev pub refused_first : Blocks → Option Command → Option CommandError
+refused_first blocks None = None
+refused_first blocks (Some command) = refused_by blocks command
+
+-- the relations that a session holds open: none while no command opens one
+abbrev pub none_open : List Oid
+none_open = []
 
 -- the plan of a command that the blocks admit, or their error
 abbrev pub plan_admitted : Option CommandError → Command → Plan
 plan_admitted (Some error) command = Fails error
-plan_admitted None command = plan_of [] command
+plan_admitted None command = plan_of none_open command
 
 -- the plan of a command, if there is one
-abbrev pub plan_first : Block → Option Command → Plan
-plan_first block None = Done
-plan_first block (Some command) = plan_admitted (refused_by block command) command
+abbrev pub plan_first : Blocks → Option Command → Plan
+plan_first blocks None = Done
+plan_first blocks (Some command) = plan_admitted (refused_by blocks command) command
 
 -- at the beginning of a command, or after the last one
 abbrev pub at_command : Blocks → List Finished → List OwnLock → ℕ → Option Command → Session
 at_command blocks finished locks last command = record {
   blocks = blocks;
   finished = finished;
-  left = plan_first blocks.block command;
-  refused = refused_first blocks.block command;
-  blocked = is_some (refused_first blocks.block command);
+  left = plan_first blocks command;
+  refused = refused_first blocks command;
+  blocked = is_some (refused_first blocks command);
   opened = [];
   read = false;
   found = [];

@@ -16,7 +16,7 @@ use Rattle.ddl_effect.specs.Plans.{Fails}
 use Rattle.ddl_effect.specs.Effects.{Nothing, Refuses, Unknown, effect_of, effect_at}
 use Rattle.ddl_effect.specs.Commands.{plan_of, new_table}
 use Rattle.ddl_effect.specs.Drawing.{changes_of}
-use Rattle.ddl_effect.specs.Blocks.{Failed, no_block, innermost, refused_by, blocks_well, blocks_badly}
+use Rattle.ddl_effect.specs.Blocks.{Failed, no_block, innermost, refused_in, blocks_well, blocks_badly}
 
 abbrev pub column : List ℕ → NewColumn
 column name = record { name = name; col_type = Int4 }
@@ -66,10 +66,10 @@ pub failed_from_first : innermost 5 (blocks_badly (blocks_well 2 commands.Begin 
 failed_from_first = refl
 
 -- only the end of a failed block is admitted
-pub failed_block_refuses : refused_by Failed commands.Begin ≡ Some errors.BlockFailed
+pub failed_block_refuses : refused_in Failed commands.Begin ≡ Some errors.BlockFailed
 failed_block_refuses = refl
 
-pub failed_block_commits : refused_by Failed commands.Commit ≡ None
+pub failed_block_commits : refused_in Failed commands.Commit ≡ None
 failed_block_commits = refl
 
 -- outside a block `commit` and `rollback` do nothing

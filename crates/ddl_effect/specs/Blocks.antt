@@ -43,22 +43,26 @@ abbrev pub ends_failure : Command → Bool
 ends_failure (commands.RollbackTo name) = true
 ends_failure command = ends_block command
 
--- the command wants a block
-abbrev pub wants_block : Command → Bool
-wants_block (commands.Savepoint name) = true
-wants_block (commands.Release name) = true
-wants_block (commands.RollbackTo name) = true
-wants_block (commands.LockTable name mode) = true
-wants_block (commands.OpenRel name) = true
-wants_block (commands.Peek name field) = true
-wants_block (commands.CloseRel name) = true
-wants_block command = false
+-- the command needs a block
+abbrev pub needs_block : Command → Bool
+needs_block (commands.Savepoint name) = true
+needs_block (commands.Release name) = true
+needs_block (commands.RollbackTo name) = true
+needs_block (commands.LockTable name mode) = true
+needs_block (commands.OpenRel name) = true
+needs_block (commands.Peek name field) = true
+needs_block (commands.CloseRel name) = true
+needs_block command = false
+
+-- why a block refuses a command, if it does, whatever its levels
+abbrev pub refused_in : Block → Command → Option CommandError
+refused_in Failed command = elim (ends_failure command) [ true ↦ None | false ↦ Some errors.BlockFailed ]
+refused_in Outside command = elim (needs_block command) [ true ↦ Some errors.NoBlock | false ↦ None ]
+refused_in Inside command = None
 
 -- why the blocks refuse a command, if they do
-abbrev pub refused_by : Block → Command → Option CommandError
-refused_by Failed command = elim (ends_failure command) [ true ↦ None | false ↦ Some errors.BlockFailed ]
-refused_by Outside command = elim (wants_block command) [ true ↦ Some errors.NoBlock | false ↦ None ]
-refused_by Inside command = None
+abbrev pub refused_by : Blocks → Command → Option CommandError
+refused_by blocks command = refused_in blocks.block command
 
 -- the first command of the innermost level, or this one where there is no level
 abbrev pub innermost : ℕ → List Level → ℕ

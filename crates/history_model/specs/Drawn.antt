@@ -5,7 +5,7 @@ use Rattle.base_types.specs.declared.ids.TheConstants.{FIRST_OID}
 use Rattle.base_types.specs.declared.row.Row.TheVariants.{Class, Def, Con, Trg}
 use Rattle.history_model.specs.Types.{Oid, Item, Add, Entry, Event, Write}
 
--- the new oid that a change draws
+-- the new oid that a change draws, if it draws one
 abbrev pub drawn_by : Item → List ℕ
 drawn_by (Add (Class oid name kind fill)) = oid.0 ∷ []
 drawn_by (Add (Def oid rel num word)) = oid.0 ∷ []

@@ -31,7 +31,7 @@ abbrev pub AllowsLook : List Entry → ℕ → Bool → Type 0
 AllowsLook before b true = is_waiting before b ≡ true
 AllowsLook before b false = has_waited before b ≡ false
 
--- a visible transaction releases all its locks at once, when all is sent; any other releases those of commands whose writes are taken back
+-- a visible transaction releases all its locks at once, when all is sent; any other releases those of commands of which no write stands
 abbrev pub MayRelease : Bool → List Entry → ℕ → ℕ → Type 0
 MayRelease true before b from = (option_map (λ t. t.first) (running_transaction_of before b) ≡ Some from) × (left_in (lists_of before b) (running_transaction_of before b) ≡ [])
 MayRelease false before b from = has_write_from from (lists_of before b) ≡ false

@@ -39,7 +39,7 @@ pub record IsOrderlyWrite (before : List Entry) (b : ℕ) (items : List Item) : 
   pub fresh : list_all (is_fresh before) items ≡ true
   pub keeps : list_all (keeps_relation before b) items ≡ true
 
--- a lock is asked for on a relation whose oid has been drawn, and a write is orderly
+-- a lock is asked for on no relation whose oid is still to be drawn, and a write is orderly
 abbrev pub IsOrderlyEvent : List Entry → ℕ → Event → Type 0
 IsOrderlyEvent before b (LockOk rel mode) = rel.0 < next_oid before
 IsOrderlyEvent before b (LockHeld rel mode holder held) = rel.0 < next_oid before

@@ -29,7 +29,7 @@ rows_by before b purpose event old = elim (is_scan_of purpose event) [ true ↦ 
 abbrev pub rows_read : List Entry → ℕ → Purpose → List Row
 rows_read history b purpose = along_own b (λ before old e. rows_by before b purpose e.event old) [] history
 
--- an event of the backend leaves what a scan gave: no message that reaches the backend covers it
+-- an event of the backend leaves what a scan gave: it is no reset and no refusal of memory, and brings no message that covers it
 abbrev pub spares_by : List Entry → ℕ → ℕ → Purpose → Event → Bool
 spares_by before b command purpose (Fetch count) = is_spared purpose (fetched_by before b count)
 spares_by before b command purpose FetchReset = false
@@ -51,6 +51,6 @@ abbrev pub ScansOnlyIfNeeded : List Entry → ℕ → Event → Type 0
 ScansOnlyIfNeeded before b (Scan purpose rows) = is_build_scan purpose ≡ true → is_usable before b purpose ≡ false
 ScansOnlyIfNeeded before b event = ⊤
 
--- nobody scans again for what it may still rely on
+-- nobody scans again for a descriptor what it may still rely on
 abbrev pub IsEconomical : List Entry → Type 0
 IsEconomical history = EachEntry (λ before e. ScansOnlyIfNeeded before e.backend e.event) history

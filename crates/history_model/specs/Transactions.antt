@@ -17,7 +17,7 @@ abbrev pub begun : ℕ → Option Running → Running
 begun command None = record { first = command; xid = None; published = 0; visible = false }
 begun command (Some running) = running
 
--- a release ends a transaction if it releases all since its first command
+-- a release with the number of its first command ends a transaction
 abbrev pub after_release : ℕ → Running → Option Running
 after_release from running = if running.first == from then None else Some running
 

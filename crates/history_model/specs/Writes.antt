@@ -14,7 +14,7 @@ use Rattle.history_model.specs.Held.{held_of, holds}
 use Rattle.history_model.specs.Drawn.{drawn_by, made_by, next_oid}
 use Rattle.history_model.specs.Names.{new_names, users_of}
 
--- the key of the row that a change is of
+-- the key of the row that a change is of, if it is of one
 abbrev pub changed_key : Item → List RowKey
 changed_key (Add row) = key_of row ∷ []
 changed_key (Put row) = key_of row ∷ []
@@ -57,7 +57,7 @@ relations_of (rows.Trg oid rel name on) = rel ∷ []
 abbrev pub rows_named : Item → Option Row → List Row
 rows_named item old = filter_map (λ row. row) (old ∷ added_row item ∷ [])
 
--- a change is guarded: on each relation that its rows name, but those that the write makes, the backend holds AccessExclusive
+-- a change is guarded: on each relation that its rows name, but those that the write makes, the backend holds AccessExclusive; weaker modes come with the commands that take them
 abbrev pub is_guarded : List Entry → ℕ → List Oid → Item → Bool
 is_guarded before b made item = list_all (λ rel. list_any (same_oid rel) made || holds (held_of before) b rel AccessExclusive) (flat_map relations_of (rows_named item (old_row before b item)))
 

@@ -1,5 +1,5 @@
 ghost use Rattle.std.specs.Prelude.{◌≡◌};
-ghost use Rattle.ddl_effect.specs.Blocks.{ends_failure as does_end_failure, wants_block as does_want_block};
+ghost use Rattle.ddl_effect.specs.Blocks.{ends_failure as does_end_failure, needs_block as does_need_block};
 
 use crate::BlockCause;
 use base_types::Command;
@@ -45,14 +45,14 @@ impl TxnBlocks {
 
     /// Whether the blocks let the command run. `Failed`: exactly in a failed block, where the
     /// command neither ends nor mends it. `NoBlock`: exactly outside a block, where the command
-    /// wants one.
+    /// needs one.
     pub fn admit(&self, command: &Command) -> Result<(), BlockCause>
-        ensures ok { OnOk result (refused_by self.now.block command.now ≡ None) }
-        ensures err { IfErr result (λ cause. option_map cause_of (refused_by self.now.block command.now) ≡ Some cause) }
+        ensures ok { OnOk result (refused_by self.now command.now ≡ None) }
+        ensures err { IfErr result (λ cause. option_map cause_of (refused_by self.now command.now) ≡ Some cause) }
     {
         match self.state {
             State::Failed { .. } if !ends_failure(command) => Err(BlockCause::Failed),
-            State::Outside if wants_block(command) => Err(BlockCause::NoBlock),
+            State::Outside if needs_block(command) => Err(BlockCause::NoBlock),
             State::Outside | State::Inside { .. } | State::Failed { .. } => Ok(()),
         }
     }
@@ -133,9 +133,9 @@ fn ends_failure(command: &Command) -> bool
     )
 }
 
-// Whether the command wants a block.
-fn wants_block(command: &Command) -> bool
-    ensures { result ≡ does_want_block command.now }
+// Whether the command needs a block.
+fn needs_block(command: &Command) -> bool
+    ensures { result ≡ does_need_block command.now }
 {
     matches!(
         command,

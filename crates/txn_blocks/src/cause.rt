@@ -3,7 +3,7 @@
 pub enum BlockCause {
     /// 25P02: the block has failed.
     Failed,
-    /// 25P01: no block is open, and the command wants one.
+    /// 25P01: no block is open, and the command needs one.
     NoBlock,
     /// 3B001: the block has no savepoint of that name. Savepoints aren't built yet, so it doesn't come.
     NoSavepoint,
