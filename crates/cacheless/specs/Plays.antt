@@ -1,5 +1,5 @@
 -- The order in which backends do what their commands say.
-use Rattle.std.specs.Prelude.{ℕ, Bool, true, false, Option, Some, None, List, [], ◌∷◌, ◌≡◌, ◌+◌, ◌==◌, nat_lt, nat_le, ⊤, length, is_some, slice_get}
+use Rattle.std.specs.Prelude.{ℕ, Bool, true, false, Option, Some, None, List, [], ◌∷◌, ◌≡◌, ◌+◌, ◌==◌, nat_lt, nat_le, ⊤, length, is_some, slice_get, if◌then◌else◌}
 use Rattle.std.specs.Option.{option_map_or}
 use Rattle.std.specs.List.{list_any, flat_map}
 use Rattle.std.specs.Str.{bytes_eq}
@@ -14,6 +14,7 @@ use Rattle.ddl_effect.specs.Drawing.{changes_of}
 use Rattle.history_model.specs.Prefixes.{EachEntry}
 use Rattle.history_model.specs.Changes.{items_of}
 use Rattle.history_model.specs.Drawn.{next_oid}
+use Rattle.history_model.specs.Names.{has_name}
 use Rattle.cacheless.specs.Types.{Oid, Mode, Draft, Command, Scenario, Entry, Event, Item}
 use Rattle.cacheless.specs.Facts.{Facts, facts_of}
 use Rattle.cacheless.specs.Session.{Session, number_of}
@@ -49,16 +50,16 @@ abbrev pub IsWrite : ℕ → Plan → List Item → Type 0
 IsWrite next (Do (Write draft) rest) items = items ≡ drafted next draft
 IsWrite next plan items = ⊥
 
--- the name that a change gives a relation, if it is of such a row
-abbrev pub names_of : Item → List (List ℕ)
-names_of (items.Add (rows.Class oid name kind fill)) = name ∷ []
-names_of (items.Put (rows.Class oid name kind fill)) = name ∷ []
-names_of item = []
+-- the new name that an item gives a relation, if it gives one: none where the row that was read has it already
+abbrev pub names_of : Facts → Item → List (List ℕ)
+names_of facts (items.Add (rows.Class oid name kind fill)) = name ∷ []
+names_of facts (items.Put (rows.Class oid name kind fill)) = if list_any (has_name name) (facts.rows (scans.Class oid)) then [] else name ∷ []
+names_of facts item = []
 
 -- the next act writes a relation of this name
-abbrev pub IsClash : ℕ → Plan → List ℕ → Type 0
-IsClash next (Do (Write draft) rest) name = list_any (bytes_eq name) (flat_map names_of (drafted next draft)) ≡ true
-IsClash next plan name = ⊥
+abbrev pub IsClash : Facts → ℕ → Plan → List ℕ → Type 0
+IsClash facts next (Do (Write draft) rest) name = list_any (bytes_eq name) (flat_map (names_of facts) (drafted next draft)) ≡ true
+IsClash facts next plan name = ⊥
 
 -- what has to come before the next entry of the end: taking back waits for no scan
 abbrev pub owed_at_end : Facts → Command → Session → List Owes
@@ -75,8 +76,8 @@ MayPlay next facts command s (events.Scan scan count) = (owed_after facts.last �
 MayPlay next facts command s (events.LockOk rel mode) = (owed_of facts command s ≡ []) × IsLock facts s.left rel mode
 MayPlay next facts command s (events.LockHeld rel mode holder held) = (owed_of facts command s ≡ []) × IsLock facts s.left rel mode
 MayPlay next facts command s (events.Write xid items) = (owed_of facts command s ≡ []) × IsWrite next s.left items
-MayPlay next facts command s (events.ClashRow name rel) = (owed_of facts command s ≡ []) × IsClash next s.left name
-MayPlay next facts command s (events.ClashRunning name xid) = (owed_of facts command s ≡ []) × IsClash next s.left name
+MayPlay next facts command s (events.ClashRow name rel) = (owed_of facts command s ≡ []) × IsClash facts next s.left name
+MayPlay next facts command s (events.ClashRunning name xid) = (owed_of facts command s ≡ []) × IsClash facts next s.left name
 MayPlay next facts command s (events.Visible xid) = IsEnd facts command s (events.Visible xid)
 MayPlay next facts command s (events.Publish count) = IsEnd facts command s (events.Publish count)
 MayPlay next facts command s (events.Gone from) = IsEnd facts command s (events.Gone from)
