@@ -1,7 +1,7 @@
 -- What no history allows, and at the end what it allows beside it: a worked example up to a place, and one entry there.
 use Rattle.std.proofs.Common.{negsuc, ◌≡◌, ◌++◌, true, false, None, [], ◌∷◌, codes, arith}
 use Rattle.base_types.specs.declared.mode.Mode.TheVariants.{AccessShare, AccessExclusive}
-use Rattle.base_types.specs.declared.kind.Kind.TheVariants.{Table, Index}
+use Rattle.base_types.specs.declared.kind.Kind.TheVariants.{Index}
 use Rattle.base_types.specs.declared.row.Row.TheVariants.{Class, Att}
 use Rattle.base_types.specs.declared.col_type.ColType.TheVariants.{Int4}
 use Rattle.base_types.specs.declared.row_key.RowKey.TheVariants as keys

@@ -1,19 +1,19 @@
 -- What a backend sees is what a reader in its next command sees, by the stamps alone.
-use Rattle.std.proofs.Common.{◌≡◌, ◌≤◌, ◌+◌, ◌∙◌, ℕ, Bool, true, false, Option, Some, None, List, [], ◌∷◌, ◌==◌, ◌||◌, ◌&&◌, cond, refl, sym, ap, filter, map, arith}
+use Rattle.std.proofs.Common.{◌≡◌, ◌≤◌, ◌+◌, ◌∙◌, ℕ, Bool, true, false, Option, Some, None, List, [], ◌∷◌, ◌==◌, ◌||◌, ◌&&◌, cond, refl, ap, filter, map, arith}
 use Rattle.std.specs.Prelude.{nat_lt}
 use Rattle.std.specs.List.{AllByRecursion}
-use Rattle.std.specs.Option.{option_map, option_map_or, IfSome}
+use Rattle.std.specs.Option.{option_map, option_map_or}
 use Rattle.std.proofs.lemmas.Bool.{eqb-true, lt-ltb}
 use Rattle.base_types.specs.declared.ids.Xid.{Xid}
 use Rattle.base_types.specs.declared.row.Row.{Row}
 use Rattle.row_visibility.specs.declared.version.Reader.{Reader}
 use Rattle.row_visibility.specs.declared.version.Stamp.{Stamp}
 use Rattle.row_visibility.specs.declared.version.Version.{Version}
-use Rattle.row_visibility.specs.Seen.{sees_stamp, sees_version, seen_by}
+use Rattle.row_visibility.specs.Seen.{sees_stamp, sees_version}
 use Rattle.event_kinds.specs.declared.entry.Entry.{Entry}
 use Rattle.history_model.specs.Transactions.{Running, running_transaction_of, has_xid, runs_as, is_committed}
 use Rattle.history_model.specs.Versions.{versions_of, rows_of, counts, sees}
-use Rattle.history_model.specs.Sent.{Written, lists_of}
+use Rattle.history_model.specs.Sent.{lists_of}
 use Rattle.history_model.proofs.Every.{every-weaker}
 use Rattle.history_model.proofs.Guards.{any_with}
 use Rattle.history_model.proofs.Lives.{Lives, command_of}
