@@ -1,0 +1,4 @@
+//! What the backends share.
+#![tactic(auto)]
+
+mod places;
