@@ -1,1 +1,3 @@
 mod Promises
+mod Own
+mod Keeps

@@ -1,2 +1,4 @@
 pub mod Places
 pub mod KeepsPlaces
+pub mod Transactions
+pub mod KeepsFolds

@@ -106,6 +106,7 @@ impl Places {
         requires place { 0 < places_of self.old entry.backend }
         ensures entries { self.new.entries ≡ self.old.entries ++ entry ∷ [] }
         ensures promised { self.new.promised ≡ slice_set self.old.promised entry.backend (places_of self.old entry.backend - 1) }
+        ensures short { length self.new.entries ≤ 2 ^ 56 }
     {
         let Places { entries, promised, total } = self;
         let had = promised[entry.backend as usize];
@@ -132,6 +133,7 @@ impl Places {
         requires { 0 < self.old.room }
         ensures entries { self.new.entries ≡ self.old.entries ++ entry ∷ [] }
         ensures promised { self.new.promised ≡ self.old.promised }
+        ensures short { length self.new.entries ≤ 2 ^ 56 }
     {
         self.entries.push_reserved(entry);
     }
