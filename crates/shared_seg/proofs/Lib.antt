@@ -1,3 +1,5 @@
 mod Promises
 mod Own
 mod Keeps
+mod Appended
+mod Entered

@@ -2,3 +2,4 @@ pub mod Places
 pub mod KeepsPlaces
 pub mod Transactions
 pub mod KeepsFolds
+pub mod Kept

@@ -2,4 +2,7 @@
 #![tactic(auto)]
 
 mod places;
+mod shared;
 mod transaction;
+
+pub use shared::Shared;

@@ -1,4 +1,4 @@
-ghost use Rattle.std.specs.Prelude.{◌≡◌, ◌<◌, None, Some, length, slice_set};
+ghost use Rattle.std.specs.Prelude.{◌≡◌, ◌<◌, None, Some, length, slice_set, vec_len};
 ghost use Rattle.shared_seg.specs.Transactions.{begun_own, after_own_release, transaction_at, with_own_xid, xid_at};
 
 use base_types::Xid;
@@ -25,9 +25,9 @@ pub(crate) fn running(transactions: &[Option<Transaction>], b: u32, command: u32
 }
 
 // The backend runs its transaction, or begins one in this command.
-pub(crate) fn begin(transactions: &mut [Option<Transaction>], b: u32, command: u32)
-    requires { b < length transactions.old }
-    ensures { transactions.new ≡ slice_set transactions.old b (Some (begun_own command (transaction_at transactions.old b))) }
+pub(crate) fn begin(transactions: &mut Vec<Option<Transaction>>, b: u32, command: u32)
+    requires { b < vec_len transactions.old }
+    ensures { transactions.new.items ≡ slice_set transactions.old.items b (Some (begun_own command (transaction_at transactions.old.items b))) }
 {
     let transaction = running(transactions, b, command);
     transactions[b as usize] = Some(transaction);
@@ -35,13 +35,13 @@ pub(crate) fn begin(transactions: &mut [Option<Transaction>], b: u32, command: u
 
 // The transaction of the backend has this Xid.
 pub(crate) fn begin_writing(
-    transactions: &mut [Option<Transaction>],
+    transactions: &mut Vec<Option<Transaction>>,
     b: u32,
     command: u32,
     xid: Xid,
 )
-    requires { b < length transactions.old }
-    ensures { transactions.new ≡ slice_set transactions.old b (Some (with_own_xid xid (begun_own command (transaction_at transactions.old b)))) }
+    requires { b < vec_len transactions.old }
+    ensures { transactions.new.items ≡ slice_set transactions.old.items b (Some (with_own_xid xid (begun_own command (transaction_at transactions.old.items b)))) }
 {
     let Transaction { first, xid: _ } = running(transactions, b, command);
     transactions[b as usize] = Some(Transaction {
@@ -52,13 +52,13 @@ pub(crate) fn begin_writing(
 
 // The backend releases the locks of its commands of this number and above, which may end its transaction.
 pub(crate) fn end_from(
-    transactions: &mut [Option<Transaction>],
+    transactions: &mut Vec<Option<Transaction>>,
     b: u32,
     command: u32,
     from: u32,
 )
-    requires { b < length transactions.old }
-    ensures { transactions.new ≡ slice_set transactions.old b (after_own_release from (begun_own command (transaction_at transactions.old b))) }
+    requires { b < vec_len transactions.old }
+    ensures { transactions.new.items ≡ slice_set transactions.old.items b (after_own_release from (begun_own command (transaction_at transactions.old.items b))) }
 {
     let transaction = running(transactions, b, command);
     transactions[b as usize] = if transaction.first == from {
@@ -69,9 +69,9 @@ pub(crate) fn end_from(
 }
 
 // The backend runs no transaction.
-pub(crate) fn clear(transactions: &mut [Option<Transaction>], b: u32)
-    requires { b < length transactions.old }
-    ensures { transactions.new ≡ slice_set transactions.old b None }
+pub(crate) fn clear(transactions: &mut Vec<Option<Transaction>>, b: u32)
+    requires { b < vec_len transactions.old }
+    ensures { transactions.new.items ≡ slice_set transactions.old.items b None }
 {
     transactions[b as usize] = None;
 }

@@ -1,0 +1,164 @@
+ghost use Rattle.std.specs.Prelude.{◌≡◌, ◌≤◌, ◌<◌, ◌+◌, ◌++◌, ◌^◌, [], None, length, replicate, vec_len, vec_capacity, IfOk};
+
+use crate::places::Places;
+use crate::transaction::{Transaction, begin, clear, end_from, own_xid};
+use base_types::{FIRST_OID, NoMemory, Xid};
+use catalog_rows::RowStore;
+use event_kinds::{Entry, Event};
+use history_model::Grant;
+use script_text::Script;
+use std::alloc::Global;
+use std::marker::Model;
+use std::snapshot::Snapshot;
+
+/// What all backends of a script share.
+#[derive(Drop)]
+pub struct Shared {
+    alloc: Global,
+    script: Snapshot<Script>,
+    places: Places,
+    store: RowStore,
+    grants: Vec<Grant>,
+    // by backend
+    transactions: Vec<Option<Transaction>>,
+    next_oid: u32,
+    last_xid: u32,
+    ghost short: { length places.entries ≤ 2 ^ 56 },
+}
+
+impl Model for Shared {
+    ghost use Rattle.shared_seg.specs.Kept.{Kept};
+
+    ghost Value = { Kept };
+
+    ghost use Rattle.shared_seg.specs.KeepsFolds.{KeepsFolds};
+
+    ghost view = { λ s. record { history = s.places.entries; script = s.script.value; promised = s.places.promised; short = s.short } };
+
+    ghost invariant = { λ s. KeepsFolds s.script.value s.places.entries s.places.promised s.store s.grants.items s.transactions.items s.next_oid s.last_xid };
+}
+
+impl Shared {
+    ghost use Rattle.base_types.specs.Scenario.{IsBackend};
+    ghost use Rattle.history_model.specs.Log.{is_waiting};
+    ghost use Rattle.seg_calls.specs.Calls.{entry_of, MayCall, Promises, Appends};
+    ghost use Rattle.shared_seg.specs.Kept.{places_in};
+
+    /// An empty history, and no promises.
+    pub fn new(alloc: Global, script: &Script) -> Result<Shared, NoMemory>
+        ensures history { IfOk result (λ shared. shared.history ≡ []) }
+        ensures script { IfOk result (λ shared. shared.script ≡ script.now) }
+    {
+        let backends = script.backends();
+        let places = Places::new(alloc, backends)?;
+        let mut transactions = Vec::new(alloc);
+        transactions.reserve(backends as usize + 1)?;
+        add_slots(&mut transactions, backends as usize + 1);
+        Ok(Shared {
+            alloc,
+            script: Snapshot::of(script),
+            places,
+            store: RowStore::new(alloc),
+            grants: Vec::new(alloc),
+            transactions,
+            next_oid: FIRST_OID,
+            last_xid: 0,
+        })
+    }
+
+    /// The history so far.
+    pub fn history(&self) -> &[Entry]
+        ensures { result.now ≡ self.now.history }
+    {
+        self.places.entries()
+    }
+
+    /// The history, the rest given up.
+    pub fn into_history(self) -> Vec<Entry>
+        ensures { result.items ≡ self.history }
+    {
+        let Shared {
+            alloc: _,
+            script: _,
+            places,
+            store: _,
+            grants: _,
+            transactions: _,
+            next_oid: _,
+            last_xid: _,
+        } = self;
+        places.into_entries()
+    }
+
+    pub fn promise(&mut self, b: u32, n: u32) -> Result<(), NoMemory>
+        requires { IsBackend self.old.script.backends b }
+        ensures script { self.new.script ≡ self.old.script }
+        ensures promises { Promises self.old.history self.new.history (places_in self.old) (places_in self.new) b n result }
+    {
+        self.places.promise(b, n)
+    }
+
+    pub fn promised(&self, b: u32) -> u32
+        ensures { result ≡ places_in self.now b }
+    {
+        self.places.promised(b)
+    }
+
+    pub fn waits(&self, b: u32) -> bool
+        ensures { result ≡ is_waiting self.now.history b }
+    {
+        let _places = &self.places;
+        false
+    }
+
+    pub fn start(&mut self, b: u32)
+        requires call { MayCall self.old.script self.old.history (entry_of b 0 Event.Start) }
+        requires place { 0 < places_in self.old b }
+        ensures script { self.new.script ≡ self.old.script }
+        ensures appends { Appends self.old.history self.new.history (places_in self.old) (places_in self.new) (entry_of b 0 Event.Start) }
+    {
+        self.places.append(Entry {
+            backend: b,
+            command: 0,
+            event: Event::Start,
+        });
+        clear(&mut self.transactions, b);
+    }
+
+    pub fn looked(&mut self, b: u32, c: u32, yes: bool)
+        requires call { MayCall self.old.script self.old.history (entry_of b c (Event.Look yes)) }
+        requires place { 0 < places_in self.old b }
+        ensures script { self.new.script ≡ self.old.script }
+        ensures appends { Appends self.old.history self.new.history (places_in self.old) (places_in self.new) (entry_of b c (Event.Look yes)) }
+    {
+        self.places.append(Entry {
+            backend: b,
+            command: c,
+            event: Event::Look { yes },
+        });
+        begin(&mut self.transactions, b, c);
+    }
+
+    pub fn stop(&mut self, b: u32, c: u32)
+        requires call { MayCall self.old.script self.old.history (entry_of b c Event.Stop) }
+        requires place { 0 < places_in self.old b }
+        ensures script { self.new.script ≡ self.old.script }
+        ensures appends { Appends self.old.history self.new.history (places_in self.old) (places_in self.new) (entry_of b c Event.Stop) }
+    {
+        self.places.append(Entry {
+            backend: b,
+            command: c,
+            event: Event::Stop,
+        });
+    }
+}
+
+// Adds so many slots without a transaction, for which there is room.
+fn add_slots(transactions: &mut Vec<Option<Transaction>>, count: usize)
+    requires { vec_len transactions.old + count ≤ vec_capacity transactions.old }
+    ensures { transactions.new.items ≡ transactions.old.items ++ replicate count None }
+{
+    for slot in 0..count {
+        transactions.push_reserved(None);
+    }
+}
