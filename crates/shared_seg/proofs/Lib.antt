@@ -3,3 +3,5 @@ mod Own
 mod Keeps
 mod Appended
 mod Entered
+mod Start
+mod Rows

@@ -3,3 +3,4 @@ pub mod KeepsPlaces
 pub mod Transactions
 pub mod KeepsFolds
 pub mod Kept
+pub mod Undone

@@ -1,6 +1,7 @@
 //! What the backends share.
 #![tactic(auto)]
 
+mod grants;
 mod places;
 mod shared;
 mod transaction;

@@ -1,5 +1,7 @@
 ghost use Rattle.std.specs.Prelude.{◌≡◌, ◌≤◌, ◌<◌, ◌+◌, ◌++◌, ◌^◌, [], None, length, replicate, vec_len, vec_capacity, IfOk};
+ghost use Rattle.shared_seg.specs.Undone.{undone};
 
+use crate::grants::release_from;
 use crate::places::Places;
 use crate::transaction::{Transaction, begin, clear, end_from, own_xid};
 use base_types::{FIRST_OID, NoMemory, Xid};
@@ -139,6 +141,52 @@ impl Shared {
         begin(&mut self.transactions, b, c);
     }
 
+    pub fn visible(&mut self, b: u32, c: u32, xid: Xid)
+        requires call { MayCall self.old.script self.old.history (entry_of b c (Event.Visible xid)) }
+        requires place { 0 < places_in self.old b }
+        ensures script { self.new.script ≡ self.old.script }
+        ensures appends { Appends self.old.history self.new.history (places_in self.old) (places_in self.new) (entry_of b c (Event.Visible xid)) }
+    {
+        self.places.append(Entry {
+            backend: b,
+            command: c,
+            event: Event::Visible { xid },
+        });
+        self.store.commit(xid);
+        begin(&mut self.transactions, b, c);
+    }
+
+    pub fn release(&mut self, b: u32, c: u32, from: u32)
+        requires call { MayCall self.old.script self.old.history (entry_of b c (Event.Release from)) }
+        requires place { 0 < places_in self.old b }
+        ensures script { self.new.script ≡ self.old.script }
+        ensures appends { Appends self.old.history self.new.history (places_in self.old) (places_in self.new) (entry_of b c (Event.Release from)) }
+    {
+        self.places.append(Entry {
+            backend: b,
+            command: c,
+            event: Event::Release { from },
+        });
+        release_from(&mut self.grants, b, from);
+        end_from(&mut self.transactions, b, c, from);
+    }
+
+    pub fn gone(&mut self, b: u32, c: u32, from: u32)
+        requires call { MayCall self.old.script self.old.history (entry_of b c (Event.Gone from)) }
+        requires place { 0 < places_in self.old b }
+        ensures script { self.new.script ≡ self.old.script }
+        ensures appends { Appends self.old.history self.new.history (places_in self.old) (places_in self.new) (entry_of b c (Event.Gone from)) }
+    {
+        self.places.append(Entry {
+            backend: b,
+            command: c,
+            event: Event::Gone { from },
+        });
+        let own = own_xid(&self.transactions, b);
+        undo_from(&mut self.store, own, from);
+        begin(&mut self.transactions, b, c);
+    }
+
     pub fn stop(&mut self, b: u32, c: u32)
         requires call { MayCall self.old.script self.old.history (entry_of b c Event.Stop) }
         requires place { 0 < places_in self.old b }
@@ -150,6 +198,15 @@ impl Shared {
             command: c,
             event: Event::Stop,
         });
+    }
+}
+
+// Takes back what a transaction wrote in commands of this number and above, if it has written.
+fn undo_from(store: &mut RowStore, own: Option<Xid>, from: u32)
+    ensures { store.new ≡ undone own from store.old }
+{
+    if let Some(xid) = own {
+        store.undo(xid, from);
     }
 }
 
