@@ -5,3 +5,5 @@ mod Appended
 mod Entered
 mod Start
 mod Rows
+mod Asked
+mod Scanned

@@ -115,10 +115,23 @@ impl Places {
         entries.push_reserved(entry);
     }
 
+    // Appends an entry that takes no promised place.
+    pub(crate) fn add(&mut self, entry: Entry) -> Result<(), NoMemory>
+        ensures ok { OnOk result (self.new.entries ≡ self.old.entries ++ entry ∷ []) }
+        ensures promised { self.new.promised ≡ self.old.promised }
+        ensures err { OnErr result (self.new.entries ≡ self.old.entries) }
+        ensures short { length self.new.entries ≤ 2 ^ 56 }
+    {
+        self.make_room()?;
+        self.push(entry);
+        Ok(())
+    }
+
     // Makes room for an entry that takes no promised place.
     pub(crate) fn make_room(&mut self) -> Result<(), NoMemory>
         ensures same { SamePlaces self.old self.new }
         ensures ok { OnOk result (0 < self.new.room) }
+        ensures short { length self.new.entries ≤ 2 ^ 56 }
     {
         let Places { entries, promised: _, total } = self;
         if MOST - entries.len() - *total < 1 {

@@ -4,10 +4,11 @@ ghost use Rattle.shared_seg.specs.Undone.{undone};
 use crate::grants::release_from;
 use crate::places::Places;
 use crate::transaction::{Transaction, begin, clear, end_from, own_xid};
-use base_types::{FIRST_OID, NoMemory, Xid};
+use base_types::{FIRST_OID, NoMemory, Purpose, Scanned, Xid};
 use catalog_rows::RowStore;
 use event_kinds::{Entry, Event};
 use history_model::Grant;
+use row_visibility::Reader;
 use script_text::Script;
 use std::alloc::Global;
 use std::marker::Model;
@@ -43,7 +44,7 @@ impl Model for Shared {
 impl Shared {
     ghost use Rattle.base_types.specs.Scenario.{IsBackend};
     ghost use Rattle.history_model.specs.Log.{is_waiting};
-    ghost use Rattle.seg_calls.specs.Calls.{entry_of, MayCall, Promises, Appends};
+    ghost use Rattle.seg_calls.specs.Calls.{entry_of, MayCall, MayRequest, Promises, Appends, Scans};
     ghost use Rattle.shared_seg.specs.Kept.{places_in};
 
     /// An empty history, and no promises.
@@ -139,6 +140,32 @@ impl Shared {
             event: Event::Look { yes },
         });
         begin(&mut self.transactions, b, c);
+    }
+
+    pub fn scan(&mut self, b: u32, c: u32, purpose: &Purpose) -> Result<Scanned, NoMemory>
+        requires call { MayRequest self.old.script self.old.history b c }
+        ensures script { self.new.script ≡ self.old.script }
+        ensures scans { Scans self.old.history self.new.history (places_in self.old) (places_in self.new) b c purpose.now result }
+    {
+        let reader = Reader {
+            xid: own_xid(&self.transactions, b),
+            command: c + 1,
+        };
+        let rows = self.store.scan(purpose, reader)?;
+        let count = u32::try_from(rows.len()).map_err(|_| NoMemory)?;
+        self.places.add(Entry {
+            backend: b,
+            command: c,
+            event: Event::Scan {
+                purpose: *purpose,
+                rows: count,
+            },
+        })?;
+        begin(&mut self.transactions, b, c);
+        Ok(Scanned {
+            rows,
+            at: self.places.len() as u64,
+        })
     }
 
     pub fn visible(&mut self, b: u32, c: u32, xid: Xid)
