@@ -7,3 +7,4 @@ mod Start
 mod Rows
 mod Asked
 mod Scanned
+mod Locked

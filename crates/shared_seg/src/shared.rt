@@ -1,15 +1,16 @@
-ghost use Rattle.std.specs.Prelude.{◌≡◌, ◌≤◌, ◌<◌, ◌+◌, ◌++◌, ◌^◌, [], None, length, replicate, vec_len, vec_capacity, IfOk};
+ghost use Rattle.std.specs.Prelude.{◌≡◌, ◌≤◌, ◌<◌, ◌+◌, ◌++◌, ◌^◌, [], false, None, length, replicate, vec_len, vec_capacity, IfOk};
 ghost use Rattle.shared_seg.specs.Undone.{undone};
 
-use crate::grants::release_from;
+use crate::grants::{conflicting, release_from};
 use crate::places::Places;
 use crate::transaction::{Transaction, begin, clear, end_from, own_xid};
-use base_types::{FIRST_OID, NoMemory, Purpose, Scanned, Xid};
+use base_types::{FIRST_OID, Mode, NoMemory, Oid, Purpose, Scanned, Xid};
 use catalog_rows::RowStore;
 use event_kinds::{Entry, Event};
 use history_model::Grant;
 use row_visibility::Reader;
 use script_text::Script;
+use seg_calls::LockRefusal;
 use std::alloc::Global;
 use std::marker::Model;
 use std::snapshot::Snapshot;
@@ -43,8 +44,10 @@ impl Model for Shared {
 
 impl Shared {
     ghost use Rattle.base_types.specs.Scenario.{IsBackend};
+    ghost use Rattle.history_model.specs.Drawn.{next_oid};
+    ghost use Rattle.history_model.specs.Held.{held_of, holds};
     ghost use Rattle.history_model.specs.Log.{is_waiting};
-    ghost use Rattle.seg_calls.specs.Calls.{entry_of, MayCall, MayRequest, Promises, Appends, Scans};
+    ghost use Rattle.seg_calls.specs.Calls.{entry_of, MayCall, MayRequest, Promises, Appends, Scans, Locks};
     ghost use Rattle.shared_seg.specs.Kept.{places_in};
 
     /// An empty history, and no promises.
@@ -166,6 +169,52 @@ impl Shared {
             rows,
             at: self.places.len() as u64,
         })
+    }
+
+    pub fn lock(&mut self, b: u32, c: u32, rel: Oid, mode: Mode) -> Result<(), LockRefusal>
+        requires call { MayRequest self.old.script self.old.history b c }
+        requires new { holds (held_of self.old.history) b rel mode ≡ false }
+        requires drawn { rel.0 < next_oid self.old.history }
+        ensures script { self.new.script ≡ self.old.script }
+        ensures locks { Locks self.old.history self.new.history (places_in self.old) (places_in self.new) b c rel mode result }
+    {
+        match conflicting(&self.grants, b, rel, mode) {
+            Some(grant) => {
+                let Grant {
+                    backend: holder,
+                    mode: held,
+                    ..
+                } = grant;
+                let event = Event::LockHeld {
+                    rel,
+                    mode,
+                    holder,
+                    held,
+                };
+                let Ok(()) = self.places.add(Entry { backend: b, command: c, event }) else {
+                    return Err(LockRefusal::NoMemory);
+                };
+                begin(&mut self.transactions, b, c);
+                Err(LockRefusal::Conflict { holder, mode: held })
+            }
+            None => {
+                let Ok(()) = self.grants.reserve(1) else {
+                    return Err(LockRefusal::NoMemory);
+                };
+                let event = Event::LockOk { rel, mode };
+                let Ok(()) = self.places.add(Entry { backend: b, command: c, event }) else {
+                    return Err(LockRefusal::NoMemory);
+                };
+                self.grants.push_reserved(Grant {
+                    backend: b,
+                    command: c,
+                    rel,
+                    mode,
+                });
+                begin(&mut self.transactions, b, c);
+                Ok(())
+            }
+        }
     }
 
     pub fn visible(&mut self, b: u32, c: u32, xid: Xid)
