@@ -8,3 +8,4 @@ mod Rows
 mod Asked
 mod Scanned
 mod Locked
+mod Written

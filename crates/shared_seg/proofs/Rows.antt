@@ -65,7 +65,7 @@ runs_kept (Some t) x = by_xid t.xid
 pub runs_own : (history : List Entry) (b : ℕ) (transactions : List (Option Transaction)) (stamp : Stamp) → transaction_at transactions b ≡ transaction_of history b → runs_as history b stamp.xid.0 ≡ is_own (xid_at transactions b) stamp
 runs_own history b transactions stamp own = runs_kept (running_transaction_of history b) stamp.xid.0 ∙ ap (λ t. is_own (own_xid_in t) stamp) (sym own)
 
-map-same : {X : Type 0} (xs : List X) → map (λ x. x) xs ≡ xs
+pub map-same : {X : Type 0} (xs : List X) → map (λ x. x) xs ≡ xs
 map-same [] = refl
 map-same (x ∷ xs) = ap (λ l. x ∷ l) (map-same xs)
 

@@ -68,7 +68,7 @@ stamp_same script history promised store grants transactions next last b c k req
     by_own false runs = ap (λ t. t && nat_lt s.command (c + 1)) (sym own ∙ runs) ∙ sym runs
 
 -- a version is seen by the reader where the backend sees it
-version_same : (p q : Stamp → Bool) (v : Version) → OfStamps (λ s row. p s ≡ q s) v → (p v.by && not (option_map_or p v.ended false)) ≡ (q v.by && not (option_map_or q v.ended false))
+pub version_same : (p q : Stamp → Bool) (v : Version) → OfStamps (λ s row. p s ≡ q s) v → (p v.by && not (option_map_or p v.ended false)) ≡ (q v.by && not (option_map_or q v.ended false))
 version_same p q v same = λ i. same.0 i && not (ended v.ended same.1 i)
   where
     ended : (o : Option Stamp) → IfSome o (λ s. p s ≡ q s) → option_map_or p o false ≡ option_map_or q o false

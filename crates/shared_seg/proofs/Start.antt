@@ -12,7 +12,7 @@ use Rattle.history_model.specs.declared.grant.Grant.{Grant}
 use Rattle.shared_seg.specs.declared.transaction.Transaction.{Transaction}
 use Rattle.shared_seg.specs.KeepsFolds.{KeepsFolds}
 
-all_same : {X : Type 0} (n i : ℕ) (x : X) → get_or (replicate n x) i x ≡ x
+pub all_same : {X : Type 0} (n i : ℕ) (x : X) → get_or (replicate n x) i x ≡ x
 all_same n i x = by_test (nat_lt i n) refl
   where
     by_test : (t : Bool) → nat_lt i n ≡ t → get_or (replicate n x) i x ≡ x

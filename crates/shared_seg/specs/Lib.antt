@@ -4,3 +4,4 @@ pub mod Transactions
 pub mod KeepsFolds
 pub mod Kept
 pub mod Undone
+pub mod Drawn
