@@ -9,3 +9,5 @@ mod Asked
 mod Scanned
 mod Locked
 mod Written
+mod NewNames
+mod Clashes

@@ -5,3 +5,5 @@ pub mod KeepsFolds
 pub mod Kept
 pub mod Undone
 pub mod Drawn
+pub mod Naming
+pub mod IsDrawn

@@ -1,7 +1,9 @@
 //! What the backends share.
 #![tactic(auto)]
 
+mod drawing;
 mod grants;
+mod naming;
 mod places;
 mod shared;
 mod transaction;

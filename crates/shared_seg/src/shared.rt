@@ -1,16 +1,20 @@
 ghost use Rattle.std.specs.Prelude.{◌≡◌, ◌≤◌, ◌<◌, ◌+◌, ◌++◌, ◌^◌, [], false, None, length, replicate, vec_len, vec_capacity, IfOk};
 ghost use Rattle.shared_seg.specs.Undone.{undone};
+ghost use Rattle.shared_seg.specs.Naming.{clash_with, refuses};
 
-use crate::grants::{conflicting, release_from};
+use crate::drawing::{Drawn, draw};
+use crate::grants::{add_new, conflicting, release_from};
+use crate::naming::{Taken, first_taken};
 use crate::places::Places;
-use crate::transaction::{Transaction, begin, clear, end_from, own_xid};
-use base_types::{FIRST_OID, Mode, NoMemory, Oid, Purpose, Scanned, Xid};
+use crate::transaction::{Transaction, begin, begin_writing, clear, end_from, own_xid};
+use base_types::{FIRST_OID, Listed, Mode, NoMemory, Oid, Purpose, Scanned, Xid};
 use catalog_rows::RowStore;
+use ddl_effect::Draft;
 use event_kinds::{Entry, Event};
 use history_model::Grant;
-use row_visibility::Reader;
+use row_visibility::{Clash, Reader};
 use script_text::Script;
-use seg_calls::LockRefusal;
+use seg_calls::{LockRefusal, WriteRefusal, Written};
 use std::alloc::Global;
 use std::marker::Model;
 use std::snapshot::Snapshot;
@@ -47,7 +51,7 @@ impl Shared {
     ghost use Rattle.history_model.specs.Drawn.{next_oid};
     ghost use Rattle.history_model.specs.Held.{held_of, holds};
     ghost use Rattle.history_model.specs.Log.{is_waiting};
-    ghost use Rattle.seg_calls.specs.Calls.{entry_of, MayCall, MayRequest, Promises, Appends, Scans, Locks};
+    ghost use Rattle.seg_calls.specs.Calls.{entry_of, MayCall, MayRequest, Promises, MayWrite, Appends, Scans, Locks, Writes};
     ghost use Rattle.shared_seg.specs.Kept.{places_in};
 
     /// An empty history, and no promises.
@@ -217,6 +221,62 @@ impl Shared {
         }
     }
 
+    pub fn write(&mut self, b: u32, c: u32, draft: &Draft) -> Result<Written, WriteRefusal>
+        requires call { MayRequest self.old.script self.old.history b c }
+        requires write { MayWrite self.old.history b c draft.now }
+        ensures script { self.new.script ≡ self.old.script }
+        ensures writes { Writes self.old.history self.new.history (places_in self.old) (places_in self.new) b c draft.now result }
+    {
+        let own = own_xid(&self.transactions, b);
+        let Ok(drawn) = draw(self.alloc, own, draft, self.next_oid, self.last_xid) else {
+            return Err(WriteRefusal::NoMemory);
+        };
+        let Drawn {
+            xid,
+            next_oid,
+            changes,
+            items,
+        } = drawn;
+        let reader = Reader {
+            xid: own,
+            command: c + 1,
+        };
+        if let Some(taken) = first_taken(&self.store, reader, &changes) {
+            let Ok(()) = self.places.add(Entry {
+                backend: b,
+                command: c,
+                event: clash_event(&taken),
+            }) else {
+                return Err(WriteRefusal::NoMemory);
+            };
+            begin(&mut self.transactions, b, c);
+            return Err(refusal_of(&taken));
+        }
+        let Ok(()) = self.grants.reserve(items.len()) else {
+            return Err(WriteRefusal::NoMemory);
+        };
+        let Ok(()) = self.places.make_room() else {
+            return Err(WriteRefusal::NoMemory);
+        };
+        let Ok(()) = self.store.apply(xid, c, &changes) else {
+            return Err(WriteRefusal::NoMemory);
+        };
+        add_new(&mut self.grants, b, c, &items);
+        self.places.push(Entry {
+            backend: b,
+            command: c,
+            event: Event::Write {
+                xid,
+                items: Listed::from_vec(items),
+            },
+        });
+        begin_writing(&mut self.transactions, b, c, xid);
+        let first_oid = Oid(self.next_oid);
+        self.next_oid = next_oid;
+        self.last_xid = self.last_xid.max(xid.0);
+        Ok(Written { xid, first_oid })
+    }
+
     pub fn visible(&mut self, b: u32, c: u32, xid: Xid)
         requires call { MayCall self.old.script self.old.history (entry_of b c (Event.Visible xid)) }
         requires place { 0 < places_in self.old b }
@@ -274,6 +334,25 @@ impl Shared {
             command: c,
             event: Event::Stop,
         });
+    }
+}
+
+// The refusal of a clash.
+fn refusal_of(taken: &Taken) -> WriteRefusal
+    ensures { result ≡ refuses taken.now }
+{
+    let Taken { name, clash } = *taken;
+    WriteRefusal::Clash(name, clash)
+}
+
+// The entry of a clash.
+fn clash_event(taken: &Taken) -> Event
+    ensures { result ≡ clash_with taken.now }
+{
+    let Taken { name, clash } = *taken;
+    match clash {
+        Clash::Row(rel) => Event::ClashRow { name, rel },
+        Clash::Running(xid) => Event::ClashRunning { name, xid },
     }
 }
 
