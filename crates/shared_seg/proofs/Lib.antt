@@ -11,3 +11,4 @@ mod Locked
 mod Written
 mod NewNames
 mod Clashes
+mod Writing

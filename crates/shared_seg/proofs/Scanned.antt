@@ -75,21 +75,21 @@ version_same p q v same = λ i. same.0 i && not (ended v.ended same.1 i)
     ended None held = refl
     ended (Some s) held = held
 
+-- the reader sees what the backend sees
+pub reads_same : (script : Scenario) (history : List Entry) (promised : List ℕ) (store : Store) (grants : List Grant) (transactions : List (Option Transaction)) (next last b c : ℕ) → KeepsFolds script history promised store grants transactions next last → MayRequest script history b c
+    → AllByRecursion (λ v. sees_version (has_committed store.committed) (record { xid = xid_at transactions b; command = c + 1 }) v ≡ sees history b v) (versions_of history)
+reads_same script history promised store grants transactions next last b c k request =
+    every-weaker (OfStamps (Touch history)) (λ v. sees_version (has_committed store.committed) (record { xid = xid_at transactions b; command = c + 1 }) v ≡ sees history b v)
+    (λ v touched. version_same (sees_stamp (has_committed store.committed) (record { xid = xid_at transactions b; command = c + 1 })) (counts history b) v
+    (stamps-weaker (Touch history) (λ s row. sees_stamp (has_committed store.committed) (record { xid = xid_at transactions b; command = c + 1 }) s ≡ counts history b s) (stamp_same script history promised store grants transactions next last b c k request) v touched))
+    (versions_of history) (sound_ordered history k.sound).touched
+
 -- so a scan gives the answer
 pub scan_is_answer : (script : Scenario) (history : List Entry) (promised : List ℕ) (store : Store) (grants : List Grant) (transactions : List (Option Transaction)) (next last b c : ℕ) (purpose : Purpose) → KeepsFolds script history promised store grants transactions next last → MayRequest script history b c
     → rows_of_scan store purpose (record { xid = xid_at transactions b; command = c + 1 }) ≡ answer_of history b purpose
 scan_is_answer script history promised store grants transactions next last b c purpose k request =
-    ap (λ vs. scan_of purpose (map (λ v. v.row) (filter reads vs))) k.versions
-    ∙ ap (λ vs. scan_of purpose (map (λ v. v.row) vs)) (filter_each reads (sees history b) (versions_of history) all)
-  where
-    reads : Version → Bool
-    reads = sees_version (has_committed store.committed) (record { xid = xid_at transactions b; command = c + 1 })
-
-    all : AllByRecursion (λ v. reads v ≡ sees history b v) (versions_of history)
-    all = every-weaker (OfStamps (Touch history)) (λ v. reads v ≡ sees history b v)
-        (λ v touched. version_same (sees_stamp (has_committed store.committed) (record { xid = xid_at transactions b; command = c + 1 })) (counts history b) v
-        (stamps-weaker (Touch history) (λ s row. sees_stamp (has_committed store.committed) (record { xid = xid_at transactions b; command = c + 1 }) s ≡ counts history b s) (stamp_same script history promised store grants transactions next last b c k request) v touched))
-        (versions_of history) (sound_ordered history k.sound).touched
+    ap (λ vs. scan_of purpose (map (λ v. v.row) (filter (sees_version (has_committed store.committed) (record { xid = xid_at transactions b; command = c + 1 })) vs))) k.versions
+    ∙ ap (λ vs. scan_of purpose (map (λ v. v.row) vs)) (filter_each (sees_version (has_committed store.committed) (record { xid = xid_at transactions b; command = c + 1 })) (sees history b) (versions_of history) (reads_same script history promised store grants transactions next last b c k request))
 
 -- a scan whose entry counts what it gives
 pub gives_rows : (k now : Kept) (after : List Entry) (has : List ℕ) (b c : ℕ) (purpose : Purpose) (scanned : Scanned) (count : ℕ) → k ≡ now → MayRequest now.script now.history b c
