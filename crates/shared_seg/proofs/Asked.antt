@@ -1,9 +1,9 @@
 -- What is shared after an entry that takes no promised place, and where none is made.
-use Rattle.std.proofs.Common.{◌≡◌, ◌==◌, ◌≤◌, ◌<◌, ◌+◌, ◌∙◌, ◌^◌, ℕ, Bool, true, false, not, Option, List, slice_set, [], ◌∷◌, ◌++◌, length, map, filter, arith, refl, sym, ap, subst}
+use Rattle.std.proofs.Common.{◌≡◌, ◌==◌, ◌≤◌, ◌<◌, ◌+◌, ◌∙◌, ◌^◌, ℕ, false, not, Option, List, slice_set, [], ◌∷◌, ◌++◌, length, filter, arith, refl, sym, ap, subst}
 use Rattle.std.proofs.lemmas.List.{length-map, length-set}
 use Rattle.std.proofs.lemmas.List.Filters.{length-filter_both}
 use Rattle.base_types.specs.declared.command.Placed.{Placed}
-use Rattle.base_types.specs.Scenario.{Scenario, IsScript, IsBackend}
+use Rattle.base_types.specs.Scenario.{Scenario, IsScript}
 use Rattle.event_kinds.specs.declared.entry.Entry.{Entry}
 use Rattle.event_kinds.specs.declared.entry.Event.{Event}
 use Rattle.catalog_rows.specs.Store.{Store}

@@ -1,14 +1,13 @@
 -- A name is taken in the rows that are kept where it is in the history.
-use Rattle.std.proofs.Common.{◌≡◌, ◌∙◌, ◌||◌, ◌&&◌, ◌==◌, ◌⊎◌, inl, inr, ℕ, Bool, true, false, not, Option, Some, None, List, [], ◌∷◌, ◌++◌, map, filter, fold, cond, take, drop, if◌then◌else◌, refl, sym, ap, subst}
-use Rattle.std.specs.List.{AllByRecursion, list_any, list_all, flat_map, find, insert, position_or_len}
+use Rattle.std.proofs.Common.{◌≡◌, ◌∙◌, ◌||◌, ◌&&◌, ◌==◌, ℕ, Bool, true, false, not, Option, Some, None, List, [], ◌∷◌, ◌++◌, map, filter, fold, cond, take, drop, if◌then◌else◌, refl, sym, ap, subst}
+use Rattle.std.specs.List.{AllByRecursion, list_any, list_all, flat_map, find, position_or_len}
 use Rattle.std.specs.Option.{option_map, option_map_or}
-use Rattle.std.specs.Str.{bytes_eq}
-use Rattle.std.proofs.lemmas.Bool.{and_from, and_parts, or_parts, eq-eqb, both_ways}
-use Rattle.std.proofs.Math.Bool.{or-true, or-false}
+use Rattle.std.proofs.lemmas.Bool.{and_from, and_parts, or_parts, eq-eqb}
+use Rattle.std.proofs.Math.Bool.{or-true}
 use Rattle.std.proofs.lemmas.List.{take-append-drop}
 use Rattle.std.proofs.lemmas.List.Folds.{list_any-append}
 use Rattle.base_types.specs.RowKeys.{key_of, same_key}
-use Rattle.base_types.specs.Scans.{selects, scan_of, put_in_order, goes_before}
+use Rattle.base_types.specs.Scans.{selects, put_in_order, goes_before}
 use Rattle.base_types.specs.declared.change.Change.{Change}
 use Rattle.base_types.specs.declared.change.Change.TheVariants.{Insert, Replace, Delete}
 use Rattle.base_types.specs.declared.ids.Oid.{Oid}
@@ -19,9 +18,6 @@ use Rattle.base_types.specs.declared.row_key.RowKey.{RowKey}
 use Rattle.base_types.specs.declared.scan.Purpose.{Purpose}
 use Rattle.base_types.specs.declared.scan.Purpose.TheVariants.{RelName}
 use Rattle.event_kinds.specs.declared.entry.Entry.{Entry}
-use Rattle.event_kinds.specs.declared.entry.Event.TheVariants.{ClashRow, ClashRunning}
-use Rattle.event_kinds.specs.declared.entry.Item.{Item}
-use Rattle.event_kinds.specs.declared.entry.Item.TheVariants as items
 use Rattle.row_visibility.specs.declared.clash.Clash.{Clash}
 use Rattle.row_visibility.specs.declared.clash.Clash.TheVariants as clashes
 use Rattle.row_visibility.specs.declared.version.Reader.{Reader}
@@ -33,7 +29,7 @@ use Rattle.catalog_rows.specs.Store.{Store, has_committed, row_of_key, clash_of,
 use Rattle.history_model.specs.Changes.{item_of, items_of}
 use Rattle.history_model.specs.Names.{new_name, new_names, has_name, is_others, running_over, users_of, is_row_of, is_named}
 use Rattle.history_model.specs.Transactions.{is_committed, runs_as}
-use Rattle.history_model.specs.Versions.{versions_of, counts, sees, answer_of, row_with, old_row, added_row}
+use Rattle.history_model.specs.Versions.{versions_of, counts, sees, row_with, old_row, added_row}
 use Rattle.history_model.specs.Writes.{is_empty, is_free}
 use Rattle.history_model.proofs.Every.{any-flat, any-weaker, any-filter, every-weaker, every-append}
 use Rattle.history_model.specs.Legal.{AllowsEvent}
@@ -91,7 +87,6 @@ named_same name row = refl
 selects_same : (name : List ℕ) (row : Row) → stores.is_named name row ≡ selects (RelName name) row
 selects_same name (rows.Class oid own kind fill) = refl
 selects_same name row = refl
-
 
 over_none : (history : List Entry) (b : ℕ) (store : Store) (own : Option Xid) → Mirrors history b store own → (v : Version) → is_claimed store.committed own v ≡ false → running_over history b v ≡ []
 over_none history b store own m v none = λ i. (if by i then v.by.xid.0 ∷ [] else []) ++ ended v.ended parts.1 i

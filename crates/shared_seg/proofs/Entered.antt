@@ -1,15 +1,12 @@
 -- What is shared after an entry that takes a promised place.
-use Rattle.std.proofs.Common.{◌≡◌, ◌≤◌, ◌<◌, ◌+◌, ◌-◌, ◌∙◌, ℕ, Bool, true, false, Option, List, [], ◌∷◌, ◌++◌, length, slice_set, arith, refl, sym, ap, subst}
-use Rattle.std.specs.Prelude.{⊤}
+use Rattle.std.proofs.Common.{◌≡◌, ◌<◌, ◌+◌, ◌-◌, ◌∙◌, ℕ, false, Option, List, [], ◌∷◌, ◌++◌, length, slice_set, arith, sym, ap, subst}
 use Rattle.std.proofs.lemmas.List.{length-set}
 use Rattle.base_types.specs.Scenario.{Scenario, IsBackend}
 use Rattle.event_kinds.specs.declared.entry.Entry.{Entry}
 use Rattle.event_kinds.specs.declared.entry.Event.{Event}
-use Rattle.event_kinds.specs.declared.entry.Event.TheVariants as events
 use Rattle.catalog_rows.specs.Store.{Store}
 use Rattle.history_model.specs.declared.grant.Grant.{Grant}
-use Rattle.history_model.specs.Legal.{MayFollow}
-use Rattle.history_model.specs.Orderly.{MayComeNext, IsOrderly}
+use Rattle.history_model.specs.Orderly.{IsOrderly}
 use Rattle.history_model.specs.Drawn.{next_oid_by}
 use Rattle.history_model.specs.Transactions.{last_xid_by, makes_visible}
 use Rattle.history_model.specs.Versions.{versions_by}
@@ -19,11 +16,11 @@ use Rattle.seg_calls.specs.Calls.{entry_of, MayCall, Appends}
 use Rattle.shared_seg.specs.declared.transaction.Transaction.{Transaction}
 use Rattle.shared_seg.specs.Kept.{Kept, places_in}
 use Rattle.shared_seg.specs.KeepsFolds.{KeepsFolds}
-use Rattle.shared_seg.specs.Places.{Placed, promised_in}
+use Rattle.shared_seg.specs.Places.{promised_in}
 use Rattle.shared_seg.specs.Transactions.{transaction_at, transaction_by}
-use Rattle.shared_seg.proofs.Own.{KeptBy, kept_set, kept_same}
+use Rattle.shared_seg.proofs.Own.{kept_set}
 use Rattle.shared_seg.proofs.Keeps.{Steps, keeps_more, quiet_steps}
-use Rattle.shared_seg.proofs.Appended.{appends_placed, appends_free}
+use Rattle.shared_seg.proofs.Appended.{appends_placed}
 
 -- a backend of the script has a place in the lists by backend
 pub within : (script : Scenario) (b : ℕ) (n : ℕ) → IsBackend script.backends b → n ≡ script.backends + 1 → b < n

@@ -1,24 +1,23 @@
 -- What is kept beside the history stays what the definitions read off it, over one more entry.
-use Rattle.std.proofs.Common.{◌≡◌, ◌≤◌, ◌<◌, ◌+◌, ◌∙◌, ◌||◌, ◌==◌, ◌⊎◌, inl, inr, ℕ, Bool, true, false, Option, Some, None, List, [], ◌∷◌, ◌++◌, length, refl, sym, ap, subst, arith}
+use Rattle.std.proofs.Common.{◌≡◌, ◌≤◌, ◌<◌, ◌∙◌, ◌||◌, ◌==◌, ◌⊎◌, inl, inr, ℕ, Bool, true, false, Option, List, [], ◌∷◌, ◌++◌, length, refl, sym, ap, arith}
 use Rattle.std.proofs.Math.Bool.{or-false}
 use Rattle.base_types.specs.Scenario.{Scenario}
 use Rattle.event_kinds.specs.declared.entry.Entry.{Entry}
 use Rattle.event_kinds.specs.declared.entry.Event.{Event}
 use Rattle.catalog_rows.specs.Store.{Store, has_committed}
 use Rattle.history_model.specs.declared.grant.Grant.{Grant}
-use Rattle.history_model.specs.Drawn.{next_oid, next_oid_by}
-use Rattle.history_model.specs.Held.{held_of, held_by}
-use Rattle.history_model.specs.Orderly.{MayComeNext, IsSound}
-use Rattle.history_model.specs.Transactions.{Running, is_committed, makes_visible, last_xid, last_xid_by, runs_as, has_xid, running_by, running_transaction_of}
-use Rattle.history_model.specs.Versions.{versions_of, versions_by}
+use Rattle.history_model.specs.Drawn.{next_oid_by}
+use Rattle.history_model.specs.Held.{held_by}
+use Rattle.history_model.specs.Orderly.{MayComeNext}
+use Rattle.history_model.specs.Transactions.{makes_visible, last_xid_by, runs_as, has_xid, running_transaction_of}
+use Rattle.history_model.specs.Versions.{versions_by}
 use Rattle.history_model.proofs.Prefixes.{EachEntry-more}
 use Rattle.history_model.proofs.Reading.{versions_of-more, held_of-more, next_oid-more, last_xid-more, is_committed-more, running_transaction_of-own, running_transaction_of-other}
 use Rattle.history_model.proofs.Runs.{writes_as, xid-from}
 use Rattle.seg_calls.specs.Calls.{entry_of}
 use Rattle.shared_seg.specs.declared.transaction.Transaction.{Transaction}
-use Rattle.shared_seg.specs.Transactions.{transaction_at, transaction_of, transaction_by}
 use Rattle.shared_seg.specs.KeepsFolds.{KeepsFolds}
-use Rattle.shared_seg.proofs.Own.{KeptBy, own-more, kept_set}
+use Rattle.shared_seg.proofs.Own.{KeptBy, own-more}
 
 -- each thing that is kept makes the step that the entry makes it make
 pub record Steps (history : List Entry) (e : Entry) (store after : Store) (grants held : List Grant) (transactions own : List (Option Transaction)) (next oid last xid : ℕ) : Type 0 where

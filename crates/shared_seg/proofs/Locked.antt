@@ -1,5 +1,5 @@
 -- Which lock entries the history allows.
-use Rattle.std.proofs.Common.{◌≡◌, ◌<◌, ◌∙◌, ℕ, Bool, false, Option, Some, None, List, sym, ap, subst}
+use Rattle.std.proofs.Common.{◌≡◌, ◌<◌, ◌∙◌, ℕ, false, Option, Some, None, List, sym, ap, subst}
 use Rattle.std.specs.Option.{option_map}
 use Rattle.base_types.specs.declared.ids.Oid.{Oid}
 use Rattle.base_types.specs.declared.mode.Mode.{Mode}

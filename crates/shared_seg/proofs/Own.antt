@@ -1,5 +1,5 @@
 -- What is kept of the running transactions, after one more entry.
-use Rattle.std.proofs.Common.{◌≡◌, ◌≢◌, ◌<◌, ◌∙◌, ℕ, Bool, true, false, Option, Some, None, List, [], ◌∷◌, ◌++◌, ◌==◌, if◌then◌else◌, length, get_or, slice_set, refl, sym, ap, subst}
+use Rattle.std.proofs.Common.{◌≡◌, ◌<◌, ◌∙◌, ℕ, Bool, true, false, Option, Some, None, List, [], ◌∷◌, ◌++◌, ◌==◌, if◌then◌else◌, length, slice_set, refl, sym, ap}
 use Rattle.std.specs.Option.{option_map}
 use Rattle.std.proofs.lemmas.Bool.{eqb-true, eqb-false}
 use Rattle.std.proofs.lemmas.List.{get_or-set_other}
@@ -10,7 +10,7 @@ use Rattle.event_kinds.specs.declared.entry.Event.TheVariants as events
 use Rattle.history_model.specs.Transactions.{Running, running_by, after_release, begun}
 use Rattle.history_model.proofs.Reading.{running_transaction_of-own, running_transaction_of-other}
 use Rattle.shared_seg.specs.declared.transaction.Transaction.{Transaction}
-use Rattle.shared_seg.specs.Transactions.{kept_of, transaction_of, transaction_at, transaction_by, after_own_release, begun_own}
+use Rattle.shared_seg.specs.Transactions.{kept_of, transaction_of, transaction_at, transaction_by, after_own_release}
 
 released : (from : ℕ) (t : Running) → option_map kept_of (after_release from t) ≡ after_own_release from (kept_of t)
 released from t = by_end (t.first == from)

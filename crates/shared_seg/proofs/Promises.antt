@@ -1,5 +1,5 @@
 -- The sum of promises, where one of them is taken.
-use Rattle.std.proofs.Common.{◌≡◌, ◌≤◌, ◌<◌, ◌+◌, ◌-◌, ◌∙◌, ℕ, List, sum, length, get_or, slice_set, slice_get, unwrap_or, arith, sym, ap}
+use Rattle.std.proofs.Common.{◌≡◌, ◌≤◌, ◌<◌, ◌+◌, ◌-◌, ◌∙◌, ℕ, List, sum, length, get_or, slice_set, arith, sym}
 use Rattle.std.proofs.lemmas.List.Sums.{get_or-le-sum_by, sum_by-set}
 use Rattle.std.proofs.lemmas.List.{get_or_default}
 use Rattle.std.proofs.lemmas.Option.{unwrap_or-slice_get}

@@ -1,5 +1,5 @@
 -- What a scan gives is what the history answers.
-use Rattle.std.proofs.Common.{◌≡◌, ◌≤◌, ◌<◌, ◌+◌, ◌∙◌, ◌||◌, ◌&&◌, ◌==◌, ◌⊎◌, inl, inr, ℕ, Bool, true, false, not, Option, Some, None, List, [], ◌∷◌, ◌++◌, length, map, filter, cond, refl, sym, ap, subst, arith}
+use Rattle.std.proofs.Common.{◌≡◌, ◌≤◌, ◌+◌, ◌∙◌, ◌||◌, ◌&&◌, ◌==◌, ◌⊎◌, inl, inr, ℕ, Bool, true, false, not, Option, Some, None, List, [], ◌∷◌, ◌++◌, length, map, filter, cond, refl, sym, ap, subst, arith}
 use Rattle.std.specs.Prelude.{nat_lt}
 use Rattle.std.specs.List.{AllByRecursion, list_any}
 use Rattle.std.specs.Option.{option_map_or, IfSome}
@@ -30,7 +30,7 @@ use Rattle.shared_seg.specs.Places.{promised_in}
 use Rattle.shared_seg.proofs.Asked.{request_inside, asked_appends}
 use Rattle.shared_seg.specs.declared.transaction.Transaction.{Transaction}
 use Rattle.shared_seg.specs.KeepsFolds.{KeepsFolds}
-use Rattle.shared_seg.specs.Transactions.{transaction_at, transaction_of, xid_at}
+use Rattle.shared_seg.specs.Transactions.{xid_at}
 use Rattle.shared_seg.proofs.Rows.{runs_own}
 
 -- two tests that agree on each element keep the same

@@ -1,6 +1,6 @@
 -- What is shared after a write, or after a clash in its place.
-use Rattle.std.proofs.Common.{◌≡◌, ◌≤◌, ◌<◌, ◌+◌, ◌∙◌, ◌++◌, ◌∷◌, [], ℕ, Bool, true, false, Option, Some, None, Err, List, length, map, fold, max, slice_set, refl, sym, ap, subst, arith}
-use Rattle.std.specs.List.{AllByRecursion, flat_map, list_any, list_all, range_with_len}
+use Rattle.std.proofs.Common.{◌≡◌, ◌+◌, ◌∙◌, ◌++◌, ◌∷◌, [], ℕ, Bool, true, Option, Some, Err, List, length, fold, max, slice_set, refl, sym, ap, subst, arith}
+use Rattle.std.specs.List.{flat_map, list_any, list_all, range_with_len}
 use Rattle.std.specs.Str.{bytes_eq}
 use Rattle.std.proofs.lemmas.Bool.{eqb-true}
 use Rattle.std.proofs.lemmas.List.{length-set}
@@ -16,20 +16,17 @@ use Rattle.seg_calls.specs.declared.refusal.Written.{Written}
 use Rattle.seg_calls.specs.declared.refusal.WriteRefusal.{WriteRefusal}
 use Rattle.seg_calls.specs.declared.refusal.WriteRefusal.TheVariants.{Clash as RefusesClash}
 use Rattle.event_kinds.specs.declared.entry.Item.{Item}
-use Rattle.row_visibility.specs.declared.version.Reader.{Reader}
-use Rattle.row_visibility.specs.Seen.{sees_version}
 use Rattle.catalog_rows.specs.Store.{Store, has_committed, after_write}
 use Rattle.ddl_effect.specs.declared.draft.Draft.{Draft}
 use Rattle.ddl_effect.specs.Drawing.{changes_of}
 use Rattle.history_model.specs.declared.grant.Grant.{Grant}
 use Rattle.history_model.specs.Changes.{items_of}
-use Rattle.history_model.specs.Drawn.{drawn_by, next_oid}
+use Rattle.history_model.specs.Drawn.{next_oid}
 use Rattle.history_model.specs.Held.{granted_by}
 use Rattle.history_model.specs.Legal.{AllowsEvent}
 use Rattle.history_model.specs.Names.{new_names}
 use Rattle.history_model.specs.Orderly.{IsOrderlyWrite}
-use Rattle.history_model.specs.Transactions.{xid_for}
-use Rattle.history_model.specs.Versions.{versions_of, sees, change_by}
+use Rattle.history_model.specs.Versions.{change_by}
 use Rattle.history_model.specs.Writes.{is_free, changed_key}
 use Rattle.base_types.specs.RowKeys.{are_distinct_keys}
 use Rattle.history_model.proofs.Ordered.{sound_ordered}
@@ -43,7 +40,7 @@ use Rattle.shared_seg.specs.Kept.{Kept, places_in}
 use Rattle.shared_seg.specs.KeepsFolds.{KeepsFolds}
 use Rattle.shared_seg.specs.Naming.{NamesFree, IsTaken, clash_with, clash_event_of, refuses}
 use Rattle.shared_seg.specs.Places.{promised_in}
-use Rattle.shared_seg.specs.Transactions.{transaction_at, transaction_by, transaction_of, own_xid_in, xid_at, begun_own}
+use Rattle.shared_seg.specs.Transactions.{transaction_at, transaction_by, own_xid_in, xid_at, begun_own}
 use Rattle.shared_seg.proofs.Asked.{request_inside, asked_appends, asked_quiet}
 use Rattle.shared_seg.proofs.Clashes.{Mirrors, all_free, names_same, clash_allowed}
 use Rattle.shared_seg.proofs.Entered.{within}

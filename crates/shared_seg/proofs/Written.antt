@@ -1,5 +1,5 @@
 -- The versions after a write are those that the history says.
-use Rattle.std.proofs.Common.{◌≡◌, ◌≢◌, ◌≤◌, ◌<◌, ◌+◌, ◌-◌, ◌∙◌, ◌||◌, ◌&&◌, ◌==◌, ◌⊎◌, inl, inr, ℕ, Bool, true, false, not, Option, Some, None, List, [], ◌∷◌, ◌++◌, length, map, fold, max, replicate, slice_get, unwrap_or, append-nil, zero, suc, refl, sym, ap, subst, arith}
+use Rattle.std.proofs.Common.{◌≡◌, ◌≤◌, ◌<◌, ◌+◌, ◌-◌, ◌∙◌, ◌||◌, ◌&&◌, ℕ, Bool, true, false, not, Option, Some, None, List, [], ◌∷◌, ◌++◌, length, map, fold, replicate, slice_get, unwrap_or, append-nil, zero, suc, refl, sym, ap, subst, arith}
 use Rattle.std.specs.List.{AllByRecursion, list_any, flat_map}
 use Rattle.std.specs.Option.{option_map, option_map_or}
 use Rattle.std.proofs.Math.Bool.{or-false}
@@ -10,12 +10,10 @@ use Rattle.std.proofs.lemmas.Option.{unwrap_or-slice_get}
 use Rattle.base_types.specs.RowKeys.{key_of, same_key, are_distinct_keys}
 use Rattle.base_types.specs.declared.ids.Oid.{Oid}
 use Rattle.base_types.specs.declared.ids.Xid.{Xid}
-use Rattle.base_types.specs.declared.row.Row.{Row}
 use Rattle.base_types.specs.declared.row_key.RowKey.{RowKey}
 use Rattle.base_types.specs.declared.change.Change.{Change}
 use Rattle.base_types.specs.declared.change.Change.TheVariants.{Insert, Replace, Delete}
 use Rattle.event_kinds.specs.declared.entry.Entry.{Entry}
-use Rattle.event_kinds.specs.declared.entry.Item.{Item}
 use Rattle.event_kinds.specs.declared.entry.Item.TheVariants as items
 use Rattle.row_visibility.specs.declared.version.Stamp.{Stamp}
 use Rattle.row_visibility.specs.declared.version.Version.{Version}
@@ -23,7 +21,7 @@ use Rattle.row_visibility.specs.Seen.{is_own}
 use Rattle.catalog_rows.specs.Store as stores
 use Rattle.catalog_rows.specs.Store.{Store, has_committed, after_change, after_write, end_if, is_ended, new_version, option_items, with_place}
 use Rattle.history_model.specs.Changes.{item_of, items_of}
-use Rattle.history_model.specs.Transactions.{Running, is_committed, last_xid, runs_as, running_transaction_of, xid_for}
+use Rattle.history_model.specs.Transactions.{Running, is_committed, last_xid, running_transaction_of, xid_for}
 use Rattle.history_model.specs.Versions.{versions_of, counts, ends, end_by, change_by, version_of, added_row}
 use Rattle.history_model.specs.Writes.{changed_key}
 use Rattle.history_model.proofs.Every.{every-weaker, every-append, every-map, every}

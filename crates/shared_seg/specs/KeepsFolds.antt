@@ -1,5 +1,5 @@
 -- What is kept beside the history is what the definitions read off it.
-use Rattle.std.specs.Prelude.{ℕ, Bool, true, Option, List, ◌≡◌, ◌≤◌, ◌<◌, ◌+◌, ◌^◌, length}
+use Rattle.std.specs.Prelude.{ℕ, true, Option, List, ◌≡◌, ◌<◌, ◌+◌, length}
 use Rattle.base_types.specs.Scenario.{Scenario, IsScript}
 use Rattle.event_kinds.specs.declared.entry.Entry.{Entry}
 use Rattle.catalog_rows.specs.Store.{Store, has_committed}

@@ -1,5 +1,5 @@
 -- How the promised places are kept.
-use Rattle.std.specs.Prelude.{ℕ, ◌≡◌, ◌≤◌, ◌+◌, ◌-◌, ◌^◌, sum, min, vec_len, vec_capacity}
+use Rattle.std.specs.Prelude.{◌≡◌, ◌≤◌, ◌+◌, ◌-◌, ◌^◌, sum, min, vec_len, vec_capacity}
 use Rattle.shared_seg.specs.declared.places.Places.TheInside.{Inside}
 use Rattle.shared_seg.specs.Places.{Placed}
 

@@ -1,5 +1,5 @@
 -- The history with promised places.
-use Rattle.std.specs.Prelude.{ℕ, List, [], ◌≡◌, unwrap_or, slice_get}
+use Rattle.std.specs.Prelude.{ℕ, List, ◌≡◌, unwrap_or, slice_get}
 use Rattle.event_kinds.specs.declared.entry.Entry.{Entry}
 
 -- the entries, how many places each backend is promised, and how many entries there is room for besides

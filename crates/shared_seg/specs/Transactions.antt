@@ -1,6 +1,6 @@
 -- What is kept of the running transactions: their first commands and their Xids.
 use Rattle.std.specs.Prelude.{ℕ, Option, Some, None, List, ◌==◌, if◌then◌else◌, slice_index_or}
-use Rattle.std.specs.Option.{option_map, option_map_or}
+use Rattle.std.specs.Option.{option_map}
 use Rattle.base_types.specs.declared.ids.Xid.{Xid}
 use Rattle.event_kinds.specs.declared.entry.Entry.{Entry}
 use Rattle.event_kinds.specs.declared.entry.Event.{Event}

@@ -89,12 +89,73 @@ fn drawn_row(first: u32, new_oids: u32, row: Row) -> Row
     ensures { result ≡ row_drawn first new_oids row }
 {
     match row {
-        Row::Class { oid, name, kind, fill } => Row::Class { oid: drawn_oid(first, new_oids, oid), name, kind, fill },
-        Row::Att { rel, num, name, col_type, stat, live } => Row::Att { rel: drawn_oid(first, new_oids, rel), num, name, col_type, stat, live },
-        Row::Def { oid, rel, num, word } => Row::Def { oid: drawn_oid(first, new_oids, oid), rel: drawn_oid(first, new_oids, rel), num, word },
-        Row::Ind { index, table, state, nums } => Row::Ind { index: drawn_oid(first, new_oids, index), table: drawn_oid(first, new_oids, table), state, nums },
-        Row::Con { oid, rel, name, valid, what } => Row::Con { oid: drawn_oid(first, new_oids, oid), rel: drawn_oid(first, new_oids, rel), name, valid, what },
-        Row::Trg { oid, rel, name, on } => Row::Trg { oid: drawn_oid(first, new_oids, oid), rel: drawn_oid(first, new_oids, rel), name, on },
+        Row::Class {
+            oid,
+            name,
+            kind,
+            fill,
+        } => Row::Class {
+            oid: drawn_oid(first, new_oids, oid),
+            name,
+            kind,
+            fill,
+        },
+        Row::Att {
+            rel,
+            num,
+            name,
+            col_type,
+            stat,
+            live,
+        } => Row::Att {
+            rel: drawn_oid(first, new_oids, rel),
+            num,
+            name,
+            col_type,
+            stat,
+            live,
+        },
+        Row::Def {
+            oid,
+            rel,
+            num,
+            word,
+        } => Row::Def {
+            oid: drawn_oid(first, new_oids, oid),
+            rel: drawn_oid(first, new_oids, rel),
+            num,
+            word,
+        },
+        Row::Ind {
+            index,
+            table,
+            state,
+            nums,
+        } => Row::Ind {
+            index: drawn_oid(first, new_oids, index),
+            table: drawn_oid(first, new_oids, table),
+            state,
+            nums,
+        },
+        Row::Con {
+            oid,
+            rel,
+            name,
+            valid,
+            what,
+        } => Row::Con {
+            oid: drawn_oid(first, new_oids, oid),
+            rel: drawn_oid(first, new_oids, rel),
+            name,
+            valid,
+            what,
+        },
+        Row::Trg { oid, rel, name, on } => Row::Trg {
+            oid: drawn_oid(first, new_oids, oid),
+            rel: drawn_oid(first, new_oids, rel),
+            name,
+            on,
+        },
     }
 }
 

@@ -85,7 +85,11 @@ impl Places {
         ensures ok { OnOk result (self.new.promised ≡ slice_set self.old.promised b (max (places_of self.old b) n)) }
         ensures err { OnErr result (self.new.promised ≡ self.old.promised) }
     {
-        let Places { entries, promised, total } = self;
+        let Places {
+            entries,
+            promised,
+            total,
+        } = self;
         let had = promised[b as usize];
         if n <= had {
             return Ok(());
@@ -108,7 +112,11 @@ impl Places {
         ensures promised { self.new.promised ≡ slice_set self.old.promised entry.backend (places_of self.old entry.backend - 1) }
         ensures short { length self.new.entries ≤ 2 ^ 56 }
     {
-        let Places { entries, promised, total } = self;
+        let Places {
+            entries,
+            promised,
+            total,
+        } = self;
         let had = promised[entry.backend as usize];
         promised[entry.backend as usize] = had - 1;
         *total -= 1;
@@ -133,7 +141,11 @@ impl Places {
         ensures ok { OnOk result (0 < self.new.room) }
         ensures short { length self.new.entries ≤ 2 ^ 56 }
     {
-        let Places { entries, promised: _, total } = self;
+        let Places {
+            entries,
+            promised: _,
+            total,
+        } = self;
         if MOST - entries.len() - *total < 1 {
             return Err(NoMemory);
         }

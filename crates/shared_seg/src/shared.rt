@@ -14,7 +14,7 @@ use event_kinds::{Entry, Event};
 use history_model::Grant;
 use row_visibility::{Clash, Reader};
 use script_text::Script;
-use seg_calls::{LockRefusal, WriteRefusal, Written};
+use seg_calls::{LockRefusal, Seg, WriteRefusal, Written};
 use std::alloc::Global;
 use std::marker::Model;
 use std::snapshot::Snapshot;
@@ -47,13 +47,6 @@ impl Model for Shared {
 }
 
 impl Shared {
-    ghost use Rattle.base_types.specs.Scenario.{IsBackend};
-    ghost use Rattle.history_model.specs.Drawn.{next_oid};
-    ghost use Rattle.history_model.specs.Held.{held_of, holds};
-    ghost use Rattle.history_model.specs.Log.{is_waiting};
-    ghost use Rattle.seg_calls.specs.Calls.{entry_of, MayCall, MayRequest, Promises, MayWrite, Appends, Scans, Locks, Writes};
-    ghost use Rattle.shared_seg.specs.Kept.{places_in};
-
     /// An empty history, and no promises.
     pub fn new(alloc: Global, script: &Script) -> Result<Shared, NoMemory>
         ensures history { IfOk result (λ shared. shared.history ≡ []) }
@@ -99,34 +92,31 @@ impl Shared {
         } = self;
         places.into_entries()
     }
+}
 
-    pub fn promise(&mut self, b: u32, n: u32) -> Result<(), NoMemory>
-        requires { IsBackend self.old.script.backends b }
-        ensures script { self.new.script ≡ self.old.script }
-        ensures promises { Promises self.old.history self.new.history (places_in self.old) (places_in self.new) b n result }
-    {
+impl Seg for Shared {
+    ghost use Rattle.shared_seg.specs.Kept.{places_in};
+
+    ghost history = { λ s. s.history };
+
+    ghost script = { λ s. s.script };
+
+    ghost promised = { places_in };
+
+    fn promise(&mut self, b: u32, n: u32) -> Result<(), NoMemory> {
         self.places.promise(b, n)
     }
 
-    pub fn promised(&self, b: u32) -> u32
-        ensures { result ≡ places_in self.now b }
-    {
+    fn promised(&self, b: u32) -> u32 {
         self.places.promised(b)
     }
 
-    pub fn waits(&self, b: u32) -> bool
-        ensures { result ≡ is_waiting self.now.history b }
-    {
+    fn waits(&self, b: u32) -> bool {
         let _places = &self.places;
         false
     }
 
-    pub fn start(&mut self, b: u32)
-        requires call { MayCall self.old.script self.old.history (entry_of b 0 Event.Start) }
-        requires place { 0 < places_in self.old b }
-        ensures script { self.new.script ≡ self.old.script }
-        ensures appends { Appends self.old.history self.new.history (places_in self.old) (places_in self.new) (entry_of b 0 Event.Start) }
-    {
+    fn start(&mut self, b: u32) {
         self.places.append(Entry {
             backend: b,
             command: 0,
@@ -135,12 +125,7 @@ impl Shared {
         clear(&mut self.transactions, b);
     }
 
-    pub fn looked(&mut self, b: u32, c: u32, yes: bool)
-        requires call { MayCall self.old.script self.old.history (entry_of b c (Event.Look yes)) }
-        requires place { 0 < places_in self.old b }
-        ensures script { self.new.script ≡ self.old.script }
-        ensures appends { Appends self.old.history self.new.history (places_in self.old) (places_in self.new) (entry_of b c (Event.Look yes)) }
-    {
+    fn looked(&mut self, b: u32, c: u32, yes: bool) {
         self.places.append(Entry {
             backend: b,
             command: c,
@@ -149,11 +134,7 @@ impl Shared {
         begin(&mut self.transactions, b, c);
     }
 
-    pub fn scan(&mut self, b: u32, c: u32, purpose: &Purpose) -> Result<Scanned, NoMemory>
-        requires call { MayRequest self.old.script self.old.history b c }
-        ensures script { self.new.script ≡ self.old.script }
-        ensures scans { Scans self.old.history self.new.history (places_in self.old) (places_in self.new) b c purpose.now result }
-    {
+    fn scan(&mut self, b: u32, c: u32, purpose: &Purpose) -> Result<Scanned, NoMemory> {
         let reader = Reader {
             xid: own_xid(&self.transactions, b),
             command: c + 1,
@@ -175,13 +156,7 @@ impl Shared {
         })
     }
 
-    pub fn lock(&mut self, b: u32, c: u32, rel: Oid, mode: Mode) -> Result<(), LockRefusal>
-        requires call { MayRequest self.old.script self.old.history b c }
-        requires new { holds (held_of self.old.history) b rel mode ≡ false }
-        requires drawn { rel.0 < next_oid self.old.history }
-        ensures script { self.new.script ≡ self.old.script }
-        ensures locks { Locks self.old.history self.new.history (places_in self.old) (places_in self.new) b c rel mode result }
-    {
+    fn lock(&mut self, b: u32, c: u32, rel: Oid, mode: Mode) -> Result<(), LockRefusal> {
         match conflicting(&self.grants, b, rel, mode) {
             Some(grant) => {
                 let Grant {
@@ -195,7 +170,12 @@ impl Shared {
                     holder,
                     held,
                 };
-                let Ok(()) = self.places.add(Entry { backend: b, command: c, event }) else {
+                let Ok(()) = self.places.add(Entry {
+                    backend: b,
+                    command: c,
+                    event,
+                })
+                else {
                     return Err(LockRefusal::NoMemory);
                 };
                 begin(&mut self.transactions, b, c);
@@ -206,7 +186,12 @@ impl Shared {
                     return Err(LockRefusal::NoMemory);
                 };
                 let event = Event::LockOk { rel, mode };
-                let Ok(()) = self.places.add(Entry { backend: b, command: c, event }) else {
+                let Ok(()) = self.places.add(Entry {
+                    backend: b,
+                    command: c,
+                    event,
+                })
+                else {
                     return Err(LockRefusal::NoMemory);
                 };
                 self.grants.push_reserved(Grant {
@@ -221,12 +206,7 @@ impl Shared {
         }
     }
 
-    pub fn write(&mut self, b: u32, c: u32, draft: &Draft) -> Result<Written, WriteRefusal>
-        requires call { MayRequest self.old.script self.old.history b c }
-        requires write { MayWrite self.old.history b c draft.now }
-        ensures script { self.new.script ≡ self.old.script }
-        ensures writes { Writes self.old.history self.new.history (places_in self.old) (places_in self.new) b c draft.now result }
-    {
+    fn write(&mut self, b: u32, c: u32, draft: &Draft) -> Result<Written, WriteRefusal> {
         let own = own_xid(&self.transactions, b);
         let Ok(drawn) = draw(self.alloc, own, draft, self.next_oid, self.last_xid) else {
             return Err(WriteRefusal::NoMemory);
@@ -246,7 +226,8 @@ impl Shared {
                 backend: b,
                 command: c,
                 event: clash_event(&taken),
-            }) else {
+            })
+            else {
                 return Err(WriteRefusal::NoMemory);
             };
             begin(&mut self.transactions, b, c);
@@ -277,12 +258,7 @@ impl Shared {
         Ok(Written { xid, first_oid })
     }
 
-    pub fn visible(&mut self, b: u32, c: u32, xid: Xid)
-        requires call { MayCall self.old.script self.old.history (entry_of b c (Event.Visible xid)) }
-        requires place { 0 < places_in self.old b }
-        ensures script { self.new.script ≡ self.old.script }
-        ensures appends { Appends self.old.history self.new.history (places_in self.old) (places_in self.new) (entry_of b c (Event.Visible xid)) }
-    {
+    fn visible(&mut self, b: u32, c: u32, xid: Xid) {
         self.places.append(Entry {
             backend: b,
             command: c,
@@ -292,12 +268,7 @@ impl Shared {
         begin(&mut self.transactions, b, c);
     }
 
-    pub fn release(&mut self, b: u32, c: u32, from: u32)
-        requires call { MayCall self.old.script self.old.history (entry_of b c (Event.Release from)) }
-        requires place { 0 < places_in self.old b }
-        ensures script { self.new.script ≡ self.old.script }
-        ensures appends { Appends self.old.history self.new.history (places_in self.old) (places_in self.new) (entry_of b c (Event.Release from)) }
-    {
+    fn release(&mut self, b: u32, c: u32, from: u32) {
         self.places.append(Entry {
             backend: b,
             command: c,
@@ -307,12 +278,7 @@ impl Shared {
         end_from(&mut self.transactions, b, c, from);
     }
 
-    pub fn gone(&mut self, b: u32, c: u32, from: u32)
-        requires call { MayCall self.old.script self.old.history (entry_of b c (Event.Gone from)) }
-        requires place { 0 < places_in self.old b }
-        ensures script { self.new.script ≡ self.old.script }
-        ensures appends { Appends self.old.history self.new.history (places_in self.old) (places_in self.new) (entry_of b c (Event.Gone from)) }
-    {
+    fn gone(&mut self, b: u32, c: u32, from: u32) {
         self.places.append(Entry {
             backend: b,
             command: c,
@@ -323,18 +289,15 @@ impl Shared {
         begin(&mut self.transactions, b, c);
     }
 
-    pub fn stop(&mut self, b: u32, c: u32)
-        requires call { MayCall self.old.script self.old.history (entry_of b c Event.Stop) }
-        requires place { 0 < places_in self.old b }
-        ensures script { self.new.script ≡ self.old.script }
-        ensures appends { Appends self.old.history self.new.history (places_in self.old) (places_in self.new) (entry_of b c Event.Stop) }
-    {
+    fn stop(&mut self, b: u32, c: u32) {
         self.places.append(Entry {
             backend: b,
             command: c,
             event: Event::Stop,
         });
     }
+
+    ghost short = { λ s. s.short };
 }
 
 // The refusal of a clash.

@@ -51,12 +51,7 @@ pub(crate) fn begin_writing(
 }
 
 // The backend releases the locks of its commands of this number and above, which may end its transaction.
-pub(crate) fn end_from(
-    transactions: &mut Vec<Option<Transaction>>,
-    b: u32,
-    command: u32,
-    from: u32,
-)
+pub(crate) fn end_from(transactions: &mut Vec<Option<Transaction>>, b: u32, command: u32, from: u32)
     requires { b < vec_len transactions.old }
     ensures { transactions.new.items ≡ slice_set transactions.old.items b (after_own_release from (begun_own command (transaction_at transactions.old.items b))) }
 {

@@ -1,4 +1,4 @@
-use Rattle.std.proofs.Common.{◌≡◌, ◌<◌, ◌≤◌, ◌+◌, ◌-◌, ◌∙◌, ℕ, List, sum, length, slice_set, arith, ap, sym, rules}
+use Rattle.std.proofs.Common.{◌≡◌, ◌<◌, ◌+◌, ◌-◌, sum, length, slice_set, arith, ap, sym}
 use Rattle.shared_seg.specs.Places.{Placed, promised_in}
 use Rattle.shared_seg.proofs.Promises.{promised_at, promised_in-le, sum-taken}
 use Rattle.shared_seg.proofs.places.Places.append.Goals as goal

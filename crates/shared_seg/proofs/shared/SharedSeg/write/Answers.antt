@@ -9,7 +9,7 @@ use Rattle.shared_seg.specs.Naming.{IsTaken, NamesFree, clash_event_of}
 use Rattle.shared_seg.specs.Transactions.{xid_at}
 use Rattle.shared_seg.proofs.Asked.{request_inside, small_number, asked_keeps}
 use Rattle.shared_seg.proofs.Writing.{write_inside, items_are, write_allowed, write_steps, taken_allowed, taken_is_new, entry_written, clash_keeps, clash_writes_at, keeps_last, makes_write}
-use Rattle.shared_seg.proofs.shared.Shared.write.Goals as goal
+use Rattle.shared_seg.proofs.shared.SharedSeg.write.Goals as goal
 
 pub overflow_add-reader : goal.overflow_add-reader
 overflow_add-reader c = let small : c.args.c + 1 < 2 ^ 32 = small_number _ _ c.args.b c.args.c c.self.invariant.script_is (request_inside _ _ c.args.b c.args.c c.self.view_is c.requires.call) in search rules
@@ -19,7 +19,7 @@ invariant_of-self-in-Some c =
     let own : c.own_xid-own.result ≡ xid_at c.self.inside.transactions.items c.args.b = search rules in
     let changes : c.deref-2.result.now ≡ c.in-Ok.drawn.changes.items = c.deref-2.ensures.value in
     let taken = subst (λ cs. IsTaken c.self.inside.store (record { xid = xid_at c.self.inside.transactions.items c.args.b; command = c.args.c + 1 }) cs c.in-Some.taken) changes
-        (subst (λ o. IsTaken c.self.inside.store (record { xid = o; command = c.args.c + 1 }) c.deref-2.result.now c.in-Some.taken) own c.in-Some.ensures) in
+    (subst (λ o. IsTaken c.self.inside.store (record { xid = o; command = c.args.c + 1 }) c.deref-2.result.now c.in-Some.taken) own c.in-Some.ensures) in
     clash_keeps _ _ _ _ c.args.b c.args.c c.in-Some.taken.name c.in-Some.taken.clash _ _ _ _ _ _ c.self.view_is c.self.invariant c.requires.call
     (taken_allowed _ _ _ _ _ _ _ _ c.args.b c.args.c c.self.invariant c.in-Ok.drawn.changes.items c.in-Some.taken taken) (search rules) c.add.ensures.promised c.begin.ensures
 
@@ -29,7 +29,7 @@ returns-in-Some-clause-writes c =
     let own : c.own_xid-own.result ≡ xid_at c.self.inside.transactions.items c.args.b = search rules in
     let changes : c.deref-2.result.now ≡ c.in-Ok.drawn.changes.items = c.deref-2.ensures.value in
     let taken = subst (λ cs. IsTaken c.self.inside.store (record { xid = xid_at c.self.inside.transactions.items c.args.b; command = c.args.c + 1 }) cs c.in-Some.taken) changes
-        (subst (λ o. IsTaken c.self.inside.store (record { xid = o; command = c.args.c + 1 }) c.deref-2.result.now c.in-Some.taken) own c.in-Some.ensures) in
+    (subst (λ o. IsTaken c.self.inside.store (record { xid = o; command = c.args.c + 1 }) c.deref-2.result.now c.in-Some.taken) own c.in-Some.ensures) in
     let drawn = subst (λ o. IsDrawn o c.args.draft.now c.self.inside.next_oid c.self.inside.last_xid c.in-Ok.drawn) own c.in-Ok.ensures in
     let request = request_inside _ _ c.args.b c.args.c c.self.view_is c.requires.call in
     clash_writes_at _ _ _ _ c.args.b c.args.c c.args.draft.now c.in-Some.taken _ c.refusal_of.ensures c.self.view_is c.requires.call

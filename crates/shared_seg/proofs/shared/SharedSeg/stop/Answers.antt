@@ -4,7 +4,7 @@ use Rattle.seg_calls.specs.Calls.{entry_of}
 use Rattle.shared_seg.proofs.Own.{kept_same}
 use Rattle.shared_seg.proofs.Keeps.{quiet_steps}
 use Rattle.shared_seg.proofs.Entered.{placed_appends, placed_keeps}
-use Rattle.shared_seg.proofs.shared.Shared.stop.Goals as goal
+use Rattle.shared_seg.proofs.shared.SharedSeg.stop.Goals as goal
 
 pub invariant_of-self : goal.invariant_of-self
 invariant_of-self c =

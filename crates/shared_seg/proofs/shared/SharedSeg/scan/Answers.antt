@@ -1,11 +1,10 @@
 use Rattle.std.proofs.Common.{◌≡◌, ◌+◌, ◌∙◌, ◌<◌, ◌^◌, length, refl, ap, rules}
 use Rattle.event_kinds.specs.declared.entry.Event.TheVariants.{Scan}
 use Rattle.catalog_rows.specs.Store.{rows_of_scan}
-use Rattle.history_model.specs.Versions.{answer_of}
 use Rattle.shared_seg.specs.Transactions.{xid_at}
 use Rattle.shared_seg.proofs.Asked.{request_inside, small_number, asked_quiet}
 use Rattle.shared_seg.proofs.Scanned.{scan_is_answer, gives_rows}
-use Rattle.shared_seg.proofs.shared.Shared.scan.Goals as goal
+use Rattle.shared_seg.proofs.shared.SharedSeg.scan.Goals as goal
 
 pub overflow_add-reader : goal.overflow_add-reader
 overflow_add-reader c = let small : c.args.c + 1 < 2 ^ 32 = small_number _ _ c.args.b c.args.c c.self.invariant.script_is (request_inside _ _ c.args.b c.args.c c.self.view_is c.requires.call) in search rules

@@ -1,8 +1,8 @@
 use Rattle.std.proofs.Common.{refl, rules}
 use Rattle.event_kinds.specs.declared.entry.Event.TheVariants.{LockOk, LockHeld}
-use Rattle.shared_seg.proofs.Asked.{asked_appends, asked_quiet}
+use Rattle.shared_seg.proofs.Asked.{asked_quiet}
 use Rattle.shared_seg.proofs.Locked.{drawn_inside, allows_lock, allows_refusal}
-use Rattle.shared_seg.proofs.shared.Shared.lock.Goals as goal
+use Rattle.shared_seg.proofs.shared.SharedSeg.lock.Goals as goal
 
 pub invariant_of-self-in-Some : goal.invariant_of-self-in-Some
 invariant_of-self-in-Some c =

@@ -1,9 +1,9 @@
-use Rattle.std.proofs.Common.{◌∙◌, ap, rules}
+use Rattle.std.proofs.Common.{rules}
 use Rattle.event_kinds.specs.declared.entry.Event.TheVariants.{Gone}
 use Rattle.seg_calls.specs.Calls.{entry_of}
 use Rattle.shared_seg.proofs.Entered.{call_inside, within, placed_appends, placed_keeps}
 use Rattle.shared_seg.proofs.Rows.{gone_steps}
-use Rattle.shared_seg.proofs.shared.Shared.gone.Goals as goal
+use Rattle.shared_seg.proofs.shared.SharedSeg.gone.Goals as goal
 
 pub invariant_of-self : goal.invariant_of-self
 invariant_of-self c =

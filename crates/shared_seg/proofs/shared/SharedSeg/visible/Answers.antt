@@ -2,7 +2,7 @@ use Rattle.event_kinds.specs.declared.entry.Event.TheVariants.{Visible}
 use Rattle.seg_calls.specs.Calls.{entry_of}
 use Rattle.shared_seg.proofs.Entered.{call_inside, within, placed_appends, placed_keeps}
 use Rattle.shared_seg.proofs.Rows.{visible_steps}
-use Rattle.shared_seg.proofs.shared.Shared.visible.Goals as goal
+use Rattle.shared_seg.proofs.shared.SharedSeg.visible.Goals as goal
 
 pub invariant_of-self : goal.invariant_of-self
 invariant_of-self c =

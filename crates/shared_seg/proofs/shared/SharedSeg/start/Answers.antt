@@ -2,7 +2,7 @@ use Rattle.std.proofs.Common.{refl}
 use Rattle.event_kinds.specs.declared.entry.Event.TheVariants.{Start}
 use Rattle.seg_calls.specs.Calls.{entry_of}
 use Rattle.shared_seg.proofs.Entered.{placed_appends, quiet_keeps}
-use Rattle.shared_seg.proofs.shared.Shared.start.Goals as goal
+use Rattle.shared_seg.proofs.shared.SharedSeg.start.Goals as goal
 
 pub invariant_of-self : goal.invariant_of-self
 invariant_of-self c =
