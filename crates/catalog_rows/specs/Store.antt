@@ -8,7 +8,7 @@ use Rattle.base_types.specs.Scans.{scan_of}
 use Rattle.base_types.specs.declared.row.Row.TheVariants as rows
 use Rattle.row_visibility.specs.Seen.{is_own, seen_by, sees_version}
 use Rattle.catalog_rows.specs.Types.{Xid, Oid, Row, RowKey, Purpose, Change, Insert, Replace, Delete, Stamp, Version, Reader, Clash}
-use Rattle.catalog_rows.specs.declared.clash.Clash.TheVariants as clashes
+use Rattle.row_visibility.specs.declared.clash.Clash.TheVariants as clashes
 
 -- all versions in the order in which they were written, and by Xid whether the transaction is committed
 pub record Store : Type 0 where

@@ -9,4 +9,4 @@ pub use Rattle.base_types.specs.declared.change.Change.TheVariants.{Insert, Repl
 pub use Rattle.row_visibility.specs.declared.version.Stamp.{Stamp}
 pub use Rattle.row_visibility.specs.declared.version.Version.{Version}
 pub use Rattle.row_visibility.specs.declared.version.Reader.{Reader}
-pub use Rattle.catalog_rows.specs.declared.clash.Clash.{Clash}
+pub use Rattle.row_visibility.specs.declared.clash.Clash.{Clash}

@@ -22,10 +22,8 @@
 //! `src/backend/access/nbtree/nbtinsert.c`).
 #![tactic(auto)]
 
-mod clash;
 mod naming;
 mod store;
 mod writing;
 
-pub use clash::Clash;
 pub use store::RowStore;

@@ -3,10 +3,9 @@ ghost use Rattle.std.specs.List.{find};
 ghost use Rattle.row_visibility.specs.Seen.{seen_by};
 ghost use Rattle.catalog_rows.specs.Store.{counts, is_named as has_name, is_claimed as does_claim, is_running_other as runs_elsewhere, claimant_of, relation_of as relation_in, row_clash as clash_with, clash_of};
 
-use crate::Clash;
 use crate::writing::{does_count, is_standing};
 use base_types::{Name, Oid, Row, Xid};
-use row_visibility::{Stamp, Version};
+use row_visibility::{Clash, Stamp, Version};
 
 // Why a new relation may not have the name, by these versions.
 pub(crate) fn clash_among(

@@ -39,7 +39,7 @@ xid-release x from c (Some t) is = by_end (t.first == from) is
     by_end false h = h
 
 -- an Xid that a backend has after an event it had before, but for that of a write
-xid-from : (x c : ℕ) (event : Event) (old : Option Running) → has_xid x (running_by c event old) ≡ true → (has_xid x old ≡ true) ⊎ (writes_as x event ≡ true)
+pub xid-from : (x c : ℕ) (event : Event) (old : Option Running) → has_xid x (running_by c event old) ≡ true → (has_xid x old ≡ true) ⊎ (writes_as x event ≡ true)
 xid-from x c events.Start old is = absurd (cc)
 xid-from x c events.Stop old is = inl is
 xid-from x c (events.Release from) old is = inl (xid-release x from c old is)

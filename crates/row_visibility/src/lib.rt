@@ -5,11 +5,13 @@
 //! and `cmax` of a tuple, `src/include/access/htup_details.h`). A version is seen where its writer is
 //! seen and its ender isn't (`HeapTupleSatisfiesMVCC` in `src/backend/access/heap/heapam_visibility.c`).
 //! What a committed transaction did is seen, and what the reader's own transaction did in earlier
-//! commands.
+//! commands. A [`Clash`] says why a new row may not have a name that must be unique.
 #![tactic(auto)]
 
+mod clash;
 mod seen;
 mod version;
 
+pub use clash::Clash;
 pub use seen::{StampState, is_own, sees, visible};
 pub use version::{Reader, Stamp, Version};

@@ -1,6 +1,6 @@
 use Rattle.std.proofs.Common.{◌∙◌, ap, sym, Some, None}
 use Rattle.catalog_rows.specs.Store.{clash_by, standing_version}
-use Rattle.catalog_rows.specs.declared.clash.Clash.TheVariants.{Running}
+use Rattle.row_visibility.specs.declared.clash.Clash.TheVariants.{Running}
 use Rattle.catalog_rows.proofs.naming.clash_among.Goals as goal
 
 pub returns-in-Some : goal.returns-in-Some

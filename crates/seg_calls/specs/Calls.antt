@@ -1,0 +1,114 @@
+-- What the calls of a segment need, and what they do: one word for each class of call.
+-- `old` and `new` are the history before and after a call, `had` and `has` how many places each backend was promised then.
+use Rattle.std.specs.Prelude.{ℕ, Bool, true, false, Option, Some, Result, Ok, Err, OnOk, OnErr, List, [], ◌∷◌, ◌++◌, ◌≡◌, ◌≢◌, ◌≤◌, ◌+◌, length}
+use Rattle.std.specs.List.{flat_map, filter_map, list_any, list_all, range_with_len}
+use Rattle.std.specs.Str.{bytes_eq}
+use Rattle.base_types.specs.RowKeys.{are_distinct_keys}
+use Rattle.base_types.specs.Scenario.{IsBackend}
+use Rattle.ddl_effect.specs.Commands.{commands_of}
+use Rattle.ddl_effect.specs.Drawing.{changes_of}
+use Rattle.history_model.specs.Changes.{items_of}
+use Rattle.history_model.specs.Drawn.{drawn_by, made_by, next_oid}
+use Rattle.history_model.specs.Legal.{MayFollow}
+use Rattle.history_model.specs.Lives.{Alive, life_of, last_event_of}
+use Rattle.history_model.specs.Names.{new_names}
+use Rattle.history_model.specs.Orderly.{IsOrderlyWrite, MayComeNext}
+use Rattle.history_model.specs.Transactions.{running_transaction_of, is_visible}
+use Rattle.history_model.specs.Versions.{answer_of, ended_key}
+use Rattle.history_model.specs.Writes.{changed_key, has_row, has_written, is_guarded, keeps_kind}
+use Rattle.seg_calls.specs.Types.{Oid, NoMemory, Mode, Purpose, Scanned, Scenario, Entry, Event, Gone, LockOk, LockHeld, Scan, Write, ClashRow, ClashRunning, Item, Row, Running, Draft, LockRefusal, WriteRefusal, Written}
+use Rattle.seg_calls.specs.declared.refusal.LockRefusal.TheVariants as lock_refusals
+use Rattle.seg_calls.specs.declared.refusal.WriteRefusal.TheVariants as write_refusals
+
+-- the entry of a backend and a command
+abbrev pub entry_of : ℕ → ℕ → Event → Entry
+entry_of backend command event = record { backend = backend; command = command; event = event }
+
+-- a backend of the script may call for this entry: the entries before it allow it
+pub record MayCall (script : Scenario) (before : List Entry) (e : Entry) : Type 0 where
+  pub backend : IsBackend script.backends e.backend
+  pub number : e.command ≤ length (commands_of script e.backend) + 1
+  pub follows : MayFollow before e
+
+-- the last event took writes back
+abbrev pub took_back : Option Event → Bool
+took_back (Some (Gone from)) = true
+took_back last = false
+
+-- a backend of the script may ask for something in a command: it is alive, and in the midst of no commit and no rollback
+pub record MayRequest (script : Scenario) (before : List Entry) (b c : ℕ) : Type 0 where
+  pub backend : IsBackend script.backends b
+  pub number : c ≤ length (commands_of script b) + 1
+  pub last : ℕ
+  pub alive : life_of before b ≡ Alive last
+  pub rises : last ≤ c
+  pub visible : is_visible (running_transaction_of before b) ≡ false
+  pub gone : took_back (last_event_of before b) ≡ false
+
+-- the items of a draft, with the next oids drawn
+abbrev pub items_drawn : List Entry → Draft → List Item
+items_drawn before draft = items_of (changes_of (next_oid before) draft) draft.forced
+
+-- a backend may write a draft, unless a new name is taken: it uses each of its new oids once and in order, changes no key twice, replaces and takes away rows that are seen, leaves the kinds of relations, is the only one of its command and guarded, and adds rows of new keys
+pub record MayWrite (before : List Entry) (b c : ℕ) (draft : Draft) : Type 0 where
+  pub oids : flat_map drawn_by (items_drawn before draft) ≡ range_with_len (next_oid before) draft.new_oids
+  pub keys : are_distinct_keys (flat_map changed_key (items_drawn before draft)) ≡ true
+  pub there : list_all (has_row before b) (filter_map ended_key (items_drawn before draft)) ≡ true
+  pub kinds : list_all (keeps_kind before b) (items_drawn before draft) ≡ true
+  pub only : has_written before b c ≡ false
+  pub guarded : list_all (is_guarded before b (flat_map made_by (items_drawn before draft))) (items_drawn before draft) ≡ true
+  pub orderly : IsOrderlyWrite before b (items_drawn before draft)
+
+-- nothing has changed
+pub record IsUnchanged (old new : List Entry) (had has : ℕ → ℕ) : Type 0 where
+  pub entries : new ≡ old
+  pub places : (b : ℕ) → has b ≡ had b
+
+-- at least so many places are promised to a backend, and all promises are kept
+pub record Promises (old new : List Entry) (had has : ℕ → ℕ) (b n : ℕ) (result : Result (Unit {0}) NoMemory) : Type 0 where
+  pub entries : new ≡ old
+  pub ok : OnOk result (n ≤ has b)
+  pub kept : had b ≤ has b
+  pub err : OnErr result (has b ≡ had b)
+  pub others : (a : ℕ) → a ≢ b → has a ≡ had a
+
+-- one entry is appended, which the entries before it allow; it takes at most one place, of its own backend
+pub record Appends (old new : List Entry) (had has : ℕ → ℕ) (e : Entry) : Type 0 where
+  pub entries : new ≡ old ++ e ∷ []
+  pub comes : MayComeNext old e
+  pub own : had e.backend ≤ has e.backend + 1
+  pub others : (b : ℕ) → b ≢ e.backend → has b ≡ had b
+
+-- a scan gives its answer, and its entry says how many rows that is
+pub record GivesRows (old new : List Entry) (had has : ℕ → ℕ) (b c : ℕ) (purpose : Purpose) (scanned : Scanned) : Type 0 where
+  pub appends : Appends old new had has (entry_of b c (Scan purpose (length (answer_of old b purpose))))
+  pub rows : scanned.rows.items ≡ answer_of old b purpose
+  pub at : scanned.at ≡ length old + 1
+
+-- a scan
+abbrev pub Scans : List Entry → List Entry → (ℕ → ℕ) → (ℕ → ℕ) → ℕ → ℕ → Purpose → Result Scanned NoMemory → Type 0
+Scans old new had has b c purpose (Ok scanned) = GivesRows old new had has b c purpose scanned
+Scans old new had has b c purpose (Err error) = IsUnchanged old new had has
+
+-- a request for a lock
+abbrev pub Locks : List Entry → List Entry → (ℕ → ℕ) → (ℕ → ℕ) → ℕ → ℕ → Oid → Mode → Result (Unit {0}) LockRefusal → Type 0
+Locks old new had has b c rel mode (Ok granted) = Appends old new had has (entry_of b c (LockOk rel mode))
+Locks old new had has b c rel mode (Err (lock_refusals.Conflict holder held)) = Appends old new had has (entry_of b c (LockHeld rel mode holder held))
+Locks old new had has b c rel mode (Err lock_refusals.NoMemory) = IsUnchanged old new had has
+
+-- the items of a draft are written
+pub record MakesWrite (old new : List Entry) (had has : ℕ → ℕ) (b c : ℕ) (draft : Draft) (written : Written) : Type 0 where
+  pub appends : Appends old new had has (entry_of b c (Write written.xid (items_drawn old draft)))
+  pub first : written.first_oid.0 ≡ next_oid old
+
+-- a name that the write gives a relation is taken
+pub record Clashes (old new : List Entry) (had has : ℕ → ℕ) (b : ℕ) (draft : Draft) (name : List ℕ) (e : Entry) : Type 0 where
+  pub appends : Appends old new had has e
+  pub is_new : list_any (bytes_eq name) (new_names old b (items_drawn old draft)) ≡ true
+
+-- a write of a draft
+abbrev pub Writes : List Entry → List Entry → (ℕ → ℕ) → (ℕ → ℕ) → ℕ → ℕ → Draft → Result Written WriteRefusal → Type 0
+Writes old new had has b c draft (Ok written) = MakesWrite old new had has b c draft written
+Writes old new had has b c draft (Err (write_refusals.Clash name (Row rel))) = Clashes old new had has b draft name (entry_of b c (ClashRow name rel))
+Writes old new had has b c draft (Err (write_refusals.Clash name (Running xid))) = Clashes old new had has b draft name (entry_of b c (ClashRunning name xid))
+Writes old new had has b c draft (Err write_refusals.NoMemory) = IsUnchanged old new had has

@@ -1,0 +1,29 @@
+use base_types::{Mode, Name, Oid, Xid};
+use row_visibility::Clash;
+
+/// Why a lock isn't granted.
+#[derive(Clone, Copy)]
+pub enum LockRefusal {
+    /// The first other holder of a conflicting mode, in the order of grants, and that mode.
+    Conflict { holder: u32, mode: Mode },
+    /// Out of memory.
+    NoMemory,
+}
+
+/// What a write has drawn.
+#[derive(Clone, Copy)]
+pub struct Written {
+    /// The transaction's Xid.
+    pub xid: Xid,
+    /// The first of the new oids, if there are any.
+    pub first_oid: Oid,
+}
+
+/// Why a write isn't made.
+#[derive(Clone, Copy)]
+pub enum WriteRefusal {
+    /// This new name is taken.
+    Clash(Name, Clash),
+    /// Out of memory.
+    NoMemory,
+}

@@ -1,0 +1,14 @@
+mod Promises
+mod Own
+mod Keeps
+mod Appended
+mod Entered
+mod Start
+mod Rows
+mod Asked
+mod Scanned
+mod Locked
+mod Written
+mod NewNames
+mod Clashes
+mod Writing

@@ -1,0 +1,37 @@
+-- The new names of the first changes.
+use Rattle.std.proofs.Common.{◌≡◌, ◌<◌, ◌+◌, ◌∙◌, ◌||◌, ℕ, true, false, List, [], ◌∷◌, ◌++◌, length, take, drop, get_or, ap, sym, subst}
+use Rattle.std.specs.List.{flat_map, list_any}
+use Rattle.std.specs.Str.{bytes_eq}
+use Rattle.std.proofs.lemmas.Cmp.{nat_list_eq_equiv}
+use Rattle.std.proofs.lemmas.List.{take_more, drop_more, take-append-drop}
+use Rattle.std.proofs.lemmas.Grind.{flat_map-append}
+use Rattle.base_types.specs.declared.change.Change.{Change}
+use Rattle.row_visibility.specs.declared.version.Reader.{Reader}
+use Rattle.catalog_rows.specs.Store.{Store}
+use Rattle.history_model.proofs.Every.{every-append, any-left, any-right}
+use Rattle.shared_seg.specs.declared.naming.Taken.{Taken}
+use Rattle.shared_seg.specs.Naming.{new_name_of, NameFree, NamesFree, IsTaken, IsTakenBy}
+
+pub bytes_eq-same : (xs : List ℕ) → bytes_eq xs xs ≡ true
+bytes_eq-same xs = nat_list_eq_equiv.refl xs
+
+-- one more change whose new name is free
+pub free_more : (store : Store) (reader : Reader) (changes : List Change) (i : ℕ) (change : Change) → i < length changes → change ≡ get_or changes i change → NamesFree store reader (take i changes) → NameFree store reader change
+    → NamesFree store reader (take (i + 1) changes)
+free_more store reader changes i change within is free here =
+    subst (NamesFree store reader) (sym (take_more changes i change within ∙ ap (λ x. take i changes ++ x ∷ []) (sym is))) (every-append (NameFree store reader) (take i changes) (change ∷ []) free (here, tt))
+
+-- a change whose new name is taken
+pub taken_at : (store : Store) (reader : Reader) (changes : List Change) (i : ℕ) (change : Change) (taken : Taken) → i < length changes → change ≡ get_or changes i change → IsTakenBy store reader change taken → IsTaken store reader changes taken
+taken_at store reader changes i change taken within is by = record {
+  clash = by.clash;
+  is_new = subst (λ l. list_any (bytes_eq taken.name) (flat_map f l) ≡ true) whole
+      (ap (list_any (bytes_eq taken.name)) (flat_map-append f (take i changes) (change ∷ drop (i + 1) changes)) ∙ any-right (bytes_eq taken.name) (flat_map f (take i changes)) (flat_map f (change ∷ drop (i + 1) changes))
+      (any-left (bytes_eq taken.name) (f change) (flat_map f (drop (i + 1) changes)) (subst (λ l. list_any (bytes_eq taken.name) l ≡ true) (sym by.is_new) (ap (λ t. t || false) (bytes_eq-same taken.name)))));
+}
+  where
+    f : Change → List (List ℕ)
+    f = new_name_of store reader
+
+    whole : take i changes ++ change ∷ drop (i + 1) changes ≡ changes
+    whole = ap (λ x. take i changes ++ x ∷ drop (i + 1) changes) is ∙ ap (λ l. take i changes ++ l) (sym (drop_more changes i change within)) ∙ take-append-drop i changes

@@ -1,0 +1,158 @@
+-- What is shared after a write, or after a clash in its place.
+use Rattle.std.proofs.Common.{◌≡◌, ◌+◌, ◌∙◌, ◌++◌, ◌∷◌, [], ℕ, Bool, true, Option, Some, Err, List, length, fold, max, slice_set, refl, sym, ap, subst, arith}
+use Rattle.std.specs.List.{flat_map, list_any, list_all, range_with_len}
+use Rattle.std.specs.Str.{bytes_eq}
+use Rattle.std.proofs.lemmas.Bool.{eqb-true}
+use Rattle.std.proofs.lemmas.List.{length-set}
+use Rattle.std.proofs.lemmas.List.FromFn.{length-range_with_len}
+use Rattle.base_types.specs.Scenario.{Scenario}
+use Rattle.base_types.specs.declared.ids.Xid.{Xid}
+use Rattle.base_types.specs.declared.change.Change.{Change}
+use Rattle.event_kinds.specs.declared.entry.Entry.{Entry}
+use Rattle.event_kinds.specs.declared.entry.Event.TheVariants.{Write, ClashRow, ClashRunning}
+use Rattle.row_visibility.specs.declared.clash.Clash.{Clash}
+use Rattle.row_visibility.specs.declared.clash.Clash.TheVariants.{Row, Running}
+use Rattle.seg_calls.specs.declared.refusal.Written.{Written}
+use Rattle.seg_calls.specs.declared.refusal.WriteRefusal.{WriteRefusal}
+use Rattle.seg_calls.specs.declared.refusal.WriteRefusal.TheVariants.{Clash as RefusesClash}
+use Rattle.event_kinds.specs.declared.entry.Item.{Item}
+use Rattle.catalog_rows.specs.Store.{Store, has_committed, after_write}
+use Rattle.ddl_effect.specs.declared.draft.Draft.{Draft}
+use Rattle.ddl_effect.specs.Drawing.{changes_of}
+use Rattle.history_model.specs.declared.grant.Grant.{Grant}
+use Rattle.history_model.specs.Changes.{items_of}
+use Rattle.history_model.specs.Drawn.{next_oid}
+use Rattle.history_model.specs.Held.{granted_by}
+use Rattle.history_model.specs.Legal.{AllowsEvent}
+use Rattle.history_model.specs.Names.{new_names}
+use Rattle.history_model.specs.Orderly.{IsOrderlyWrite}
+use Rattle.history_model.specs.Versions.{change_by}
+use Rattle.history_model.specs.Writes.{is_free, changed_key}
+use Rattle.base_types.specs.RowKeys.{are_distinct_keys}
+use Rattle.history_model.proofs.Ordered.{sound_ordered}
+use Rattle.seg_calls.specs.Calls.{entry_of, items_drawn, MayRequest, MayWrite, MakesWrite, Clashes, Writes}
+use Rattle.shared_seg.specs.declared.drawing.Drawn.{Drawn}
+use Rattle.shared_seg.specs.declared.naming.Taken.{Taken}
+use Rattle.shared_seg.specs.declared.transaction.Transaction.{Transaction}
+use Rattle.shared_seg.specs.Drawn.{xid_drawn}
+use Rattle.shared_seg.specs.IsDrawn.{IsDrawn}
+use Rattle.shared_seg.specs.Kept.{Kept, places_in}
+use Rattle.shared_seg.specs.KeepsFolds.{KeepsFolds}
+use Rattle.shared_seg.specs.Naming.{NamesFree, IsTaken, clash_with, clash_event_of, refuses}
+use Rattle.shared_seg.specs.Places.{promised_in}
+use Rattle.shared_seg.specs.Transactions.{transaction_at, transaction_by, own_xid_in, xid_at, begun_own}
+use Rattle.shared_seg.proofs.Asked.{request_inside, asked_appends, asked_quiet}
+use Rattle.shared_seg.proofs.Clashes.{Mirrors, all_free, names_same, clash_allowed}
+use Rattle.shared_seg.proofs.Entered.{within}
+use Rattle.shared_seg.proofs.Keeps.{Steps}
+use Rattle.shared_seg.proofs.Own.{kept_set}
+use Rattle.shared_seg.proofs.Rows.{runs_own}
+use Rattle.shared_seg.proofs.Scanned.{reads_same}
+use Rattle.shared_seg.proofs.Written.{xid_drawn_is, versions_written, committed_written, place_written}
+
+-- what a write needs, of the parts
+pub write_inside : (k now : Kept) (b c : ℕ) (draft : Draft) → k ≡ now → MayWrite now.history b c draft → MayWrite k.history b c draft
+write_inside k now b c draft is may = subst (λ (x : Kept). MayWrite x.history b c draft) (sym is) may
+
+module _ (script : Scenario) (history : List Entry) (promised : List ℕ) (store : Store) (grants : List Grant) (transactions : List (Option Transaction)) (next last b c : ℕ) (k : KeepsFolds script history promised store grants transactions next last) where
+  mirrors : Mirrors history b store (xid_at transactions b)
+  mirrors = record { versions = k.versions; committed = k.committed; own_is = λ s. runs_own history b transactions s (k.own b) }
+
+  -- the items of what is drawn
+  pub items_are : (draft : Draft) → items_of (changes_of next draft) draft.forced ≡ items_drawn history draft
+  items_are draft = ap (λ n. items_of (changes_of n draft) draft.forced) k.next_is
+
+  -- a write is allowed where no new name is taken
+  pub write_allowed : (draft : Draft) (drawn : Drawn) → MayRequest script history b c → MayWrite history b c draft → IsDrawn (xid_at transactions b) draft next last drawn
+      → NamesFree store (record { xid = xid_at transactions b; command = c + 1 }) drawn.changes.items → AllowsEvent history b c (Write drawn.xid (items_drawn history draft))
+  write_allowed draft drawn request may is free = record {
+    xid_is = ap (λ (x : Xid). x.0) is.xid ∙ ap (λ o. (xid_drawn (own_xid_in o) last).0) (k.own b) ∙ xid_drawn_is history b last k.last_is;
+    oids = may.oids ∙ ap (range_with_len (next_oid history)) (sym (ap length may.oids ∙ length-range_with_len (next_oid history) draft.new_oids));
+    keys = may.keys;
+    there = may.there;
+    kinds = may.kinds;
+    only = may.only;
+    free = subst (λ items. list_all (is_free history b) (new_names history b items) ≡ true) (ap (λ cs. items_of cs draft.forced) is.changes ∙ items_are draft)
+        (all_free history b store (record { xid = xid_at transactions b; command = c + 1 }) mirrors (reads_same script history promised store grants transactions next last b c k request) drawn.changes.items draft.forced free);
+    guarded = may.guarded;
+  }
+
+  -- what is kept makes its step
+  pub write_steps : (draft : Draft) (drawn : Drawn) (after : Store) (held : List Grant) (own : List (Option Transaction)) → MayRequest script history b c → MayWrite history b c draft → IsDrawn (xid_at transactions b) draft next last drawn
+      → after ≡ after_write store drawn.xid c drawn.changes.items → held ≡ grants ++ flat_map (granted_by b c) drawn.items.items → own ≡ slice_set transactions b (transaction_by c (Write drawn.xid drawn.items.items) (transaction_at transactions b))
+      → Steps history (entry_of b c (Write drawn.xid (items_drawn history draft))) store after grants held transactions own next drawn.next_oid last (max last drawn.xid.0)
+  write_steps draft drawn after held own request may is after_is held_is own_is = record {
+    versions = ap (λ (s : Store). s.versions) after_is ∙ ap (λ x. (after_write store x c drawn.changes.items).versions) is.xid
+        ∙ versions_written history b c last store (xid_at transactions b) drawn.changes.items draft.forced (sound_ordered history k.sound).touched k.versions k.committed (ap own_xid_in (k.own b)) k.last_is (ap are_distinct (sym items_same) ∙ may.keys)
+        ∙ (λ i. fold (change_by history b (record { xid = sym is.xid i; command = c })) store.versions (sym items_same i));
+    committed = λ x. ap (λ (s : Store). has_committed s.committed x) after_is ∙ committed_written store.committed drawn.xid.0 x;
+    grows = omega (arith, ap (λ (s : Store). length s.committed) after_is, (place_written store.committed drawn.xid.0).0);
+    drawn = λ x writes. omega (arith, ap (λ (s : Store). length s.committed) after_is, (place_written store.committed drawn.xid.0).1, eqb-true drawn.xid.0 x writes);
+    held_is = held_is ∙ ap (λ items. grants ++ flat_map (granted_by b c) items) items_made;
+    oid_is = is.next_oid ∙ ap (λ n. next + n) (sym (ap length may.oids ∙ length-range_with_len (next_oid history) draft.new_oids));
+    xid_is = refl;
+    slots = ap length own_is ∙ length-set transactions b _;
+    own_is = kept_set (entry_of b c (Write drawn.xid (items_drawn history draft))) transactions own (within script b (length transactions) request.backend k.slots) own_is;
+  }
+    where
+      items_made : drawn.items.items ≡ items_drawn history draft
+      items_made = is.items ∙ items_are draft
+
+      items_same : items_drawn history draft ≡ items_of drawn.changes.items draft.forced
+      items_same = sym (ap (λ cs. items_of cs draft.forced) is.changes ∙ items_are draft)
+
+      are_distinct : List Item → Bool
+      are_distinct = λ items. are_distinct_keys (flat_map changed_key items)
+
+  -- a clash is allowed
+  pub taken_allowed : (changes : List Change) (taken : Taken) → IsTaken store (record { xid = xid_at transactions b; command = c + 1 }) changes taken → AllowsEvent history b c (clash_with taken)
+  taken_allowed changes taken is = clash_allowed history b c store (xid_at transactions b) mirrors taken.name taken.clash is.clash
+
+  -- of a new name
+  pub taken_is_new : (draft : Draft) (drawn : Drawn) (taken : Taken) → MayRequest script history b c → IsDrawn (xid_at transactions b) draft next last drawn → IsTaken store (record { xid = xid_at transactions b; command = c + 1 }) drawn.changes.items taken
+      → list_any (bytes_eq taken.name) (new_names history b (items_drawn history draft)) ≡ true
+  taken_is_new draft drawn taken request is at =
+      ap (list_any (bytes_eq taken.name)) (sym (names_same history b store (record { xid = xid_at transactions b; command = c + 1 }) k.versions (reads_same script history promised store grants transactions next last b c k request) drawn.changes.items draft.forced
+      ∙ ap (new_names history b) (ap (λ cs. items_of cs draft.forced) is.changes ∙ items_are draft))) ∙ at.is_new
+
+-- the entry of a write, of its parts
+pub entry_written : (history mid after : List Entry) (b c : ℕ) (xid : Xid) (list made drawn : List Item) → after ≡ mid ++ entry_of b c (Write xid list) ∷ [] → mid ≡ history → list ≡ made → made ≡ drawn → after ≡ history ++ entry_of b c (Write xid drawn) ∷ []
+entry_written history mid after b c xid list made drawn entries same listed are = entries ∙ (λ i. same i ++ entry_of b c (Write xid ((listed ∙ are) i)) ∷ [])
+
+-- what is kept after a clash
+pub clash_keeps : (k now : Kept) (after : List Entry) (has : List ℕ) (b c : ℕ) (name : List ℕ) (clash : Clash) (store : Store) (grants : List Grant) (transactions own : List (Option Transaction)) (next last : ℕ)
+    → k ≡ now → KeepsFolds k.script k.history k.promised store grants transactions next last → MayRequest now.script now.history b c → AllowsEvent k.history b c (clash_event_of name clash)
+    → after ≡ k.history ++ entry_of b c (clash_event_of name clash) ∷ [] → has ≡ k.promised → own ≡ slice_set transactions b (Some (begun_own c (transaction_at transactions b))) → KeepsFolds k.script after has store grants own next last
+clash_keeps k now after has b c name (Row rel) store grants transactions own next last is keeps request allows entries same own_is =
+    asked_quiet k now after has b c (ClashRow name rel) store grants grants transactions own next last is keeps request refl allows tt entries same refl refl refl (λ x. refl) (λ x. refl) refl own_is
+clash_keeps k now after has b c name (Running xid) store grants transactions own next last is keeps request allows entries same own_is =
+    asked_quiet k now after has b c (ClashRunning name xid) store grants grants transactions own next last is keeps request refl allows tt entries same refl refl refl (λ x. refl) (λ x. refl) refl own_is
+
+-- and what callers see of it
+pub clash_writes : (k now : Kept) (after : List Entry) (has : List ℕ) (b c : ℕ) (draft : Draft) (name : List ℕ) (clash : Clash) → k ≡ now → MayRequest now.script now.history b c → AllowsEvent k.history b c (clash_event_of name clash)
+    → list_any (bytes_eq name) (new_names k.history b (items_drawn k.history draft)) ≡ true → after ≡ k.history ++ entry_of b c (clash_event_of name clash) ∷ [] → has ≡ k.promised
+    → Writes now.history after (places_in now) (promised_in has) b c draft (Err (RefusesClash name clash))
+clash_writes k now after has b c draft name (Row rel) is request allows new entries same =
+    subst (λ (x : Kept). Clashes x.history after (places_in x) (promised_in has) b draft name (entry_of b c (ClashRow name rel))) is
+    (record { appends = asked_appends k k after has b c (ClashRow name rel) refl (request_inside k now b c is request) refl allows tt entries same; is_new = new })
+clash_writes k now after has b c draft name (Running xid) is request allows new entries same =
+    subst (λ (x : Kept). Clashes x.history after (places_in x) (promised_in has) b draft name (entry_of b c (ClashRunning name xid))) is
+    (record { appends = asked_appends k k after has b c (ClashRunning name xid) refl (request_inside k now b c is request) refl allows tt entries same; is_new = new })
+
+-- what callers see of a write
+pub makes_write : (k now : Kept) (after : List Entry) (has : List ℕ) (b c next : ℕ) (draft : Draft) (written : Written) → k ≡ now → MayRequest now.script now.history b c → AllowsEvent k.history b c (Write written.xid (items_drawn k.history draft)) → IsOrderlyWrite k.history b (items_drawn k.history draft)
+    → after ≡ k.history ++ entry_of b c (Write written.xid (items_drawn k.history draft)) ∷ [] → has ≡ k.promised → written.first_oid.0 ≡ next → next ≡ next_oid k.history → MakesWrite now.history after (places_in now) (promised_in has) b c draft written
+makes_write k now after has b c next draft written is request allows orderly entries same first drawn =
+    subst (λ (x : Kept). MakesWrite x.history after (places_in x) (promised_in has) b c draft written) is
+    (record { appends = asked_appends k k after has b c (Write written.xid (items_drawn k.history draft)) refl (request_inside k now b c is request) refl allows orderly entries same; first = first ∙ drawn })
+
+-- the same of what a call answers
+pub clash_writes_at : (k now : Kept) (after : List Entry) (has : List ℕ) (b c : ℕ) (draft : Draft) (taken : Taken) (answer : WriteRefusal) → answer ≡ refuses taken → k ≡ now → MayRequest now.script now.history b c → AllowsEvent k.history b c (clash_with taken)
+    → list_any (bytes_eq taken.name) (new_names k.history b (items_drawn k.history draft)) ≡ true → after ≡ k.history ++ entry_of b c (clash_with taken) ∷ [] → has ≡ k.promised
+    → Writes now.history after (places_in now) (promised_in has) b c draft (Err answer)
+clash_writes_at k now after has b c draft taken answer answer_is is request allows new entries same =
+    subst (λ r. Writes now.history after (places_in now) (promised_in has) b c draft (Err r)) (sym answer_is) (clash_writes k now after has b c draft taken.name taken.clash is request allows new entries same)
+
+-- the last Xid by another name
+pub keeps_last : (script : Scenario) (history : List Entry) (promised : List ℕ) (store : Store) (grants : List Grant) (transactions : List (Option Transaction)) (next m n : ℕ) → m ≡ n → KeepsFolds script history promised store grants transactions next n → KeepsFolds script history promised store grants transactions next m
+keeps_last script history promised store grants transactions next m n same keeps = subst (KeepsFolds script history promised store grants transactions next) (sym same) keeps

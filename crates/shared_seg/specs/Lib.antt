@@ -1,0 +1,9 @@
+pub mod Places
+pub mod KeepsPlaces
+pub mod Transactions
+pub mod KeepsFolds
+pub mod Kept
+pub mod Undone
+pub mod Drawn
+pub mod Naming
+pub mod IsDrawn

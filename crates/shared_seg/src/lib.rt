@@ -1,0 +1,34 @@
+//! What the backends share, kept in plain memory: [`Shared`] is a [`Seg`](seg_calls::Seg).
+//!
+//! It keeps the history, the versions of all rows, the locks that are held, the running transaction of
+//! each backend, and the next numbers to be drawn. The history alone says what all of these are: each is
+//! what the definitions read off it, so that is the invariant, with one law of one more entry for each
+//! (`specs/KeepsFolds.antt`, `proofs/Keeps.antt`). And the history is sound: each of its entries may
+//! follow those before it.
+//!
+//! The promise to the layers above is the contract of `Seg`: a call appends its one entry, which the
+//! history allows, or it is out of memory and has changed nothing. A call that must not fail takes a
+//! place that was promised before: the history's vector always has room for all promised places, and no
+//! other call eats into them.
+//!
+//! ```text
+//! let mut shared = Shared::new(alloc, &script)?;
+//! shared.promise(1, 48)?;
+//! shared.start(1);
+//! let scanned = shared.scan(1, 1, &purpose)?;
+//! ```
+//!
+//! Different from the server: a lock is never waited for, and the first holder in the way is named; a new
+//! name that a running transaction has in use is refused where the server would wait; grants are one list
+//! (`src/backend/storage/lmgr/lock.c` hashes them by relation); Xids and oids that would pass 32 bits are
+//! answered as out of memory. No message is sent yet, so none ever waits.
+#![tactic(auto)]
+
+mod drawing;
+mod grants;
+mod naming;
+mod places;
+mod shared;
+mod transaction;
+
+pub use shared::Shared;

@@ -1,0 +1,339 @@
+ghost use Rattle.std.specs.Prelude.{◌≡◌, ◌≤◌, ◌<◌, ◌+◌, ◌++◌, ◌^◌, [], false, None, length, replicate, vec_len, vec_capacity, IfOk};
+ghost use Rattle.shared_seg.specs.Undone.{undone};
+ghost use Rattle.shared_seg.specs.Naming.{clash_with, refuses};
+
+use crate::drawing::{Drawn, draw};
+use crate::grants::{add_new, conflicting, release_from};
+use crate::naming::{Taken, first_taken};
+use crate::places::Places;
+use crate::transaction::{Transaction, begin, begin_writing, clear, end_from, own_xid};
+use base_types::{FIRST_OID, Listed, Mode, NoMemory, Oid, Purpose, Scanned, Xid};
+use catalog_rows::RowStore;
+use ddl_effect::Draft;
+use event_kinds::{Entry, Event};
+use history_model::Grant;
+use row_visibility::{Clash, Reader};
+use script_text::Script;
+use seg_calls::{LockRefusal, Seg, WriteRefusal, Written};
+use std::alloc::Global;
+use std::marker::Model;
+use std::snapshot::Snapshot;
+
+/// What all backends of a script share.
+#[derive(Drop)]
+pub struct Shared {
+    alloc: Global,
+    script: Snapshot<Script>,
+    places: Places,
+    store: RowStore,
+    grants: Vec<Grant>,
+    // by backend
+    transactions: Vec<Option<Transaction>>,
+    next_oid: u32,
+    last_xid: u32,
+    ghost short: { length places.entries ≤ 2 ^ 56 },
+}
+
+impl Model for Shared {
+    ghost use Rattle.shared_seg.specs.Kept.{Kept};
+
+    ghost Value = { Kept };
+
+    ghost use Rattle.shared_seg.specs.KeepsFolds.{KeepsFolds};
+
+    ghost view = { λ s. record { history = s.places.entries; script = s.script.value; promised = s.places.promised; short = s.short } };
+
+    ghost invariant = { λ s. KeepsFolds s.script.value s.places.entries s.places.promised s.store s.grants.items s.transactions.items s.next_oid s.last_xid };
+}
+
+impl Shared {
+    /// An empty history, and no promises.
+    pub fn new(alloc: Global, script: &Script) -> Result<Shared, NoMemory>
+        ensures history { IfOk result (λ shared. shared.history ≡ []) }
+        ensures script { IfOk result (λ shared. shared.script ≡ script.now) }
+    {
+        let backends = script.backends();
+        let places = Places::new(alloc, backends)?;
+        let mut transactions = Vec::new(alloc);
+        transactions.reserve(backends as usize + 1)?;
+        add_slots(&mut transactions, backends as usize + 1);
+        Ok(Shared {
+            alloc,
+            script: Snapshot::of(script),
+            places,
+            store: RowStore::new(alloc),
+            grants: Vec::new(alloc),
+            transactions,
+            next_oid: FIRST_OID,
+            last_xid: 0,
+        })
+    }
+
+    /// The history so far.
+    pub fn history(&self) -> &[Entry]
+        ensures { result.now ≡ self.now.history }
+    {
+        self.places.entries()
+    }
+
+    /// The history, the rest given up.
+    pub fn into_history(self) -> Vec<Entry>
+        ensures { result.items ≡ self.history }
+    {
+        let Shared {
+            alloc: _,
+            script: _,
+            places,
+            store: _,
+            grants: _,
+            transactions: _,
+            next_oid: _,
+            last_xid: _,
+        } = self;
+        places.into_entries()
+    }
+}
+
+impl Seg for Shared {
+    ghost use Rattle.shared_seg.specs.Kept.{places_in};
+
+    ghost history = { λ s. s.history };
+
+    ghost script = { λ s. s.script };
+
+    ghost promised = { places_in };
+
+    fn promise(&mut self, b: u32, n: u32) -> Result<(), NoMemory> {
+        self.places.promise(b, n)
+    }
+
+    fn promised(&self, b: u32) -> u32 {
+        self.places.promised(b)
+    }
+
+    fn waits(&self, b: u32) -> bool {
+        let _places = &self.places;
+        false
+    }
+
+    fn start(&mut self, b: u32) {
+        self.places.append(Entry {
+            backend: b,
+            command: 0,
+            event: Event::Start,
+        });
+        clear(&mut self.transactions, b);
+    }
+
+    fn looked(&mut self, b: u32, c: u32, yes: bool) {
+        self.places.append(Entry {
+            backend: b,
+            command: c,
+            event: Event::Look { yes },
+        });
+        begin(&mut self.transactions, b, c);
+    }
+
+    fn scan(&mut self, b: u32, c: u32, purpose: &Purpose) -> Result<Scanned, NoMemory> {
+        let reader = Reader {
+            xid: own_xid(&self.transactions, b),
+            command: c + 1,
+        };
+        let rows = self.store.scan(purpose, reader)?;
+        let count = u32::try_from(rows.len()).map_err(|_| NoMemory)?;
+        self.places.add(Entry {
+            backend: b,
+            command: c,
+            event: Event::Scan {
+                purpose: *purpose,
+                rows: count,
+            },
+        })?;
+        begin(&mut self.transactions, b, c);
+        Ok(Scanned {
+            rows,
+            at: self.places.len() as u64,
+        })
+    }
+
+    fn lock(&mut self, b: u32, c: u32, rel: Oid, mode: Mode) -> Result<(), LockRefusal> {
+        match conflicting(&self.grants, b, rel, mode) {
+            Some(grant) => {
+                let Grant {
+                    backend: holder,
+                    mode: held,
+                    ..
+                } = grant;
+                let event = Event::LockHeld {
+                    rel,
+                    mode,
+                    holder,
+                    held,
+                };
+                let Ok(()) = self.places.add(Entry {
+                    backend: b,
+                    command: c,
+                    event,
+                })
+                else {
+                    return Err(LockRefusal::NoMemory);
+                };
+                begin(&mut self.transactions, b, c);
+                Err(LockRefusal::Conflict { holder, mode: held })
+            }
+            None => {
+                let Ok(()) = self.grants.reserve(1) else {
+                    return Err(LockRefusal::NoMemory);
+                };
+                let event = Event::LockOk { rel, mode };
+                let Ok(()) = self.places.add(Entry {
+                    backend: b,
+                    command: c,
+                    event,
+                })
+                else {
+                    return Err(LockRefusal::NoMemory);
+                };
+                self.grants.push_reserved(Grant {
+                    backend: b,
+                    command: c,
+                    rel,
+                    mode,
+                });
+                begin(&mut self.transactions, b, c);
+                Ok(())
+            }
+        }
+    }
+
+    fn write(&mut self, b: u32, c: u32, draft: &Draft) -> Result<Written, WriteRefusal> {
+        let own = own_xid(&self.transactions, b);
+        let Ok(drawn) = draw(self.alloc, own, draft, self.next_oid, self.last_xid) else {
+            return Err(WriteRefusal::NoMemory);
+        };
+        let Drawn {
+            xid,
+            next_oid,
+            changes,
+            items,
+        } = drawn;
+        let reader = Reader {
+            xid: own,
+            command: c + 1,
+        };
+        if let Some(taken) = first_taken(&self.store, reader, &changes) {
+            let Ok(()) = self.places.add(Entry {
+                backend: b,
+                command: c,
+                event: clash_event(&taken),
+            })
+            else {
+                return Err(WriteRefusal::NoMemory);
+            };
+            begin(&mut self.transactions, b, c);
+            return Err(refusal_of(&taken));
+        }
+        let Ok(()) = self.grants.reserve(items.len()) else {
+            return Err(WriteRefusal::NoMemory);
+        };
+        let Ok(()) = self.places.make_room() else {
+            return Err(WriteRefusal::NoMemory);
+        };
+        let Ok(()) = self.store.apply(xid, c, &changes) else {
+            return Err(WriteRefusal::NoMemory);
+        };
+        add_new(&mut self.grants, b, c, &items);
+        self.places.push(Entry {
+            backend: b,
+            command: c,
+            event: Event::Write {
+                xid,
+                items: Listed::from_vec(items),
+            },
+        });
+        begin_writing(&mut self.transactions, b, c, xid);
+        let first_oid = Oid(self.next_oid);
+        self.next_oid = next_oid;
+        self.last_xid = self.last_xid.max(xid.0);
+        Ok(Written { xid, first_oid })
+    }
+
+    fn visible(&mut self, b: u32, c: u32, xid: Xid) {
+        self.places.append(Entry {
+            backend: b,
+            command: c,
+            event: Event::Visible { xid },
+        });
+        self.store.commit(xid);
+        begin(&mut self.transactions, b, c);
+    }
+
+    fn release(&mut self, b: u32, c: u32, from: u32) {
+        self.places.append(Entry {
+            backend: b,
+            command: c,
+            event: Event::Release { from },
+        });
+        release_from(&mut self.grants, b, from);
+        end_from(&mut self.transactions, b, c, from);
+    }
+
+    fn gone(&mut self, b: u32, c: u32, from: u32) {
+        self.places.append(Entry {
+            backend: b,
+            command: c,
+            event: Event::Gone { from },
+        });
+        let own = own_xid(&self.transactions, b);
+        undo_from(&mut self.store, own, from);
+        begin(&mut self.transactions, b, c);
+    }
+
+    fn stop(&mut self, b: u32, c: u32) {
+        self.places.append(Entry {
+            backend: b,
+            command: c,
+            event: Event::Stop,
+        });
+    }
+
+    ghost short = { λ s. s.short };
+}
+
+// The refusal of a clash.
+fn refusal_of(taken: &Taken) -> WriteRefusal
+    ensures { result ≡ refuses taken.now }
+{
+    let Taken { name, clash } = *taken;
+    WriteRefusal::Clash(name, clash)
+}
+
+// The entry of a clash.
+fn clash_event(taken: &Taken) -> Event
+    ensures { result ≡ clash_with taken.now }
+{
+    let Taken { name, clash } = *taken;
+    match clash {
+        Clash::Row(rel) => Event::ClashRow { name, rel },
+        Clash::Running(xid) => Event::ClashRunning { name, xid },
+    }
+}
+
+// Takes back what a transaction wrote in commands of this number and above, if it has written.
+fn undo_from(store: &mut RowStore, own: Option<Xid>, from: u32)
+    ensures { store.new ≡ undone own from store.old }
+{
+    if let Some(xid) = own {
+        store.undo(xid, from);
+    }
+}
+
+// Adds so many slots without a transaction, for which there is room.
+fn add_slots(transactions: &mut Vec<Option<Transaction>>, count: usize)
+    requires { vec_len transactions.old + count ≤ vec_capacity transactions.old }
+    ensures { transactions.new.items ≡ transactions.old.items ++ replicate count None }
+{
+    for slot in 0..count {
+        transactions.push_reserved(None);
+    }
+}
