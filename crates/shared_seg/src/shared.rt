@@ -112,6 +112,7 @@ impl Seg for Shared {
     }
 
     fn waits(&self, b: u32) -> bool {
+        // No message is built yet, so there is none that could wait.
         let _places = &self.places;
         false
     }
