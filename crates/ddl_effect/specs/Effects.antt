@@ -2,7 +2,7 @@
 use Rattle.std.specs.Prelude.{◌≡◌, ⊤, ℕ, Option, Some, None, Result, Ok, Err, List, [], ◌∷◌}
 use Rattle.base_types.specs.declared.scan.Purpose.TheVariants as scans
 use Rattle.ddl_effect.specs.declared.want.Want.TheVariants as wants
-use Rattle.ddl_effect.specs.declared.effect.EffectRefusal.TheVariants as refusals
+use Rattle.ddl_effect.specs.declared.facts.EffectRefusal.TheVariants as refusals
 use Rattle.ddl_effect.specs.Types.{Oid, Row, Purpose, Draft, CommandError, EffectRefusal, Want}
 use Rattle.ddl_effect.specs.Plans.{Act, Lookup, Column, Read, Write, Plan, Done, Fails, Absent, Do, NotBuilt}
 

@@ -16,5 +16,5 @@ pub use Rattle.rel_desc.specs.declared.error.CommandError.{CommandError}
 pub use Rattle.ddl_effect.specs.declared.draft.Draft.{Draft}
 pub use Rattle.ddl_effect.specs.declared.exec.Exec.{Exec}
 pub use Rattle.ddl_effect.specs.declared.want.Want.{Want}
-pub use Rattle.ddl_effect.specs.declared.effect.Facts.{Facts}
-pub use Rattle.ddl_effect.specs.declared.effect.EffectRefusal.{EffectRefusal}
+pub use Rattle.ddl_effect.specs.declared.facts.Facts.{Facts}
+pub use Rattle.ddl_effect.specs.declared.facts.EffectRefusal.{EffectRefusal}

@@ -11,12 +11,12 @@
 #![tactic(auto)]
 
 mod draft;
-mod effect;
 mod exec;
+mod facts;
 mod table;
 mod want;
 
 pub use draft::Draft;
-pub use effect::{EffectRefusal, Facts};
 pub use exec::Exec;
+pub use facts::{EffectRefusal, Facts, effect};
 pub use want::Want;

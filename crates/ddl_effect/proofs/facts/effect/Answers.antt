@@ -4,7 +4,7 @@ use Rattle.base_types.specs.Scans.{scan_of}
 use Rattle.ddl_effect.specs.Effects.{effect_of, given_for}
 use Rattle.ddl_effect.specs.Stages.{plan_at, want_of}
 use Rattle.ddl_effect.proofs.Driven.{effect_of-after}
-use Rattle.ddl_effect.proofs.effect.effect.Goals as goal
+use Rattle.ddl_effect.proofs.facts.effect.Goals as goal
 
 pub acts-preserved : goal.acts-preserved
 acts-preserved c =
