@@ -1,0 +1,2 @@
+//! One backend.
+#![tactic(auto)]
