@@ -20,3 +20,9 @@ pub use Rattle.ddl_effect.specs.declared.draft.Draft.{Draft}
 pub use Rattle.ddl_effect.specs.declared.exec.Exec.{Exec}
 pub use Rattle.cacheless.specs.declared.opening.Opening.{Opening}
 pub use Rattle.cacheless.specs.declared.own_lock.OwnLock.{OwnLock}
+pub use Rattle.backend_core.specs.declared.backend.Backend.{Backend}
+pub use Rattle.backend_core.specs.declared.kept_scan.KeptScan.{KeptScan}
+pub use Rattle.backend_core.specs.declared.next.Next.{Next}
+pub use Rattle.backend_core.specs.declared.phase.Life.{Life}
+pub use Rattle.backend_core.specs.declared.phase.Phase.{Phase}
+pub use Rattle.backend_core.specs.declared.phase.OwnTransaction.{OwnTransaction}
