@@ -29,13 +29,10 @@ use Rattle.history_model.proofs.Touched.{OfStamps, Touch}
 use Rattle.backend_core.specs.NewTables.{AddsTables, IsTableVersion, HasTables, is_version_of, CountsFor}
 use Rattle.backend_core.proofs.Tables.{next_oid-rises, is_kept, stamp_of, added_by, versions-after, IsNewVersion, added-new}
 
-hidden_by : (v : Bool) (event : Event) → FollowsVisible v event → (FollowsVisible true event → ⊥) → v ≡ false
+-- between a backend's visibility step and the release after it such an event doesn't come
+pub hidden_by : (v : Bool) (event : Event) → FollowsVisible v event → (FollowsVisible true event → ⊥) → v ≡ false
 hidden_by false event follows not' = refl
 hidden_by true event follows not' = absurd (not' follows)
-
--- before a backend takes writes back its transaction isn't visible
-pub hidden_gone : (history : List Entry) (e : Entry) (from : ℕ) → MayComeNext history e → e.event ≡ events.Gone from → is_visible (running_transaction_of history e.backend) ≡ false
-hidden_gone history e from comes is = hidden_by (is_visible (running_transaction_of history e.backend)) (events.Gone from) (subst (FollowsVisible (is_visible (running_transaction_of history e.backend))) is comes.follows.visible) (λ f. f)
 
 no_writes : (from : ℕ) (lists : List Written) → AllByRecursion (λ w. from ≤ w.command) lists → has_write_from from lists ≡ false → lists ≡ []
 no_writes from [] high none = refl

@@ -1,3 +1,4 @@
 pub mod Tables
 pub mod CountsFor
 pub mod StaysRead
+pub mod SeesRelation

@@ -115,7 +115,7 @@ none_left history e rel tables adds drawn gone = subst (AllByRecursion Other) (s
     Other : Version → Type 0
     Other v = is_version_of rel v ≡ false
 
-oid_eq : (a b : Oid) → same_oid a b ≡ true → a ≡ b
+pub oid_eq : (a b : Oid) → same_oid a b ≡ true → a ≡ b
 oid_eq a b is = let e : a.0 ≡ b.0 = eqb-true a.0 b.0 is in ap {B = Oid} (λ n. record { 0 = n }) e
 
 -- what was read stays its answer after one more entry, or its relation has no version any more
