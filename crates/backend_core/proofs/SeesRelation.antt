@@ -1,9 +1,9 @@
 -- A relation that a backend sees it sees until it takes the relation's rows back itself; and what it found by name, it sees.
-use Rattle.std.proofs.Common.{◌≡◌, ◌≤◌, ◌<◌, ◌+◌, ◌∙◌, ◌⊎◌, inl, inr, ℕ, suc, Bool, true, false, not, Option, Some, None, List, [], ◌∷◌, ◌++◌, ◌==◌, ◌||◌, ◌&&◌, cond, refl, sym, ap, subst, map, filter, fold, arith, append_assoc, append-nil}
+use Rattle.std.proofs.Common.{◌≡◌, ◌<◌, ◌+◌, ◌∙◌, ◌⊎◌, inl, inr, ℕ, suc, Bool, true, false, not, Option, Some, None, List, [], ◌∷◌, ◌++◌, ◌==◌, ◌||◌, ◌&&◌, cond, refl, sym, ap, subst, map, filter, fold, arith, append_assoc, append-nil}
 use Rattle.std.specs.Prelude.{nat_le, ⊤}
 use Rattle.std.specs.List.{AllByRecursion, insert, position_or_len}
 use Rattle.std.specs.Option.{IfSome}
-use Rattle.std.proofs.lemmas.Bool.{eqb-true, eq-eqb, both_ways, or_cases, and_parts, false_from_ne_true}
+use Rattle.std.proofs.lemmas.Bool.{eq-eqb, both_ways, or_cases, false_from_ne_true}
 use Rattle.base_types.specs.declared.ids.Oid.{Oid}
 use Rattle.base_types.specs.declared.kind.Kind.{Kind}
 use Rattle.base_types.specs.declared.row.Row.{Row}
@@ -23,12 +23,12 @@ use Rattle.history_model.specs.Drawn.{next_oid}
 use Rattle.history_model.specs.Legal.{FollowsVisible}
 use Rattle.history_model.specs.Orderly.{main_rel, MayComeNext, IsSound}
 use Rattle.history_model.specs.Transactions.{running_transaction_of, is_visible, runs_as, is_committed}
-use Rattle.history_model.specs.Versions.{versions_of, counts, sees, answer_of, is_back}
-use Rattle.history_model.proofs.Every.{every, every-weaker, every-filter, every-both}
+use Rattle.history_model.specs.Versions.{versions_of, counts, sees, answer_of}
+use Rattle.history_model.proofs.Every.{every, every-weaker, every-filter}
 use Rattle.history_model.proofs.Ordered.{sound_ordered, one_version}
 use Rattle.history_model.proofs.Runs.{Runs}
 use Rattle.history_model.proofs.Seen.{counts_at, every_command, seen-same, Apart, Pairwise, pair-weaker}
-use Rattle.backend_core.specs.NewTables.{AddsTables, IsTableVersion, HasTables, is_version_of, CountsFor, relation_of, HasNone, StaysRead, SeesRelation, is_gone, takes_back}
+use Rattle.backend_core.specs.NewTables.{AddsTables, IsTableVersion, HasTables, is_version_of, relation_of, HasNone, StaysRead, SeesRelation, is_gone, takes_back}
 use Rattle.backend_core.proofs.Tables.{is_kept}
 use Rattle.backend_core.proofs.CountsFor.{hidden_by, CountsFor-more}
 use Rattle.backend_core.proofs.StaysRead.{row_in, rows-none, whole_seen, oid_eq, answer-same, StaysRead-more}
@@ -89,7 +89,7 @@ only_one p q g x more (v ∷ vs) pairs passes is = by_seen (g v) refl is (only_o
         let here : q v.row ≡ true = ap q same ∙ passes in
         ap (λ t. cond t (v.row ∷ filter q rest) (filter q rest)) here ∙ ap (λ r. r ∷ filter q rest) same
         ∙ ap (λ l. x ∷ l) (rows-none q (filter g vs) (every-filter (λ w. q w.row ≡ false) g vs
-            (every-weaker (λ w. q v.row ≡ true → q w.row ≡ true → g v ≡ true → g w ≡ true → ⊥) (λ w. g w ≡ true → q w.row ≡ false) (λ w apart also. false_from_ne_true (q w.row) (λ twice. apart here twice seen also)) vs pairs.0)))
+        (every-weaker (λ w. q v.row ≡ true → q w.row ≡ true → g v ≡ true → g w ≡ true → ⊥) (λ w. g w ≡ true → q w.row ≡ false) (λ w apart also. false_from_ne_true (q w.row) (λ twice. apart here twice seen also)) vs pairs.0)))
 
     later : (u : Bool) → q v.row ≡ u → g v ≡ true → filter p rest ≡ x ∷ more → (filter p rest ≡ x ∷ more → filter q rest ≡ x ∷ []) → cond u (v.row ∷ filter q rest) (filter q rest) ≡ x ∷ []
     later true own seen there one = absurd (head_holds (λ row. q row ≡ true → ⊥) p g x more vs

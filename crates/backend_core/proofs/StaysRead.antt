@@ -1,5 +1,5 @@
 -- What a backend has read of a relation stays its answer, until the relation's rows are taken back.
-use Rattle.std.proofs.Common.{◌≡◌, ◌<◌, ◌∙◌, ◌⊎◌, inl, inr, ℕ, Bool, true, false, not, Option, Some, None, List, [], ◌∷◌, ◌++◌, ◌==◌, ◌&&◌, cond, refl, sym, ap, subst, map, filter, fold, arith, append-nil}
+use Rattle.std.proofs.Common.{◌≡◌, ◌<◌, ◌∙◌, ◌⊎◌, inl, inr, ℕ, Bool, true, false, not, Some, None, List, [], ◌∷◌, ◌++◌, ◌&&◌, cond, refl, sym, ap, subst, map, filter, fold, append-nil}
 use Rattle.std.specs.List.{AllByRecursion}
 use Rattle.std.specs.Option.{option_map_or}
 use Rattle.std.proofs.lemmas.Bool.{eqb-true, both_ways, false_from_ne_true}
@@ -10,7 +10,7 @@ use Rattle.base_types.specs.declared.row.Row.{Row}
 use Rattle.base_types.specs.declared.row.Row.TheVariants as rows
 use Rattle.base_types.specs.declared.scan.Purpose.{Purpose}
 use Rattle.base_types.specs.declared.scan.Purpose.TheVariants as scans
-use Rattle.base_types.specs.Scans.{same_oid, selects, put_in_order, scan_of}
+use Rattle.base_types.specs.Scans.{same_oid, selects, put_in_order}
 use Rattle.event_kinds.specs.declared.entry.Entry.{Entry}
 use Rattle.row_visibility.specs.declared.version.Stamp.{Stamp}
 use Rattle.row_visibility.specs.declared.version.Version.{Version}
@@ -82,7 +82,7 @@ pub answer-same : (history : List Entry) (e : Entry) (b : ℕ) (scan : Purpose) 
 answer-same history e b scan rel sound tables comes adds counted of kept =
     answer-all (history ++ e ∷ []) b scan rel more (CountsFor-more history e b rel sound tables comes adds counted) of
     ∙ ap (fold (put_in_order scan) []) (ap (read_in scan) (versions-after history e tables adds) ∙ ap (filter (selects scan)) (map-append row_in old new) ∙ filter-append (selects scan) (map row_in old) (map row_in new)
-        ∙ ap (λ l. read_in scan old ++ l) none_new ∙ append-nil (read_in scan old) ∙ all_old)
+    ∙ ap (λ l. read_in scan old ++ l) none_new ∙ append-nil (read_in scan old) ∙ all_old)
     ∙ sym (answer-all history b scan rel tables counted of)
   where
     more : HasTables (history ++ e ∷ [])

@@ -1,12 +1,10 @@
 -- What one more entry does to the versions of rows, where only tables are made: it adds those of a relation that wasn't drawn, or it takes some away by their stamps.
-use Rattle.std.proofs.Common.{◌≡◌, ◌≤◌, ◌<◌, ◌+◌, ◌-◌, ◌∙◌, ℕ, Bool, true, false, not, Option, Some, None, List, [], ◌∷◌, ◌++◌, ◌==◌, ◌&&◌, cond, if◌then◌else◌, refl, sym, ap, subst, map, filter, fold, length, arith, append_assoc, append-nil}
+use Rattle.std.proofs.Common.{◌≡◌, ◌≤◌, ◌<◌, ◌+◌, ◌∙◌, ℕ, Bool, true, false, not, Option, Some, None, List, [], ◌∷◌, ◌++◌, ◌==◌, if◌then◌else◌, refl, sym, ap, subst, map, filter, fold, length, arith, append_assoc, append-nil}
 use Rattle.std.specs.List.{AllByRecursion, flat_map, enumerate_from}
 use Rattle.std.specs.Option.{option_map_or}
 use Rattle.std.proofs.lemmas.Bool.{ne_eqb, eq-eqb}
 use Rattle.base_types.specs.declared.ids.Oid.{Oid}
-use Rattle.base_types.specs.declared.ids.Xid.{Xid}
 use Rattle.base_types.specs.declared.row.Row.{Row}
-use Rattle.base_types.specs.declared.row.Row.TheVariants as rows
 use Rattle.base_types.specs.declared.command.NewColumn.{NewColumn}
 use Rattle.event_kinds.specs.declared.entry.Entry.{Entry}
 use Rattle.event_kinds.specs.declared.entry.Event.{Event}
@@ -15,18 +13,17 @@ use Rattle.event_kinds.specs.declared.entry.Item.{Item}
 use Rattle.event_kinds.specs.declared.entry.Item.TheVariants as forms
 use Rattle.row_visibility.specs.declared.version.Stamp.{Stamp}
 use Rattle.row_visibility.specs.declared.version.Version.{Version}
-use Rattle.ddl_effect.specs.declared.draft.Draft.{Draft}
-use Rattle.ddl_effect.specs.Commands.{new_table, table_row, new_column}
+use Rattle.ddl_effect.specs.Commands.{new_table, new_column}
 use Rattle.ddl_effect.specs.Drawing.{drawn_change}
 use Rattle.history_model.specs.Changes.{item_of}
 use Rattle.history_model.specs.Drawn.{drawn_by, next_oid, next_oid_by}
-use Rattle.history_model.specs.Orderly.{main_rel, MayComeNext, IsSound}
+use Rattle.history_model.specs.Orderly.{main_rel, MayComeNext}
 use Rattle.history_model.specs.Versions.{versions_of, versions_by, change_by, end_by, ends, version_of, added_row, is_back, end_back}
 use Rattle.history_model.proofs.Prefixes.{EachEntry-more}
 use Rattle.history_model.proofs.Reading.{versions_of-more, next_oid-more}
 use Rattle.history_model.proofs.Every.{every-weaker, every-append, every-filter}
 use Rattle.seg_calls.specs.Calls.{items_drawn}
-use Rattle.backend_core.specs.NewTables.{IsNewTable, AddsTable, AddsTables, is_table_row, IsTableVersion, HasTables, HasSoundTables}
+use Rattle.backend_core.specs.NewTables.{AddsTable, AddsTables, is_table_row, IsTableVersion, HasTables, HasSoundTables}
 
 -- a change adds a row of a table with this oid
 abbrev pub IsTableItem : ℕ → Item → Type 0

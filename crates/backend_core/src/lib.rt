@@ -4,6 +4,7 @@
 mod backend;
 mod kept_scan;
 mod next;
+mod nexts;
 mod phase;
 
 pub use backend::Backend;
