@@ -56,10 +56,10 @@ oid-grows event next = omega arith
 pub next_oid-rises : (history : List Entry) (e : Entry) → next_oid history ≤ next_oid (history ++ e ∷ [])
 next_oid-rises history e = rw next_oid-more (oid-grows e.event (next_oid history))
 
--- the versions of these stamps stay
-abbrev pub is_kept : List Entry → ℕ → Event → Stamp → Bool
-is_kept history a (events.Gone from) s = not (is_back history a from s)
-is_kept history a event s = true
+-- the event leaves the versions of this stamp
+abbrev pub survives : List Entry → ℕ → Event → Stamp → Bool
+survives history a (events.Gone from) s = not (is_back history a from s)
+survives history a event s = true
 
 -- the stamp of what an event adds
 abbrev pub stamp_of : ℕ → Event → Stamp
@@ -97,7 +97,7 @@ all_kept [] = refl
 all_kept (v ∷ vs) = ap (λ l. v ∷ l) (all_kept vs)
 
 versions-by : (history : List Entry) (a c : ℕ) (event : Event) (vs : List Version) → AllByRecursion (λ v. v.ended ≡ None) vs → AddsTables history event
-    → versions_by history a c event vs ≡ filter (λ v. is_kept history a event v.by) vs ++ added_by c event
+    → versions_by history a c event vs ≡ filter (λ v. survives history a event v.by) vs ++ added_by c event
 versions-by history a c (events.Write xid items) vs whole adds =
     adds-all history a (next_oid history) (record { xid = xid; command = c }) items vs (table_items history items adds)
     ∙ ap (λ l. l ++ added_by c (events.Write xid items)) (sym (all_kept vs))
@@ -108,9 +108,9 @@ versions-by history a c event vs whole adds = sym (all_kept vs) ∙ sym (append-
 
 -- the versions after one more entry
 pub versions-after : (history : List Entry) (e : Entry) → HasTables history → AddsTables history e.event
-    → versions_of (history ++ e ∷ []) ≡ filter (λ v. is_kept history e.backend e.event v.by) (versions_of history) ++ added_by e.command e.event
+    → versions_of (history ++ e ∷ []) ≡ filter (λ v. survives history e.backend e.event v.by) (versions_of history) ++ added_by e.command e.event
 versions-after history e tables adds = versions_of-more history e
-    ∙ versions-by history e.backend e.command e.event (versions_of history) (every-weaker (IsTableVersion (next_oid history) tables.made_by) (λ v. v.ended ≡ None) (λ v is. is.whole) (versions_of history) tables.versions) adds
+    ∙ versions-by history e.backend e.command e.event (versions_of history) (every-weaker (IsTableVersion (next_oid history) tables.stamps) (λ v. v.ended ≡ None) (λ v is. is.whole) (versions_of history) tables.versions) adds
 
 -- a new version: of the relation that is drawn
 pub record IsNewVersion (next after : ℕ) (stamp : Stamp) (v : Version) : Type 0 where
@@ -133,16 +133,16 @@ added-new history c event adds = tt
 
 -- no version is there at the start
 pub HasTables-start : HasTables []
-HasTables-start = record { made_by = λ rel. record { xid = record { 0 = 0 }; command = 0 }; versions = tt }
+HasTables-start = record { stamps = λ rel. record { xid = record { 0 = 0 }; command = 0 }; versions = tt }
 
 -- tables alone are there after one more entry
 pub HasTables-more : (history : List Entry) (e : Entry) → HasTables history → AddsTables history e.event → HasTables (history ++ e ∷ [])
 HasTables-more history e tables adds = record {
-  made_by = made;
+  stamps = made;
   versions = subst (AllByRecursion (IsTableVersion after made)) (sym (versions-after history e tables adds))
-      (every-append (IsTableVersion after made) (filter (λ v. is_kept history e.backend e.event v.by) (versions_of history)) (added_by e.command e.event)
-      (every-filter (IsTableVersion after made) (λ v. is_kept history e.backend e.event v.by) (versions_of history)
-      (every-weaker (IsTableVersion (next_oid history) tables.made_by) (λ v. is_kept history e.backend e.event v.by ≡ true → IsTableVersion after made v) (λ v is kept. old v is) (versions_of history) tables.versions))
+      (every-append (IsTableVersion after made) (filter (λ v. survives history e.backend e.event v.by) (versions_of history)) (added_by e.command e.event)
+      (every-filter (IsTableVersion after made) (λ v. survives history e.backend e.event v.by) (versions_of history)
+      (every-weaker (IsTableVersion (next_oid history) tables.stamps) (λ v. survives history e.backend e.event v.by ≡ true → IsTableVersion after made v) (λ v is kept. old v is) (versions_of history) tables.versions))
       (every-weaker (IsNewVersion (next_oid history) (next_oid_by e.event (next_oid history)) (stamp_of e.command e.event)) (IsTableVersion after made) new (added_by e.command e.event) (added-new history e.command e.event adds)));
 }
   where
@@ -150,14 +150,14 @@ HasTables-more history e tables adds = record {
     after = next_oid (history ++ e ∷ [])
 
     made : Oid → Stamp
-    made rel = if rel.0 == next_oid history then stamp_of e.command e.event else tables.made_by rel
+    made rel = if rel.0 == next_oid history then stamp_of e.command e.event else tables.stamps rel
 
-    old : (v : Version) → IsTableVersion (next_oid history) tables.made_by v → IsTableVersion after made v
+    old : (v : Version) → IsTableVersion (next_oid history) tables.stamps v → IsTableVersion after made v
     old v is = record {
       drawn = omega (arith, is.drawn, next_oid-rises history e);
       table = is.table;
       whole = is.whole;
-      made = is.made ∙ ap (λ t. if t then stamp_of e.command e.event else tables.made_by (main_rel v.row)) (sym (ne_eqb (main_rel v.row).0 (next_oid history) (λ same. absurd (omega (arith, is.drawn, same)))));
+      made = is.made ∙ ap (λ t. if t then stamp_of e.command e.event else tables.stamps (main_rel v.row)) (sym (ne_eqb (main_rel v.row).0 (next_oid history) (λ same. absurd (omega (arith, is.drawn, same)))));
     }
 
     new : (v : Version) → IsNewVersion (next_oid history) (next_oid_by e.event (next_oid history)) (stamp_of e.command e.event) v → IsTableVersion after made v
@@ -165,7 +165,7 @@ HasTables-more history e tables adds = record {
       drawn = omega (arith, is.rel, is.drawn, next_oid-more history e);
       table = is.table;
       whole = is.whole;
-      made = is.made ∙ ap (λ t. if t then stamp_of e.command e.event else tables.made_by (main_rel v.row)) (sym (eq-eqb (main_rel v.row).0 (next_oid history) is.rel));
+      made = is.made ∙ ap (λ t. if t then stamp_of e.command e.event else tables.stamps (main_rel v.row)) (sym (eq-eqb (main_rel v.row).0 (next_oid history) is.rel));
     }
 
 pub HasSoundTables-start : HasSoundTables []
