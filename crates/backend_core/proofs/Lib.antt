@@ -1,1 +1,5 @@
+pub mod Tables
+pub mod CountsFor
+pub mod StaysRead
+pub mod SeesRelation
 pub mod Stepping

@@ -1,15 +1,17 @@
 -- What a backend has read of a relation stays true, where each write adds the rows of one new table. It serves until tables are altered.
-use Rattle.std.specs.Prelude.{◌≡◌, ◌<◌, ◌⊎◌, ℕ, Bool, true, false, Option, Some, None, List, [], ◌∷◌, filter}
-use Rattle.std.specs.List.{AllByRecursion, Contains}
+use Rattle.std.specs.Prelude.{◌≡◌, ◌<◌, ◌⊎◌, ℕ, Bool, true, false, Option, Some, None, List, [], ◌∷◌, ◌==◌, ◌&&◌}
+use Rattle.std.specs.List.{AllByRecursion}
 use Rattle.base_types.specs.Scans.{same_oid}
-use Rattle.base_types.specs.declared.row.Row.TheVariants.{Class}
+use Rattle.base_types.specs.declared.kind.Kind.TheVariants.{Table}
+use Rattle.base_types.specs.declared.row.Row.TheVariants as rows
 use Rattle.base_types.specs.declared.scan.Purpose.TheVariants as scans
 use Rattle.ddl_effect.specs.Commands.{new_table}
 use Rattle.history_model.specs.Drawn.{next_oid}
-use Rattle.history_model.specs.Orderly.{main_rel}
+use Rattle.history_model.specs.Orderly.{main_rel, IsSound}
 use Rattle.history_model.specs.Versions.{versions_of, counts, answer_of}
 use Rattle.event_kinds.specs.declared.entry.Event.TheVariants as events
-use Rattle.seg_calls.specs.Calls.{items_drawn}
+use Rattle.seg_calls.specs.Calls.{items_drawn, took_back}
+use Rattle.row_visibility.specs.declared.version.Stamp.{Stamp}
 use Rattle.backend_core.specs.Types.{Oid, Kind, Row, Purpose, NewColumn, Draft, Version, Item, Entry, Event}
 
 -- the draft of `create table`
@@ -29,11 +31,28 @@ abbrev pub AddsTables : List Entry → Event → Type 0
 AddsTables before (events.Write xid items) = AddsTable before items
 AddsTables before event = Unit {0}
 
--- all versions are of drawn relations, none is ended, and those of one relation have one stamp
+-- the row of a table, or of a column
+abbrev pub is_table_row : Row → Bool
+is_table_row (rows.Class oid name Table fill) = true
+is_table_row (rows.Att rel num name col_type stat live) = true
+is_table_row row = false
+
+-- a version of a table's row: the table is drawn, the version isn't ended, and it has the stamp of the write that made the table
+pub record IsTableVersion (next : ℕ) (stamps : Oid → Stamp) (v : Version) : Type 0 where
+  pub drawn : (main_rel v.row).0 < next
+  pub table : is_table_row v.row ≡ true
+  pub whole : v.ended ≡ None
+  pub made : v.by ≡ stamps (main_rel v.row)
+
+-- all versions are of tables' rows as they were first written, and those of one table have one stamp
 pub record HasTables (history : List Entry) : Type 0 where
-  pub drawn : AllByRecursion (λ v. (main_rel v.row).0 < next_oid history) (versions_of history)
-  pub whole : AllByRecursion (λ v. v.ended ≡ None) (versions_of history)
-  pub one : (v w : Version) → Contains (versions_of history) v → Contains (versions_of history) w → main_rel v.row ≡ main_rel w.row → v.by ≡ w.by
+  pub stamps : Oid → Stamp
+  pub versions : AllByRecursion (IsTableVersion (next_oid history) stamps) (versions_of history)
+
+-- a sound history that has tables alone
+pub record HasSoundTables (history : List Entry) : Type 0 where
+  pub sound : IsSound history
+  pub tables : HasTables history
 
 -- the version is of a row of the relation
 abbrev pub is_version_of : Oid → Version → Bool
@@ -57,7 +76,7 @@ relation_of scan = None
 
 -- the relation has no version
 abbrev pub HasNone : List Entry → Oid → Type 0
-HasNone history rel = filter (is_version_of rel) (versions_of history) ≡ []
+HasNone history rel = AllByRecursion (λ v. is_version_of rel v ≡ false) (versions_of history)
 
 -- what a scan for a descriptor gave is its answer still, or its relation has no version any more
 pub record StaysRead (history : List Entry) (b : ℕ) (scan : Purpose) (given : List Row) : Type 0 where
@@ -71,4 +90,8 @@ pub record SeesRelation (history : List Entry) (b : ℕ) (rel : Oid) (kind : Kin
   pub counted : CountsFor history b rel
   pub name : List ℕ
   pub fill : Option ℕ
-  pub row : answer_of history b (scans.Class rel) ≡ Class rel name kind fill ∷ []
+  pub row : answer_of history b (scans.Class rel) ≡ rows.Class rel name kind fill ∷ []
+
+-- the entry takes writes of the backend back
+abbrev pub is_own_gone : ℕ → Entry → Bool
+is_own_gone b e = took_back (Some e.event) && (e.backend == b)
