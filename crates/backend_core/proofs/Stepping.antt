@@ -21,7 +21,7 @@ use Rattle.cacheless.proofs.Reading.{facts_of-own, session_of-own}
 use Rattle.backend_core.specs.Types.{Command, Scenario, Entry, Event, KeptScan, Backend}
 use Rattle.backend_core.specs.declared.phase.Life.TheVariants as lives
 use Rattle.backend_core.specs.NewTables.{AddsTables}
-use Rattle.backend_core.specs.State.{Rest, rest_of, session_at, HasCommand}
+use Rattle.backend_core.specs.State.{Rest, rest_of, session_at, is_answered, HasCommand}
 use Rattle.backend_core.specs.Agrees.{IsPlayed, FactsFit, TallyFits, IsAlive, Well, CommandFits, KeptFits, PlacesFit, AnswerFits, Agrees}
 use Rattle.backend_core.specs.Steps.{IsNow, AgreesNow, Enters}
 
@@ -68,7 +68,7 @@ pub record Follows (scenario : Scenario) (old : List Entry) (was now : Backend) 
   pub command : CommandFits (old ++ entry_of was.id (was.finished + 1) event ∷ []) now (rest_after old was event rest)
   pub kept : All (KeptFits (old ++ entry_of was.id (was.finished + 1) event ∷ []) was.id) now.kept
   pub answer : AnswerFits scenario (old ++ entry_of was.id (was.finished + 1) event ∷ []) now (rest_after old was event rest)
-  pub judged : is_some now.answer ≡ false → ends_command event ≡ false
+  pub judged : is_answered now ≡ false → ends_command event ≡ false
 
 -- what the history and the script ask of the entry
 pub record Suits (scenario : Scenario) (old : List Entry) (was : Backend) (event : Event) (rest : Rest) : Type 0 where
