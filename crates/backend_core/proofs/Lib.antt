@@ -3,4 +3,5 @@ pub mod CountsFor
 pub mod StaysRead
 pub mod SeesRelation
 pub mod Stepping
+pub mod Carry
 pub mod Ending

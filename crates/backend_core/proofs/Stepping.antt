@@ -1,29 +1,28 @@
 -- A backend's own entry, whichever it is.
-use Rattle.std.proofs.Common.{◌≡◌, ◌≤◌, ◌<◌, ◌+◌, ◌∙◌, ℕ, Bool, true, false, Option, Some, None, List, [], ◌∷◌, ◌++◌, ◌==◌, ◌&&◌, refl, sym, ap, subst, length, drop, take, map, All, is_none, is_some, slice_get, arith, Fits, w32}
+use Rattle.std.proofs.Common.{◌≡◌, ◌≤◌, ◌+◌, ◌∙◌, ℕ, Bool, true, false, Some, List, [], ◌∷◌, ◌++◌, ◌==◌, refl, sym, ap, subst, length, drop, All, is_some, slice_get, arith, if◌then◌else◌, suc}
 use Rattle.std.proofs.lemmas.Bool.{eq-eqb}
-use Rattle.std.proofs.lemmas.Option.{slice_get_within}
+use Rattle.std.proofs.lemmas.List.{take-append-le, length_push}
 use Rattle.base_types.specs.Scenario.{IsBackend}
 use Rattle.ddl_effect.specs.Commands.{commands_of}
-use Rattle.event_kinds.specs.declared.entry.Event.TheVariants as events
 use Rattle.history_model.specs.Drawn.{next_oid}
 use Rattle.history_model.specs.Lives.{Alive, life_by, life_of}
 use Rattle.history_model.specs.Read.{ScansOnlyIfNeeded}
 use Rattle.history_model.proofs.Reading.{life_of-own}
 use Rattle.seg_calls.specs.Calls.{entry_of, Appends}
 use Rattle.cacheless.specs.Facts.{Facts, facts_of, facts_by}
-use Rattle.cacheless.specs.Session.{Session, Finished, Tally, first_of}
+use Rattle.cacheless.specs.Session.{Session, Finished}
 use Rattle.cacheless.specs.Settled.{settled}
-use Rattle.cacheless.specs.Sessions.{placed_at, noted, tally_by, ends_command, entered, commands_left, session_by, session_of}
-use Rattle.cacheless.specs.Plays.{IsNext, MayPlay, MayPlayIn, MayPlayAt}
+use Rattle.cacheless.specs.Sessions.{noted, tally_by, ends_command, entered, commands_left, session_by, session_of}
+use Rattle.cacheless.specs.Plays.{IsNext, MayPlayIn, MayPlayAt}
 use Rattle.cacheless.specs.Schedule.{LooksTruly}
-use Rattle.cacheless.specs.Lines.{lines_from}
+use Rattle.rel_desc.specs.Answers.{answer_text}
+use Rattle.cacheless.specs.Lines.{lines_from, line_of, answer_judged}
 use Rattle.cacheless.proofs.Reading.{facts_of-own, session_of-own}
-use Rattle.backend_core.specs.Types.{Command, Scenario, Entry, Event, KeptScan, Backend}
-use Rattle.backend_core.specs.declared.phase.Life.TheVariants as lives
+use Rattle.backend_core.specs.Types.{Command, Scenario, Entry, Event, Backend}
 use Rattle.backend_core.specs.NewTables.{AddsTables}
-use Rattle.backend_core.specs.State.{Rest, rest_of, session_at, is_answered, HasCommand}
-use Rattle.backend_core.specs.Agrees.{IsPlayed, FactsFit, TallyFits, IsAlive, Well, CommandFits, KeptFits, PlacesFit, AnswerFits, Agrees}
-use Rattle.backend_core.specs.Steps.{IsNow, AgreesNow, Enters}
+use Rattle.backend_core.specs.State.{Rest, rest_of, session_at, HasCommand}
+use Rattle.backend_core.specs.Agrees.{FactsFit, TallyFits, Well, CommandFits, KeptFits, AnswerFits, Agrees}
+use Rattle.backend_core.specs.Steps.{AgreesNow, Enters}
 
 -- nothing is left to settle
 abbrev pub Waits : {scenario : Scenario} {seen : List Entry} {s : Backend} → Agrees scenario seen s → Type 0
@@ -68,7 +67,7 @@ pub record Follows (scenario : Scenario) (old : List Entry) (was now : Backend) 
   pub command : CommandFits (old ++ entry_of was.id (was.finished + 1) event ∷ []) now (rest_after old was event rest)
   pub kept : All (KeptFits (old ++ entry_of was.id (was.finished + 1) event ∷ []) was.id) now.kept
   pub answer : AnswerFits scenario (old ++ entry_of was.id (was.finished + 1) event ∷ []) now (rest_after old was event rest)
-  pub judged : is_answered now ≡ false → ends_command event ≡ false
+  pub judged : HasCommand now → is_some now.answer ≡ false → ends_command event ≡ false
 
 -- what the history and the script ask of the entry
 pub record Suits (scenario : Scenario) (old : List Entry) (was : Backend) (event : Event) (rest : Rest) : Type 0 where
@@ -77,18 +76,82 @@ pub record Suits (scenario : Scenario) (old : List Entry) (was : Backend) (event
   pub truly : LooksTruly old was.id event
   pub tables : AddsTables old event
 
-take-more : {X : Type 0} (n : ℕ) (xs : List X) (ys : List X) → n ≤ length xs → take n (xs ++ ys) ≡ take n xs
-take-more n xs ys within = ?
-
 -- the lines of finished commands stay with one more entry
 pub lines-more : (scenario : Scenario) (seen : List Entry) (e : Entry) (b c : ℕ) (finished : List Finished) (commands : List Command) → All (λ f. f.judged ≤ length seen) finished
     → lines_from scenario (seen ++ e ∷ []) b c finished commands ≡ lines_from scenario seen b c finished commands
-lines-more scenario seen e b c finished commands places = ?
+lines-more scenario seen e b c [] commands places = refl
+lines-more scenario seen e b c (f ∷ finished) [] places = refl
+lines-more scenario seen e b c (f ∷ finished) (command ∷ commands) places =
+    ap (λ h. record { backend = b; command = c; text = answer_text (answer_judged scenario h b c f command f.refused) } ∷ lines_from scenario (seen ++ e ∷ []) b (c + 1) finished commands)
+      (take-append-le f.judged seen (e ∷ []) (places 0 f (omega arith)))
+    ∙ ap (λ l. line_of scenario seen b c f command ∷ l) (lines-more scenario seen e b (c + 1) finished commands (λ i d within. places (suc i) d (omega (arith, within))))
 
 -- so it agrees after its own entry
 pub own_agrees : (scenario : Scenario) (old : List Entry) (was now : Backend) (event : Event) (agrees : Agrees scenario old was) → Waits agrees → GoesOn event
     → Keeps old was now event agrees.rest → Follows scenario old was now event agrees.rest → AgreesNow scenario (old ++ entry_of was.id (was.finished + 1) event ∷ []) now
-own_agrees scenario old was now event agrees waits on keeps follows = ?
+own_agrees scenario old was now event agrees waits on keeps follows = record {
+  agrees = record {
+    number = subst (λ b. IsBackend scenario.backends b) (sym keeps.moves.id) agrees.number;
+    commands = keeps.moves.commands ∙ agrees.commands ∙ ap (commands_of scenario) (sym keeps.moves.id);
+    alive = keeps.moves.life ∙ agrees.alive;
+    rest = rest;
+    count = ap length same ∙ agrees.count ∙ sym keeps.moves.finished;
+    is = ap (session_of scenario new) keeps.moves.id
+        ∙ session_of-own scenario old e was.id own
+        ∙ ap (session_by scenario after was.id (length old + 1) (was.finished + 1) event) (agrees.is ∙ ap Some waits)
+        ∙ on.session scenario after was.id (length old + 1) (was.finished + 1) (session_at was agrees.rest)
+        ∙ ap (λ l. Some (settled after l (entered after l (length old + 1) (was.finished + 1) event (session_at was agrees.rest)))) (ap (λ n. drop n (commands_of scenario was.id)) agrees.count ∙ ap (drop was.finished) (sym agrees.commands))
+        ∙ ap (λ t. Some (settled after (drop was.finished was.commands) t)) keeps.session
+        ∙ ap (λ l. Some (settled after l (session_at now rest))) (ap (λ n. drop n was.commands) (sym keeps.moves.finished) ∙ ap (drop now.finished) (sym keeps.moves.commands))
+        ∙ ap (λ f. Some (settled f (drop now.finished now.commands) (session_at now rest))) (sym facts);
+    facts = subst (λ f. FactsFit f now) (sym facts) keeps.facts;
+    tally = keeps.tally;
+    life = record { last = was.finished + 1; alive = ap (life_of new) keeps.moves.id ∙ life_of-own old e was.id own ∙ on.life (was.finished + 1); most = omega (arith, keeps.moves.finished) };
+    well = keeps.well;
+    command = follows.command;
+    kept = subst (λ b. All (KeptFits new b) now.kept) (sym keeps.moves.id) follows.kept;
+    places = record {
+      finished = subst (λ l. All (λ f. f.judged ≤ length new) l) (sym same) (λ i d within. omega (arith, agrees.places.finished i d within, longer));
+      judged = by_test (ends_command event);
+      last = omega (arith, longer);
+    };
+    answer = follows.answer;
+    lines = keeps.moves.lines ∙ agrees.lines
+        ∙ sym (lines-more scenario old e was.id 1 agrees.rest.finished was.commands agrees.places.finished)
+        ∙ ap (λ l. lines_from scenario new was.id 1 l was.commands) (sym same)
+        ∙ ap (λ b. lines_from scenario new b 1 rest.finished was.commands) (sym keeps.moves.id)
+        ∙ ap (lines_from scenario new now.id 1 rest.finished) (sym keeps.moves.commands);
+  };
+  now = record { last = sym longer; judged = λ has none. ap (λ t. if t then agrees.rest.judged else length old + 1) (follows.judged has none) ∙ sym longer };
+}
+  where
+    e : Entry
+    e = entry_of was.id (was.finished + 1) event
+
+    new : List Entry
+    new = old ++ e ∷ []
+
+    own : (e.backend == was.id) ≡ true
+    own = eq-eqb was.id was.id refl
+
+    after : Facts
+    after = facts_after old was event
+
+    rest : Rest
+    rest = rest_after old was event agrees.rest
+
+    facts : facts_of new now.id ≡ after
+    facts = ap (facts_of new) keeps.moves.id ∙ facts_of-own old e was.id own
+
+    same : rest.finished ≡ agrees.rest.finished
+    same = on.finished (session_at was agrees.rest)
+
+    longer : length new ≡ length old + 1
+    longer = length_push old e
+
+    by_test : (t : Bool) → (if t then agrees.rest.judged else length old + 1) ≤ length new
+    by_test true = omega (arith, agrees.places.judged, longer)
+    by_test false = omega (arith, longer)
 
 -- and the entry is next
 pub own_next : (scenario : Scenario) (old : List Entry) (was : Backend) (event : Event) (agrees : Agrees scenario old was) → Waits agrees

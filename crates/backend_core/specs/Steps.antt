@@ -1,8 +1,7 @@
 -- What a step of a backend does, and what it does next.
-use Rattle.std.specs.Prelude.{◌≡◌, ◌≢◌, ◌⊎◌, ◌++◌, ◌∷◌, ℕ, Bool, true, false, Option, Some, None, List, [], slice_get, length, is_some}
+use Rattle.std.specs.Prelude.{◌≡◌, ◌≢◌, ◌⊎◌, ◌++◌, ◌∷◌, ℕ, Bool, true, false, Some, None, List, [], slice_get, length, is_some}
 use Rattle.std.specs.Option.{option_map_or}
-use Rattle.base_types.specs.Scans.{build_scans, is_build_scan}
-use Rattle.event_kinds.specs.declared.entry.Event.TheVariants as events
+use Rattle.base_types.specs.Scans.{build_scans}
 use Rattle.ddl_effect.specs.Plans.{Plan, Do, Lookup, Open, Write}
 use Rattle.ddl_effect.specs.Stages.{plan_at}
 use Rattle.history_model.specs.Orderly.{MayComeNext}
@@ -14,7 +13,7 @@ use Rattle.backend_core.specs.Types.{Oid, Mode, Kind, Row, Purpose, Scenario, En
 use Rattle.backend_core.specs.declared.next.Next.TheVariants as nexts
 use Rattle.backend_core.specs.declared.phase.Phase.TheVariants as phases
 use Rattle.backend_core.specs.NewTables.{AddsTables}
-use Rattle.backend_core.specs.State.{owed_first, owed_at, scans_missing, missing, is_kept, is_out, end_at, end_of_running, is_answered, has_write_since, unlocked_of, Rest, HasCommand}
+use Rattle.backend_core.specs.State.{owed_first, scans_missing, missing, is_out, end_at, end_of_running, has_write_since, unlocked_of, Rest, HasCommand}
 use Rattle.backend_core.specs.Agrees.{Agrees, Stands}
 
 -- one entry of the backend is appended, which the history and the script allow, and the backend is right after it
@@ -30,10 +29,10 @@ pub record Steps (scenario : Scenario) (old new : List Entry) (was now : Backend
   pub tables : AddsTables old entry.event
   pub stands : Stands scenario new now
 
--- the places of a backend that has just made an entry, or passed on from there: its last entry is the history's last, and so its command is judged there, if it is not yet answered
+-- the places of a backend that has just made an entry, or passed on from there: its last entry is the history's last, and so its running command is judged there, if it is not yet answered
 pub record IsNow (seen : List Entry) (s : Backend) (rest : Rest) : Type 0 where
   pub last : rest.last ≡ length seen
-  pub judged : is_answered s ≡ false → rest.judged ≡ length seen
+  pub judged : HasCommand s → is_some s.answer ≡ false → rest.judged ≡ length seen
 
 -- a backend that agrees with a history that ends with its own entry
 pub record AgreesNow (scenario : Scenario) (seen : List Entry) (s : Backend) : Type 0 where
@@ -111,8 +110,7 @@ pub record NextWrite (s : Backend) : Type 0 where
 -- the commit of the running command comes next
 pub record NextCommit (s : Backend) (xid : ℕ) : Type 0 where
   pub working : IsWorking s
-  pub answered : is_answered s ≡ true
-  pub out : is_out s ≡ true
+  pub answered : is_some s.answer ≡ true
   pub first : ℕ
   pub end : end_at s working.has.command ≡ Commits first
   pub written : has_write_since first s ≡ true
@@ -121,15 +119,14 @@ pub record NextCommit (s : Backend) (xid : ℕ) : Type 0 where
 -- taking back of what the running command or, after the last command, its transaction wrote comes next
 pub record NextTakeBack (s : Backend) (from : ℕ) : Type 0 where
   pub phase : s.phase ≡ phases.Working
-  pub answered : is_answered s ≡ true
-  pub end : ((has : HasCommand s) → (owed_first s has.command ≡ []) × (is_out s ≡ true) × (end_at s has.command ≡ TakesBack from)) × (slice_get s.commands s.finished ≡ None → end_of_running s.running ≡ TakesBack from)
+  pub end : ((has : HasCommand s) → (owed_first s has.command ≡ []) × (is_some s.answer ≡ true) × (end_at s has.command ≡ TakesBack from)) × (slice_get s.commands s.finished ≡ None → end_of_running s.running ≡ TakesBack from)
   pub written : has_write_since from s ≡ true
 
 -- the release of the end of the running command comes next, or after the last command that of its transaction
 pub data NextRelease (s : Backend) (from : ℕ) : Type 0 where
   AfterCommit : s.phase ≡ phases.Visible → option_map_or (λ t. Some t.first) s.running None ≡ Some from → NextRelease s from
   AfterTakingBack : s.phase ≡ phases.TakenBack from → NextRelease s from
-  WithoutWrite : (working : IsWorking s) → is_answered s ≡ true → is_out s ≡ true → (end_at s working.has.command ≡ Commits from) ⊎ (end_at s working.has.command ≡ TakesBack from) → has_write_since from s ≡ false → NextRelease s from
+  WithoutWrite : (working : IsWorking s) → is_some s.answer ≡ true → (end_at s working.has.command ≡ Commits from) ⊎ (end_at s working.has.command ≡ TakesBack from) → has_write_since from s ≡ false → NextRelease s from
   AtTheEnd : s.phase ≡ phases.Working → slice_get s.commands s.finished ≡ None → end_of_running s.running ≡ TakesBack from → has_write_since from s ≡ false → NextRelease s from
 
 -- nothing is left of the running command but to pass over it
