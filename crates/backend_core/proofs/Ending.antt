@@ -22,22 +22,11 @@ use Rattle.cacheless.specs.Plays.{owed_at_end, IsEnd}
 use Rattle.cacheless.specs.Settled.{settled}
 use Rattle.cacheless.proofs.Settling.{waits-end}
 use Rattle.backend_core.specs.Types.{Oid, Kind, Purpose, Command, Scenario, Entry, Event, Opening, KeptScan, OwnTransaction, Phase, Backend}
-use Rattle.backend_core.specs.State.{running_in, running_at, is_kept, missing, builds_missing, is_out, is_ended, begins_in, owed_first, end_of_running, end_in_block, end_in_well, end_in_badly, end_at, is_inside, blocks_next, Rest, session_at, HasCommand}
+use Rattle.backend_core.specs.State.{running_in, running_at, is_kept, missing, builds_missing, act_missing, scans_missing, is_out, is_ended, begins_in, owed_first, end_of_running, end_in_block, end_in_well, end_in_badly, end_at, is_inside, blocks_next, Rest, session_at, HasCommand}
 use Rattle.backend_core.specs.declared.phase.Phase.TheVariants as phases
 use Rattle.backend_core.specs.Agrees.{FactsFit, RunsBy, TransactionFits, Well, Agrees}
 use Rattle.backend_core.proofs.Stepping.{Waits}
-
--- whether a transaction runs
-pub none_running : (facts : Facts) (s : Backend) → facts.running ≡ running_at s → is_none facts.running ≡ is_none s.running
-none_running facts s running = ap (λ (o : Option Running). is_none o) running ∙ by_own s.running
-  where
-    by_own : (own : Option OwnTransaction) → is_none (running_in s.phase own) ≡ is_none own
-    by_own None = refl
-    by_own (Some t) = refl
-
--- what is owed at the start of a transaction
-pub owed_start : (facts : Facts) (command : Command) (s : Backend) (r : Rest) → facts.running ≡ running_at s → owed_at_start facts command (session_at s r) ≡ owed_first s command
-owed_start facts command s r running = ap (λ t. elim (begins_in s.blocks s.phase command && t) [ true ↦ OwesLook ∷ [] | false ↦ [] ]) (none_running facts s running)
+use Rattle.backend_core.proofs.Carry.{start_owed, scans_same, waits_at}
 
 -- the end of the running transaction as a whole
 pub end_of_all-same : (facts : Facts) (s : Backend) → facts.running ≡ running_at s → end_of_all facts ≡ end_of_running s.running
@@ -86,27 +75,12 @@ pub left_same : (facts : Facts) (command : Command) (s : Backend) (r : Rest) →
 left_same facts command s r running count going =
     ap (λ t. elim t [ true ↦ None | false ↦ next_of_end facts (end_of facts command (session_at s r)) ]) going ∙ ap (next_of_end facts) (end_same facts command s r running count)
 
-filter-same : {X : Type 0} (f g : X → Bool) (xs : List X) → AllByRecursion (λ x. f x ≡ g x) xs → filter f xs ≡ filter g xs
-filter-same f g [] same = refl
-filter-same f g (x ∷ xs) same = ap (λ t. cond t (x ∷ filter f xs) (filter f xs)) same.0 ∙ ap (λ rest. cond (g x) (x ∷ rest) rest) (filter-same f g xs same.1)
-
-build_scans-same : (f g : Purpose → Bool) (kind : Kind) (rel : Oid) → ((scan : Purpose) → is_build_scan scan ≡ true → f scan ≡ g scan) → filter f (build_scans kind rel) ≡ filter g (build_scans kind rel)
-build_scans-same f g kinds.Table rel same = filter-same f g (build_scans kinds.Table rel) (same _ refl, (same _ refl, (same _ refl, (same _ refl, (same _ refl, (same _ refl, tt))))))
-build_scans-same f g kinds.Index rel same = filter-same f g (build_scans kinds.Index rel) (same _ refl, (same _ refl, tt))
-
--- the scans that descriptors lack
-pub builds_same : (facts : Facts) (kept : List KeptScan) (opened : List Opening) → ((scan : Purpose) → is_build_scan scan ≡ true → facts.usable scan ≡ is_kept kept scan) → builds_owed facts opened ≡ builds_missing kept opened
-builds_same facts kept [] usable = refl
-builds_same facts kept (o ∷ opened) usable =
-    ap (λ l. l ++ builds_owed facts opened) (build_scans-same (λ scan. not (facts.usable scan)) (λ scan. not (is_kept kept scan)) o.kind o.rel (λ scan build. ap not (usable scan build)))
-    ∙ ap (λ l. missing kept (build_scans o.kind o.rel) ++ l) (builds_same facts kept opened usable)
-
--- a command that has come out lacks no scan
-pub scans_none : (facts : Facts) (s : Backend) (r : Rest) → FactsFit facts s → builds_missing s.kept s.opened ≡ [] → is_out s ≡ true → scans_owed facts (session_at s r) ≡ []
-scans_none facts s r fits builds out = by_plan (plan_at s.exec) out
+-- a command that has come out misses no scan
+out_none : (s : Backend) → builds_missing s.kept s.opened ≡ [] → is_out s ≡ true → scans_missing s ≡ []
+out_none s builds out = by_plan (plan_at s.exec) out
   where
-    by_plan : (p : Plan) → is_settled (outcome_of p) ≡ true → ◌≡◌ {A = List Purpose} (elim (outcome_of p) [ Badly ↦ [] | other ↦ builds_owed facts s.opened ++ act_owed facts s.read p ]) []
-    by_plan Done is = ap (λ l. l ++ []) (builds_same facts s.kept s.opened fits.usable ∙ builds)
+    by_plan : (p : Plan) → is_settled (outcome_of p) ≡ true → ◌≡◌ {A = List Purpose} (elim (outcome_of p) [ Badly ↦ [] | other ↦ builds_missing s.kept s.opened ++ act_missing s.kept s.read p ]) []
+    by_plan Done is = ap (λ l. l ++ []) builds
     by_plan (Fails error) is = refl
     by_plan (Absent name) is = refl
     by_plan (Do act rest) is = absurd (cc)
@@ -116,9 +90,9 @@ scans_none facts s r fits builds out = by_plan (plan_at s.exec) out
 pub owed_none : (facts : Facts) (command : Command) (s : Backend) (r : Rest) → FactsFit facts s → builds_missing s.kept s.opened ≡ [] → is_out s ≡ true → owed_after facts.last ≡ [] → owed_first s command ≡ []
     → owed_of facts command (session_at s r) ≡ []
 owed_none facts command s r fits builds out after first =
-    ap (λ l. l ++ owed_after facts.last ++ map OwesScan (scans_owed facts (session_at s r))) (owed_start facts command s r fits.running ∙ first)
+    ap (λ l. l ++ owed_after facts.last ++ map OwesScan (scans_owed facts (session_at s r))) (start_owed facts command s r fits ∙ first)
     ∙ ap (λ l. l ++ map OwesScan (scans_owed facts (session_at s r))) after
-    ∙ ap (map OwesScan) (scans_none facts s r fits builds out)
+    ∙ ap (map OwesScan) (scans_same facts s r fits ∙ out_none s builds out)
 
 -- what is owed before the end, by the end
 abbrev pub owed_by_end : List Owes → List Owes → End → List Owes
@@ -152,10 +126,6 @@ has_or_none s = by_command (slice_get s.commands s.finished) refl
     by_command None at = inr at
     by_command (Some command) at = inl (record { command = command; at = at })
 
--- the running command is the first of those that are left
-pub left_command : {X : Type 0} (xs : List X) (n : ℕ) (x : X) → slice_get xs n ≡ Some x → drop n xs ≡ x ∷ drop (n + 1) xs
-left_command xs n x at = drop_more xs n x (slice_get_within xs n x at) ∙ ap (λ y. y ∷ drop (n + 1) xs) (get_or_from_slice_get xs n x x at)
-
 -- after the last command none is left
 pub left_none : {X : Type 0} (xs : List X) (n : ℕ) → slice_get xs n ≡ None → drop n xs ≡ []
 left_none xs n none = drop_all n xs (elim ((slice_get_cases xs n).1) [ inl some ↦ absurd (cc (none, some.2)) | inr all ↦ all.0 ])
@@ -164,8 +134,7 @@ left_none xs n none = drop_all n xs (elim ((slice_get_cases xs n).1) [ inl some 
 pub waits_to_end : (scenario : Scenario) (seen : List Entry) (s : Backend) (agrees : Agrees scenario seen s) (has : HasCommand s) (event : Event) → is_out s ≡ true
     → end_left (facts_of seen s.id) has.command (session_at s agrees.rest) ≡ Some event → Waits agrees
 waits_to_end scenario seen s agrees has event out left =
-    ap (λ l. settled (facts_of seen s.id) l (session_at s agrees.rest)) (left_command s.commands s.finished has.command has.at)
-    ∙ waits-end (facts_of seen s.id) has.command (drop (s.finished + 1) s.commands) (session_at s agrees.rest) event out left
+    waits_at scenario seen s agrees has (λ rest. waits-end (facts_of seen s.id) has.command rest (session_at s agrees.rest) event out left)
 
 -- after the last command nothing is done without an entry
 pub waits_after_all : (scenario : Scenario) (seen : List Entry) (s : Backend) (agrees : Agrees scenario seen s) → slice_get s.commands s.finished ≡ None → Waits agrees
