@@ -4,4 +4,5 @@ pub mod StaysRead
 pub mod SeesRelation
 pub mod Stepping
 pub mod Carry
+pub mod Ending
 pub mod Nexting

@@ -17,7 +17,7 @@ use Rattle.cacheless.specs.Owed.{OwesLook}
 use Rattle.backend_core.specs.Types.{Oid, Mode, Kind, Row, Purpose, Command, Draft, Exec, Xid, OwnTransaction, Backend}
 use Rattle.backend_core.specs.declared.phase.Phase.TheVariants as phases
 use Rattle.backend_core.specs.State.{is_kept, is_out, begins_in, end_at, has_write_since, written_in, unlocked_of, HasCommand}
-use Rattle.backend_core.specs.Agrees.{Well, EndFitsAt, CommitFits, EndedFits}
+use Rattle.backend_core.specs.Agrees.{Well, EndFits, CommitFits}
 use Rattle.backend_core.specs.Steps.{OwesLookNow, IsWorking, NextLookUp, NextBuild, NextLock, NextFind, NextOpen, NextWrite, NextCommit, NextRelease, WithoutWrite, NextFinish}
 
 -- how a plan comes out, by what it wants
@@ -125,13 +125,10 @@ no_command s has none = let both : Some has.command ≡ None = sym has.at ∙ no
 
 -- after the last command nothing but a taking back is on its way
 pub not_granted : (s : Backend) → Well s → slice_get s.commands s.finished ≡ None → s.phase ≡ phases.Granted → ⊥
-not_granted s well none is = no_command s (subst (EndFitsAt s) is well.end) none
+not_granted s well none is = no_command s (subst (EndFits s) is well.end) none
 
 pub not_visible : (s : Backend) → Well s → slice_get s.commands s.finished ≡ None → s.phase ≡ phases.Visible → ⊥
-not_visible s well none is = let end : CommitFits s = subst (EndFitsAt s) is well.end in no_command s end.has none
-
-pub not_ended : (s : Backend) → Well s → slice_get s.commands s.finished ≡ None → s.phase ≡ phases.Ended → ⊥
-not_ended s well none is = let end : EndedFits s = subst (EndFitsAt s) is well.end in no_command s end.has none
+not_visible s well none is = let end : CommitFits s = subst (EndFits s) is well.end in no_command s end.has none
 
 pub finishes_now : (s : Backend) (command : Command) → slice_get s.commands s.finished ≡ Some command → IsWorking s → is_some s.answer ≡ true → end_at s command ≡ Ends → NextFinish s
 finishes_now s command at work answered end = record {
@@ -140,9 +137,9 @@ finishes_now s command at work answered end = record {
   ended = inr (work.phase, work.free, ap (end_at s) (the_command s work.has command at) ∙ end);
 }
 
-pub releases_now : (s : Backend) (command : Command) (from : ℕ) → slice_get s.commands s.finished ≡ Some command → IsWorking s → is_out s ≡ true → has_write_since from s ≡ false
+pub releases_now : (s : Backend) (command : Command) (from : ℕ) → slice_get s.commands s.finished ≡ Some command → IsWorking s → is_some s.answer ≡ true → has_write_since from s ≡ false
     → (end_at s command ≡ Commits from) ⊎ (end_at s command ≡ TakesBack from) → NextRelease s from
-releases_now s command from at work out none end = WithoutWrite work out (subst (λ c. (end_at s c ≡ Commits from) ⊎ (end_at s c ≡ TakesBack from)) (sym (the_command s work.has command at)) end) none
+releases_now s command from at work answered none end = WithoutWrite work answered (subst (λ c. (end_at s c ≡ Commits from) ⊎ (end_at s c ≡ TakesBack from)) (sym (the_command s work.has command at)) end) none
 
 -- a write since a command is a write
 some_write : (from : ℕ) (commands : List ℕ) → has_write_from from (map written_in commands) ≡ true → has_write_from 0 (map written_in commands) ≡ true
@@ -157,11 +154,11 @@ pub not_without_xid : (s : Backend) (from : ℕ) (own : OwnTransaction) → Well
 not_without_xid s from own well written runs none =
     let both : true ≡ false = sym (has_xid s from well written) ∙ ap (λ o. option_map_or (λ (t : OwnTransaction). is_some t.xid) o false) runs ∙ ap (λ (o : Option Xid). is_some o) none in absurd (cc)
 
-pub commits_now : (s : Backend) (command : Command) (first : ℕ) (own : OwnTransaction) (xid : Xid) → slice_get s.commands s.finished ≡ Some command → IsWorking s → is_out s ≡ true → has_write_since first s ≡ true
+pub commits_now : (s : Backend) (command : Command) (first : ℕ) (own : OwnTransaction) (xid : Xid) → slice_get s.commands s.finished ≡ Some command → IsWorking s → is_some s.answer ≡ true → has_write_since first s ≡ true
     → end_at s command ≡ Commits first → s.running ≡ Some own → own.xid ≡ Some xid → NextCommit s xid.0
-commits_now s command first own xid at work out written end runs has = record {
+commits_now s command first own xid at work answered written end runs has = record {
   working = work;
-  out = out;
+  answered = answered;
   first = first;
   end = ap (end_at s) (the_command s work.has command at) ∙ end;
   written = written;

@@ -1,4 +1,4 @@
-ghost use Rattle.std.specs.Prelude.{◌≡◌, ◌≢◌, ◌&&◌, true, false, None, Some, not, is_none, nat_le, slice_get};
+ghost use Rattle.std.specs.Prelude.{◌≡◌, ◌≢◌, ◌&&◌, true, false, None, Some, not, is_none, is_some, nat_le, slice_get};
 ghost use Rattle.std.specs.List.{find, list_any};
 ghost use Rattle.base_types.specs.Scans.{build_scans};
 ghost use Rattle.base_types.specs.declared.scan.Purpose.{Purpose};
@@ -48,7 +48,8 @@ impl Backend {
         match self.phase {
             Phase::Working => self.next_of_rest(),
             Phase::TakenBack { from } => Next::Release { from },
-            Phase::Granted | Phase::Visible | Phase::Ended => unreachable!(),
+            Phase::Ended => Next::Leave,
+            Phase::Granted | Phase::Visible => unreachable!(),
         }
     }
 
@@ -189,7 +190,7 @@ impl Backend {
         requires well { Well self.now }
         requires at { slice_get self.now.commands self.now.finished ≡ Some command.now }
         requires working { IsWorking self.now }
-        requires out { has_come_out self.now ≡ true }
+        requires answered { is_some self.now.answer ≡ true }
         requires end { end_at self.now command.now ≡ Commits first }
         ensures { IsNextOf self.now result }
     {

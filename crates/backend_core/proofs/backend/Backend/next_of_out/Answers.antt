@@ -7,4 +7,4 @@ pub returns-in-Ends : goal.returns-in-Ends
 returns-in-Ends c = finishes_now _ _ c.requires.at c.requires.working (c.is_none.ensures ∙ ap not c.if-is_none.false) (sym c.end.ensures ∙ ap end_of_ending c.in-Ends.is)
 
 pub returns-in-TakesBack-2 : goal.returns-in-TakesBack-2
-returns-in-TakesBack-2 c = releases_now _ _ _ c.requires.at c.requires.working c.requires.out (sym c.has_write_since.ensures ∙ c.if-has_write_since.false) (inr (sym c.end.ensures ∙ ap end_of_ending c.in-TakesBack.is))
+returns-in-TakesBack-2 c = releases_now _ _ _ c.requires.at c.requires.working (c.is_none.ensures ∙ ap not c.if-is_none.false) (sym c.has_write_since.ensures ∙ c.if-has_write_since.false) (inr (sym c.end.ensures ∙ ap end_of_ending c.in-TakesBack.is))
