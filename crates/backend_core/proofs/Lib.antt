@@ -5,3 +5,5 @@ pub mod SeesRelation
 pub mod Stepping
 pub mod Carry
 pub mod Looks
+pub mod Acting
+pub mod Scanning
