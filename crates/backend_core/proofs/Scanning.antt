@@ -35,11 +35,11 @@ use Rattle.cacheless.specs.Owed.{owed_after, unusable, builds_owed, act_owed, ac
 use Rattle.cacheless.specs.Sessions.{placed_at, is_wanted}
 use Rattle.cacheless.specs.Plays.{MayPlay, MayPlayIn, started_in, has_looked}
 use Rattle.cacheless.proofs.Settling.{waits-scans}
-use Rattle.backend_core.specs.Types.{Oid, Kind, Field, Command, CommandError, Row, Purpose, NewColumn, Draft, Entry, Event, Opening, OwnLock, KeptScan, Exec, Phase, OwnTransaction, Backend}
+use Rattle.backend_core.specs.Types.{Oid, Kind, Field, Command, CommandError, Row, Purpose, NewColumn, Draft, Mode, Entry, Event, Opening, OwnLock, KeptScan, Exec, Phase, OwnTransaction, Backend}
 use Rattle.backend_core.specs.declared.phase.Phase.TheVariants as phases
 use Rattle.backend_core.specs.NewTables.{SeesRelation, StaysRead, relation_of}
 use Rattle.backend_core.specs.State.{owed_at, granted, is_visible_at, is_taken_back, is_ended, one_if, running_in, running_at, begins_in, is_kept, missing, builds_missing, act_missing, scans_missing, is_out, Rest, session_at, HasCommand}
-use Rattle.backend_core.specs.Agrees.{IsPlayed, FactsFit, TallyFits, RowsFit, ReadRight, Well, RunsAlone, RunsBlock, TransactionFits, CommitFits, TakeBackFits, EndFits, IsUntouched, IsFound, Way, CommandFits, KeptFits, GivenSeen, Agrees}
+use Rattle.backend_core.specs.Agrees.{IsPlayed, FactsFit, TallyFits, RowsFit, ReadRight, Well, RunsAlone, RunsBlock, TransactionFits, CommitFits, TakeBackFits, EndFits, IsUntouched, IsFound, Way, CommandFits, PlaceFits, KeptFits, GivenSeen, Agrees}
 use Rattle.backend_core.specs.Steps.{IsWorking, NextLookUp, NextBuild, Enters}
 use Rattle.backend_core.proofs.SeesRelation.{SeesRelation-more, found_seen, read_stays-after}
 use Rattle.backend_core.proofs.Stepping.{Waits, facts_after, session_after, rest_after, own_enters}
@@ -210,3 +210,122 @@ next_scan facts s scan unsettled builds first = by_outcome (outcome_of s.left) u
     by_outcome Unsettled un = here
     by_outcome Goes un = absurd (cc)
     by_outcome Badly un = absurd (cc)
+
+-- what a scan needs: it comes next, and a look was made for it
+pub may_scan : (scenario : Scenario) (seen : List Entry) (s : Backend) (agrees : Agrees scenario seen s) (works : IsWorking s) (scan : Purpose) (count : ℕ) → s.looked ≡ true → is_settled (outcome_of (plan_at s.exec)) ≡ false
+    → act_next (facts_of seen s.id) s.read (plan_at s.exec) ≡ scan ∷ [] → MayPlayIn (next_oid seen) (facts_of seen s.id) (slice_get s.commands s.finished) (session_at s agrees.rest) (events.Scan scan count)
+may_scan scenario seen s agrees works scan count looked unsettled first =
+    subst (λ o. MayPlayIn (next_oid seen) (facts_of seen s.id) o (session_at s agrees.rest) (events.Scan scan count)) (sym works.has.at)
+      (owed_free scenario seen s agrees works.phase,
+       next_scan (facts_of seen s.id) (session_at s agrees.rest) scan unsettled (builds_same (facts_of seen s.id) s agrees.facts ∙ agrees.well.builds) first,
+       looked_enough (facts_of seen s.id) s agrees.rest agrees.facts agrees.tally agrees.count works.phase looked)
+
+-- the scan of a name is none of a descriptor's
+no_build : (name : List ℕ) (scan : Purpose) → is_build_scan scan ≡ true → same_scan (scans.RelName name) scan ≡ false
+no_build name (scans.RelName other) build = absurd (cc)
+no_build name scan build = refl
+
+pub other_scan : (a b : Purpose) → same_scan a b ≡ false → same_scan b a ≡ false
+other_scan a b other = by_test (same_scan b a) refl
+  where
+    by_test : (t : Bool) → same_scan b a ≡ t → same_scan b a ≡ false
+    by_test true is = absurd (cc (subst (λ c. same_scan c b ≡ true) (same_scan-true b a is) (same_scan-itself b), other))
+    by_test false is = is
+
+rows_by-others : (old : List Entry) (b : ℕ) (made scan : Purpose) (count : ℕ) (given : List Row) → same_scan made scan ≡ false → rows_by old b scan (events.Scan made count) given ≡ given
+rows_by-others old b made scan count given other = ap (λ t. elim t [ true ↦ answer_of old b scan | false ↦ given ]) other
+
+rows_by-own : (old : List Entry) (b : ℕ) (made : Purpose) (count : ℕ) (given : List Row) → rows_by old b made (events.Scan made count) given ≡ answer_of old b made
+rows_by-own old b made count given = ap (λ t. elim t [ true ↦ answer_of old b made | false ↦ given ]) (same_scan-itself made)
+
+cons_not : {X : Type 0} (x : X) (xs ys : List X) → ys ≡ x ∷ xs → ys ≢ []
+cons_not x xs ys first none = absurd (cc)
+
+-- the relation that the rows of a name's scan name is seen
+named_seen : (old : List Entry) (e : Entry) (b : ℕ) (name : List ℕ) (mode : Mode) (rest : List Row → Plan) (given : List Row) → MayCome old e → LeavesRelations old e b → answer_of old b (scans.RelName name) ≡ given
+    → GivenSeen (old ++ e ∷ []) b (Do (Lookup name mode) rest) true given
+named_seen old e b name mode rest [] may relations is = tt
+named_seen old e b name mode rest (rows.Class rel own kind fill ∷ more) may relations is = relations rel kind (found_seen old b name rel own kind fill more may.sound may.tables is)
+named_seen old e b name mode rest (row ∷ more) may relations is = tt
+
+looked_up_to : (scenario : Scenario) (old new : List Entry) (had has : ℕ → ℕ) (was : Backend) (name : List ℕ) (given : Vec Row Global) (at : ℕ) → Agrees scenario old was → IsPlayed scenario old → IsWorking was → NextLookUp was name → was.looked ≡ true
+    → given.items ≡ answer_of old was.id (scans.RelName name) → at ≡ length old + 1
+    → Appends old new had has (entry_of was.id (was.finished + 1) (events.Scan (scans.RelName name) (length (answer_of old was.id (scans.RelName name)))))
+    → Enters scenario old new was (record was { looked = false; read = true; given = given; given_at = at })
+looked_up_to scenario old new had has was name given at agrees played works next looked rows_are at_is appends =
+    own_enters scenario old new had has was now event agrees (waits_scan scenario old was agrees works.has (cons_not (scans.RelName name) [] (scans_missing was) (missing_at was plan agrees.well.builds next.at ∙ ap (λ r. if r then [] else scans.RelName name ∷ []) next.unread)))
+    (record { session = λ _ _ _ _ _ _. refl; finished = λ _. refl; life = λ _. refl })
+    (record {
+      plays = may_scan scenario old was agrees works (scans.RelName name) count looked (ap (λ p. is_settled (outcome_of p)) next.at) (ap (act_next (facts_of old was.id) was.read) next.at ∙ ap (λ r. take 1 (if r then [] else scans.RelName name ∷ [])) next.unread);
+      needed = λ build. absurd (cc);
+      truly = tt;
+      tables = tt;
+    })
+    (record {
+      moves = record { id = refl; commands = refl; finished = refl; life = refl; lines = refl };
+      session = accepted-clear (facts_after old was event) (first_of (drop was.finished was.commands)) placed (clear_at was agrees.well (λ is. absurd (cc (is, works.phase))))
+          ∙ (λ i. record placed { read = (ap (λ p. is_wanted (scans.RelName name) p || was.read) next.at ∙ ap (λ t. t || was.read) (same_scan-itself (scans.RelName name))) i });
+      facts = record {
+        running = runs_on (was.finished + 1) was (facts_of old was.id) agrees.facts acting.runs;
+        lists = agrees.facts.lists; owed = sym (ap owed_at works.phase); took = sym (ap is_taken_back works.phase); taken = λ from is. absurd (cc (is, works.phase));
+        usable = λ scan build. ap (λ t. t || (facts_of old was.id).usable scan) (no_build name scan build) ∙ agrees.facts.usable scan build;
+        kept = λ i d within. let k = agrees.facts.kept i d within in record { build = k.build; rows_are = k.rows_are ∙ sym (rows_by-others old was.id (scans.RelName name) (get_or was.kept i d).scan count ((facts_of old was.id).rows (get_or was.kept i d).scan) (no_build name (get_or was.kept i d).scan k.build)) };
+        given = λ read. subst (λ p. RowsFit (facts_after old was event).rows p given.items) (sym next.at) (rows_by-own old was.id (scans.RelName name) count ((facts_of old was.id).rows (scans.RelName name)) ∙ sym rows_are);
+      };
+      tally = omega (arith, agrees.tally, ap one_if looked);
+      well = reads_well was was.exec false true given at was.kept works.phase agrees.well.builds refl agrees.well;
+    })
+    (record {
+      command = record {
+        refused = agrees.command.refused;
+        way = λ none free command here. way-more old e was now agrees.rest later command same writes relations (agrees.command.way none free command here);
+        later = later-more old e was now agrees.rest later same writes agrees.command.later;
+        given_at = subst (λ p. PlaceFits (old ++ e ∷ []) was.id p true at) (sym next.at) (place_read-scan old e was.id (scans.RelName name) (eq-eqb was.id was.id refl) (same_scan-itself (scans.RelName name)) ∙ sym at_is);
+        given_seen = subst (λ p. GivenSeen (old ++ e ∷ []) was.id p true given.items) (sym next.at) (named_seen old e was.id name next.mode next.rest given.items may relations (sym rows_are));
+      };
+      kept = kept-more old e was.id was.kept may (λ i d within. no_build name (get_or was.kept i d).scan (agrees.facts.kept i d within).build) agrees.kept;
+      answer = no_answer scenario (old ++ e ∷ []) now later acting.unanswered;
+      judged = λ _ _. refl;
+    })
+    appends
+  where
+    count : ℕ
+    count = length (answer_of old was.id (scans.RelName name))
+
+    event : Event
+    event = events.Scan (scans.RelName name) count
+
+    plan : Plan
+    plan = Do (Lookup name next.mode) next.rest
+
+    now : Backend
+    now = record was { looked = false; read = true; given = given; given_at = at }
+
+    placed : Session
+    placed = placed_at (length old + 1) (was.finished + 1) event (session_at was agrees.rest)
+
+    acting : IsActing old was agrees.rest works.has.command
+    acting = is_acting scenario old was agrees works (ap acts next.at)
+
+    e : Entry
+    e = entry_of was.id (was.finished + 1) event
+
+    later : Rest
+    later = rest_after old was event agrees.rest
+
+    may : MayCome old e
+    may = may_come scenario old e played appends.comes tt
+
+    same : SameCommand was now agrees.rest later
+    same = record { id = refl; commands = refl; finished = refl; answer = refl; plan = refl; opened = refl; block = refl; refused = refl; found = refl }
+
+    writes : LeavesWrites old e was.id
+    writes = λ c. has_written-quiet old e was.id c refl
+
+    relations : LeavesRelations old e was.id
+    relations = leaves_relations old e was.id may refl
+
+-- the scan of a name
+pub looked_up_enters : (scenario : Scenario) (old new : List Entry) (had has : ℕ → ℕ) (was : Backend) (name : List ℕ) (scanned : Scanned) → Agrees scenario old was → IsPlayed scenario old → IsWorking was → NextLookUp was name → was.looked ≡ true
+    → GivesRows old new had has was.id (was.finished + 1) (scans.RelName name) scanned → Enters scenario old new was (record was { looked = false; read = true; given = scanned.rows; given_at = scanned.at })
+looked_up_enters scenario old new had has was name scanned agrees played works next looked gives = looked_up_to scenario old new had has was name scanned.rows scanned.at agrees played works next looked gives.rows gives.at gives.appends
