@@ -1,5 +1,5 @@
 -- The scans of a backend, and the look before each.
-use Rattle.std.proofs.Common.{◌≡◌, ◌≢◌, ◌≤◌, ◌<◌, ◌+◌, ◌⊎◌, inl, inr, ◌∙◌, ℕ, Bool, true, false, not, Option, Some, None, List, [], ◌∷◌, ◌++◌, ◌==◌, ◌&&◌, ◌||◌, if◌then◌else◌, refl, sym, ap, subst, length, get_or, filter, take, drop, map, All, is_none, is_some, slice_get, lt-ltb, arith}
+use Rattle.std.proofs.Common.{◌≡◌, ◌≢◌, ◌≤◌, ◌<◌, ◌+◌, ◌⊎◌, inl, inr, ◌∙◌, ℕ, Bool, true, false, not, Option, Some, None, List, [], ◌∷◌, ◌++◌, ◌==◌, ◌&&◌, ◌||◌, if◌then◌else◌, refl, sym, ap, subst, length, get_or, cond, filter, take, drop, map, All, is_none, is_some, slice_get, lt-ltb, arith}
 use Rattle.std.specs.Bool.{⊤}
 use Rattle.std.specs.List.{list_any, flat_map, AllByRecursion}
 use Rattle.std.specs.Option.{option_map, option_map_or}
@@ -329,3 +329,149 @@ looked_up_to scenario old new had has was name given at agrees played works next
 pub looked_up_enters : (scenario : Scenario) (old new : List Entry) (had has : ℕ → ℕ) (was : Backend) (name : List ℕ) (scanned : Scanned) → Agrees scenario old was → IsPlayed scenario old → IsWorking was → NextLookUp was name → was.looked ≡ true
     → GivesRows old new had has was.id (was.finished + 1) (scans.RelName name) scanned → Enters scenario old new was (record was { looked = false; read = true; given = scanned.rows; given_at = scanned.at })
 looked_up_enters scenario old new had has was name scanned agrees played works next looked gives = looked_up_to scenario old new had has was name scanned.rows scanned.at agrees played works next looked gives.rows gives.at gives.appends
+
+-- the first scan that is missing: it isn't kept, and is one of the relation's descriptor
+first_missing : (keep : Purpose → Bool) (P : Purpose → Type 0) (wanted : List Purpose) (scan : Purpose) (more : List Purpose) → AllByRecursion P wanted → filter keep wanted ≡ scan ∷ more → (keep scan ≡ true) × P scan
+first_missing keep P [] scan more holds first = absurd (cc)
+first_missing keep P (x ∷ wanted) scan more holds first = by_test (keep x) refl first (first_missing keep P wanted scan more holds.1)
+  where
+    by_test : (t : Bool) → keep x ≡ t → cond t (x ∷ filter keep wanted) (filter keep wanted) ≡ scan ∷ more → (filter keep wanted ≡ scan ∷ more → (keep scan ≡ true) × P scan) → (keep scan ≡ true) × P scan
+    by_test true is here rest = let same : x ≡ scan = cc in (subst (λ y. keep y ≡ true) same is, subst P same holds.0)
+    by_test false is here rest = rest here
+
+-- a scan for the descriptor of this relation
+abbrev IsBuildOf : Oid → Purpose → Type 0
+IsBuildOf rel scan = (is_build_scan scan ≡ true) × (relation_of scan ≡ Some rel)
+
+builds_of : (kind : Kind) (rel : Oid) → AllByRecursion (IsBuildOf rel) (build_scans kind rel)
+builds_of Table rel = ((refl, refl), ((refl, refl), ((refl, refl), ((refl, refl), ((refl, refl), ((refl, refl), tt))))))
+builds_of Index rel = ((refl, refl), ((refl, refl), tt))
+
+not_true : (t : Bool) → not t ≡ true → t ≡ false
+not_true true h = absurd (cc)
+not_true false h = refl
+
+-- a scan that isn't kept is none of those that are
+none_at : {X : Type 0} (p : X → Bool) (xs : List X) (i : ℕ) (d : X) → i < length xs → list_any p xs ≡ false → p (get_or xs i d) ≡ false
+none_at p xs i d within none = by_test (p (get_or xs i d)) refl
+  where
+    by_test : (t : Bool) → p (get_or xs i d) ≡ t → p (get_or xs i d) ≡ false
+    by_test true is = absurd (cc (list_any_at p xs i d within is, none))
+    by_test false is = is
+
+rows_fit : (old : List Entry) (b : ℕ) (made : Purpose) (count : ℕ) (given_of : Purpose → List Row) → is_build_scan made ≡ true → (p : Plan) (given : List Row) → RowsFit given_of p given → RowsFit (λ scan. rows_by old b scan (events.Scan made count) (given_of scan)) p given
+rows_fit old b made count given_of build (Do (Lookup name mode) rest) given fits = rows_by-others old b made (scans.RelName name) count (given_of (scans.RelName name)) (other_scan (scans.RelName name) made (no_build name made build)) ∙ fits
+rows_fit old b made count given_of build (Do act rest) given fits = tt
+rows_fit old b made count given_of build p given fits = tt
+
+kept_longer : (kept more : List KeptScan) (scan : Purpose) → is_kept kept scan ≡ true → is_kept (kept ++ more) scan ≡ true
+kept_longer kept more scan has = list_any-append (λ (k : KeptScan). same_scan k.scan scan) kept more ∙ ap (λ t. t || is_kept more scan) has
+
+missing_less : (kept more : List KeptScan) (wanted : List Purpose) → missing kept wanted ≡ [] → missing (kept ++ more) wanted ≡ []
+missing_less kept more [] none = refl
+missing_less kept more (scan ∷ wanted) none = by_test (is_kept kept scan) refl none (missing_less kept more wanted)
+  where
+    by_test : (t : Bool) → is_kept kept scan ≡ t → cond (not t) (scan ∷ missing kept wanted) (missing kept wanted) ≡ [] → (missing kept wanted ≡ [] → missing (kept ++ more) wanted ≡ []) → missing (kept ++ more) (scan ∷ wanted) ≡ []
+    by_test true is here rest = ap (λ t. cond (not t) (scan ∷ missing (kept ++ more) wanted) (missing (kept ++ more) wanted)) (kept_longer kept more scan is) ∙ rest here
+    by_test false is here rest = absurd (cc)
+
+-- with more scans kept the opened descriptors lack none still
+pub builds_less : (kept more : List KeptScan) (opened : List Opening) → builds_missing kept opened ≡ [] → builds_missing (kept ++ more) opened ≡ []
+builds_less kept more [] none = refl
+builds_less kept more (o ∷ opened) none =
+    let parts = both_none (missing kept (build_scans o.kind o.rel)) (builds_missing kept opened) none in
+    ap (λ l. l ++ builds_missing (kept ++ more) opened) (missing_less kept more (build_scans o.kind o.rel) parts.0) ∙ builds_less kept more opened parts.1
+
+built_to : (scenario : Scenario) (old new : List Entry) (had has : ℕ → ℕ) (was : Backend) (scan : Purpose) (given : List Row) (at : ℕ) → Agrees scenario old was → IsPlayed scenario old → IsWorking was → NextBuild was scan → was.looked ≡ true
+    → given ≡ answer_of old was.id scan → at ≡ length old + 1
+    → Appends old new had has (entry_of was.id (was.finished + 1) (events.Scan scan (length (answer_of old was.id scan))))
+    → Enters scenario old new was (record was { looked = false; kept = was.kept ++ record { scan = scan; rows = given; at = at } ∷ [] })
+built_to scenario old new had has was scan given at agrees played works next looked rows_are at_is appends =
+    own_enters scenario old new had has was now event agrees (waits_scan scenario old was agrees works.has (cons_not scan next.more (scans_missing was) (missing_at was plan agrees.well.builds next.at ∙ next.first)))
+    (record { session = λ _ _ _ _ _ _. refl; finished = λ _. refl; life = λ _. refl })
+    (record {
+      plays = may_scan scenario old was agrees works scan count looked (ap (λ p. is_settled (outcome_of p)) next.at)
+          (ap (act_next (facts_of old was.id) was.read) next.at
+          ∙ ap (λ p. take 1 (act_owed (facts_of old was.id) was.read p)) (sym next.at) ∙ ap (take 1) (act_same (facts_of old was.id) was agrees.facts ∙ ap (act_missing was.kept was.read) next.at ∙ next.first));
+      needed = λ build. agrees.facts.usable scan build ∙ unkept;
+      truly = tt;
+      tables = tt;
+    })
+    (record {
+      moves = record { id = refl; commands = refl; finished = refl; life = refl; lines = refl };
+      session = accepted-clear (facts_after old was event) (first_of (drop was.finished was.commands)) placed (clear_at was agrees.well (λ is. absurd (cc (is, works.phase))))
+          ∙ (λ i. record placed { read = ap (λ p. is_wanted scan p || was.read) next.at i });
+      facts = record {
+        running = runs_on (was.finished + 1) was (facts_of old was.id) agrees.facts acting.runs;
+        lists = agrees.facts.lists; owed = sym (ap owed_at works.phase); took = sym (ap is_taken_back works.phase); taken = λ from is. absurd (cc (is, works.phase));
+        usable = λ other build. ap (λ t. same_scan scan other || t) (agrees.facts.usable other build) ∙ or_comm (same_scan scan other) (is_kept was.kept other)
+            ∙ sym (list_any-append (λ (k : KeptScan). same_scan k.scan other) was.kept (made ∷ []) ∙ ap (λ t. is_kept was.kept other || t) (or_comm (same_scan scan other) false));
+        kept = All-push (ReadRight (facts_after old was event).rows) was.kept made
+            (λ i d within. let k = agrees.facts.kept i d within in record { build = k.build; rows_are = k.rows_are ∙ sym (rows_by-others old was.id scan (get_or was.kept i d).scan count ((facts_of old was.id).rows (get_or was.kept i d).scan) (others i d within)) })
+            (record { build = first.1.0; rows_are = rows_are ∙ sym (rows_by-own old was.id scan count ((facts_of old was.id).rows scan)) });
+        given = λ read. rows_fit old was.id scan count (facts_of old was.id).rows first.1.0 (plan_at was.exec) was.given.items (agrees.facts.given read);
+      };
+      tally = omega (arith, agrees.tally, ap one_if looked);
+      well = reads_well was was.exec false was.read was.given was.given_at now.kept works.phase (builds_less was.kept (made ∷ []) was.opened agrees.well.builds) refl agrees.well;
+    })
+    (record {
+      command = command-more old e was now agrees.rest later (record { id = refl; commands = refl; finished = refl; answer = refl; plan = refl; opened = refl; block = refl; refused = refl; found = refl }) (record { read = refl; given = refl; given_at = refl })
+          leaves.writes leaves.places leaves.relations agrees.command;
+      kept = All-push (KeptFits (old ++ e ∷ []) was.id) was.kept made (kept-more old e was.id was.kept may others agrees.kept)
+          (record {
+            at = place_read-scan old e was.id scan (eq-eqb was.id was.id refl) (same_scan-itself scan) ∙ sym at_is;
+            stays = subst (StaysRead (old ++ e ∷ []) was.id scan) (sym rows_are) (read_stays-after old e was.id next.rel next.kind scan may.sound may.tables may.comes may.adds
+                (open_sees old was agrees.rest works.has.command next.rel next.kind next.rest acting.way next.at) first.1.1);
+          });
+      answer = no_answer scenario (old ++ e ∷ []) now later acting.unanswered;
+      judged = λ _ _. refl;
+    })
+    appends
+  where
+    count : ℕ
+    count = length (answer_of old was.id scan)
+
+    event : Event
+    event = events.Scan scan count
+
+    plan : Plan
+    plan = Do (Open next.rel next.kind) next.rest
+
+    made : KeptScan
+    made = record { scan = scan; rows = given; at = at }
+
+    now : Backend
+    now = record was { looked = false; kept = was.kept ++ made ∷ [] }
+
+    placed : Session
+    placed = placed_at (length old + 1) (was.finished + 1) event (session_at was agrees.rest)
+
+    acting : IsActing old was agrees.rest works.has.command
+    acting = is_acting scenario old was agrees works (ap acts next.at)
+
+    first : (not (is_kept was.kept scan) ≡ true) × IsBuildOf next.rel scan
+    first = first_missing (λ x. not (is_kept was.kept x)) (IsBuildOf next.rel) (build_scans next.kind next.rel) scan next.more (builds_of next.kind next.rel) next.first
+
+    unkept : is_kept was.kept scan ≡ false
+    unkept = not_true (is_kept was.kept scan) first.0
+
+    others : All (λ k. same_scan scan k.scan ≡ false) was.kept
+    others = λ i d within. other_scan (get_or was.kept i d).scan scan (none_at (λ (m : KeptScan). same_scan m.scan scan) was.kept i d within unkept)
+
+    e : Entry
+    e = entry_of was.id (was.finished + 1) event
+
+    later : Rest
+    later = rest_after old was event agrees.rest
+
+    may : MayCome old e
+    may = may_come scenario old e played appends.comes tt
+
+    leaves : Leaves old e was.id
+    leaves = own_leaves old e was.id may refl (λ name. other_scan (scans.RelName name) scan (no_build name scan first.1.0)) refl
+
+-- a scan for a descriptor
+pub built_enters : (scenario : Scenario) (old new : List Entry) (had has : ℕ → ℕ) (was : Backend) (scan : Purpose) (scanned : Scanned) (kept : List KeptScan) → Agrees scenario old was → IsPlayed scenario old → IsWorking was → NextBuild was scan → was.looked ≡ true
+    → GivesRows old new had has was.id (was.finished + 1) scan scanned → kept ≡ was.kept ++ record { scan = scan; rows = scanned.rows.items; at = scanned.at } ∷ [] → Enters scenario old new was (record was { looked = false; kept = kept })
+built_enters scenario old new had has was scan scanned kept agrees played works next looked gives pushed =
+    subst (λ k. Enters scenario old new was (record was { looked = false; kept = k })) (sym pushed) (built_to scenario old new had has was scan scanned.rows.items scanned.at agrees played works next looked gives.rows gives.at gives.appends)
