@@ -7,3 +7,4 @@ pub mod Carry
 pub mod Looks
 pub mod Acting
 pub mod Scanning
+pub mod Locking
