@@ -8,3 +8,7 @@ pub mod Ending
 pub mod Nexting
 pub mod Silent
 pub mod Played
+pub mod Looks
+pub mod Acting
+pub mod Scanning
+pub mod Locking
