@@ -5,3 +5,5 @@ pub mod SeesRelation
 pub mod Stepping
 pub mod Carry
 pub mod Ending
+pub mod EndEntries
+pub mod Committing
