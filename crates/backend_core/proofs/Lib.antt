@@ -7,3 +7,4 @@ pub mod Carry
 pub mod Ending
 pub mod EndEntries
 pub mod Committing
+pub mod TakingBack
