@@ -96,7 +96,7 @@ commit_enters scenario old new had has was xid agrees played next appends =
         running = ap (λ o. Some (record (begun (was.finished + 1) o) { visible = true })) agrees.facts.running ∙ shown was.phase was.running (was.finished + 1) runs;
         lists = agrees.facts.lists; owed = refl; took = refl; taken = λ from is. absurd (cc); usable = agrees.facts.usable; kept = agrees.facts.kept; given = agrees.facts.given;
       };
-      tally = ap (λ n. agrees.rest.tally.looks + n) (sym (ap granted next.working.phase)) ∙ agrees.tally;
+      tally = λ _. ap (λ n. agrees.rest.tally.looks + n) (sym (ap granted next.working.phase)) ∙ agrees.tally (ap is_ended next.working.phase);
       well = record {
         built = agrees.well.built; few = agrees.well.few; most = agrees.well.most; builds = agrees.well.builds; blocked = agrees.well.blocked; refused = agrees.well.refused;
         plain = agrees.well.plain; opens = agrees.well.opens; levels = agrees.well.levels; first = agrees.well.first;

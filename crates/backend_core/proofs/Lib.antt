@@ -8,3 +8,4 @@ pub mod Ending
 pub mod EndEntries
 pub mod Committing
 pub mod TakingBack
+pub mod Releasing

@@ -83,7 +83,7 @@ take_back_enters scenario old new had has was from writes agrees played next kep
         usable = λ scan build. usable_by-none old was.id (was.finished + 1) scan (events.Gone from) (is_usable old was.id scan) refl ∙ agrees.facts.usable scan build;
         kept = agrees.facts.kept; given = agrees.facts.given;
       };
-      tally = ap (λ n. agrees.rest.tally.looks + n) (sym (ap granted next.phase)) ∙ agrees.tally;
+      tally = λ _. ap (λ n. agrees.rest.tally.looks + n) (sym (ap granted next.phase)) ∙ agrees.tally (ap is_ended next.phase);
       well = record {
         built = agrees.well.built; few = agrees.well.few; most = agrees.well.most; builds = agrees.well.builds; blocked = agrees.well.blocked; refused = agrees.well.refused;
         plain = agrees.well.plain; opens = agrees.well.opens; levels = agrees.well.levels; first = agrees.well.first;
