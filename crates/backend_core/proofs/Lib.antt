@@ -9,3 +9,5 @@ pub mod EndEntries
 pub mod Committing
 pub mod TakingBack
 pub mod Releasing
+pub mod Leaving
+pub mod Beginning
