@@ -12,3 +12,9 @@ pub mod Looks
 pub mod Acting
 pub mod Scanning
 pub mod Locking
+pub mod EndEntries
+pub mod Committing
+pub mod TakingBack
+pub mod Releasing
+pub mod Leaving
+pub mod Beginning

@@ -31,7 +31,7 @@ use Rattle.backend_core.specs.Types.{Oid, Mode, Kind, Field, Row, Purpose, Comma
 use Rattle.backend_core.specs.declared.phase.Life.TheVariants as lives
 use Rattle.backend_core.specs.declared.phase.Phase.TheVariants as phases
 use Rattle.backend_core.specs.NewTables.{IsNewTable, HasTables, StaysRead, SeesRelation}
-use Rattle.backend_core.specs.State.{owed_at, granted, is_taken_back, one_if, running_at, lists_at, is_kept, builds_missing, is_out, begins_in, owed_first, end_at, is_inside, blocks_next, has_write_since, end_of_running, Rest, session_at, HasCommand}
+use Rattle.backend_core.specs.State.{owed_at, granted, is_taken_back, is_ended, one_if, running_at, lists_at, is_kept, builds_missing, is_out, begins_in, owed_first, end_at, is_inside, blocks_next, has_write_since, end_of_running, Rest, session_at, HasCommand}
 
 -- a history that the script's commands played so far
 pub record IsPlayed (scenario : Scenario) (history : List Entry) : Type 0 where
@@ -243,7 +243,7 @@ pub record Agrees (scenario : Scenario) (seen : List Entry) (s : Backend) : Type
   pub count : length rest.finished ≡ s.finished
   pub is : session_of scenario seen s.id ≡ Some (settled (facts_of seen s.id) (drop s.finished s.commands) (session_at s rest))
   pub facts : FactsFit (facts_of seen s.id) s
-  pub tally : TallyFits rest.tally s
+  pub tally : is_ended s.phase ≡ false → TallyFits rest.tally s
   pub life : IsAlive (life_of seen s.id) s
   pub well : Well s
   pub command : CommandFits seen s rest
