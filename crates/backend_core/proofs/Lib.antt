@@ -3,3 +3,4 @@ pub mod CountsFor
 pub mod StaysRead
 pub mod SeesRelation
 pub mod Stepping
+pub mod NewTable
