@@ -70,7 +70,7 @@ pub record Follows (scenario : Scenario) (old : List Entry) (was now : Backend) 
   pub command : CommandFits (old ++ entry_of was.id (was.finished + 1) event ∷ []) now (rest_after old was event rest)
   pub kept : All (KeptFits (old ++ entry_of was.id (was.finished + 1) event ∷ []) was.id) now.kept
   pub answer : AnswerFits scenario (old ++ entry_of was.id (was.finished + 1) event ∷ []) now (rest_after old was event rest)
-  pub judged : is_some now.answer ≡ false → ends_command event ≡ false
+  pub judged : HasCommand now → is_some now.answer ≡ false → ends_command event ≡ false
 
 -- what the history and the script ask of the entry
 pub record Suits (scenario : Scenario) (old : List Entry) (was : Backend) (event : Event) (rest : Rest) : Type 0 where
@@ -125,7 +125,7 @@ own_agrees scenario old was now event agrees waits on keeps follows = record {
         ∙ ap (λ b. lines_from scenario new b 1 rest.finished was.commands) (sym keeps.moves.id)
         ∙ ap (lines_from scenario new now.id 1 rest.finished) (sym keeps.moves.commands);
   };
-  now = record { last = sym longer; judged = λ none. ap (λ t. if t then agrees.rest.judged else length old + 1) (follows.judged none) ∙ sym longer };
+  now = record { last = sym longer; judged = λ has none. ap (λ t. if t then agrees.rest.judged else length old + 1) (follows.judged has none) ∙ sym longer };
 }
   where
     e : Entry
