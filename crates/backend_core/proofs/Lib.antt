@@ -4,3 +4,4 @@ pub mod StaysRead
 pub mod SeesRelation
 pub mod Stepping
 pub mod NewTable
+pub mod Writing
