@@ -1,11 +1,12 @@
 -- A backend's write: its command is one that makes a table, and it has a transaction.
-use Rattle.std.proofs.Common.{◌≡◌, ◌≢◌, ◌≤◌, ◌<◌, ◌+◌, ◌∙◌, ◌⊎◌, inl, inr, ℕ, Bool, true, false, not, Option, Some, None, List, [], ◌∷◌, ◌++◌, ◌==◌, ◌&&◌, ◌||◌, refl, sym, ap, subst, length, drop, map, All, is_none, is_some, slice_get, arith}
+use Rattle.std.proofs.Common.{◌≡◌, ◌≢◌, ◌≤◌, ◌<◌, ◌+◌, ◌∙◌, ◌⊎◌, inl, inr, ℕ, Bool, true, false, not, Option, Some, None, List, [], ◌∷◌, ◌++◌, ◌==◌, ◌&&◌, ◌||◌, refl, sym, ap, subst, length, drop, fold, map, All, is_none, is_some, slice_get, arith}
 use Rattle.std.specs.Option.{option_map, option_map_or}
 use Rattle.std.specs.List.{flat_map}
 use Rattle.std.specs.declared.alloc.Global.{Global}
 use Rattle.std.specs.declared.vec.Vec.{Vec}
 use Rattle.std.proofs.Math.Bool.{and-false}
 use Rattle.std.proofs.lemmas.Bool.{ne_eqb, eq-eqb}
+use Rattle.std.proofs.lemmas.List.{map-append}
 use Rattle.base_types.specs.Fields.{has_field}
 use Rattle.base_types.specs.declared.command.Command.TheVariants as commands
 use Rattle.base_types.specs.declared.mode.Mode.TheVariants.{AccessExclusive}
@@ -13,26 +14,29 @@ use Rattle.event_kinds.specs.declared.entry.Event.TheVariants as events
 use Rattle.rel_desc.specs.declared.error.CommandError.TheVariants as errors
 use Rattle.ddl_effect.specs.declared.exec.Exec.TheVariants as stages
 use Rattle.ddl_effect.specs.Plans.{Plan, Done, Fails, Absent, Do, Act, Write, Open, after_act}
-use Rattle.ddl_effect.specs.Commands.{plan_of, showing, opening, if_passes}
+use Rattle.ddl_effect.specs.Commands.{plan_of, writing, showing, opening, if_passes}
 use Rattle.ddl_effect.specs.Blocks.{Block, Outside, Inside, Failed, no_block, refused_by, refused_in, innermost}
 use Rattle.ddl_effect.specs.Stages.{plan_at}
 use Rattle.history_model.specs.Sent.{Written, written_by, has_write_from, cats_by, rels_by, once_more}
 use Rattle.history_model.specs.Transactions.{Running, begun}
 use Rattle.history_model.specs.Writes.{has_written, is_empty}
+use Rattle.seg_calls.specs.Calls.{MayRequest, MayWrite}
 use Rattle.cacheless.specs.Facts.{Facts, facts_of}
 use Rattle.cacheless.specs.Locks.{cleared}
 use Rattle.cacheless.specs.Session.{Session, none_open, plan_first, plan_admitted, refused_first, outcome_of, is_settled}
-use Rattle.cacheless.specs.Owed.{Owes, OwesLook, owed_at_start, owed_after, scans_owed, owed_of}
+use Rattle.cacheless.specs.Owed.{Owes, OwesLook, OwesScan, builds_owed, owed_at_start, owed_after, scans_owed, owed_of}
 use Rattle.cacheless.specs.Settled.{settled, done_here, gives}
 use Rattle.cacheless.specs.Sessions.{written}
 use Rattle.cacheless.proofs.Settling.{waits-act}
-use Rattle.backend_core.specs.Types.{Oid, Xid, Kind, Field, Row, Command, CommandError, Scenario, Entry, Event, Item, NewColumn, Draft, Exec, Opening, OwnLock, OwnTransaction, Backend}
+use Rattle.backend_core.specs.Types.{Oid, Xid, Kind, Field, Row, Command, CommandError, Scenario, Entry, Event, Item, Phase, NewColumn, Draft, Exec, Opening, OwnLock, OwnTransaction, Backend}
 use Rattle.backend_core.specs.declared.phase.Phase.TheVariants as phases
 use Rattle.backend_core.specs.NewTables.{IsNewTable}
-use Rattle.backend_core.specs.State.{running_in, running_at, written_in, lists_at, builds_missing, scans_missing, is_out, begins_in, owed_first, has_write_since, one_if, Rest, session_at, HasCommand}
-use Rattle.backend_core.specs.Agrees.{FactsFit, TransactionFits, RunsAlone, RunsBlock, EndFits, Well, IsUntouched, IsMissing, IsFound, HasOpened, IsWritten, Way, CommandFits, Agrees}
+use Rattle.backend_core.specs.State.{is_visible_at, is_taken_back, running_in, running_at, written_in, lists_at, builds_missing, scans_missing, is_out, begins_in, owed_first, has_write_since, one_if, Rest, session_at, HasCommand}
+use Rattle.backend_core.specs.Agrees.{IsPlayed, FactsFit, TransactionFits, RunsAlone, RunsBlock, EndFits, Well, IsUntouched, IsMissing, IsFound, HasOpened, IsWritten, Way, CommandFits, Agrees}
 use Rattle.backend_core.specs.Steps.{IsWorking, NextWrite}
 use Rattle.backend_core.proofs.Stepping.{Waits}
+use Rattle.backend_core.proofs.Carry.{may_request, waits_at, missing_at, owed_scans, clear_at}
+use Rattle.backend_core.proofs.NewTable.{new_table_may_write}
 
 -- the command makes a table
 pub record Creates (command : Command) : Type 0 where
@@ -106,15 +110,6 @@ pub writes_now : (seen : List Entry) (s : Backend) (rest : Rest) (has : HasComma
 writes_now seen s rest has next well fits = way_writes seen s rest has.command next.draft next.rest next.at
     (fits.way (unanswered s (Write next.draft) next.rest well next.at) (unrefused seen s rest (Write next.draft) next.rest fits next.at) has.command has.at)
 
--- after a write nothing is left of the plan
-pub done_after : (exec : Exec) (draft : Draft) (rest : List Row → Plan) → plan_at exec ≡ Do (Write draft) rest → rest [] ≡ Done
-done_after (stages.Writing own) draft rest at = sym (ap (after_act []) at)
-done_after stages.Done draft rest at = absurd (cc)
-done_after (stages.Failing error) draft rest at = absurd (cc)
-done_after (stages.Missing name) draft rest at = absurd (cc)
-done_after (stages.Finding name mode field) draft rest at = absurd (cc)
-done_after (stages.Opening rel kind) draft rest at = absurd (cc)
-
 -- while a command works its transaction runs as the blocks say
 working_fits : (s : Backend) → s.phase ≡ phases.Working → TransactionFits s → elim s.blocks.block as (λ _. Type 0) [ Outside ↦ (s.running ≡ None) ⊎ RunsAlone s | Inside ↦ RunsBlock s | Failed ↦ s.running ≡ None ]
 working_fits s phase fits = subst (λ p. elim p as (λ _. Type 0) [ phases.Ended ↦ s.running ≡ None | other ↦ elim s.blocks.block as (λ _. Type 0) [ Outside ↦ (s.running ≡ None) ⊎ RunsAlone s | Inside ↦ RunsBlock s | Failed ↦ s.running ≡ None ] ]) phase fits
@@ -132,3 +127,135 @@ has_transaction s command creating phase free admits fits = by_block s.blocks.bl
         (sym (λ i. elim (begins_in (record { block = is i; levels = s.blocks.levels }) (phase i) (creating.is i) && is_none s.running) as (λ _. List Owes) [ true ↦ OwesLook ∷ [] | false ↦ [] ]) ∙ free)
     by_block Inside is runs = runs.runs
     by_block Failed is runs = let fails : Some errors.BlockFailed ≡ None = ap (λ c. refused_in Failed c) (sym creating.is) ∙ ap (λ b. refused_in b command) (sym is) ∙ admits in absurd (cc fails)
+
+-- the backend after it asked for a write
+abbrev pub after_asking : Backend → Exec → List Opening → Bool → Option OwnTransaction → Vec ℕ Global → Vec OwnLock Global → Backend
+after_asking was exec opened read running writes locks = record was { exec = exec; opened = opened; read = read; running = running; writes = writes; locks = locks }
+
+-- its command has come out, and its transaction has written at most
+pub record Settles (was : Backend) (exec : Exec) (opened : List Opening) (running : Option OwnTransaction) (writes : List ℕ) (locks : List OwnLock) : Type 0 where
+  pub out : is_settled (outcome_of (plan_at exec)) ≡ true
+  pub builds : builds_missing was.kept opened ≡ []
+  pub runs : is_some running ≡ true
+  pub first : option_map_or (λ t. t.first) running 0 ≡ option_map_or (λ t. t.first) was.running 0
+  pub written : has_write_from 0 (map written_in writes) ≡ true → option_map_or (λ t. is_some t.xid) running false ≡ true
+  pub clear : map cleared locks ≡ locks
+
+-- so its transaction is still as the blocks say
+asked_transaction : (was : Backend) (exec : Exec) (opened : List Opening) (read : Bool) (running : Option OwnTransaction) (writes : Vec ℕ Global) (locks : Vec OwnLock Global) → was.phase ≡ phases.Working → is_some was.running ≡ true
+    → is_some running ≡ true → option_map_or (λ t. t.first) running 0 ≡ option_map_or (λ t. t.first) was.running 0 → TransactionFits was → TransactionFits (after_asking was exec opened read running writes locks)
+asked_transaction was exec opened read running writes locks phase ran runs first fits =
+    subst (λ p. elim p as (λ _. Type 0) [ phases.Ended ↦ running ≡ None | other ↦ elim was.blocks.block as (λ _. Type 0) [ Outside ↦ (running ≡ None) ⊎ RunsAlone now | Inside ↦ RunsBlock now | Failed ↦ running ≡ None ] ]) (sym phase)
+    (by_block was.blocks.block refl (working_fits was phase fits))
+  where
+    now : Backend
+    now = after_asking was exec opened read running writes locks
+
+    by_block : (block : Block) → was.blocks.block ≡ block → elim block as (λ _. Type 0) [ Outside ↦ (was.running ≡ None) ⊎ RunsAlone was | Inside ↦ RunsBlock was | Failed ↦ was.running ≡ None ]
+        → elim block as (λ _. Type 0) [ Outside ↦ (running ≡ None) ⊎ RunsAlone now | Inside ↦ RunsBlock now | Failed ↦ running ≡ None ]
+    by_block Outside is (inl none) = let no : true ≡ false = sym ran ∙ ap is_some none in absurd (cc no)
+    by_block Outside is (inr alone) = inr (record { has = record { command = alone.has.command; at = alone.has.at }; begins = alone.begins; first = first ∙ alone.first })
+    by_block Inside is block = record { runs = runs; first = first ∙ block.first }
+    by_block Failed is none = let no : true ≡ false = sym ran ∙ ap is_some none in absurd (cc no)
+
+-- and it is well
+pub asked_well : (was : Backend) (exec : Exec) (opened : List Opening) (read : Bool) (running : Option OwnTransaction) (writes : Vec ℕ Global) (locks : Vec OwnLock Global) → was.phase ≡ phases.Working → is_some was.running ≡ true → was.blocked ≡ false
+    → is_some was.answer ≡ false → Settles was exec opened running writes.items locks.items → Well was → Well (after_asking was exec opened read running writes locks)
+asked_well was exec opened read running writes locks phase ran unblocked none settles well = record {
+  built = well.built;
+  few = well.few;
+  most = well.most;
+  builds = settles.builds;
+  blocked = well.blocked;
+  refused = λ is. let no : true ≡ false = sym is ∙ unblocked in absurd (cc no);
+  levels = well.levels;
+  first = omega (arith, settles.first, well.first);
+  transaction = asked_transaction was exec opened read running writes locks phase ran settles.runs settles.first well.transaction;
+  written = settles.written;
+  end = subst (λ p. EndFits (record now { phase = p })) (sym phase) tt;
+  answered = λ has is. inl phase;
+  come_out = λ is. settles.out;
+  free = λ is has. let no : true ≡ false = sym is ∙ none in absurd (cc no);
+  granted = λ is. let no : phases.Granted ≡ phases.Working = sym is ∙ phase in absurd (cc no);
+  clear = inr settles.clear;
+  table = λ rest draft at. let no : true ≡ false = sym settles.out ∙ ap (λ p. is_settled (outcome_of p)) at in absurd (cc no);
+}
+  where
+    now : Backend
+    now = after_asking was exec opened read running writes locks
+
+begun_writes : (p : Phase) (c : ℕ) (xid : Xid) (o : Option OwnTransaction) → p ≡ phases.Working
+    → ◌≡◌ {A = Option Running} (Some (record (begun c (running_in p o)) { xid = Some xid.0 })) (running_in p (Some (record { first = option_map_or (λ t. t.first) o c; xid = Some xid })))
+begun_writes p c xid None phase = λ i. Some (record { first = c; xid = Some xid.0; published = 0; visible = is_visible_at (sym phase i) })
+begun_writes p c xid (Some t) phase = refl
+
+-- a write has no messages
+no_messages : (before : List Entry) (b c : ℕ) (items : List Item) → written_by before b c items ≡ written_in c
+no_messages before b c items = λ i. record { command = c; cats = no_cats items i; rels = fold once_more [] (no_rels items i) }
+  where
+    no_cats : (is : List Item) → flat_map (cats_by before b) is ≡ []
+    no_cats [] = refl
+    no_cats (item ∷ is) = no_cats is
+
+    no_rels : (is : List Item) → flat_map (rels_by before b) is ≡ []
+    no_rels [] = refl
+    no_rels (item ∷ is) = no_rels is
+
+-- what is pushed to a list of writes
+lists_pushed : (before : List Entry) (b c : ℕ) (items : List Item) (commands : List ℕ) → map written_in commands ++ written_by before b c items ∷ [] ≡ map written_in (commands ++ c ∷ [])
+lists_pushed before b c items [] = ap (λ w. w ∷ []) (no_messages before b c items)
+lists_pushed before b c items (command ∷ commands) = ap (λ l. written_in command ∷ l) (lists_pushed before b c items commands)
+
+cleared_pushed : (locks : List OwnLock) (lock : OwnLock) → lock.clear ≡ true → map cleared locks ≡ locks → map cleared (locks ++ lock ∷ []) ≡ locks ++ lock ∷ []
+cleared_pushed locks lock is clear = map-append cleared locks (lock ∷ []) ∙ ap (λ l. l ++ cleared lock ∷ []) clear ∙ (λ i. locks ++ record lock { clear = sym is i } ∷ [])
+
+-- the first command of a transaction that runs
+first_kept : (o : Option OwnTransaction) (c : ℕ) → is_some o ≡ true → option_map_or (λ t. t.first) o c ≡ option_map_or (λ t. t.first) o 0
+first_kept None c runs = absurd (cc)
+first_kept (Some t) c runs = refl
+
+starts_kept : (o : Option OwnTransaction) (c : ℕ) (xid : Option Xid) → is_some o ≡ true → one_if (option_map_or (λ t. t.first) o c == c) ≡ option_map_or (λ t. one_if (t.first == c)) o 0
+starts_kept None c xid runs = absurd (cc)
+starts_kept (Some t) c xid runs = refl
+
+module _ (scenario : Scenario) (old : List Entry) (was : Backend) (agrees : Agrees scenario old was) (works : IsWorking was) (draft : Draft) (at : plan_at was.exec ≡ writing draft) where
+  next : NextWrite was
+  next = record { draft = draft; rest = λ given. Done; at = at }
+
+  -- what is known of it
+  pub command_writes : Writes old was agrees.rest works.has.command
+  command_writes = writes_now old was agrees.rest works.has next agrees.well agrees.command
+
+  pub is_unanswered : is_some was.answer ≡ false
+  is_unanswered = unanswered was (Write draft) (λ given. Done) agrees.well at
+
+  pub is_admitted : (was.blocked ≡ false) × (refused_by was.blocks works.has.command ≡ None)
+  is_admitted = admitted was (Write draft) (λ given. Done) works.has agrees.well at
+
+  pub runs : is_some was.running ≡ true
+  runs = has_transaction was works.has.command command_writes.creates works.phase works.free is_admitted.1 agrees.well.transaction
+
+  pub makes_table : IsNewTable draft
+  makes_table = agrees.well.table (λ given. Done) draft at
+
+  pub locks_clear : map cleared was.locks.items ≡ was.locks.items
+  locks_clear = clear_at was agrees.well (λ is. let no : phases.Granted ≡ phases.Working = sym is ∙ works.phase in absurd (cc no))
+
+  -- so it may write
+  pub may_write : IsPlayed scenario old → MayWrite old was.id (was.finished + 1) draft
+  may_write played = new_table_may_write old was.id (was.finished + 1) draft played.tables makes_table command_writes.unwritten
+
+  pub may_ask : MayRequest scenario old was.id (was.finished + 1)
+  may_ask = may_request scenario old was agrees (ap is_visible_at works.phase) (ap is_taken_back works.phase)
+
+  -- nothing is done before
+  pub waits : Waits agrees
+  waits = waits_at scenario old was agrees works.has (λ rest. waits-act (facts_of old was.id) works.has.command rest (session_at was agrees.rest) (Write draft) (λ given. Done) at
+      (by_test (is_empty (builds_owed (facts_of old was.id) was.opened ++ []))))
+    where
+      by_test : (t : Bool) → elim t as (λ x. Option (List Row)) [ true ↦ None | false ↦ None ] ≡ None
+      by_test true = refl
+      by_test false = refl
+
+  pub nothing_owed : owed_of (facts_of old was.id) works.has.command (session_at was agrees.rest) ≡ []
+  nothing_owed = owed_scans scenario old was agrees works ∙ ap (map OwesScan) (missing_at was (writing draft) agrees.well.builds at)
