@@ -3,5 +3,6 @@ pub mod CountsFor
 pub mod StaysRead
 pub mod SeesRelation
 pub mod Stepping
+pub mod Carry
 pub mod NewTable
 pub mod Writing

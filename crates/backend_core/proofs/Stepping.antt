@@ -1,31 +1,28 @@
 -- A backend's own entry, whichever it is.
-use Rattle.std.proofs.Common.{◌≡◌, ◌≤◌, ◌<◌, ◌+◌, ◌∙◌, ℕ, Bool, true, false, Option, Some, None, List, [], ◌∷◌, ◌++◌, ◌==◌, ◌&&◌, refl, sym, ap, subst, length, drop, take, map, All, is_none, is_some, slice_get, arith, Fits, w32, if◌then◌else◌, suc}
+use Rattle.std.proofs.Common.{◌≡◌, ◌≤◌, ◌+◌, ◌∙◌, ℕ, Bool, true, false, Some, List, [], ◌∷◌, ◌++◌, ◌==◌, refl, sym, ap, subst, length, drop, All, is_some, slice_get, arith, if◌then◌else◌, suc}
 use Rattle.std.proofs.lemmas.Bool.{eq-eqb}
 use Rattle.std.proofs.lemmas.List.{take-append-le, length_push}
-use Rattle.std.proofs.lemmas.Option.{slice_get_within}
 use Rattle.base_types.specs.Scenario.{IsBackend}
 use Rattle.ddl_effect.specs.Commands.{commands_of}
-use Rattle.event_kinds.specs.declared.entry.Event.TheVariants as events
 use Rattle.history_model.specs.Drawn.{next_oid}
 use Rattle.history_model.specs.Lives.{Alive, life_by, life_of}
 use Rattle.history_model.specs.Read.{ScansOnlyIfNeeded}
 use Rattle.history_model.proofs.Reading.{life_of-own}
 use Rattle.seg_calls.specs.Calls.{entry_of, Appends}
 use Rattle.cacheless.specs.Facts.{Facts, facts_of, facts_by}
-use Rattle.cacheless.specs.Session.{Session, Finished, Tally, first_of}
+use Rattle.cacheless.specs.Session.{Session, Finished}
 use Rattle.cacheless.specs.Settled.{settled}
-use Rattle.cacheless.specs.Sessions.{placed_at, noted, tally_by, ends_command, entered, commands_left, session_by, session_of}
-use Rattle.cacheless.specs.Plays.{IsNext, MayPlay, MayPlayIn, MayPlayAt}
+use Rattle.cacheless.specs.Sessions.{noted, tally_by, ends_command, entered, commands_left, session_by, session_of}
+use Rattle.cacheless.specs.Plays.{IsNext, MayPlayIn, MayPlayAt}
 use Rattle.cacheless.specs.Schedule.{LooksTruly}
 use Rattle.rel_desc.specs.Answers.{answer_text}
 use Rattle.cacheless.specs.Lines.{lines_from, line_of, answer_judged}
 use Rattle.cacheless.proofs.Reading.{facts_of-own, session_of-own}
-use Rattle.backend_core.specs.Types.{Command, Scenario, Entry, Event, KeptScan, Backend}
-use Rattle.backend_core.specs.declared.phase.Life.TheVariants as lives
+use Rattle.backend_core.specs.Types.{Command, Scenario, Entry, Event, Backend}
 use Rattle.backend_core.specs.NewTables.{AddsTables}
 use Rattle.backend_core.specs.State.{Rest, rest_of, session_at, HasCommand}
-use Rattle.backend_core.specs.Agrees.{IsPlayed, FactsFit, TallyFits, IsAlive, Well, CommandFits, KeptFits, PlacesFit, AnswerFits, Agrees}
-use Rattle.backend_core.specs.Steps.{IsNow, AgreesNow, Enters}
+use Rattle.backend_core.specs.Agrees.{FactsFit, TallyFits, Well, CommandFits, KeptFits, AnswerFits, Agrees}
+use Rattle.backend_core.specs.Steps.{AgreesNow, Enters}
 
 -- nothing is left to settle
 abbrev pub Waits : {scenario : Scenario} {seen : List Entry} {s : Backend} → Agrees scenario seen s → Type 0
