@@ -4,7 +4,7 @@ use Rattle.std.specs.Option.{option_map, option_map_or}
 use Rattle.std.specs.List.{flat_map}
 use Rattle.std.specs.declared.alloc.Global.{Global}
 use Rattle.std.specs.declared.vec.Vec.{Vec}
-use Rattle.std.proofs.Math.Bool.{and-false}
+use Rattle.std.proofs.Math.Bool.{and-false, or-true}
 use Rattle.std.proofs.lemmas.Bool.{ne_eqb, eq-eqb}
 use Rattle.std.proofs.lemmas.List.{map-append}
 use Rattle.base_types.specs.Fields.{has_field}
@@ -17,26 +17,31 @@ use Rattle.ddl_effect.specs.Plans.{Plan, Done, Fails, Absent, Do, Act, Write, Op
 use Rattle.ddl_effect.specs.Commands.{plan_of, writing, showing, opening, if_passes}
 use Rattle.ddl_effect.specs.Blocks.{Block, Outside, Inside, Failed, no_block, refused_by, refused_in, innermost}
 use Rattle.ddl_effect.specs.Stages.{plan_at}
+use Rattle.history_model.specs.Drawn.{next_oid}
+use Rattle.history_model.specs.Orderly.{MayComeNext}
 use Rattle.history_model.specs.Sent.{Written, written_by, has_write_from, cats_by, rels_by, once_more}
 use Rattle.history_model.specs.Transactions.{Running, begun}
 use Rattle.history_model.specs.Writes.{has_written, is_empty}
-use Rattle.seg_calls.specs.Calls.{MayRequest, MayWrite}
+use Rattle.history_model.proofs.Reading.{has_written-more}
+use Rattle.history_model.proofs.NoMessages.{usable_by-none}
+use Rattle.seg_calls.specs.Calls.{MayRequest, MayWrite, Appends, items_drawn, entry_of}
 use Rattle.cacheless.specs.Facts.{Facts, facts_of}
 use Rattle.cacheless.specs.Locks.{cleared}
-use Rattle.cacheless.specs.Session.{Session, none_open, plan_first, plan_admitted, refused_first, outcome_of, is_settled}
+use Rattle.cacheless.specs.Session.{Session, none_open, plan_first, plan_admitted, refused_first, outcome_of, is_settled, first_of}
 use Rattle.cacheless.specs.Owed.{Owes, OwesLook, OwesScan, builds_owed, owed_at_start, owed_after, scans_owed, owed_of}
 use Rattle.cacheless.specs.Settled.{settled, done_here, gives}
-use Rattle.cacheless.specs.Sessions.{written}
+use Rattle.cacheless.specs.Sessions.{written, placed_at}
+use Rattle.cacheless.specs.Plays.{IsWrite, MayPlayIn}
 use Rattle.cacheless.proofs.Settling.{waits-act}
 use Rattle.backend_core.specs.Types.{Oid, Xid, Kind, Field, Row, Command, CommandError, Scenario, Entry, Event, Item, Phase, NewColumn, Draft, Exec, Opening, OwnLock, OwnTransaction, Backend}
 use Rattle.backend_core.specs.declared.phase.Phase.TheVariants as phases
 use Rattle.backend_core.specs.NewTables.{IsNewTable}
-use Rattle.backend_core.specs.State.{is_visible_at, is_taken_back, running_in, running_at, written_in, lists_at, builds_missing, scans_missing, is_out, begins_in, owed_first, has_write_since, one_if, Rest, session_at, HasCommand}
+use Rattle.backend_core.specs.State.{is_visible_at, is_taken_back, running_in, running_at, written_in, lists_at, builds_missing, scans_missing, is_out, begins_in, owed_first, owed_at, has_write_since, one_if, Rest, session_at, HasCommand}
 use Rattle.backend_core.specs.Agrees.{IsPlayed, FactsFit, TransactionFits, RunsAlone, RunsBlock, EndFits, Well, IsUntouched, IsMissing, IsFound, HasOpened, IsWritten, Way, CommandFits, Agrees}
-use Rattle.backend_core.specs.Steps.{IsWorking, NextWrite}
-use Rattle.backend_core.proofs.Stepping.{Waits}
-use Rattle.backend_core.proofs.Carry.{may_request, waits_at, missing_at, owed_scans, clear_at}
-use Rattle.backend_core.proofs.NewTable.{new_table_may_write}
+use Rattle.backend_core.specs.Steps.{IsWorking, NextWrite, Enters}
+use Rattle.backend_core.proofs.Stepping.{Waits, facts_after, session_after, rest_after, Keeps, Follows, Suits, GoesOn, own_enters}
+use Rattle.backend_core.proofs.Carry.{may_request, waits_at, missing_at, owed_scans, clear_at, accepted-clear, may_come, kept-more, no_answer}
+use Rattle.backend_core.proofs.NewTable.{new_table_may_write, new_table_locks}
 
 -- the command makes a table
 pub record Creates (command : Command) : Type 0 where
@@ -259,3 +264,143 @@ module _ (scenario : Scenario) (old : List Entry) (was : Backend) (agrees : Agre
 
   pub nothing_owed : owed_of (facts_of old was.id) works.has.command (session_at was agrees.rest) ≡ []
   nothing_owed = owed_scans scenario old was agrees works ∙ ap (map OwesScan) (missing_at was (writing draft) agrees.well.builds at)
+
+-- the lock on a new relation
+abbrev pub new_lock : Oid → ℕ → OwnLock
+new_lock rel c = record { rel = rel; mode = AccessExclusive; command = c; clear = true }
+
+-- the transaction that has written
+abbrev pub with_xid : Option OwnTransaction → ℕ → Xid → OwnTransaction
+with_xid own c xid = record { first = option_map_or (λ t. t.first) own c; xid = Some xid }
+
+written-finished : (plan : Plan) (s : Session) → (written plan s).finished ≡ s.finished
+written-finished (Do (Write draft) rest) s = refl
+written-finished plan s = refl
+
+-- a write is no start
+write_goes_on : (xid : Xid) (items : List Item) → GoesOn (events.Write xid items)
+write_goes_on xid items = record { session = λ scenario facts b at command s. refl; finished = λ s. written-finished s.left s; life = λ c. refl }
+
+-- the commands in which a backend has written, after its write
+written_at : (history : List Entry) (b c : ℕ) (xid : Xid) (items : List Item) → has_written (history ++ entry_of b c (events.Write xid items) ∷ []) b c ≡ true
+written_at history b c xid items = has_written-more history (entry_of b c (events.Write xid items)) b c
+    ∙ (λ i. has_written history b c || (eq-eqb b b refl i && eq-eqb c c refl i && true)) ∙ or-true (has_written history b c)
+
+unwritten_later : (history : List Entry) (b c number : ℕ) (xid : Xid) (items : List Item) → c < number → has_written history b number ≡ false → has_written (history ++ entry_of b c (events.Write xid items) ∷ []) b number ≡ false
+unwritten_later history b c number xid items later none = has_written-more history (entry_of b c (events.Write xid items)) b number
+    ∙ (λ i. none i || ((b == b) && ne_eqb c number (λ same. absurd (omega (arith, same, later))) i && true)) ∙ ap (λ t. t && true) (and-false (b == b))
+
+module _ (scenario : Scenario) (old : List Entry) (was : Backend) (agrees : Agrees scenario old was) (works : IsWorking was) (draft : Draft) (at : plan_at was.exec ≡ writing draft) (xid : Xid) (rel : Oid) (writes : Vec ℕ Global) (locks : Vec OwnLock Global)
+    (first : rel.0 ≡ next_oid old) (wrote : writes.items ≡ was.writes.items ++ (was.finished + 1) ∷ []) (locked : locks.items ≡ was.locks.items ++ new_lock rel (was.finished + 1) ∷ []) where
+  abbrev own : OwnTransaction
+  own = with_xid was.running (was.finished + 1) xid
+
+  abbrev event : Event
+  event = events.Write xid (items_drawn old draft)
+
+  abbrev now : Backend
+  now = after_asking was stages.Done [] false (Some own) writes locks
+
+  running_now : is_some was.running ≡ true
+  running_now = runs scenario old was agrees works draft at
+
+  settles : Settles was stages.Done [] (Some own) writes.items locks.items
+  settles = record {
+    out = refl;
+    builds = refl;
+    runs = refl;
+    first = first_kept was.running (was.finished + 1) running_now;
+    written = λ is. refl;
+    clear = subst (λ l. map cleared l ≡ l) (sym locked) (cleared_pushed was.locks.items (new_lock rel (was.finished + 1)) refl (locks_clear scenario old was agrees works draft at));
+  }
+
+  -- the session before the locks are cleared
+  abbrev placed : Session
+  placed = placed_at (length old + 1) (was.finished + 1) event (session_at was agrees.rest)
+
+  locks_now : placed.locks ≡ locks.items
+  locks_now = ap (λ l. was.locks.items ++ l) (new_table_locks (was.finished + 1) (next_oid old) draft (makes_table scenario old was agrees works draft at))
+      ∙ (λ i. was.locks.items ++ new_lock (record { 0 = sym first i }) (was.finished + 1) ∷ []) ∙ sym locked
+
+  abbrev after : Session
+  after = session_after old was event agrees.rest
+
+  left : written (plan_at was.exec) (session_at was agrees.rest) ≡ record (session_at was agrees.rest) { left = Done; opened = []; read = false }
+  left = ap (λ p. written p (session_at was agrees.rest)) at
+
+  locks_after : after.locks ≡ locks.items
+  locks_after = ap (λ s. s.locks) (accepted-clear (facts_after old was event) (first_of (drop was.finished was.commands)) placed (subst (λ l. map cleared l ≡ l) (sym locks_now) settles.clear)) ∙ locks_now
+
+  session_now : after ≡ session_at now (rest_after old was event agrees.rest)
+  session_now = λ i. record {
+    blocks = (left i).blocks;
+    finished = after.finished;
+    left = (left i).left;
+    refused = after.refused;
+    blocked = (left i).blocked;
+    opened = (left i).opened;
+    read = (left i).read;
+    found = after.found;
+    ended = (left i).ended;
+    tally = after.tally;
+    locks = locks_after i;
+    judged = after.judged;
+    last = after.last;
+  }
+
+  facts_now : FactsFit (facts_after old was event) now
+  facts_now = record {
+    running = ap (λ o. Some (record (begun (was.finished + 1) o) { xid = Some xid.0 })) agrees.facts.running ∙ begun_writes was.phase (was.finished + 1) xid was.running works.phase;
+    lists = ap (λ l. l ++ written_by old was.id (was.finished + 1) (items_drawn old draft) ∷ []) agrees.facts.lists ∙ lists_pushed old was.id (was.finished + 1) (items_drawn old draft) was.writes.items ∙ ap (map written_in) (sym wrote);
+    owed = sym (ap owed_at works.phase);
+    took = sym (ap is_taken_back works.phase);
+    taken = λ from is. let no : phases.Working ≡ phases.TakenBack from = sym works.phase ∙ is in absurd (cc no);
+    usable = λ scan build. usable_by-none old was.id (was.finished + 1) scan event ((facts_of old was.id).usable scan) refl ∙ agrees.facts.usable scan build;
+    kept = agrees.facts.kept;
+    given = λ is. absurd (cc is);
+  }
+
+  keeps : Keeps old was now event agrees.rest
+  keeps = record {
+    moves = record { id = refl; commands = refl; finished = refl; life = refl; lines = refl };
+    session = session_now;
+    facts = facts_now;
+    tally = agrees.tally ∙ ap (λ n. agrees.rest.tally.scans + agrees.rest.tally.grants + n + one_if was.looked) (sym (starts_kept was.running (was.finished + 1) (Some xid) running_now));
+    well = asked_well was stages.Done [] false (Some own) writes locks works.phase running_now (is_admitted scenario old was agrees works draft at).0 (is_unanswered scenario old was agrees works draft at) settles agrees.well;
+  }
+
+  suits : Suits scenario old was event agrees.rest
+  suits = record {
+    plays = subst (λ o. MayPlayIn (next_oid old) (facts_of old was.id) o (session_at was agrees.rest) event) (sym works.has.at)
+        (nothing_owed scenario old was agrees works draft at, subst (λ p. IsWrite (next_oid old) p (items_drawn old draft)) (sym at) refl);
+    needed = tt;
+    truly = tt;
+    tables = record { draft = draft; table = makes_table scenario old was agrees works draft at; items_are = refl };
+  }
+
+  follows : IsPlayed scenario old → MayComeNext old (entry_of was.id (was.finished + 1) event) → Follows scenario old was now event agrees.rest
+  follows played comes = record {
+    command = record {
+      refused = λ error is. let no : None ≡ Some error = sym (ap (λ s. s.refused) left ∙ unrefused old was agrees.rest (Write draft) (λ given. Done) agrees.command at) ∙ is in absurd (cc no);
+      way = λ none no command running. inr (inr (inr (record {
+        name = creating.name;
+        columns = creating.columns;
+        command_is = (let same : Some command ≡ Some works.has.command = sym running ∙ works.has.at in cc same) ∙ creating.is;
+        plan = refl;
+        written = written_at old was.id (was.finished + 1) xid (items_drawn old draft);
+      })));
+      later = λ c after. unwritten_later old was.id (was.finished + 1) c xid (items_drawn old draft) after (agrees.command.later c after);
+      given_at = tt;
+      given_seen = tt;
+    };
+    kept = kept-more old (entry_of was.id (was.finished + 1) event) was.id was.kept (may_come scenario old (entry_of was.id (was.finished + 1) event) played comes suits.tables) (λ i d within. refl) agrees.kept;
+    answer = no_answer scenario (old ++ entry_of was.id (was.finished + 1) event ∷ []) now (rest_after old was event agrees.rest) (is_unanswered scenario old was agrees works draft at);
+    judged = λ has none. refl;
+  }
+    where
+      creating : Creates works.has.command
+      creating = (command_writes scenario old was agrees works draft at).creates
+
+  -- the write of a new table
+  pub write_enters : (new : List Entry) (had has : ℕ → ℕ) → IsPlayed scenario old → Appends old new had has (entry_of was.id (was.finished + 1) event) → Enters scenario old new was now
+  write_enters new had has played appends = own_enters scenario old new had has was now event agrees (waits scenario old was agrees works draft at) (write_goes_on xid (items_drawn old draft)) suits keeps (follows played appends.comes) appends
