@@ -6,3 +6,4 @@ pub mod Stepping
 pub mod Carry
 pub mod NewTable
 pub mod Writing
+pub mod Clashing
