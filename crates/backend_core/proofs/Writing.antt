@@ -24,7 +24,8 @@ use Rattle.history_model.specs.Transactions.{Running, begun}
 use Rattle.history_model.specs.Writes.{has_written, is_empty}
 use Rattle.history_model.proofs.Reading.{has_written-more}
 use Rattle.history_model.proofs.NoMessages.{usable_by-none}
-use Rattle.seg_calls.specs.Calls.{MayRequest, MayWrite, Appends, items_drawn, entry_of}
+use Rattle.seg_calls.specs.declared.refusal.Written.{Written as Made}
+use Rattle.seg_calls.specs.Calls.{MakesWrite, MayRequest, MayWrite, Appends, items_drawn, entry_of}
 use Rattle.cacheless.specs.Facts.{Facts, facts_of}
 use Rattle.cacheless.specs.Locks.{cleared}
 use Rattle.cacheless.specs.Session.{Session, none_open, plan_first, plan_admitted, refused_first, outcome_of, is_settled, first_of}
@@ -401,6 +402,14 @@ module _ (scenario : Scenario) (old : List Entry) (was : Backend) (agrees : Agre
       creating : Creates works.has.command
       creating = (command_writes scenario old was agrees works draft at).creates
 
-  -- the write of a new table
-  pub write_enters : (new : List Entry) (had has : ℕ → ℕ) → IsPlayed scenario old → Appends old new had has (entry_of was.id (was.finished + 1) event) → Enters scenario old new was now
+  -- so the write of a new table is entered
+  write_enters : (new : List Entry) (had has : ℕ → ℕ) → IsPlayed scenario old → Appends old new had has (entry_of was.id (was.finished + 1) event) → Enters scenario old new was now
   write_enters new had has played appends = own_enters scenario old new had has was now event agrees (waits scenario old was agrees works draft at) (write_goes_on xid (items_drawn old draft)) suits keeps (follows played appends.comes) appends
+
+-- the same, for what a segment answers and what the backend keeps of it
+pub wrote_enters : (scenario : Scenario) (old new : List Entry) (had has : ℕ → ℕ) (was : Backend) (agrees : Agrees scenario old was) (works : IsWorking was) (draft : Draft) (at : plan_at was.exec ≡ writing draft) (made : Made) (exec : Exec) (opened : List Opening) (transaction : OwnTransaction) (writes : Vec ℕ Global) (locks : Vec OwnLock Global)
+    → exec ≡ stages.Done → opened ≡ [] → transaction ≡ with_xid was.running (was.finished + 1) made.xid → writes.items ≡ was.writes.items ++ (was.finished + 1) ∷ [] → locks.items ≡ was.locks.items ++ new_lock made.first_oid (was.finished + 1) ∷ []
+    → IsPlayed scenario old → MakesWrite old new had has was.id (was.finished + 1) draft made → Enters scenario old new was (after_asking was exec opened false (Some transaction) writes locks)
+wrote_enters scenario old new had has was agrees works draft at made exec opened transaction writes locks done closed runs_as wrote locked played makes =
+    subst (λ s. Enters scenario old new was s) (λ i. after_asking was (sym done i) (sym closed i) false (Some (sym runs_as i)) writes locks)
+    (write_enters scenario old was agrees works draft at made.xid made.first_oid writes locks makes.first wrote locked new had has played makes.appends)

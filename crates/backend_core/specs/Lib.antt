@@ -3,3 +3,4 @@ pub mod NewTables
 pub mod State
 pub mod Agrees
 pub mod Steps
+pub mod Refusals
