@@ -7,7 +7,7 @@ use Rattle.std.specs.declared.vec.Vec.{Vec}
 use Rattle.event_kinds.specs.declared.entry.Event.TheVariants as events
 use Rattle.rel_desc.specs.declared.error.CommandError.TheVariants as errors
 use Rattle.ddl_effect.specs.declared.exec.Exec.TheVariants as stages
-use Rattle.ddl_effect.specs.Plans.{Done, Fails, Write}
+use Rattle.ddl_effect.specs.Plans.{Fails}
 use Rattle.ddl_effect.specs.Commands.{writing}
 use Rattle.ddl_effect.specs.Stages.{plan_at}
 use Rattle.history_model.specs.Drawn.{next_oid}
@@ -29,17 +29,17 @@ use Rattle.cacheless.specs.Owed.{owed_after, owed_of}
 use Rattle.cacheless.specs.Sessions.{placed_at, tally_by, ends_command, accepted}
 use Rattle.cacheless.specs.Plays.{IsClash, MayPlay, MayPlayIn}
 use Rattle.cacheless.specs.Schedule.{LooksTruly}
-use Rattle.backend_core.specs.Types.{Xid, Purpose, Command, CommandError, Scenario, Entry, Event, Draft, OwnLock, Phase, OwnTransaction, Backend}
+use Rattle.backend_core.specs.Types.{Purpose, Command, CommandError, Scenario, Entry, Event, Draft, OwnLock, Phase, OwnTransaction, Backend}
 use Rattle.backend_core.specs.declared.phase.Phase.TheVariants as phases
 use Rattle.backend_core.specs.NewTables.{AddsTables}
 use Rattle.backend_core.specs.Refusals.{error_of}
-use Rattle.backend_core.specs.State.{written_in, running_in, running_at, is_taken_back, owed_at, Rest, rest_of, session_at}
+use Rattle.backend_core.specs.State.{written_in, running_in, is_taken_back, owed_at, Rest, rest_of, session_at}
 use Rattle.backend_core.specs.Agrees.{IsPlayed, FactsFit, TallyFits, Agrees}
 use Rattle.backend_core.specs.Steps.{IsWorking, Enters}
 use Rattle.backend_core.proofs.Stepping.{facts_after, session_after, rest_after, Keeps, Follows, Suits, GoesOn, own_enters}
 use Rattle.backend_core.proofs.Carry.{accepted-clear, has_written-quiet, may_come, kept-more, no_answer}
 use Rattle.backend_core.proofs.NewTable.{new_table_names}
-use Rattle.backend_core.proofs.Writing.{Settles, after_asking, asked_well, unrefused, is_unanswered, is_admitted, runs, makes_table, locks_clear, waits, nothing_owed}
+use Rattle.backend_core.proofs.Writing.{after_asking, asked_well, is_unanswered, is_admitted, runs, makes_table, locks_clear, waits, nothing_owed}
 
 -- the entry that shows what has the name
 abbrev pub clash_event : List ℕ → Clash → Event
@@ -77,15 +77,33 @@ pub record FailsWith (old : List Entry) (was : Backend) (rest : Rest) (name : Li
 
 fails_with : (old : List Entry) (was : Backend) (rest : Rest) (name : List ℕ) (clash : Clash) → FailsWith old was rest name (clash_event name clash) (clash_error name clash)
 fails_with old was rest name (clashes.Row rel) = record {
-  placed = refl; facts = refl; owes = refl; took = refl; tally = refl;
+  placed = refl;
+  facts = refl;
+  owes = refl;
+  took = refl;
+  tally = refl;
   on = record { session = λ scenario facts b at command s. refl; finished = λ s. refl; life = λ c. refl };
-  ends = refl; unwritten = refl; unscanned = λ scan. refl; needed = tt; truly = tt; tables = tt;
+  ends = refl;
+  unwritten = refl;
+  unscanned = λ scan. refl;
+  needed = tt;
+  truly = tt;
+  tables = tt;
   plays = λ facts command s owed clash. (owed, clash);
 }
 fails_with old was rest name (clashes.Running xid) = record {
-  placed = refl; facts = refl; owes = refl; took = refl; tally = refl;
+  placed = refl;
+  facts = refl;
+  owes = refl;
+  took = refl;
+  tally = refl;
   on = record { session = λ scenario facts b at command s. refl; finished = λ s. refl; life = λ c. refl };
-  ends = refl; unwritten = refl; unscanned = λ scan. refl; needed = tt; truly = tt; tables = tt;
+  ends = refl;
+  unwritten = refl;
+  unscanned = λ scan. refl;
+  needed = tt;
+  truly = tt;
+  tables = tt;
   plays = λ facts command s owed clash. (owed, clash);
 }
 
@@ -128,8 +146,14 @@ module _ (scenario : Scenario) (old : List Entry) (was : Backend) (agrees : Agre
     facts = subst (λ f. FactsFit f failed) (sym with.facts) facts_still;
     tally = subst (λ t. TallyFits t failed) (sym with.tally) agrees.tally;
     well = asked_well was (stages.Failing error) was.opened was.read was.running writes locks works.phase runs_still (is_admitted scenario old was agrees works draft at).0 (is_unanswered scenario old was agrees works draft at)
-        (record { out = refl; builds = agrees.well.builds; runs = runs_still; first = refl; written = λ is. agrees.well.written (subst (λ l. has_write_from 0 (map written_in l) ≡ true) wrote is);
-          clear = subst (λ l. map cleared l ≡ l) (sym locked) clear_still }) agrees.well;
+        (record {
+          out = refl;
+          builds = agrees.well.builds;
+          runs = runs_still;
+          first = refl;
+          written = λ is. agrees.well.written (subst (λ l. has_write_from 0 (map written_in l) ≡ true) wrote is);
+          clear = subst (λ l. map cleared l ≡ l) (sym locked) clear_still;
+        }) agrees.well;
   }
 
   suits : list_any (bytes_eq name) (new_names old was.id (items_drawn old draft)) ≡ true → Suits scenario old was event agrees.rest

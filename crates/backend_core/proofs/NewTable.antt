@@ -1,17 +1,13 @@
 -- A new table may always be written, but for its name: its rows are new, and nobody else knows its oid.
-use Rattle.std.proofs.Common.{◌≡◌, ◌≤◌, ◌<◌, ◌+◌, ◌-◌, ◌∙◌, ℕ, ℤ, negsuc, Bool, true, false, not, Option, Some, None, List, [], ◌∷◌, ◌++◌, ◌==◌, ◌&&◌, ◌||◌, refl, sym, ap, subst, map, arith, append-nil}
-use Rattle.std.specs.Prelude.{nat_le}
+use Rattle.std.proofs.Common.{◌≡◌, ◌<◌, ◌+◌, ◌-◌, ◌∙◌, ℕ, negsuc, Bool, true, false, not, None, List, [], ◌∷◌, ◌==◌, ◌&&◌, ◌||◌, refl, sym, ap, subst, map, arith, append-nil}
 use Rattle.std.specs.List.{AllByRecursion, flat_map, filter_map, list_any, list_all, enumerate_from, range_with_len}
-use Rattle.std.specs.Str.{bytes_eq}
 use Rattle.std.proofs.lemmas.Bool.{ne_eqb, eq-eqb}
-use Rattle.base_types.specs.Scans.{same_oid}
 use Rattle.base_types.specs.RowKeys.{key_of, same_key, are_distinct_keys}
 use Rattle.base_types.specs.declared.ids.Oid.{Oid}
 use Rattle.base_types.specs.declared.kind.Kind.TheVariants.{Table}
 use Rattle.base_types.specs.declared.mode.Mode.TheVariants.{AccessExclusive}
 use Rattle.base_types.specs.declared.row.Row.{Row}
 use Rattle.base_types.specs.declared.row.Row.TheVariants as rows
-use Rattle.base_types.specs.declared.row_key.RowKey.{RowKey}
 use Rattle.base_types.specs.declared.row_key.RowKey.TheVariants as keys
 use Rattle.base_types.specs.declared.command.NewColumn.{NewColumn}
 use Rattle.event_kinds.specs.declared.entry.Entry.{Entry}
@@ -24,8 +20,8 @@ use Rattle.ddl_effect.specs.Commands.{new_table, new_column}
 use Rattle.ddl_effect.specs.Drawing.{drawn_change}
 use Rattle.history_model.specs.Changes.{item_of}
 use Rattle.history_model.specs.Drawn.{drawn_by, made_by, next_oid}
-use Rattle.history_model.specs.Names.{new_name, new_names}
-use Rattle.history_model.specs.Orderly.{main_rel, has_key, is_fresh, keeps_relation}
+use Rattle.history_model.specs.Names.{new_names}
+use Rattle.history_model.specs.Orderly.{main_rel, is_fresh, keeps_relation}
 use Rattle.history_model.specs.Versions.{versions_of, ended_key}
 use Rattle.history_model.specs.Writes.{changed_key, has_row, has_written, is_guarded, keeps_kind}
 use Rattle.history_model.specs.Held.{held_of, holds}

@@ -1,6 +1,6 @@
 -- A backend's write: its command is one that makes a table, and it has a transaction.
-use Rattle.std.proofs.Common.{◌≡◌, ◌≢◌, ◌≤◌, ◌<◌, ◌+◌, ◌∙◌, ◌⊎◌, inl, inr, ℕ, Bool, true, false, not, Option, Some, None, List, [], ◌∷◌, ◌++◌, ◌==◌, ◌&&◌, ◌||◌, refl, sym, ap, subst, length, drop, fold, map, All, is_none, is_some, slice_get, arith}
-use Rattle.std.specs.Option.{option_map, option_map_or}
+use Rattle.std.proofs.Common.{◌≡◌, ◌≢◌, ◌<◌, ◌+◌, ◌∙◌, ◌⊎◌, inl, inr, ℕ, Bool, true, false, Option, Some, None, List, [], ◌∷◌, ◌++◌, ◌==◌, ◌&&◌, ◌||◌, refl, sym, ap, subst, length, drop, fold, map, is_none, is_some, arith}
+use Rattle.std.specs.Option.{option_map_or}
 use Rattle.std.specs.List.{flat_map}
 use Rattle.std.specs.declared.alloc.Global.{Global}
 use Rattle.std.specs.declared.vec.Vec.{Vec}
@@ -13,32 +13,31 @@ use Rattle.base_types.specs.declared.mode.Mode.TheVariants.{AccessExclusive}
 use Rattle.event_kinds.specs.declared.entry.Event.TheVariants as events
 use Rattle.rel_desc.specs.declared.error.CommandError.TheVariants as errors
 use Rattle.ddl_effect.specs.declared.exec.Exec.TheVariants as stages
-use Rattle.ddl_effect.specs.Plans.{Plan, Done, Fails, Absent, Do, Act, Write, Open, after_act}
+use Rattle.ddl_effect.specs.Plans.{Plan, Done, Fails, Absent, Do, Act, Write}
 use Rattle.ddl_effect.specs.Commands.{plan_of, writing, showing, opening, if_passes}
-use Rattle.ddl_effect.specs.Blocks.{Block, Outside, Inside, Failed, no_block, refused_by, refused_in, innermost}
+use Rattle.ddl_effect.specs.Blocks.{Block, Outside, Inside, Failed, refused_by, refused_in}
 use Rattle.ddl_effect.specs.Stages.{plan_at}
 use Rattle.history_model.specs.Drawn.{next_oid}
 use Rattle.history_model.specs.Orderly.{MayComeNext}
-use Rattle.history_model.specs.Sent.{Written, written_by, has_write_from, cats_by, rels_by, once_more}
+use Rattle.history_model.specs.Sent.{written_by, has_write_from, cats_by, rels_by, once_more}
 use Rattle.history_model.specs.Transactions.{Running, begun}
 use Rattle.history_model.specs.Writes.{has_written, is_empty}
 use Rattle.history_model.proofs.Reading.{has_written-more}
 use Rattle.history_model.proofs.NoMessages.{usable_by-none}
 use Rattle.seg_calls.specs.declared.refusal.Written.{Written as Made}
 use Rattle.seg_calls.specs.Calls.{MakesWrite, MayRequest, MayWrite, Appends, items_drawn, entry_of}
-use Rattle.cacheless.specs.Facts.{Facts, facts_of}
+use Rattle.cacheless.specs.Facts.{facts_of}
 use Rattle.cacheless.specs.Locks.{cleared}
 use Rattle.cacheless.specs.Session.{Session, none_open, plan_first, plan_admitted, refused_first, outcome_of, is_settled, first_of}
-use Rattle.cacheless.specs.Owed.{Owes, OwesLook, OwesScan, builds_owed, owed_at_start, owed_after, scans_owed, owed_of}
-use Rattle.cacheless.specs.Settled.{settled, done_here, gives}
+use Rattle.cacheless.specs.Owed.{Owes, OwesLook, OwesScan, builds_owed, owed_of}
 use Rattle.cacheless.specs.Sessions.{written, placed_at}
 use Rattle.cacheless.specs.Plays.{IsWrite, MayPlayIn}
 use Rattle.cacheless.proofs.Settling.{waits-act}
 use Rattle.backend_core.specs.Types.{Oid, Xid, Kind, Field, Row, Command, CommandError, Scenario, Entry, Event, Item, Phase, NewColumn, Draft, Exec, Opening, OwnLock, OwnTransaction, Backend}
 use Rattle.backend_core.specs.declared.phase.Phase.TheVariants as phases
 use Rattle.backend_core.specs.NewTables.{IsNewTable}
-use Rattle.backend_core.specs.State.{is_visible_at, is_taken_back, running_in, running_at, written_in, lists_at, builds_missing, scans_missing, is_out, begins_in, owed_first, owed_at, has_write_since, one_if, Rest, session_at, HasCommand}
-use Rattle.backend_core.specs.Agrees.{IsPlayed, FactsFit, TransactionFits, RunsAlone, RunsBlock, EndFits, Well, IsUntouched, IsMissing, IsFound, HasOpened, IsWritten, Way, CommandFits, Agrees}
+use Rattle.backend_core.specs.State.{is_visible_at, is_taken_back, running_in, written_in, builds_missing, begins_in, owed_first, owed_at, one_if, Rest, session_at, HasCommand}
+use Rattle.backend_core.specs.Agrees.{IsPlayed, FactsFit, TransactionFits, RunsAlone, RunsBlock, EndFits, Well, HasOpened, Way, CommandFits, Agrees}
 use Rattle.backend_core.specs.Steps.{IsWorking, NextWrite, Enters}
 use Rattle.backend_core.proofs.Stepping.{Waits, facts_after, session_after, rest_after, Keeps, Follows, Suits, GoesOn, own_enters}
 use Rattle.backend_core.proofs.Carry.{may_request, waits_at, missing_at, owed_scans, clear_at, accepted-clear, may_come, kept-more, no_answer}

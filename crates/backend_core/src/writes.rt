@@ -1,3 +1,7 @@
+ghost use Rattle.std.specs.Prelude.{◌≡◌, Some};
+ghost use Rattle.std.specs.Option.{option_map_or};
+ghost use Rattle.backend_core.specs.Refusals.{error_of as error_after};
+
 use crate::{Backend, OwnTransaction};
 use base_types::{Listed, Mode, NoMemory, Xid};
 use cacheless::OwnLock;
@@ -7,10 +11,6 @@ use row_visibility::Clash;
 use seg_calls::{Seg, WriteRefusal};
 use std::alloc::Global;
 use std::mem::replace;
-
-ghost use Rattle.std.specs.Prelude.{◌≡◌, Some};
-ghost use Rattle.std.specs.Option.{option_map_or};
-ghost use Rattle.backend_core.specs.Refusals.{error_of as error_after};
 
 impl Backend {
     ghost use Rattle.std.specs.Prelude.{◌≡◌, OnOk};

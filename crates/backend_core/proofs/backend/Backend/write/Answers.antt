@@ -1,5 +1,4 @@
-use Rattle.std.proofs.Common.{rules, ◌≡◌, Some, ℕ, ◌+◌, List, [], ◌∷◌, ◌++◌, ap, sym}
-use Rattle.ddl_effect.specs.Plans.{Done}
+use Rattle.std.proofs.Common.{rules}
 use Rattle.backend_core.proofs.Writing.{may_write, wrote_enters}
 use Rattle.backend_core.proofs.Clashing.{refusal_enters}
 use Rattle.backend_core.proofs.backend.Backend.write.Goals as goal
