@@ -18,3 +18,6 @@ pub mod TakingBack
 pub mod Releasing
 pub mod Leaving
 pub mod Beginning
+pub mod NewTable
+pub mod Writing
+pub mod Clashing

@@ -1,0 +1,202 @@
+-- A backend's write that isn't made, since the name of its table is taken.
+use Rattle.std.proofs.Common.{◌≡◌, ◌+◌, ◌∙◌, ℕ, true, false, Option, Some, None, Err, List, [], ◌∷◌, ◌++◌, refl, sym, ap, subst, length, drop, map, is_some}
+use Rattle.std.specs.List.{list_any}
+use Rattle.std.specs.Str.{bytes_eq}
+use Rattle.std.specs.declared.alloc.Global.{Global}
+use Rattle.std.specs.declared.vec.Vec.{Vec}
+use Rattle.event_kinds.specs.declared.entry.Event.TheVariants as events
+use Rattle.rel_desc.specs.declared.error.CommandError.TheVariants as errors
+use Rattle.ddl_effect.specs.declared.exec.Exec.TheVariants as stages
+use Rattle.ddl_effect.specs.Plans.{Fails}
+use Rattle.ddl_effect.specs.Commands.{writing}
+use Rattle.ddl_effect.specs.Stages.{plan_at}
+use Rattle.history_model.specs.Drawn.{next_oid}
+use Rattle.history_model.specs.Names.{new_names}
+use Rattle.history_model.specs.Orderly.{MayComeNext}
+use Rattle.history_model.specs.Read.{ScansOnlyIfNeeded, is_scan_of}
+use Rattle.history_model.specs.Sent.{has_write_from}
+use Rattle.history_model.specs.Transactions.{Running, begun}
+use Rattle.history_model.specs.Writes.{is_write}
+use Rattle.row_visibility.specs.declared.clash.Clash.{Clash}
+use Rattle.row_visibility.specs.declared.clash.Clash.TheVariants as clashes
+use Rattle.seg_calls.specs.declared.refusal.WriteRefusal.{WriteRefusal}
+use Rattle.seg_calls.specs.declared.refusal.WriteRefusal.TheVariants as refusals
+use Rattle.seg_calls.specs.Calls.{Clashes, Writes, items_drawn, entry_of, took_back}
+use Rattle.cacheless.specs.Facts.{Facts, facts_of}
+use Rattle.cacheless.specs.Locks.{cleared}
+use Rattle.cacheless.specs.Session.{Session, first_of}
+use Rattle.cacheless.specs.Owed.{owed_after, owed_of}
+use Rattle.cacheless.specs.Sessions.{placed_at, tally_by, ends_command, accepted}
+use Rattle.cacheless.specs.Plays.{IsClash, MayPlay, MayPlayIn}
+use Rattle.cacheless.specs.Schedule.{LooksTruly}
+use Rattle.backend_core.specs.Types.{Purpose, Command, CommandError, Scenario, Entry, Event, Draft, OwnLock, Phase, OwnTransaction, Backend}
+use Rattle.backend_core.specs.declared.phase.Phase.TheVariants as phases
+use Rattle.backend_core.specs.NewTables.{AddsTables}
+use Rattle.backend_core.specs.Refusals.{error_of}
+use Rattle.backend_core.specs.State.{written_in, running_in, is_taken_back, owed_at, Rest, rest_of, session_at}
+use Rattle.backend_core.specs.Agrees.{IsPlayed, FactsFit, TallyFits, Agrees}
+use Rattle.backend_core.specs.Steps.{IsWorking, Enters}
+use Rattle.backend_core.proofs.Stepping.{facts_after, session_after, rest_after, Keeps, Follows, Suits, GoesOn, own_enters}
+use Rattle.backend_core.proofs.Carry.{accepted-clear, has_written-quiet, may_come, kept-more, no_answer}
+use Rattle.backend_core.proofs.NewTable.{new_table_names}
+use Rattle.backend_core.proofs.Writing.{after_asking, asked_well, is_unanswered, is_admitted, runs, makes_table, locks_clear, waits, nothing_owed}
+
+-- the entry that shows what has the name
+abbrev pub clash_event : List ℕ → Clash → Event
+clash_event name (clashes.Row rel) = events.ClashRow name rel
+clash_event name (clashes.Running xid) = events.ClashRunning name xid
+
+-- the error with which the command ends
+abbrev pub clash_error : List ℕ → Clash → CommandError
+clash_error name (clashes.Row rel) = errors.RelationExists name
+clash_error name (clashes.Running xid) = errors.NameInUse name xid
+
+-- the session after such an entry
+abbrev pub failed_at : Backend → Rest → ℕ → CommandError → Session
+failed_at was rest place error = record (session_at was rest) { left = Fails error; refused = Some error; judged = place; last = place }
+
+-- its facts
+abbrev pub facts_begun : Facts → ℕ → Event → Facts
+facts_begun facts c event = record facts { last = Some event; running = Some (begun c facts.running) }
+
+-- an entry that ends its command with an error, and changes nothing else
+pub record FailsWith (old : List Entry) (was : Backend) (rest : Rest) (name : List ℕ) (event : Event) (error : CommandError) : Type 0 where
+  pub placed : placed_at (length old + 1) (was.finished + 1) event (session_at was rest) ≡ failed_at was rest (length old + 1) error
+  pub facts : facts_after old was event ≡ facts_begun (facts_of old was.id) (was.finished + 1) event
+  pub owes : owed_after (Some event) ≡ []
+  pub took : took_back (Some event) ≡ false
+  pub tally : tally_by event rest.tally ≡ rest.tally
+  pub on : GoesOn event
+  pub ends : ends_command event ≡ false
+  pub unwritten : is_write event ≡ false
+  pub unscanned : (scan : Purpose) → is_scan_of scan event ≡ false
+  pub needed : ScansOnlyIfNeeded old was.id event
+  pub truly : LooksTruly old was.id event
+  pub tables : AddsTables old event
+  pub plays : (facts : Facts) (command : Command) (s : Session) → owed_of facts command s ≡ [] → IsClash facts (next_oid old) s.left name → MayPlay (next_oid old) facts command s event
+
+fails_with : (old : List Entry) (was : Backend) (rest : Rest) (name : List ℕ) (clash : Clash) → FailsWith old was rest name (clash_event name clash) (clash_error name clash)
+fails_with old was rest name (clashes.Row rel) = record {
+  placed = refl;
+  facts = refl;
+  owes = refl;
+  took = refl;
+  tally = refl;
+  on = record { session = λ scenario facts b at command s. refl; finished = λ s. refl; life = λ c. refl };
+  ends = refl;
+  unwritten = refl;
+  unscanned = λ scan. refl;
+  needed = tt;
+  truly = tt;
+  tables = tt;
+  plays = λ facts command s owed clash. (owed, clash);
+}
+fails_with old was rest name (clashes.Running xid) = record {
+  placed = refl;
+  facts = refl;
+  owes = refl;
+  took = refl;
+  tally = refl;
+  on = record { session = λ scenario facts b at command s. refl; finished = λ s. refl; life = λ c. refl };
+  ends = refl;
+  unwritten = refl;
+  unscanned = λ scan. refl;
+  needed = tt;
+  truly = tt;
+  tables = tt;
+  plays = λ facts command s owed clash. (owed, clash);
+}
+
+begun_same : (p : Phase) (o : Option OwnTransaction) (c : ℕ) → is_some o ≡ true → ◌≡◌ {A = Option Running} (Some (begun c (running_in p o))) (running_in p o)
+begun_same p None c runs = absurd (cc)
+begun_same p (Some t) c runs = refl
+
+module _ (scenario : Scenario) (old : List Entry) (was : Backend) (agrees : Agrees scenario old was) (works : IsWorking was) (draft : Draft) (at : plan_at was.exec ≡ writing draft)
+    (name : List ℕ) (event : Event) (error : CommandError) (with : FailsWith old was agrees.rest name event error)
+    (writes : Vec ℕ Global) (locks : Vec OwnLock Global) (wrote : writes.items ≡ was.writes.items) (locked : locks.items ≡ was.locks.items) where
+  -- the backend after it
+  abbrev failed : Backend
+  failed = after_asking was (stages.Failing error) was.opened was.read was.running writes locks
+
+  runs_still : is_some was.running ≡ true
+  runs_still = runs scenario old was agrees works draft at
+
+  clear_still : map cleared was.locks.items ≡ was.locks.items
+  clear_still = locks_clear scenario old was agrees works draft at
+
+  session_is : session_after old was event agrees.rest ≡ failed_at was agrees.rest (length old + 1) error
+  session_is = ap (accepted (facts_after old was event) (first_of (drop was.finished was.commands))) with.placed ∙ accepted-clear (facts_after old was event) (first_of (drop was.finished was.commands)) (failed_at was agrees.rest (length old + 1) error) clear_still
+
+  facts_still : FactsFit (facts_begun (facts_of old was.id) (was.finished + 1) event) failed
+  facts_still = record {
+    running = ap (λ o. Some (begun (was.finished + 1) o)) agrees.facts.running ∙ begun_same was.phase was.running (was.finished + 1) runs_still;
+    lists = agrees.facts.lists ∙ ap (map written_in) (sym wrote);
+    owed = with.owes ∙ sym (ap owed_at works.phase);
+    took = with.took ∙ sym (ap is_taken_back works.phase);
+    taken = λ from is. let no : phases.Working ≡ phases.TakenBack from = sym works.phase ∙ is in absurd (cc no);
+    usable = agrees.facts.usable;
+    kept = agrees.facts.kept;
+    given = λ is. tt;
+  }
+
+  keeps : Keeps old was failed event agrees.rest
+  keeps = record {
+    moves = record { id = refl; commands = refl; finished = refl; life = refl; lines = refl };
+    session = session_is ∙ (λ i. record (failed_at was agrees.rest (length old + 1) error) { locks = sym locked i }) ∙ ap (λ s. session_at failed (rest_of s)) (sym session_is);
+    facts = subst (λ f. FactsFit f failed) (sym with.facts) facts_still;
+    tally = subst (λ t. TallyFits t failed) (sym with.tally) agrees.tally;
+    well = asked_well was (stages.Failing error) was.opened was.read was.running writes locks works.phase runs_still (is_admitted scenario old was agrees works draft at).0 (is_unanswered scenario old was agrees works draft at)
+        (record {
+          out = refl;
+          builds = agrees.well.builds;
+          runs = runs_still;
+          first = refl;
+          written = λ is. agrees.well.written (subst (λ l. has_write_from 0 (map written_in l) ≡ true) wrote is);
+          clear = subst (λ l. map cleared l ≡ l) (sym locked) clear_still;
+        }) agrees.well;
+  }
+
+  suits : list_any (bytes_eq name) (new_names old was.id (items_drawn old draft)) ≡ true → Suits scenario old was event agrees.rest
+  suits is_new = record {
+    plays = subst (λ o. MayPlayIn (next_oid old) (facts_of old was.id) o (session_at was agrees.rest) event) (sym works.has.at)
+        (with.plays (facts_of old was.id) works.has.command (session_at was agrees.rest) (nothing_owed scenario old was agrees works draft at)
+        (subst (λ p. IsClash (facts_of old was.id) (next_oid old) p name) (sym at)
+        (sym (ap (list_any (bytes_eq name)) (new_table_names old was.id (facts_of old was.id) draft (makes_table scenario old was agrees works draft at))) ∙ is_new)));
+    needed = with.needed;
+    truly = with.truly;
+    tables = with.tables;
+  }
+
+  follows : IsPlayed scenario old → MayComeNext old (entry_of was.id (was.finished + 1) event) → Follows scenario old was failed event agrees.rest
+  follows played comes = record {
+    command = record {
+      refused = λ other is. let same : Some error ≡ Some other = sym (ap (λ s. s.refused) session_is) ∙ is in cc same;
+      way = λ none no command running. let some : Some error ≡ None = sym (ap (λ s. s.refused) session_is) ∙ no in absurd (cc some);
+      later = λ c after. has_written-quiet old (entry_of was.id (was.finished + 1) event) was.id c with.unwritten ∙ agrees.command.later c after;
+      given_at = tt;
+      given_seen = tt;
+    };
+    kept = kept-more old (entry_of was.id (was.finished + 1) event) was.id was.kept (may_come scenario old (entry_of was.id (was.finished + 1) event) played comes with.tables) (λ i d within. with.unscanned _) agrees.kept;
+    answer = no_answer scenario (old ++ entry_of was.id (was.finished + 1) event ∷ []) failed (rest_after old was event agrees.rest) (is_unanswered scenario old was agrees works draft at);
+    judged = λ has none. with.ends;
+  }
+
+  fails_enters : (new : List Entry) (had has : ℕ → ℕ) → IsPlayed scenario old → Clashes old new had has was.id draft name (entry_of was.id (was.finished + 1) event) → Enters scenario old new was failed
+  fails_enters new had has played clashes = own_enters scenario old new had has was failed event agrees (waits scenario old was agrees works draft at) with.on (suits clashes.is_new) keeps (follows played clashes.appends.comes) clashes.appends
+
+-- the name of a new table is taken
+pub clash_enters : (scenario : Scenario) (old new : List Entry) (had has : ℕ → ℕ) (was : Backend) (agrees : Agrees scenario old was) (works : IsWorking was) (draft : Draft) (at : plan_at was.exec ≡ writing draft) (name : List ℕ) (clash : Clash) (writes : Vec ℕ Global) (locks : Vec OwnLock Global) → writes.items ≡ was.writes.items → locks.items ≡ was.locks.items → IsPlayed scenario old
+    → Clashes old new had has was.id draft name (entry_of was.id (was.finished + 1) (clash_event name clash)) → Enters scenario old new was (record was { exec = stages.Failing (clash_error name clash); writes = writes; locks = locks })
+clash_enters scenario old new had has was agrees works draft at name clash writes locks wrote locked played clashes =
+    fails_enters scenario old was agrees works draft at name (clash_event name clash) (clash_error name clash) (fails_with old was agrees.rest name clash) writes locks wrote locked new had has played clashes
+
+-- a write that is refused, but for want of memory
+pub refusal_enters : (scenario : Scenario) (old new : List Entry) (had has : ℕ → ℕ) (was : Backend) (agrees : Agrees scenario old was) (works : IsWorking was) (draft : Draft) (at : plan_at was.exec ≡ writing draft) (refusal : WriteRefusal) (error : CommandError) (writes : Vec ℕ Global) (locks : Vec OwnLock Global) → writes.items ≡ was.writes.items → locks.items ≡ was.locks.items → IsPlayed scenario old
+    → error_of refusal ≡ Some error → Writes old new had has was.id (was.finished + 1) draft (Err refusal) → Enters scenario old new was (record was { exec = stages.Failing error; writes = writes; locks = locks })
+refusal_enters scenario old new had has was agrees works draft at (refusals.Clash name (clashes.Row rel)) error writes locks wrote locked played is asked =
+    let same : errors.RelationExists name ≡ error = cc is in
+    subst (λ x. Enters scenario old new was (record was { exec = stages.Failing x; writes = writes; locks = locks })) same (clash_enters scenario old new had has was agrees works draft at name (clashes.Row rel) writes locks wrote locked played asked)
+refusal_enters scenario old new had has was agrees works draft at (refusals.Clash name (clashes.Running xid)) error writes locks wrote locked played is asked =
+    let same : errors.NameInUse name xid ≡ error = cc is in
+    subst (λ x. Enters scenario old new was (record was { exec = stages.Failing x; writes = writes; locks = locks })) same (clash_enters scenario old new had has was agrees works draft at name (clashes.Running xid) writes locks wrote locked played asked)
+refusal_enters scenario old new had has was agrees works draft at refusals.NoMemory error writes locks wrote locked played is asked = absurd (cc)

@@ -1,0 +1,182 @@
+-- A new table may always be written, but for its name: its rows are new, and nobody else knows its oid.
+use Rattle.std.proofs.Common.{◌≡◌, ◌<◌, ◌+◌, ◌-◌, ◌∙◌, ℕ, negsuc, Bool, true, false, not, None, List, [], ◌∷◌, ◌==◌, ◌&&◌, ◌||◌, refl, sym, ap, subst, map, arith, append-nil}
+use Rattle.std.specs.List.{AllByRecursion, flat_map, filter_map, list_any, list_all, enumerate_from, range_with_len}
+use Rattle.std.proofs.lemmas.Bool.{ne_eqb, eq-eqb}
+use Rattle.base_types.specs.RowKeys.{key_of, same_key, are_distinct_keys}
+use Rattle.base_types.specs.declared.ids.Oid.{Oid}
+use Rattle.base_types.specs.declared.kind.Kind.TheVariants.{Table}
+use Rattle.base_types.specs.declared.mode.Mode.TheVariants.{AccessExclusive}
+use Rattle.base_types.specs.declared.row.Row.{Row}
+use Rattle.base_types.specs.declared.row.Row.TheVariants as rows
+use Rattle.base_types.specs.declared.row_key.RowKey.TheVariants as keys
+use Rattle.base_types.specs.declared.command.NewColumn.{NewColumn}
+use Rattle.event_kinds.specs.declared.entry.Entry.{Entry}
+use Rattle.event_kinds.specs.declared.entry.Item.{Item}
+use Rattle.event_kinds.specs.declared.entry.Item.TheVariants as forms
+use Rattle.row_visibility.specs.declared.version.Stamp.{Stamp}
+use Rattle.row_visibility.specs.declared.version.Version.{Version}
+use Rattle.ddl_effect.specs.declared.draft.Draft.{Draft}
+use Rattle.ddl_effect.specs.Commands.{new_table, new_column}
+use Rattle.ddl_effect.specs.Drawing.{drawn_change}
+use Rattle.history_model.specs.Changes.{item_of}
+use Rattle.history_model.specs.Drawn.{drawn_by, made_by, next_oid}
+use Rattle.history_model.specs.Names.{new_names}
+use Rattle.history_model.specs.Orderly.{main_rel, is_fresh, keeps_relation}
+use Rattle.history_model.specs.Versions.{versions_of, ended_key}
+use Rattle.history_model.specs.Writes.{changed_key, has_row, has_written, is_guarded, keeps_kind}
+use Rattle.history_model.specs.Held.{held_of, holds}
+use Rattle.seg_calls.specs.Calls.{MayWrite, items_drawn}
+use Rattle.cacheless.specs.declared.own_lock.OwnLock.{OwnLock}
+use Rattle.cacheless.specs.Facts.{Facts}
+use Rattle.cacheless.specs.Locks.{locked_by}
+use Rattle.cacheless.specs.Plays.{names_of, drafted}
+use Rattle.backend_core.specs.NewTables.{IsNewTable, HasTables, IsTableVersion}
+
+-- the item of a column
+abbrev pub column_item : Oid → ℕ × NewColumn → Item
+column_item rel (num, column) = forms.Add (rows.Att rel num column.name column.col_type (negsuc 0) true)
+
+-- the items of a table
+abbrev pub table_items : Oid → List ℕ → List (ℕ × NewColumn) → List Item
+table_items rel name numbered = forms.Add (rows.Class rel name Table None) ∷ map (column_item rel) numbered
+
+first_drawn : (n : ℕ) → ◌≡◌ {A = Oid} (record { 0 = n + 1 - 1 }) (record { 0 = n })
+first_drawn n = let e : n + 1 - 1 ≡ n = omega arith in ap {B = Oid} (λ k. record { 0 = k }) e
+
+columns_drawn : (n : ℕ) (numbered : List (ℕ × NewColumn)) → map item_of (map (drawn_change n 1) (map new_column numbered)) ≡ map (column_item (record { 0 = n })) numbered
+columns_drawn n [] = refl
+columns_drawn n ((num, column) ∷ numbered) = λ i. forms.Add (rows.Att (first_drawn n i) num column.name column.col_type (negsuc 0) true) ∷ columns_drawn n numbered i
+
+-- those of a new table have the oid that is next
+pub drafted_is : (n : ℕ) (name : List ℕ) (columns : List NewColumn) → drafted n (new_table name columns) ≡ table_items (record { 0 = n }) name (enumerate_from 1 columns)
+drafted_is n name columns = λ i. forms.Add (rows.Class (first_drawn n i) name Table None) ∷ (append-nil (map item_of (map (drawn_change n 1) (map new_column (enumerate_from 1 columns)))) ∙ columns_drawn n (enumerate_from 1 columns)) i
+
+columns_draw : (rel : Oid) (numbered : List (ℕ × NewColumn)) → (flat_map drawn_by (map (column_item rel) numbered) ≡ []) × (flat_map made_by (map (column_item rel) numbered) ≡ [])
+columns_draw rel [] = (refl, refl)
+columns_draw rel (column ∷ numbered) = columns_draw rel numbered
+
+columns_lock : (c : ℕ) (rel : Oid) (numbered : List (ℕ × NewColumn)) → flat_map (locked_by c) (map (column_item rel) numbered) ≡ []
+columns_lock c rel [] = refl
+columns_lock c rel (column ∷ numbered) = columns_lock c rel numbered
+
+-- of all columns from a number on none has a smaller number
+below_all : (rel : Oid) (num from : ℕ) (columns : List NewColumn) → num < from → list_any (same_key (keys.Att rel num)) (flat_map changed_key (map (column_item rel) (enumerate_from from columns))) ≡ false
+below_all rel num from [] below = refl
+below_all rel num from (column ∷ columns) below =
+    ap (λ t. ((rel.0 == rel.0) && t) || list_any (same_key (keys.Att rel num)) (flat_map changed_key (map (column_item rel) (enumerate_from (from + 1) columns)))) (ne_eqb num from (λ same. absurd (omega (arith, below, same))))
+    ∙ and_no (rel.0 == rel.0) _ ∙ below_all rel num (from + 1) columns (omega (arith, below))
+  where
+    and_no : (s u : Bool) → ((s && false) || u) ≡ u
+    and_no true u = refl
+    and_no false u = refl
+
+no_class : (rel : Oid) (numbered : List (ℕ × NewColumn)) → list_any (same_key (keys.Class rel)) (flat_map changed_key (map (column_item rel) numbered)) ≡ false
+no_class rel [] = refl
+no_class rel (column ∷ numbered) = no_class rel numbered
+
+columns_distinct : (rel : Oid) (from : ℕ) (columns : List NewColumn) → are_distinct_keys (flat_map changed_key (map (column_item rel) (enumerate_from from columns))) ≡ true
+columns_distinct rel from [] = refl
+columns_distinct rel from (column ∷ columns) = λ i. not (below_all rel from (from + 1) columns (omega arith) i) && columns_distinct rel (from + 1) columns i
+
+columns_end : (rel : Oid) (numbered : List (ℕ × NewColumn)) → filter_map ended_key (map (column_item rel) numbered) ≡ []
+columns_end rel [] = refl
+columns_end rel (column ∷ numbered) = columns_end rel numbered
+
+columns_keep : (before : List Entry) (b : ℕ) (rel : Oid) (numbered : List (ℕ × NewColumn)) → (list_all (keeps_kind before b) (map (column_item rel) numbered) ≡ true) × (list_all (keeps_relation before b) (map (column_item rel) numbered) ≡ true)
+columns_keep before b rel [] = (refl, refl)
+columns_keep before b rel (column ∷ numbered) = columns_keep before b rel numbered
+
+-- a row of a relation that the write makes is guarded
+guards : (rel : Oid) (t : Bool) → (((rel.0 == rel.0) || false) || t) ≡ true
+guards rel t = ap (λ s. (s || false) || t) (eq-eqb rel.0 rel.0 refl)
+
+columns_guarded : (before : List Entry) (b : ℕ) (rel : Oid) (numbered : List (ℕ × NewColumn)) → list_all (is_guarded before b (rel ∷ [])) (map (column_item rel) numbered) ≡ true
+columns_guarded before b rel [] = refl
+columns_guarded before b rel (column ∷ numbered) = λ i. (guards rel (holds (held_of before) b rel AccessExclusive) i && true) && columns_guarded before b rel numbered i
+
+-- no version is of a relation whose oid is still to be drawn
+abbrev pub AreDrawn : ℕ → List Version → Type 0
+AreDrawn next vs = AllByRecursion (λ v. (main_rel v.row).0 < next) vs
+
+are_drawn : (next : ℕ) (stamps : Oid → Stamp) (vs : List Version) → AllByRecursion (IsTableVersion next stamps) vs → AreDrawn next vs
+are_drawn next stamps [] tables = tt
+are_drawn next stamps (v ∷ vs) tables = (tables.0.drawn, are_drawn next stamps vs tables.1)
+
+other_class : (row : Row) (rel : Oid) → (main_rel row).0 < rel.0 → same_key (key_of row) (keys.Class rel) ≡ false
+other_class (rows.Class oid own kind fill) rel below = ne_eqb oid.0 rel.0 (λ same. absurd (omega (arith, below, same)))
+other_class row rel below = refl
+
+other_column : (row : Row) (rel : Oid) (num : ℕ) → (main_rel row).0 < rel.0 → same_key (key_of row) (keys.Att rel num) ≡ false
+other_column (rows.Att oid other own col_type stat live) rel num below = ap (λ t. t && (other == num)) (ne_eqb oid.0 rel.0 (λ same. absurd (omega (arith, below, same))))
+other_column row rel num below = refl
+
+no_table : (rel : Oid) (vs : List Version) → AreDrawn rel.0 vs → list_any (λ v. same_key (key_of v.row) (keys.Class rel)) vs ≡ false
+no_table rel [] drawn = refl
+no_table rel (v ∷ vs) drawn = λ i. other_class v.row rel drawn.0 i || no_table rel vs drawn.1 i
+
+no_column : (rel : Oid) (num : ℕ) (vs : List Version) → AreDrawn rel.0 vs → list_any (λ v. same_key (key_of v.row) (keys.Att rel num)) vs ≡ false
+no_column rel num [] drawn = refl
+no_column rel num (v ∷ vs) drawn = λ i. other_column v.row rel num drawn.0 i || no_column rel num vs drawn.1 i
+
+columns_fresh : (before : List Entry) (rel : Oid) (numbered : List (ℕ × NewColumn)) → AreDrawn rel.0 (versions_of before) → list_all (is_fresh before) (map (column_item rel) numbered) ≡ true
+columns_fresh before rel [] drawn = refl
+columns_fresh before rel ((num, column) ∷ numbered) drawn = λ i. elim (no_column rel num (versions_of before) drawn i) [ true ↦ false | false ↦ true ] && columns_fresh before rel numbered drawn i
+
+-- what a write asks of its items, but for their names
+record MayAdd (before : List Entry) (b next count : ℕ) (items : List Item) : Type 0 where
+  oids : flat_map drawn_by items ≡ range_with_len next count
+  keys : are_distinct_keys (flat_map changed_key items) ≡ true
+  there : list_all (has_row before b) (filter_map ended_key items) ≡ true
+  kinds : list_all (keeps_kind before b) items ≡ true
+  guarded : list_all (is_guarded before b (flat_map made_by items)) items ≡ true
+  fresh : list_all (is_fresh before) items ≡ true
+  keeps : list_all (keeps_relation before b) items ≡ true
+
+may_add : (before : List Entry) (b : ℕ) (rel : Oid) (name : List ℕ) (columns : List NewColumn) → AreDrawn rel.0 (versions_of before) → MayAdd before b rel.0 1 (table_items rel name (enumerate_from 1 columns))
+may_add before b rel name columns drawn = record {
+  oids = ap (λ l. rel.0 ∷ l) (columns_draw rel numbered).0;
+  keys = λ i. not (no_class rel numbered i) && columns_distinct rel 1 columns i;
+  there = ap (list_all (has_row before b)) (columns_end rel numbered);
+  kinds = (columns_keep before b rel numbered).0;
+  guarded = ap (λ l. list_all (is_guarded before b (rel ∷ l)) (table_items rel name numbered)) (columns_draw rel numbered).1 ∙ (λ i. (guards rel (holds (held_of before) b rel AccessExclusive) i && true) && columns_guarded before b rel numbered i);
+  fresh = λ i. elim (no_table rel (versions_of before) drawn i) [ true ↦ false | false ↦ true ] && columns_fresh before rel numbered drawn i;
+  keeps = (columns_keep before b rel numbered).1;
+}
+  where
+    numbered : List (ℕ × NewColumn)
+    numbered = enumerate_from 1 columns
+
+-- a backend may write a new table, unless its name is taken
+pub new_table_may_write : (history : List Entry) (b c : ℕ) (draft : Draft) → HasTables history → IsNewTable draft → has_written history b c ≡ false → MayWrite history b c draft
+new_table_may_write history b c draft tables table only = subst (MayWrite history b c) (sym table.is) (record {
+  oids = may.oids;
+  keys = may.keys;
+  there = may.there;
+  kinds = may.kinds;
+  only = only;
+  guarded = may.guarded;
+  orderly = record { fresh = may.fresh; keeps = may.keeps };
+})
+  where
+    may : MayAdd history b (next_oid history) 1 (items_drawn history (new_table table.name table.columns))
+    may = subst (MayAdd history b (next_oid history) 1) (sym (drafted_is (next_oid history) table.name table.columns))
+        (may_add history b (record { 0 = next_oid history }) table.name table.columns (are_drawn (next_oid history) _ (versions_of history) tables.versions))
+
+-- the lock that a write of a new table takes
+pub new_table_locks : (c n : ℕ) (draft : Draft) → IsNewTable draft → flat_map (locked_by c) (drafted n draft) ≡ record { rel = record { 0 = n }; mode = AccessExclusive; command = c; clear = true } ∷ []
+new_table_locks c n draft table = ap (λ d. flat_map (locked_by c) (drafted n d)) table.is ∙ ap (flat_map (locked_by c)) (drafted_is n table.name table.columns)
+    ∙ ap {B = List OwnLock} (λ l. record { rel = record { 0 = n }; mode = AccessExclusive; command = c; clear = true } ∷ l) (columns_lock c (record { 0 = n }) (enumerate_from 1 table.columns))
+
+columns_named : (before : List Entry) (b : ℕ) (facts : Facts) (rel : Oid) (numbered : List (ℕ × NewColumn)) → new_names before b (map (column_item rel) numbered) ≡ flat_map (names_of facts) (map (column_item rel) numbered)
+columns_named before b facts rel [] = refl
+columns_named before b facts rel (column ∷ numbered) = columns_named before b facts rel numbered
+
+-- the new names of a new table, as the history and as its command say
+pub new_table_names : (history : List Entry) (b : ℕ) (facts : Facts) (draft : Draft) → IsNewTable draft → new_names history b (items_drawn history draft) ≡ flat_map (names_of facts) (drafted (next_oid history) draft)
+new_table_names history b facts draft table =
+    ap (λ d. new_names history b (drafted (next_oid history) d)) table.is ∙ ap (new_names history b) same
+    ∙ ap (λ l. table.name ∷ l) (columns_named history b facts (record { 0 = next_oid history }) (enumerate_from 1 table.columns))
+    ∙ sym (ap (λ d. flat_map (names_of facts) (drafted (next_oid history) d)) table.is ∙ ap (flat_map (names_of facts)) same)
+  where
+    same : drafted (next_oid history) (new_table table.name table.columns) ≡ table_items (record { 0 = next_oid history }) table.name (enumerate_from 1 table.columns)
+    same = drafted_is (next_oid history) table.name table.columns

@@ -1,0 +1,414 @@
+-- A backend's write: its command is one that makes a table, and it has a transaction.
+use Rattle.std.proofs.Common.{◌≡◌, ◌≢◌, ◌<◌, ◌+◌, ◌∙◌, ◌⊎◌, inl, inr, ℕ, Bool, true, false, Option, Some, None, List, [], ◌∷◌, ◌++◌, ◌==◌, ◌&&◌, ◌||◌, refl, sym, ap, subst, length, drop, fold, map, is_none, is_some, arith}
+use Rattle.std.specs.Option.{option_map_or}
+use Rattle.std.specs.List.{flat_map}
+use Rattle.std.specs.declared.alloc.Global.{Global}
+use Rattle.std.specs.declared.vec.Vec.{Vec}
+use Rattle.std.proofs.Math.Bool.{and-false, or-true}
+use Rattle.std.proofs.lemmas.Bool.{ne_eqb, eq-eqb}
+use Rattle.std.proofs.lemmas.List.{map-append}
+use Rattle.base_types.specs.Fields.{has_field}
+use Rattle.base_types.specs.declared.command.Command.TheVariants as commands
+use Rattle.base_types.specs.declared.mode.Mode.TheVariants.{AccessExclusive}
+use Rattle.event_kinds.specs.declared.entry.Event.TheVariants as events
+use Rattle.rel_desc.specs.declared.error.CommandError.TheVariants as errors
+use Rattle.ddl_effect.specs.declared.exec.Exec.TheVariants as stages
+use Rattle.ddl_effect.specs.Plans.{Plan, Done, Fails, Absent, Do, Act, Write}
+use Rattle.ddl_effect.specs.Commands.{plan_of, writing, showing, opening, if_passes}
+use Rattle.ddl_effect.specs.Blocks.{Block, Outside, Inside, Failed, refused_by, refused_in}
+use Rattle.ddl_effect.specs.Stages.{plan_at}
+use Rattle.history_model.specs.Drawn.{next_oid}
+use Rattle.history_model.specs.Orderly.{MayComeNext}
+use Rattle.history_model.specs.Sent.{written_by, has_write_from, cats_by, rels_by, once_more}
+use Rattle.history_model.specs.Transactions.{Running, begun}
+use Rattle.history_model.specs.Writes.{has_written, is_empty}
+use Rattle.history_model.proofs.Reading.{has_written-more}
+use Rattle.history_model.proofs.NoMessages.{usable_by-none}
+use Rattle.seg_calls.specs.declared.refusal.Written.{Written as Made}
+use Rattle.seg_calls.specs.Calls.{MakesWrite, MayRequest, MayWrite, Appends, items_drawn, entry_of}
+use Rattle.cacheless.specs.Facts.{facts_of}
+use Rattle.cacheless.specs.Locks.{cleared}
+use Rattle.cacheless.specs.Session.{Session, none_open, plan_first, plan_admitted, refused_first, outcome_of, is_settled, first_of}
+use Rattle.cacheless.specs.Owed.{Owes, OwesLook, OwesScan, builds_owed, owed_of}
+use Rattle.cacheless.specs.Sessions.{written, placed_at}
+use Rattle.cacheless.specs.Plays.{IsWrite, MayPlayIn}
+use Rattle.cacheless.proofs.Settling.{waits-act}
+use Rattle.backend_core.specs.Types.{Oid, Xid, Kind, Field, Row, Command, CommandError, Scenario, Entry, Event, Item, Phase, NewColumn, Draft, Exec, Opening, OwnLock, OwnTransaction, Backend}
+use Rattle.backend_core.specs.declared.phase.Phase.TheVariants as phases
+use Rattle.backend_core.specs.NewTables.{IsNewTable}
+use Rattle.backend_core.specs.State.{is_visible_at, is_taken_back, running_in, written_in, builds_missing, begins_in, owed_first, owed_at, one_if, Rest, session_at, HasCommand}
+use Rattle.backend_core.specs.Agrees.{IsPlayed, FactsFit, TransactionFits, RunsAlone, RunsBlock, EndFits, Well, HasOpened, Way, CommandFits, Agrees}
+use Rattle.backend_core.specs.Steps.{IsWorking, NextWrite, Enters}
+use Rattle.backend_core.proofs.Stepping.{Waits, facts_after, session_after, rest_after, Keeps, Follows, Suits, GoesOn, own_enters}
+use Rattle.backend_core.proofs.Carry.{may_request, waits_at, missing_at, owed_scans, clear_at, accepted-clear, may_come, kept-more, no_answer}
+use Rattle.backend_core.proofs.NewTable.{new_table_may_write, new_table_locks}
+
+-- the command makes a table
+pub record Creates (command : Command) : Type 0 where
+  pub name : List ℕ
+  pub columns : List NewColumn
+  pub is : command ≡ commands.CreateTable name columns
+
+-- only such a command's plan begins with a write
+creates : (command : Command) (draft : Draft) (rest : List Row → Plan) → plan_of none_open command ≡ Do (Write draft) rest → Creates command
+creates (commands.CreateTable name columns) draft rest at = record { name = name; columns = columns; is = refl }
+creates commands.Begin draft rest at = absurd (cc)
+creates commands.Commit draft rest at = absurd (cc)
+creates commands.Rollback draft rest at = absurd (cc)
+creates (commands.Show name field) draft rest at = absurd (cc)
+creates command draft rest at = absurd (cc)
+
+showing_reads : (name : List ℕ) (field : Option Field) (rel : Oid) (kind : Kind) (draft : Draft) (rest : List Row → Plan) → showing name field rel kind ≢ Do (Write draft) rest
+showing_reads name None rel kind draft rest at = absurd (cc)
+showing_reads name (Some field) rel kind draft rest at = by_test (has_field kind field) (errors.NoField name field) at
+  where
+    by_test : (t : Bool) (error : CommandError) → if_passes t error (opening rel kind Done) ≢ Do (Write draft) rest
+    by_test true error is = absurd (cc)
+    by_test false error is = absurd (cc)
+
+-- a command whose next act writes
+pub record Writes (seen : List Entry) (s : Backend) (rest : Rest) (command : Command) : Type 0 where
+  pub creates : Creates command
+  pub unwritten : has_written seen s.id (s.finished + 1) ≡ false
+
+way_writes : (seen : List Entry) (s : Backend) (rest : Rest) (command : Command) (draft : Draft) (further : List Row → Plan) → plan_at s.exec ≡ Do (Write draft) further → Way seen s rest command → Writes seen s rest command
+way_writes seen s rest command draft further at (inl untouched) = record { creates = creates command draft further (sym untouched.plan ∙ at); unwritten = untouched.unwritten }
+way_writes seen s rest command draft further at (inr (inl missing)) = let none : Absent missing.name ≡ Do (Write draft) further = sym missing.plan ∙ at in absurd (cc none)
+way_writes seen s rest command draft further at (inr (inr (inl found))) = by_stage found.stage
+  where
+    by_stage : ((plan_at s.exec ≡ showing found.name found.field found.rel found.kind) × (s.opened ≡ [])) ⊎ HasOpened s found.name found.field found.rel found.kind → Writes seen s rest command
+    by_stage (inl shows) = absurd (showing_reads found.name found.field found.rel found.kind draft further (sym shows.0 ∙ at))
+    by_stage (inr opened) = let none : Done ≡ Do (Write draft) further = sym opened.plan ∙ at in absurd (cc none)
+way_writes seen s rest command draft further at (inr (inr (inr wrote))) = let none : Done ≡ Do (Write draft) further = sym wrote.plan ∙ at in absurd (cc none)
+
+-- with an act to do a command isn't answered
+pub unanswered : (s : Backend) (act : Act) (further : List Row → Plan) → Well s → plan_at s.exec ≡ Do act further → is_some s.answer ≡ false
+unanswered s act further well at = by_test (is_some s.answer) refl
+  where
+    by_test : (t : Bool) → is_some s.answer ≡ t → t ≡ false
+    by_test true is = let out : false ≡ true = ap (λ p. is_settled (outcome_of p)) (sym at) ∙ well.come_out is in absurd (cc out)
+    by_test false is = refl
+
+-- no error has ended it
+pub unrefused : (seen : List Entry) (s : Backend) (rest : Rest) (act : Act) (further : List Row → Plan) → CommandFits seen s rest → plan_at s.exec ≡ Do act further → rest.refused ≡ None
+unrefused seen s rest act further fits at = by_error rest.refused refl
+  where
+    by_error : (o : Option CommandError) → rest.refused ≡ o → o ≡ None
+    by_error None is = refl
+    by_error (Some error) is = let fails : Do act further ≡ Fails error = sym at ∙ fits.refused error is in absurd (cc fails)
+
+-- and the blocks admitted it
+pub admitted : (s : Backend) (act : Act) (further : List Row → Plan) (has : HasCommand s) → Well s → plan_at s.exec ≡ Do act further → (s.blocked ≡ false) × (refused_by s.blocks has.command ≡ None)
+admitted s act further has well at = by_refused (refused_by s.blocks has.command) refl
+  where
+    blocked : s.blocked ≡ is_some (refused_by s.blocks has.command)
+    blocked = well.blocked ∙ ap (λ o. is_some (refused_first s.blocks o)) has.at
+
+    by_refused : (o : Option CommandError) → refused_by s.blocks has.command ≡ o → (s.blocked ≡ false) × (o ≡ None)
+    by_refused None is = (blocked ∙ ap is_some is, refl)
+    by_refused (Some error) is =
+        let fails : Do act further ≡ Fails error = sym at ∙ well.refused (blocked ∙ ap is_some is) ∙ ap (plan_first s.blocks) has.at ∙ ap (λ o. plan_admitted o has.command) is in
+        absurd (cc fails)
+
+-- the command that writes is one that makes a table, and has not written
+pub writes_now : (seen : List Entry) (s : Backend) (rest : Rest) (has : HasCommand s) (next : NextWrite s) → Well s → CommandFits seen s rest → Writes seen s rest has.command
+writes_now seen s rest has next well fits = way_writes seen s rest has.command next.draft next.rest next.at
+    (fits.way (unanswered s (Write next.draft) next.rest well next.at) (unrefused seen s rest (Write next.draft) next.rest fits next.at) has.command has.at)
+
+-- while a command works its transaction runs as the blocks say
+working_fits : (s : Backend) → s.phase ≡ phases.Working → TransactionFits s → elim s.blocks.block as (λ _. Type 0) [ Outside ↦ (s.running ≡ None) ⊎ RunsAlone s | Inside ↦ RunsBlock s | Failed ↦ s.running ≡ None ]
+working_fits s phase fits = subst (λ p. elim p as (λ _. Type 0) [ phases.Ended ↦ s.running ≡ None | other ↦ elim s.blocks.block as (λ _. Type 0) [ Outside ↦ (s.running ≡ None) ⊎ RunsAlone s | Inside ↦ RunsBlock s | Failed ↦ s.running ≡ None ] ]) phase fits
+
+-- a command that writes has a transaction
+pub has_transaction : (s : Backend) (command : Command) → Creates command → s.phase ≡ phases.Working → owed_first s command ≡ [] → refused_by s.blocks command ≡ None → TransactionFits s → is_some s.running ≡ true
+has_transaction s command creating phase free admits fits = by_block s.blocks.block refl (working_fits s phase fits)
+  where
+    by_running : (o : Option OwnTransaction) → elim (is_none o) as (λ _. List Owes) [ true ↦ OwesLook ∷ [] | false ↦ [] ] ≡ [] → is_some o ≡ true
+    by_running (Some own) owed = refl
+    by_running None owed = absurd (cc)
+
+    by_block : (block : Block) → s.blocks.block ≡ block → elim block as (λ _. Type 0) [ Outside ↦ (s.running ≡ None) ⊎ RunsAlone s | Inside ↦ RunsBlock s | Failed ↦ s.running ≡ None ] → is_some s.running ≡ true
+    by_block Outside is runs = by_running s.running
+        (sym (λ i. elim (begins_in (record { block = is i; levels = s.blocks.levels }) (phase i) (creating.is i) && is_none s.running) as (λ _. List Owes) [ true ↦ OwesLook ∷ [] | false ↦ [] ]) ∙ free)
+    by_block Inside is runs = runs.runs
+    by_block Failed is runs = let fails : Some errors.BlockFailed ≡ None = ap (λ c. refused_in Failed c) (sym creating.is) ∙ ap (λ b. refused_in b command) (sym is) ∙ admits in absurd (cc fails)
+
+-- the backend after it asked for a write
+abbrev pub after_asking : Backend → Exec → List Opening → Bool → Option OwnTransaction → Vec ℕ Global → Vec OwnLock Global → Backend
+after_asking was exec opened read running writes locks = record was { exec = exec; opened = opened; read = read; running = running; writes = writes; locks = locks }
+
+-- its command has come out, and its transaction has written at most
+pub record Settles (was : Backend) (exec : Exec) (opened : List Opening) (running : Option OwnTransaction) (writes : List ℕ) (locks : List OwnLock) : Type 0 where
+  pub out : is_settled (outcome_of (plan_at exec)) ≡ true
+  pub builds : builds_missing was.kept opened ≡ []
+  pub runs : is_some running ≡ true
+  pub first : option_map_or (λ t. t.first) running 0 ≡ option_map_or (λ t. t.first) was.running 0
+  pub written : has_write_from 0 (map written_in writes) ≡ true → option_map_or (λ t. is_some t.xid) running false ≡ true
+  pub clear : map cleared locks ≡ locks
+
+-- so its transaction is still as the blocks say
+asked_transaction : (was : Backend) (exec : Exec) (opened : List Opening) (read : Bool) (running : Option OwnTransaction) (writes : Vec ℕ Global) (locks : Vec OwnLock Global) → was.phase ≡ phases.Working → is_some was.running ≡ true
+    → is_some running ≡ true → option_map_or (λ t. t.first) running 0 ≡ option_map_or (λ t. t.first) was.running 0 → TransactionFits was → TransactionFits (after_asking was exec opened read running writes locks)
+asked_transaction was exec opened read running writes locks phase ran runs first fits =
+    subst (λ p. elim p as (λ _. Type 0) [ phases.Ended ↦ running ≡ None | other ↦ elim was.blocks.block as (λ _. Type 0) [ Outside ↦ (running ≡ None) ⊎ RunsAlone now | Inside ↦ RunsBlock now | Failed ↦ running ≡ None ] ]) (sym phase)
+    (by_block was.blocks.block refl (working_fits was phase fits))
+  where
+    now : Backend
+    now = after_asking was exec opened read running writes locks
+
+    by_block : (block : Block) → was.blocks.block ≡ block → elim block as (λ _. Type 0) [ Outside ↦ (was.running ≡ None) ⊎ RunsAlone was | Inside ↦ RunsBlock was | Failed ↦ was.running ≡ None ]
+        → elim block as (λ _. Type 0) [ Outside ↦ (running ≡ None) ⊎ RunsAlone now | Inside ↦ RunsBlock now | Failed ↦ running ≡ None ]
+    by_block Outside is (inl none) = let no : true ≡ false = sym ran ∙ ap is_some none in absurd (cc no)
+    by_block Outside is (inr alone) = inr (record { has = record { command = alone.has.command; at = alone.has.at }; begins = alone.begins; first = first ∙ alone.first })
+    by_block Inside is block = record { runs = runs; first = first ∙ block.first }
+    by_block Failed is none = let no : true ≡ false = sym ran ∙ ap is_some none in absurd (cc no)
+
+-- and it is well
+pub asked_well : (was : Backend) (exec : Exec) (opened : List Opening) (read : Bool) (running : Option OwnTransaction) (writes : Vec ℕ Global) (locks : Vec OwnLock Global) → was.phase ≡ phases.Working → is_some was.running ≡ true → was.blocked ≡ false
+    → is_some was.answer ≡ false → Settles was exec opened running writes.items locks.items → Well was → Well (after_asking was exec opened read running writes locks)
+asked_well was exec opened read running writes locks phase ran unblocked none settles well = record {
+  built = well.built;
+  few = well.few;
+  most = well.most;
+  builds = settles.builds;
+  blocked = well.blocked;
+  refused = λ is. let no : true ≡ false = sym is ∙ unblocked in absurd (cc no);
+  levels = well.levels;
+  first = omega (arith, settles.first, well.first);
+  transaction = asked_transaction was exec opened read running writes locks phase ran settles.runs settles.first well.transaction;
+  written = settles.written;
+  end = subst (λ p. EndFits (record now { phase = p })) (sym phase) tt;
+  answered = λ has is. inl phase;
+  come_out = λ is. settles.out;
+  free = λ is has. let no : true ≡ false = sym is ∙ none in absurd (cc no);
+  granted = λ is. let no : phases.Granted ≡ phases.Working = sym is ∙ phase in absurd (cc no);
+  clear = inr settles.clear;
+  table = λ rest draft at. let no : true ≡ false = sym settles.out ∙ ap (λ p. is_settled (outcome_of p)) at in absurd (cc no);
+}
+  where
+    now : Backend
+    now = after_asking was exec opened read running writes locks
+
+begun_writes : (p : Phase) (c : ℕ) (xid : Xid) (o : Option OwnTransaction) → p ≡ phases.Working
+    → ◌≡◌ {A = Option Running} (Some (record (begun c (running_in p o)) { xid = Some xid.0 })) (running_in p (Some (record { first = option_map_or (λ t. t.first) o c; xid = Some xid })))
+begun_writes p c xid None phase = λ i. Some (record { first = c; xid = Some xid.0; published = 0; visible = is_visible_at (sym phase i) })
+begun_writes p c xid (Some t) phase = refl
+
+-- a write has no messages
+no_messages : (before : List Entry) (b c : ℕ) (items : List Item) → written_by before b c items ≡ written_in c
+no_messages before b c items = λ i. record { command = c; cats = no_cats items i; rels = fold once_more [] (no_rels items i) }
+  where
+    no_cats : (is : List Item) → flat_map (cats_by before b) is ≡ []
+    no_cats [] = refl
+    no_cats (item ∷ is) = no_cats is
+
+    no_rels : (is : List Item) → flat_map (rels_by before b) is ≡ []
+    no_rels [] = refl
+    no_rels (item ∷ is) = no_rels is
+
+-- what is pushed to a list of writes
+lists_pushed : (before : List Entry) (b c : ℕ) (items : List Item) (commands : List ℕ) → map written_in commands ++ written_by before b c items ∷ [] ≡ map written_in (commands ++ c ∷ [])
+lists_pushed before b c items [] = ap (λ w. w ∷ []) (no_messages before b c items)
+lists_pushed before b c items (command ∷ commands) = ap (λ l. written_in command ∷ l) (lists_pushed before b c items commands)
+
+cleared_pushed : (locks : List OwnLock) (lock : OwnLock) → lock.clear ≡ true → map cleared locks ≡ locks → map cleared (locks ++ lock ∷ []) ≡ locks ++ lock ∷ []
+cleared_pushed locks lock is clear = map-append cleared locks (lock ∷ []) ∙ ap (λ l. l ++ cleared lock ∷ []) clear ∙ (λ i. locks ++ record lock { clear = sym is i } ∷ [])
+
+-- the first command of a transaction that runs
+first_kept : (o : Option OwnTransaction) (c : ℕ) → is_some o ≡ true → option_map_or (λ t. t.first) o c ≡ option_map_or (λ t. t.first) o 0
+first_kept None c runs = absurd (cc)
+first_kept (Some t) c runs = refl
+
+starts_kept : (o : Option OwnTransaction) (c : ℕ) (xid : Option Xid) → is_some o ≡ true → one_if (option_map_or (λ t. t.first) o c == c) ≡ option_map_or (λ t. one_if (t.first == c)) o 0
+starts_kept None c xid runs = absurd (cc)
+starts_kept (Some t) c xid runs = refl
+
+module _ (scenario : Scenario) (old : List Entry) (was : Backend) (agrees : Agrees scenario old was) (works : IsWorking was) (draft : Draft) (at : plan_at was.exec ≡ writing draft) where
+  next : NextWrite was
+  next = record { draft = draft; rest = λ given. Done; at = at }
+
+  -- what is known of it
+  pub command_writes : Writes old was agrees.rest works.has.command
+  command_writes = writes_now old was agrees.rest works.has next agrees.well agrees.command
+
+  pub is_unanswered : is_some was.answer ≡ false
+  is_unanswered = unanswered was (Write draft) (λ given. Done) agrees.well at
+
+  pub is_admitted : (was.blocked ≡ false) × (refused_by was.blocks works.has.command ≡ None)
+  is_admitted = admitted was (Write draft) (λ given. Done) works.has agrees.well at
+
+  pub runs : is_some was.running ≡ true
+  runs = has_transaction was works.has.command command_writes.creates works.phase works.free is_admitted.1 agrees.well.transaction
+
+  pub makes_table : IsNewTable draft
+  makes_table = agrees.well.table (λ given. Done) draft at
+
+  pub locks_clear : map cleared was.locks.items ≡ was.locks.items
+  locks_clear = clear_at was agrees.well (λ is. let no : phases.Granted ≡ phases.Working = sym is ∙ works.phase in absurd (cc no))
+
+  -- so it may write
+  pub may_write : IsPlayed scenario old → MayWrite old was.id (was.finished + 1) draft
+  may_write played = new_table_may_write old was.id (was.finished + 1) draft played.tables makes_table command_writes.unwritten
+
+  pub may_ask : MayRequest scenario old was.id (was.finished + 1)
+  may_ask = may_request scenario old was agrees (ap is_visible_at works.phase) (ap is_taken_back works.phase)
+
+  -- nothing is done before
+  pub waits : Waits agrees
+  waits = waits_at scenario old was agrees works.has (λ rest. waits-act (facts_of old was.id) works.has.command rest (session_at was agrees.rest) (Write draft) (λ given. Done) at
+      (by_test (is_empty (builds_owed (facts_of old was.id) was.opened ++ []))))
+    where
+      by_test : (t : Bool) → elim t as (λ x. Option (List Row)) [ true ↦ None | false ↦ None ] ≡ None
+      by_test true = refl
+      by_test false = refl
+
+  pub nothing_owed : owed_of (facts_of old was.id) works.has.command (session_at was agrees.rest) ≡ []
+  nothing_owed = owed_scans scenario old was agrees works ∙ ap (map OwesScan) (missing_at was (writing draft) agrees.well.builds at)
+
+-- the lock on a new relation
+abbrev pub new_lock : Oid → ℕ → OwnLock
+new_lock rel c = record { rel = rel; mode = AccessExclusive; command = c; clear = true }
+
+-- the transaction that has written
+abbrev pub with_xid : Option OwnTransaction → ℕ → Xid → OwnTransaction
+with_xid own c xid = record { first = option_map_or (λ t. t.first) own c; xid = Some xid }
+
+written-finished : (plan : Plan) (s : Session) → (written plan s).finished ≡ s.finished
+written-finished (Do (Write draft) rest) s = refl
+written-finished plan s = refl
+
+-- a write is no start
+write_goes_on : (xid : Xid) (items : List Item) → GoesOn (events.Write xid items)
+write_goes_on xid items = record { session = λ scenario facts b at command s. refl; finished = λ s. written-finished s.left s; life = λ c. refl }
+
+-- the commands in which a backend has written, after its write
+written_at : (history : List Entry) (b c : ℕ) (xid : Xid) (items : List Item) → has_written (history ++ entry_of b c (events.Write xid items) ∷ []) b c ≡ true
+written_at history b c xid items = has_written-more history (entry_of b c (events.Write xid items)) b c
+    ∙ (λ i. has_written history b c || (eq-eqb b b refl i && eq-eqb c c refl i && true)) ∙ or-true (has_written history b c)
+
+unwritten_later : (history : List Entry) (b c number : ℕ) (xid : Xid) (items : List Item) → c < number → has_written history b number ≡ false → has_written (history ++ entry_of b c (events.Write xid items) ∷ []) b number ≡ false
+unwritten_later history b c number xid items later none = has_written-more history (entry_of b c (events.Write xid items)) b number
+    ∙ (λ i. none i || ((b == b) && ne_eqb c number (λ same. absurd (omega (arith, same, later))) i && true)) ∙ ap (λ t. t && true) (and-false (b == b))
+
+module _ (scenario : Scenario) (old : List Entry) (was : Backend) (agrees : Agrees scenario old was) (works : IsWorking was) (draft : Draft) (at : plan_at was.exec ≡ writing draft) (xid : Xid) (rel : Oid) (writes : Vec ℕ Global) (locks : Vec OwnLock Global)
+    (first : rel.0 ≡ next_oid old) (wrote : writes.items ≡ was.writes.items ++ (was.finished + 1) ∷ []) (locked : locks.items ≡ was.locks.items ++ new_lock rel (was.finished + 1) ∷ []) where
+  abbrev own : OwnTransaction
+  own = with_xid was.running (was.finished + 1) xid
+
+  abbrev event : Event
+  event = events.Write xid (items_drawn old draft)
+
+  abbrev now : Backend
+  now = after_asking was stages.Done [] false (Some own) writes locks
+
+  running_now : is_some was.running ≡ true
+  running_now = runs scenario old was agrees works draft at
+
+  settles : Settles was stages.Done [] (Some own) writes.items locks.items
+  settles = record {
+    out = refl;
+    builds = refl;
+    runs = refl;
+    first = first_kept was.running (was.finished + 1) running_now;
+    written = λ is. refl;
+    clear = subst (λ l. map cleared l ≡ l) (sym locked) (cleared_pushed was.locks.items (new_lock rel (was.finished + 1)) refl (locks_clear scenario old was agrees works draft at));
+  }
+
+  -- the session before the locks are cleared
+  abbrev placed : Session
+  placed = placed_at (length old + 1) (was.finished + 1) event (session_at was agrees.rest)
+
+  locks_now : placed.locks ≡ locks.items
+  locks_now = ap (λ l. was.locks.items ++ l) (new_table_locks (was.finished + 1) (next_oid old) draft (makes_table scenario old was agrees works draft at))
+      ∙ (λ i. was.locks.items ++ new_lock (record { 0 = sym first i }) (was.finished + 1) ∷ []) ∙ sym locked
+
+  abbrev after : Session
+  after = session_after old was event agrees.rest
+
+  left : written (plan_at was.exec) (session_at was agrees.rest) ≡ record (session_at was agrees.rest) { left = Done; opened = []; read = false }
+  left = ap (λ p. written p (session_at was agrees.rest)) at
+
+  locks_after : after.locks ≡ locks.items
+  locks_after = ap (λ s. s.locks) (accepted-clear (facts_after old was event) (first_of (drop was.finished was.commands)) placed (subst (λ l. map cleared l ≡ l) (sym locks_now) settles.clear)) ∙ locks_now
+
+  session_now : after ≡ session_at now (rest_after old was event agrees.rest)
+  session_now = λ i. record {
+    blocks = (left i).blocks;
+    finished = after.finished;
+    left = (left i).left;
+    refused = after.refused;
+    blocked = (left i).blocked;
+    opened = (left i).opened;
+    read = (left i).read;
+    found = after.found;
+    ended = (left i).ended;
+    tally = after.tally;
+    locks = locks_after i;
+    judged = after.judged;
+    last = after.last;
+  }
+
+  facts_now : FactsFit (facts_after old was event) now
+  facts_now = record {
+    running = ap (λ o. Some (record (begun (was.finished + 1) o) { xid = Some xid.0 })) agrees.facts.running ∙ begun_writes was.phase (was.finished + 1) xid was.running works.phase;
+    lists = ap (λ l. l ++ written_by old was.id (was.finished + 1) (items_drawn old draft) ∷ []) agrees.facts.lists ∙ lists_pushed old was.id (was.finished + 1) (items_drawn old draft) was.writes.items ∙ ap (map written_in) (sym wrote);
+    owed = sym (ap owed_at works.phase);
+    took = sym (ap is_taken_back works.phase);
+    taken = λ from is. let no : phases.Working ≡ phases.TakenBack from = sym works.phase ∙ is in absurd (cc no);
+    usable = λ scan build. usable_by-none old was.id (was.finished + 1) scan event ((facts_of old was.id).usable scan) refl ∙ agrees.facts.usable scan build;
+    kept = agrees.facts.kept;
+    given = λ is. absurd (cc is);
+  }
+
+  keeps : Keeps old was now event agrees.rest
+  keeps = record {
+    moves = record { id = refl; commands = refl; finished = refl; life = refl; lines = refl };
+    session = session_now;
+    facts = facts_now;
+    tally = agrees.tally ∙ ap (λ n. agrees.rest.tally.scans + agrees.rest.tally.grants + n + one_if was.looked) (sym (starts_kept was.running (was.finished + 1) (Some xid) running_now));
+    well = asked_well was stages.Done [] false (Some own) writes locks works.phase running_now (is_admitted scenario old was agrees works draft at).0 (is_unanswered scenario old was agrees works draft at) settles agrees.well;
+  }
+
+  suits : Suits scenario old was event agrees.rest
+  suits = record {
+    plays = subst (λ o. MayPlayIn (next_oid old) (facts_of old was.id) o (session_at was agrees.rest) event) (sym works.has.at)
+        (nothing_owed scenario old was agrees works draft at, subst (λ p. IsWrite (next_oid old) p (items_drawn old draft)) (sym at) refl);
+    needed = tt;
+    truly = tt;
+    tables = record { draft = draft; table = makes_table scenario old was agrees works draft at; items_are = refl };
+  }
+
+  follows : IsPlayed scenario old → MayComeNext old (entry_of was.id (was.finished + 1) event) → Follows scenario old was now event agrees.rest
+  follows played comes = record {
+    command = record {
+      refused = λ error is. let no : None ≡ Some error = sym (ap (λ s. s.refused) left ∙ unrefused old was agrees.rest (Write draft) (λ given. Done) agrees.command at) ∙ is in absurd (cc no);
+      way = λ none no command running. inr (inr (inr (record {
+        name = creating.name;
+        columns = creating.columns;
+        command_is = (let same : Some command ≡ Some works.has.command = sym running ∙ works.has.at in cc same) ∙ creating.is;
+        plan = refl;
+        written = written_at old was.id (was.finished + 1) xid (items_drawn old draft);
+      })));
+      later = λ c after. unwritten_later old was.id (was.finished + 1) c xid (items_drawn old draft) after (agrees.command.later c after);
+      given_at = tt;
+      given_seen = tt;
+    };
+    kept = kept-more old (entry_of was.id (was.finished + 1) event) was.id was.kept (may_come scenario old (entry_of was.id (was.finished + 1) event) played comes suits.tables) (λ i d within. refl) agrees.kept;
+    answer = no_answer scenario (old ++ entry_of was.id (was.finished + 1) event ∷ []) now (rest_after old was event agrees.rest) (is_unanswered scenario old was agrees works draft at);
+    judged = λ has none. refl;
+  }
+    where
+      creating : Creates works.has.command
+      creating = (command_writes scenario old was agrees works draft at).creates
+
+  -- so the write of a new table is entered
+  write_enters : (new : List Entry) (had has : ℕ → ℕ) → IsPlayed scenario old → Appends old new had has (entry_of was.id (was.finished + 1) event) → Enters scenario old new was now
+  write_enters new had has played appends = own_enters scenario old new had has was now event agrees (waits scenario old was agrees works draft at) (write_goes_on xid (items_drawn old draft)) suits keeps (follows played appends.comes) appends
+
+-- the same, for what a segment answers and what the backend keeps of it
+pub wrote_enters : (scenario : Scenario) (old new : List Entry) (had has : ℕ → ℕ) (was : Backend) (agrees : Agrees scenario old was) (works : IsWorking was) (draft : Draft) (at : plan_at was.exec ≡ writing draft) (made : Made) (exec : Exec) (opened : List Opening) (transaction : OwnTransaction) (writes : Vec ℕ Global) (locks : Vec OwnLock Global)
+    → exec ≡ stages.Done → opened ≡ [] → transaction ≡ with_xid was.running (was.finished + 1) made.xid → writes.items ≡ was.writes.items ++ (was.finished + 1) ∷ [] → locks.items ≡ was.locks.items ++ new_lock made.first_oid (was.finished + 1) ∷ []
+    → IsPlayed scenario old → MakesWrite old new had has was.id (was.finished + 1) draft made → Enters scenario old new was (after_asking was exec opened false (Some transaction) writes locks)
+wrote_enters scenario old new had has was agrees works draft at made exec opened transaction writes locks done closed runs_as wrote locked played makes =
+    subst (λ s. Enters scenario old new was s) (λ i. after_asking was (sym done i) (sym closed i) false (Some (sym runs_as i)) writes locks)
+    (write_enters scenario old was agrees works draft at made.xid made.first_oid writes locks makes.first wrote locked new had has played makes.appends)
