@@ -6,3 +6,4 @@ pub mod Stepping
 pub mod Carry
 pub mod Ending
 pub mod Nexting
+pub mod Finding

@@ -4,3 +4,4 @@ pub mod State
 pub mod Agrees
 pub mod Steps
 pub mod Endings
+pub mod Measure

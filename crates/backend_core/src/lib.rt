@@ -6,6 +6,7 @@ mod kept_scan;
 mod next;
 mod nexts;
 mod phase;
+mod silent;
 
 pub use backend::Backend;
 pub use kept_scan::KeptScan;
