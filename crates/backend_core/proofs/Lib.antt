@@ -21,3 +21,4 @@ pub mod Beginning
 pub mod NewTable
 pub mod Writing
 pub mod Clashing
+pub mod Finding

@@ -6,3 +6,4 @@ pub mod Steps
 pub mod Endings
 pub mod Silent
 pub mod Refusals
+pub mod Measure

@@ -7,7 +7,7 @@ mod next;
 mod nexts;
 mod phase;
 mod writes;
-
+mod silent;
 pub use backend::Backend;
 pub use kept_scan::KeptScan;
 pub use next::Next;
