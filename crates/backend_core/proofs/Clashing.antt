@@ -24,7 +24,7 @@ use Rattle.seg_calls.specs.declared.refusal.WriteRefusal.TheVariants as refusals
 use Rattle.seg_calls.specs.Calls.{Clashes, Writes, items_drawn, entry_of, took_back}
 use Rattle.cacheless.specs.Facts.{Facts, facts_of}
 use Rattle.cacheless.specs.Locks.{cleared}
-use Rattle.cacheless.specs.Session.{Session, first_of}
+use Rattle.cacheless.specs.Session.{Session, first_of, outcome_of, is_settled}
 use Rattle.cacheless.specs.Owed.{owed_after, owed_of}
 use Rattle.cacheless.specs.Sessions.{placed_at, tally_by, ends_command, accepted}
 use Rattle.cacheless.specs.Plays.{IsClash, MayPlay, MayPlayIn}
@@ -33,7 +33,7 @@ use Rattle.backend_core.specs.Types.{Purpose, Command, CommandError, Scenario, E
 use Rattle.backend_core.specs.declared.phase.Phase.TheVariants as phases
 use Rattle.backend_core.specs.NewTables.{AddsTables}
 use Rattle.backend_core.specs.Refusals.{error_of}
-use Rattle.backend_core.specs.State.{written_in, running_in, is_taken_back, owed_at, Rest, rest_of, session_at}
+use Rattle.backend_core.specs.State.{is_ended, written_in, running_in, is_taken_back, owed_at, Rest, rest_of, session_at}
 use Rattle.backend_core.specs.Agrees.{IsPlayed, FactsFit, TallyFits, Agrees}
 use Rattle.backend_core.specs.Steps.{IsWorking, Enters}
 use Rattle.backend_core.proofs.Stepping.{facts_after, session_after, rest_after, Keeps, Follows, Suits, GoesOn, own_enters}
@@ -144,8 +144,8 @@ module _ (scenario : Scenario) (old : List Entry) (was : Backend) (agrees : Agre
     moves = record { id = refl; commands = refl; finished = refl; life = refl; lines = refl };
     session = session_is ∙ (λ i. record (failed_at was agrees.rest (length old + 1) error) { locks = sym locked i }) ∙ ap (λ s. session_at failed (rest_of s)) (sym session_is);
     facts = subst (λ f. FactsFit f failed) (sym with.facts) facts_still;
-    tally = subst (λ t. TallyFits t failed) (sym with.tally) agrees.tally;
-    well = asked_well was (stages.Failing error) was.opened was.read was.running writes locks works.phase runs_still (is_admitted scenario old was agrees works draft at).0 (is_unanswered scenario old was agrees works draft at)
+    tally = λ _. subst (λ t. TallyFits t failed) (sym with.tally) (agrees.tally (ap is_ended works.phase));
+    well = asked_well was (stages.Failing error) was.opened was.read was.running writes locks works.phase runs_still (is_admitted scenario old was agrees works draft at).0 (is_unanswered scenario old was agrees works draft at) (ap (λ p. is_settled (outcome_of p)) at)
         (record {
           out = refl;
           builds = agrees.well.builds;

@@ -6,7 +6,7 @@ pub mod Stepping
 pub mod Carry
 pub mod Ending
 pub mod Nexting
-pub mod Silent
+pub mod Passing
 pub mod Played
 pub mod Looks
 pub mod Acting

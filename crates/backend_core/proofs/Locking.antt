@@ -123,14 +123,15 @@ granted_enters scenario old new had has was rel mode locks agrees played works n
         running = runs_on (was.finished + 1) was (facts_of old was.id) agrees.facts acting.runs ∙ ap (λ p. running_in p was.running) works.phase;
         lists = agrees.facts.lists; owed = refl; took = refl; taken = λ from is. absurd (cc); usable = agrees.facts.usable; kept = agrees.facts.kept; given = agrees.facts.given;
       };
-      tally = omega (arith, agrees.tally, ap granted works.phase);
+      tally = λ _. omega (arith, agrees.tally (ap is_ended works.phase), ap granted works.phase);
       well = record {
-        built = agrees.well.built; few = agrees.well.few; most = agrees.well.most; builds = agrees.well.builds; blocked = agrees.well.blocked; refused = agrees.well.refused; levels = agrees.well.levels; first = agrees.well.first;
+        built = agrees.well.built; few = agrees.well.few; most = agrees.well.most; builds = agrees.well.builds; blocked = agrees.well.blocked; refused = agrees.well.refused; plain = agrees.well.plain; opens = agrees.well.opens; levels = agrees.well.levels; first = agrees.well.first;
         transaction = transaction-more was now (ap is_ended works.phase) refl refl refl refl refl agrees.well.transaction;
         written = agrees.well.written;
-        end = tt;
+        end = record { command = works.has.command; at = works.has.at };
         answered = λ _ _. inr refl;
         come_out = agrees.well.come_out;
+        past = agrees.well.past;
         free = λ some. absurd (cc (some, acting.unanswered));
         granted = λ _. record { runs = acting.runs; unanswered = acting.unanswered };
         clear = inl refl;
@@ -189,16 +190,18 @@ refused_enters scenario old new had has was rel mode holder held agrees played w
         running = runs_on (was.finished + 1) was (facts_of old was.id) agrees.facts acting.runs;
         lists = agrees.facts.lists; owed = sym (ap owed_at works.phase); took = sym (ap is_taken_back works.phase); taken = λ from is. absurd (cc (is, works.phase)); usable = agrees.facts.usable; kept = agrees.facts.kept; given = λ read. tt;
       };
-      tally = agrees.tally;
+      tally = λ _. agrees.tally (ap is_ended works.phase);
       well = record {
         built = agrees.well.built; few = agrees.well.few; most = agrees.well.most; builds = agrees.well.builds; blocked = agrees.well.blocked;
         refused = λ blocked. absurd (cc (blocked, acting.unblocked));
-        levels = agrees.well.levels; first = agrees.well.first;
+        plain = λ command here ends free. absurd (cc (agrees.well.plain command here ends free, next.at));
+        opens = agrees.well.opens; levels = agrees.well.levels; first = agrees.well.first;
         transaction = transaction-more was now (ap is_ended works.phase) (ap is_ended works.phase) refl refl refl refl agrees.well.transaction;
         written = agrees.well.written;
         end = end_free now works.phase;
         answered = λ _ _. inl works.phase;
         come_out = λ _. refl;
+        past = λ _. refl;
         free = λ some. absurd (cc (some, acting.unanswered));
         granted = λ is. absurd (cc (is, works.phase));
         clear = inr (clear_at was agrees.well (λ is. absurd (cc (is, works.phase))));

@@ -36,8 +36,8 @@ use Rattle.cacheless.proofs.Settling.{waits-act}
 use Rattle.backend_core.specs.Types.{Oid, Xid, Kind, Field, Row, Command, CommandError, Scenario, Entry, Event, Item, Phase, NewColumn, Draft, Exec, Opening, OwnLock, OwnTransaction, Backend}
 use Rattle.backend_core.specs.declared.phase.Phase.TheVariants as phases
 use Rattle.backend_core.specs.NewTables.{IsNewTable}
-use Rattle.backend_core.specs.State.{is_visible_at, is_taken_back, running_in, written_in, builds_missing, begins_in, owed_first, owed_at, one_if, Rest, session_at, HasCommand}
-use Rattle.backend_core.specs.Agrees.{IsPlayed, FactsFit, TransactionFits, RunsAlone, RunsBlock, EndFits, Well, HasOpened, Way, CommandFits, Agrees}
+use Rattle.backend_core.specs.State.{is_visible_at, is_taken_back, is_ended, is_out, running_in, written_in, builds_missing, begins_in, owed_first, owed_at, one_if, Rest, session_at, HasCommand}
+use Rattle.backend_core.specs.Agrees.{IsPlayed, FactsFit, RunsAlone, RunsBlock, RunsBy, TransactionFits, EndFits, Well, HasOpened, Way, CommandFits, Agrees}
 use Rattle.backend_core.specs.Steps.{IsWorking, NextWrite, Enters}
 use Rattle.backend_core.proofs.Stepping.{Waits, facts_after, session_after, rest_after, Keeps, Follows, Suits, GoesOn, own_enters}
 use Rattle.backend_core.proofs.Carry.{may_request, waits_at, missing_at, owed_scans, clear_at, accepted-clear, may_come, kept-more, no_answer}
@@ -116,18 +116,18 @@ writes_now seen s rest has next well fits = way_writes seen s rest has.command n
     (fits.way (unanswered s (Write next.draft) next.rest well next.at) (unrefused seen s rest (Write next.draft) next.rest fits next.at) has.command has.at)
 
 -- while a command works its transaction runs as the blocks say
-working_fits : (s : Backend) → s.phase ≡ phases.Working → TransactionFits s → elim s.blocks.block as (λ _. Type 0) [ Outside ↦ (s.running ≡ None) ⊎ RunsAlone s | Inside ↦ RunsBlock s | Failed ↦ s.running ≡ None ]
-working_fits s phase fits = subst (λ p. elim p as (λ _. Type 0) [ phases.Ended ↦ s.running ≡ None | other ↦ elim s.blocks.block as (λ _. Type 0) [ Outside ↦ (s.running ≡ None) ⊎ RunsAlone s | Inside ↦ RunsBlock s | Failed ↦ s.running ≡ None ] ]) phase fits
+working_fits : (s : Backend) → s.phase ≡ phases.Working → TransactionFits s s.phase → RunsBy s s.blocks.block
+working_fits s phase fits = subst (TransactionFits s) phase fits
 
 -- a command that writes has a transaction
-pub has_transaction : (s : Backend) (command : Command) → Creates command → s.phase ≡ phases.Working → owed_first s command ≡ [] → refused_by s.blocks command ≡ None → TransactionFits s → is_some s.running ≡ true
+pub has_transaction : (s : Backend) (command : Command) → Creates command → s.phase ≡ phases.Working → owed_first s command ≡ [] → refused_by s.blocks command ≡ None → TransactionFits s s.phase → is_some s.running ≡ true
 has_transaction s command creating phase free admits fits = by_block s.blocks.block refl (working_fits s phase fits)
   where
     by_running : (o : Option OwnTransaction) → elim (is_none o) as (λ _. List Owes) [ true ↦ OwesLook ∷ [] | false ↦ [] ] ≡ [] → is_some o ≡ true
     by_running (Some own) owed = refl
     by_running None owed = absurd (cc)
 
-    by_block : (block : Block) → s.blocks.block ≡ block → elim block as (λ _. Type 0) [ Outside ↦ (s.running ≡ None) ⊎ RunsAlone s | Inside ↦ RunsBlock s | Failed ↦ s.running ≡ None ] → is_some s.running ≡ true
+    by_block : (block : Block) → s.blocks.block ≡ block → RunsBy s block → is_some s.running ≡ true
     by_block Outside is runs = by_running s.running
         (sym (λ i. elim (begins_in (record { block = is i; levels = s.blocks.levels }) (phase i) (creating.is i) && is_none s.running) as (λ _. List Owes) [ true ↦ OwesLook ∷ [] | false ↦ [] ]) ∙ free)
     by_block Inside is runs = runs.runs
@@ -148,36 +148,38 @@ pub record Settles (was : Backend) (exec : Exec) (opened : List Opening) (runnin
 
 -- so its transaction is still as the blocks say
 asked_transaction : (was : Backend) (exec : Exec) (opened : List Opening) (read : Bool) (running : Option OwnTransaction) (writes : Vec ℕ Global) (locks : Vec OwnLock Global) → was.phase ≡ phases.Working → is_some was.running ≡ true
-    → is_some running ≡ true → option_map_or (λ t. t.first) running 0 ≡ option_map_or (λ t. t.first) was.running 0 → TransactionFits was → TransactionFits (after_asking was exec opened read running writes locks)
+    → is_some running ≡ true → option_map_or (λ t. t.first) running 0 ≡ option_map_or (λ t. t.first) was.running 0 → TransactionFits was was.phase → TransactionFits (after_asking was exec opened read running writes locks) was.phase
 asked_transaction was exec opened read running writes locks phase ran runs first fits =
-    subst (λ p. elim p as (λ _. Type 0) [ phases.Ended ↦ running ≡ None | other ↦ elim was.blocks.block as (λ _. Type 0) [ Outside ↦ (running ≡ None) ⊎ RunsAlone now | Inside ↦ RunsBlock now | Failed ↦ running ≡ None ] ]) (sym phase)
+    subst (TransactionFits now) (sym phase)
     (by_block was.blocks.block refl (working_fits was phase fits))
   where
     now : Backend
     now = after_asking was exec opened read running writes locks
 
-    by_block : (block : Block) → was.blocks.block ≡ block → elim block as (λ _. Type 0) [ Outside ↦ (was.running ≡ None) ⊎ RunsAlone was | Inside ↦ RunsBlock was | Failed ↦ was.running ≡ None ]
-        → elim block as (λ _. Type 0) [ Outside ↦ (running ≡ None) ⊎ RunsAlone now | Inside ↦ RunsBlock now | Failed ↦ running ≡ None ]
+    by_block : (block : Block) → was.blocks.block ≡ block → RunsBy was block → RunsBy now block
     by_block Outside is (inl none) = let no : true ≡ false = sym ran ∙ ap is_some none in absurd (cc no)
     by_block Outside is (inr alone) = inr (record { has = record { command = alone.has.command; at = alone.has.at }; begins = alone.begins; first = first ∙ alone.first })
-    by_block Inside is block = record { runs = runs; first = first ∙ block.first }
+    by_block Inside is block = record { runs = runs; first = λ command. first ∙ block.first command }
     by_block Failed is none = let no : true ≡ false = sym ran ∙ ap is_some none in absurd (cc no)
 
 -- and it is well
 pub asked_well : (was : Backend) (exec : Exec) (opened : List Opening) (read : Bool) (running : Option OwnTransaction) (writes : Vec ℕ Global) (locks : Vec OwnLock Global) → was.phase ≡ phases.Working → is_some was.running ≡ true → was.blocked ≡ false
-    → is_some was.answer ≡ false → Settles was exec opened running writes.items locks.items → Well was → Well (after_asking was exec opened read running writes locks)
-asked_well was exec opened read running writes locks phase ran unblocked none settles well = record {
+    → is_some was.answer ≡ false → is_out was ≡ false → Settles was exec opened running writes.items locks.items → Well was → Well (after_asking was exec opened read running writes locks)
+asked_well was exec opened read running writes locks phase ran unblocked none busy settles well = record {
   built = well.built;
   few = well.few;
   most = well.most;
   builds = settles.builds;
   blocked = well.blocked;
   refused = λ is. let no : true ≡ false = sym is ∙ unblocked in absurd (cc no);
+  plain = λ command here ends free. let no : false ≡ true = sym busy ∙ ap (λ p. is_settled (outcome_of p)) (well.plain command here ends free) in absurd (cc no);
+  opens = well.opens;
   levels = well.levels;
   first = omega (arith, settles.first, well.first);
   transaction = asked_transaction was exec opened read running writes locks phase ran settles.runs settles.first well.transaction;
   written = settles.written;
-  end = subst (λ p. EndFits (record now { phase = p })) (sym phase) tt;
+  end = subst (EndFits now) (sym phase) tt;
+  past = λ none. settles.out;
   answered = λ has is. inl phase;
   come_out = λ is. settles.out;
   free = λ is has. let no : true ≡ false = sym is ∙ none in absurd (cc no);
@@ -365,8 +367,8 @@ module _ (scenario : Scenario) (old : List Entry) (was : Backend) (agrees : Agre
     moves = record { id = refl; commands = refl; finished = refl; life = refl; lines = refl };
     session = session_now;
     facts = facts_now;
-    tally = agrees.tally ∙ ap (λ n. agrees.rest.tally.scans + agrees.rest.tally.grants + n + one_if was.looked) (sym (starts_kept was.running (was.finished + 1) (Some xid) running_now));
-    well = asked_well was stages.Done [] false (Some own) writes locks works.phase running_now (is_admitted scenario old was agrees works draft at).0 (is_unanswered scenario old was agrees works draft at) settles agrees.well;
+    tally = λ _. agrees.tally (ap is_ended works.phase) ∙ ap (λ n. agrees.rest.tally.scans + agrees.rest.tally.grants + n + one_if was.looked) (sym (starts_kept was.running (was.finished + 1) (Some xid) running_now));
+    well = asked_well was stages.Done [] false (Some own) writes locks works.phase running_now (is_admitted scenario old was agrees works draft at).0 (is_unanswered scenario old was agrees works draft at) (ap (λ p. is_settled (outcome_of p)) at) settles agrees.well;
   }
 
   suits : Suits scenario old was event agrees.rest

@@ -4,6 +4,6 @@ pub mod State
 pub mod Agrees
 pub mod Steps
 pub mod Endings
-pub mod Silent
+pub mod Passing
 pub mod Refusals
 pub mod Measure

@@ -16,7 +16,7 @@ use Rattle.backend_core.specs.declared.phase.Phase.TheVariants as phases
 use Rattle.backend_core.specs.State.{begins_in, owed_first, missing, builds_missing, act_missing, scans_missing, is_out, end_at, unlocked_of, HasCommand}
 use Rattle.backend_core.specs.Agrees.{Well}
 use Rattle.backend_core.specs.Steps.{OwesLookNow, IsWorking, NextLookUp, NextBuild, NextLock, NextFind, NextOpen, NextWrite, NextCommit, NextTakeBack, NextRelease, AfterCommit, AfterTakingBack, WithoutWrite, AtTheEnd, NextFinish, IsNextOf, makes_entry}
-use Rattle.backend_core.specs.Silent.{is_ends, is_done_here, passes_on, passes_in, is_silent}
+use Rattle.backend_core.specs.Passing.{is_ends, is_done_here, passes_on, passes_in, is_silent}
 
 -- in a command
 in_command : (s : Backend) (has : HasCommand s) (t : Bool) → passes_in s has.command s.phase ≡ t → is_silent s ≡ t
