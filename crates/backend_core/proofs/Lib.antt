@@ -11,3 +11,4 @@ pub mod TakingBack
 pub mod Releasing
 pub mod Leaving
 pub mod Beginning
+pub mod Joining
