@@ -22,3 +22,4 @@ pub mod NewTable
 pub mod Writing
 pub mod Clashing
 pub mod Finding
+pub mod Joining
