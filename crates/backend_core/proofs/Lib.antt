@@ -23,3 +23,4 @@ pub mod Writing
 pub mod Clashing
 pub mod Finding
 pub mod Joining
+pub mod Waiting

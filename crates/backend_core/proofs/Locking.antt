@@ -67,7 +67,7 @@ found_rows facts s name mode rest fits at read = subst (λ p. RowsFit facts.rows
 pub none_missing : (s : Backend) (name : List ℕ) (mode : Mode) (rest : List Row → Plan) → builds_missing s.kept s.opened ≡ [] → plan_at s.exec ≡ Do (Lookup name mode) rest → s.read ≡ true → scans_missing s ≡ []
 none_missing s name mode rest builds at read = missing_at s (Do (Lookup name mode) rest) builds at ∙ ap (λ r. if r then [] else scans.RelName name ∷ []) read
 
-waits_lock : (scenario : Scenario) (seen : List Entry) (s : Backend) (agrees : Agrees scenario seen s) (has : HasCommand s) (rel : Oid) (mode : Mode) → NextLock s rel mode → Waits agrees
+pub waits_lock : (scenario : Scenario) (seen : List Entry) (s : Backend) (agrees : Agrees scenario seen s) (has : HasCommand s) (rel : Oid) (mode : Mode) → NextLock s rel mode → Waits agrees
 waits_lock scenario seen s agrees has rel mode next = waits_at scenario seen s agrees has (λ rest. waits-act (facts_of seen s.id) has.command rest (session_at s agrees.rest) (Lookup next.name mode) next.rest next.at
     (given_here (facts_of seen s.id) s agrees.rest (Lookup next.name mode) next.rest agrees.facts next.at (none_missing s next.name mode next.rest agrees.well.builds next.at next.read)
     ∙ ap (looked_up s.locks.items mode) (found_rows (facts_of seen s.id) s next.name mode next.rest agrees.facts next.at next.read) ∙ (unlocked s.locks.items mode s.given.items rel next.unlocked).gives_none))

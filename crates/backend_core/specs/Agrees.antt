@@ -31,6 +31,7 @@ use Rattle.backend_core.specs.Types.{Oid, Mode, Kind, Field, Row, Purpose, Comma
 use Rattle.backend_core.specs.declared.phase.Life.TheVariants as lives
 use Rattle.backend_core.specs.declared.phase.Phase.TheVariants as phases
 use Rattle.backend_core.specs.NewTables.{IsNewTable, HasTables, StaysRead, SeesRelation}
+use Rattle.backend_core.specs.Passing.{is_silent}
 use Rattle.backend_core.specs.State.{owed_at, granted, is_taken_back, is_ended, one_if, running_at, lists_at, is_kept, builds_missing, is_out, begins_in, owed_first, end_at, is_inside, blocks_next, has_write_since, end_of_running, Rest, session_at, HasCommand}
 
 -- a history that the script's commands played so far
@@ -293,6 +294,12 @@ pub record HasLeft (scenario : Scenario) (seen : List Entry) (s : Backend) : Typ
   pub places : All (λ f. f.judged ≤ length seen) finished
   pub lines : s.lines ≡ lines_from scenario seen s.id 1 finished (commands_of scenario s.id)
 
+-- a backend that agrees with a history and goes on only with an entry: nothing is left to settle
+pub record AwaitsEntry (scenario : Scenario) (seen : List Entry) (s : Backend) : Type 0 where
+  pub agrees : Agrees scenario seen s
+  pub waits : settled (facts_of seen s.id) (drop s.finished s.commands) (session_at s agrees.rest) ≡ session_at s agrees.rest
+  pub ready : is_silent s ≡ false
+
 -- where a backend is in a history
 abbrev pub Stands : Scenario → List Entry → Backend → Type 0
-Stands scenario seen s = elim s.life [ lives.Unstarted ↦ HasNotJoined scenario seen s | lives.Alive ↦ Agrees scenario seen s | lives.Stopped ↦ HasLeft scenario seen s ]
+Stands scenario seen s = elim s.life [ lives.Unstarted ↦ HasNotJoined scenario seen s | lives.Alive ↦ AwaitsEntry scenario seen s | lives.Stopped ↦ HasLeft scenario seen s ]

@@ -1,9 +1,9 @@
 pub mod Types
 pub mod NewTables
 pub mod State
+pub mod Passing
 pub mod Agrees
 pub mod Steps
 pub mod Endings
-pub mod Passing
 pub mod Refusals
 pub mod Measure

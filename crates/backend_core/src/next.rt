@@ -1,3 +1,6 @@
+ghost use Rattle.std.specs.Prelude.{◌≡◌};
+ghost use Rattle.backend_core.specs.Steps.{makes_entry as is_entry};
+
 use base_types::{Kind, Mode, Name, Oid, Purpose, Xid};
 
 /// What a backend does next: an entry, or what needs none (`Find`, `Open`, `Answer`, `Finish`).
@@ -31,4 +34,16 @@ pub enum Next {
     Answer,
     /// It passes to its next command.
     Finish,
+}
+
+impl Next {
+    // Whether it makes an entry.
+    pub(crate) fn makes_entry(self) -> bool
+        ensures { result ≡ is_entry self }
+    {
+        !matches!(
+            self,
+            Next::Find | Next::Open { .. } | Next::Answer | Next::Finish
+        )
+    }
 }
