@@ -7,3 +7,4 @@ pub mod Carry
 pub mod Ending
 pub mod Nexting
 pub mod Finding
+pub mod Shown

@@ -5,3 +5,4 @@ pub mod Agrees
 pub mod Steps
 pub mod Endings
 pub mod Measure
+pub mod Answering
