@@ -24,3 +24,4 @@ pub mod Clashing
 pub mod Finding
 pub mod Joining
 pub mod Waiting
+pub mod Shown

@@ -7,3 +7,4 @@ pub mod Steps
 pub mod Endings
 pub mod Refusals
 pub mod Measure
+pub mod Answering

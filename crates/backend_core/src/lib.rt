@@ -1,6 +1,7 @@
 //! One backend.
 #![tactic(auto)]
 
+mod answers;
 mod backend;
 mod kept_scan;
 mod next;

@@ -1,0 +1,54 @@
+-- What the running command answers, by what its backend holds.
+use Rattle.std.specs.Prelude.{ℕ, Option, Some, None, List, [], ◌∷◌, map, if◌then◌else◌}
+use Rattle.std.specs.List.{find}
+use Rattle.base_types.specs.Fields.{field_text, fields_of, read_by}
+use Rattle.base_types.specs.Scans.{same_scan}
+use Rattle.base_types.specs.declared.command.Command.TheVariants as commands
+use Rattle.rel_desc.specs.declared.answer.Answer.TheVariants as answers
+use Rattle.rel_desc.specs.declared.answer.Shown.{Shown}
+use Rattle.rel_desc.specs.declared.error.CommandError.TheVariants.{NoRelation}
+use Rattle.ddl_effect.specs.Plans.{Plan, Fails, Absent}
+use Rattle.ddl_effect.specs.Stages.{plan_at}
+use Rattle.cacheless.specs.Lines.{commit_answer}
+use Rattle.cacheless.specs.Locks.{clear_modes}
+use Rattle.cacheless.specs.Protected.{protects}
+use Rattle.backend_core.specs.Types.{Field, Purpose, Command, Answer, Opening, OwnLock, KeptScan, Backend}
+
+-- the scan that is kept for a purpose
+abbrev pub kept_for : List KeptScan → Purpose → Option KeptScan
+kept_for kept scan = find (λ k. same_scan k.scan scan) kept
+
+-- a field by the scan that is kept for it; a descriptor that is open has them all
+abbrev pub shown_by : List OwnLock → Opening → Field → Option KeptScan → Shown
+shown_by locks o field None = record { field = field; value = []; at = None }
+shown_by locks o field (Some k) = record { field = field; value = field_text field o.rel k.rows; at = if protects (clear_modes locks o.rel) o.kind field then None else Some k.at }
+
+-- a field of an open descriptor
+abbrev pub shown_kept : List KeptScan → List OwnLock → Opening → Field → Shown
+shown_kept kept locks o field = shown_by locks o field (kept_for kept (read_by field o.rel))
+
+-- all its fields, or one
+abbrev pub shown_of : List KeptScan → List OwnLock → Opening → Option Field → Answer
+shown_of kept locks o None = answers.Shown o.kind o.rel (map (shown_kept kept locks o) (fields_of o.kind))
+shown_of kept locks o (Some field) = answers.One (shown_kept kept locks o field)
+
+-- the same of the descriptor that is open
+abbrev pub shown_first : List KeptScan → List OwnLock → List Opening → Option Field → Answer
+shown_first kept locks [] field = answers.Ok
+shown_first kept locks (o ∷ opened) field = shown_of kept locks o field
+
+-- what a command answers that came out well
+abbrev pub answer_done : Backend → Command → Answer
+answer_done s (commands.Show name field) = shown_first s.kept s.locks.items s.opened field
+answer_done s commands.Commit = commit_answer s.blocks.block
+answer_done s command = answers.Ok
+
+-- what a command answers, by the plan that is left of it
+abbrev pub answer_left : Backend → Command → Plan → Answer
+answer_left s command (Fails error) = answers.Error error
+answer_left s command (Absent name) = answers.Error (NoRelation name s.given_at)
+answer_left s command plan = answer_done s command
+
+-- what the running command answers
+abbrev pub answer_at : Backend → Command → Answer
+answer_at s command = answer_left s command (plan_at s.exec)

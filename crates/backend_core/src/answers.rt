@@ -1,0 +1,183 @@
+ghost use Rattle.std.specs.Prelude.{◌≡◌, ◌<◌, ◌&&◌, true, None, Some, List, IfOk, OnOk, slice_get};
+ghost use Rattle.std.specs.List.{list_any};
+ghost use Rattle.std.specs.Option.{option_copied};
+ghost use Rattle.base_types.specs.Modes.{conflicts as do_conflict};
+ghost use Rattle.base_types.specs.Scans.{same_oid};
+ghost use Rattle.base_types.specs.Scenario.{Scenario};
+ghost use Rattle.event_kinds.specs.declared.entry.Entry.{Entry};
+ghost use Rattle.cacheless.specs.Locks.{clear_modes};
+ghost use Rattle.cacheless.specs.Protected.{protects};
+ghost use Rattle.backend_core.specs.declared.next.Next.TheVariants as nexts;
+ghost use Rattle.backend_core.specs.State.{is_out};
+ghost use Rattle.backend_core.specs.Answering.{kept_for, shown_by, shown_kept, shown_of, shown_first, answer_done, answer_at};
+ghost use Rattle.backend_core.specs.Steps.{IsNextOf, AgreesNow};
+ghost use Rattle.backend_core.specs.Measure.{left_of};
+
+use crate::{Backend, KeptScan};
+use base_types::{
+    Command, Field, Kind, Listed, Mode, NoMemory, Oid, Purpose, conflicts, field_text, fields_of,
+    read_by, same_scan, writers,
+};
+use cacheless::{Opening, OwnLock};
+use ddl_effect::Want;
+use rel_desc::{Answer, CommandError, Shown, Value, answer_text};
+use std::alloc::Global;
+
+impl Backend {
+    // It works out what its command answers.
+    pub(crate) fn answer(&mut self, alloc: Global) -> Result<(), NoMemory>
+        requires next { IsNextOf self.old nexts.Answer }
+        ensures keeps { OnOk result ((scenario : Scenario) (seen : List Entry) → AgreesNow scenario seen self.old → AgreesNow scenario seen self.new) }
+        ensures less { OnOk result (left_of self.new < left_of self.old) }
+    {
+        match self.commands.as_slice().get(self.finished as usize) {
+            Some(command) => {
+                let told = self.told(alloc, command)?;
+                let mut text = Vec::new(alloc);
+                answer_text(&told, &mut text)?;
+                self.answer = Some(Listed::from_vec(text));
+                Ok(())
+            }
+            None => unreachable!(),
+        }
+    }
+
+    // What its command answers.
+    fn told(&self, alloc: Global, command: &Command) -> Result<Answer, NoMemory>
+        requires { is_out self.now ≡ true }
+        ensures { IfOk result (λ answer. answer ≡ answer_at self.now command.now) }
+    {
+        match self.exec.next() {
+            Want::Fails(error) => Ok(Answer::Error(error)),
+            Want::Absent(name) => Ok(Answer::Error(CommandError::NoRelation {
+                name,
+                at: self.given_at,
+            })),
+            Want::Done => self.told_done(alloc, command),
+            _ => unreachable!(),
+        }
+    }
+
+    // What its command answers if it came out well.
+    fn told_done(&self, alloc: Global, command: &Command) -> Result<Answer, NoMemory>
+        ensures { IfOk result (λ answer. answer ≡ answer_done self.now command.now) }
+    {
+        match command {
+            Command::Show { field, .. } => self.shown_open(alloc, *field),
+            Command::Commit if self.blocks.is_failed() => Ok(Answer::RolledBack),
+            _ => Ok(Answer::Ok),
+        }
+    }
+
+    // All fields of the descriptor that is open, or one.
+    fn shown_open(&self, alloc: Global, field: Option<Field>) -> Result<Answer, NoMemory>
+        ensures { IfOk result (λ answer. answer ≡ shown_first self.now.kept self.now.locks.items self.now.opened field) }
+    {
+        let kept = self.kept.as_slice();
+        match (self.opened.as_slice().first(), field) {
+            (Some(o), None) => shown_all(alloc, kept, &self.locks, *o),
+            (Some(o), Some(field)) => Ok(Answer::One(shown_field(
+                alloc,
+                kept,
+                &self.locks,
+                *o,
+                field,
+            )?)),
+            (None, _) => Ok(Answer::Ok),
+        }
+    }
+}
+
+// All fields of an open descriptor.
+fn shown_all(
+    alloc: Global,
+    kept: &[KeptScan],
+    locks: &Vec<OwnLock>,
+    o: Opening,
+) -> Result<Answer, NoMemory>
+    ensures { IfOk result (λ answer. answer ≡ shown_of kept.now locks.now.items o None) }
+{
+    let mut fields = Listed::new(alloc);
+    for field in fields_of(o.kind) {
+        fields.push(shown_field(alloc, kept, locks, o, *field)?)?;
+    }
+    Ok(Answer::Shown {
+        kind: o.kind,
+        rel: o.rel,
+        fields,
+    })
+}
+
+// A field of an open descriptor.
+fn shown_field(
+    alloc: Global,
+    kept: &[KeptScan],
+    locks: &Vec<OwnLock>,
+    o: Opening,
+    field: Field,
+) -> Result<Shown, NoMemory>
+    ensures { IfOk result (λ shown. shown ≡ shown_kept kept.now locks.now.items o field) }
+{
+    match scan_kept(kept, read_by(field, o.rel)) {
+        Some(k) => shown_scan(alloc, k, locks, o, field),
+        None => Ok(Shown {
+            field,
+            value: Value::new(Vec::new(alloc)),
+            at: None,
+        }),
+    }
+}
+
+// A field by its scan.
+fn shown_scan(
+    alloc: Global,
+    k: &KeptScan,
+    locks: &Vec<OwnLock>,
+    o: Opening,
+    field: Field,
+) -> Result<Shown, NoMemory>
+    ensures { IfOk result (λ shown. shown ≡ shown_by locks.now.items o field (Some k.now)) }
+{
+    Ok(Shown {
+        field,
+        value: Value::new(field_text(alloc, field, o.rel, k.rows.as_slice())?),
+        at: if is_protected(locks, o.rel, o.kind, field) {
+            None
+        } else {
+            Some(k.at)
+        },
+    })
+}
+
+// The scan that is kept for a purpose.
+fn scan_kept(kept: &[KeptScan], scan: Purpose) -> Option<&KeptScan>
+    ensures { option_copied result ≡ kept_for kept.now scan }
+{
+    kept.iter().find(|k| same_scan(&k.scan, &scan))
+}
+
+// Whether the locks keep all others from changing the field.
+fn is_protected(locks: &Vec<OwnLock>, rel: Oid, kind: Kind, field: Field) -> bool
+    ensures { result ≡ protects (clear_modes locks.now.items rel) kind field }
+{
+    writers(kind, field)
+        .as_slice()
+        .iter()
+        .all(|writer| keeps_out(locks, rel, *writer))
+}
+
+// Whether a lock that is held clear on the relation conflicts with a mode.
+fn keeps_out(locks: &Vec<OwnLock>, rel: Oid, writer: Mode) -> bool
+    ensures { result ≡ list_any (do_conflict writer) (clear_modes locks.now.items rel) }
+{
+    is_any_against(locks, rel, writer)
+}
+
+// The same, lock by lock.
+fn is_any_against(locks: &Vec<OwnLock>, rel: Oid, writer: Mode) -> bool
+    ensures { result ≡ list_any (λ lock. (lock.clear && same_oid lock.rel rel) && do_conflict writer lock.mode) locks.now.items }
+{
+    locks
+        .iter()
+        .any(|lock| lock.clear && lock.rel.0 == rel.0 && conflicts(writer, lock.mode))
+}
