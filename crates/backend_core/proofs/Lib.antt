@@ -12,3 +12,4 @@ pub mod Releasing
 pub mod Leaving
 pub mod Beginning
 pub mod Joining
+pub mod Finishing
