@@ -13,3 +13,5 @@ pub mod Leaving
 pub mod Beginning
 pub mod Joining
 pub mod Finishing
+pub mod Nexting
+pub mod Finding

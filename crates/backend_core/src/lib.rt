@@ -4,7 +4,9 @@
 mod backend;
 mod kept_scan;
 mod next;
+mod nexts;
 mod phase;
+mod silent;
 
 pub use backend::Backend;
 pub use kept_scan::KeptScan;
