@@ -25,3 +25,4 @@ pub mod Finding
 pub mod Joining
 pub mod Waiting
 pub mod Shown
+pub mod Finishing
