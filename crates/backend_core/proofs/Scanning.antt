@@ -93,9 +93,14 @@ end_free s phase = subst (λ p. elim p as (λ x. Type 0) [ phases.Visible ↦ Co
 pub reads_well : (was : Backend) (exec : Exec) (looked read : Bool) (given : Vec Row Global) (given_at : ℕ) (kept : List KeptScan) → was.phase ≡ phases.Working → builds_missing kept was.opened ≡ [] → plan_at exec ≡ plan_at was.exec
     → Well was → Well (record was { exec = exec; looked = looked; read = read; given = given; given_at = given_at; kept = kept })
 reads_well was exec looked read given given_at kept phase builds plan well = record {
-  built = well.built; few = well.few; most = well.most; builds = builds; blocked = well.blocked;
+  built = well.built;
+  few = well.few;
+  most = well.most;
+  builds = builds;
+  blocked = well.blocked;
   refused = λ blocked. plan ∙ well.refused blocked;
-  levels = well.levels; first = well.first;
+  levels = well.levels;
+  first = well.first;
   transaction = transaction-more was (record was { exec = exec; looked = looked; read = read; given = given; given_at = given_at; kept = kept }) (ap is_ended phase) (ap is_ended phase) refl refl refl refl well.transaction;
   written = well.written;
   end = end_free (record was { exec = exec; looked = looked; read = read; given = given; given_at = given_at; kept = kept }) phase;
@@ -145,7 +150,13 @@ scan_look_enters scenario old new had has was agrees played works some unlooked 
       session = accepted-clear (facts_after old was (events.Look false)) (first_of (drop was.finished was.commands)) (placed_at (length old + 1) (was.finished + 1) (events.Look false) (session_at was agrees.rest)) (clear_at was agrees.well (λ is. absurd (cc (is, works.phase))));
       facts = record {
         running = runs_on (was.finished + 1) was (facts_of old was.id) agrees.facts acting.runs;
-        lists = agrees.facts.lists; owed = sym (ap owed_at works.phase); took = sym (ap is_taken_back works.phase); taken = λ from is. absurd (cc (is, works.phase)); usable = agrees.facts.usable; kept = agrees.facts.kept; given = agrees.facts.given;
+        lists = agrees.facts.lists;
+        owed = sym (ap owed_at works.phase);
+        took = sym (ap is_taken_back works.phase);
+        taken = λ from is. absurd (cc (is, works.phase));
+        usable = agrees.facts.usable;
+        kept = agrees.facts.kept;
+        given = agrees.facts.given;
       };
       tally = omega (arith, agrees.tally, ap one_if unlooked);
       well = reads_well was was.exec true was.read was.given was.given_at was.kept works.phase agrees.well.builds refl agrees.well;
@@ -181,7 +192,7 @@ scan_look_enters scenario old new had has was agrees played works some unlooked 
 pub looked_enough : (facts : Facts) (s : Backend) (rest : Rest) → FactsFit facts s → TallyFits rest.tally s → length rest.finished ≡ s.finished → s.phase ≡ phases.Working → s.looked ≡ true → has_looked facts (session_at s rest) ≡ true
 looked_enough facts s rest fits tally count phase looked =
     lt-ltb (rest.tally.scans + rest.tally.grants + started_in (length rest.finished + 1) facts) rest.tally.looks
-      (omega (arith, tally, ap granted phase, ap one_if looked, ap (λ o. option_map_or (λ t. elim (t.first == length rest.finished + 1) as (λ x. ℕ) [ true ↦ 1 | false ↦ 0 ]) o 0) fits.running, same s.running))
+    (omega (arith, tally, ap granted phase, ap one_if looked, ap (λ o. option_map_or (λ t. elim (t.first == length rest.finished + 1) as (λ x. ℕ) [ true ↦ 1 | false ↦ 0 ]) o 0) fits.running, same s.running))
   where
     one : (t : Bool) → elim t as (λ x. ℕ) [ true ↦ 1 | false ↦ 0 ] ≡ one_if t
     one true = refl
@@ -215,10 +226,11 @@ next_scan facts s scan unsettled builds first = by_outcome (outcome_of s.left) u
 pub may_scan : (scenario : Scenario) (seen : List Entry) (s : Backend) (agrees : Agrees scenario seen s) (works : IsWorking s) (scan : Purpose) (count : ℕ) → s.looked ≡ true → is_settled (outcome_of (plan_at s.exec)) ≡ false
     → act_next (facts_of seen s.id) s.read (plan_at s.exec) ≡ scan ∷ [] → MayPlayIn (next_oid seen) (facts_of seen s.id) (slice_get s.commands s.finished) (session_at s agrees.rest) (events.Scan scan count)
 may_scan scenario seen s agrees works scan count looked unsettled first =
-    subst (λ o. MayPlayIn (next_oid seen) (facts_of seen s.id) o (session_at s agrees.rest) (events.Scan scan count)) (sym works.has.at)
-      (owed_free scenario seen s agrees works.phase,
-       next_scan (facts_of seen s.id) (session_at s agrees.rest) scan unsettled (builds_same (facts_of seen s.id) s agrees.facts ∙ agrees.well.builds) first,
-       looked_enough (facts_of seen s.id) s agrees.rest agrees.facts agrees.tally agrees.count works.phase looked)
+    subst (λ o. MayPlayIn (next_oid seen) (facts_of seen s.id) o (session_at s agrees.rest) (events.Scan scan count)) (sym works.has.at) (
+      owed_free scenario seen s agrees works.phase,
+      next_scan (facts_of seen s.id) (session_at s agrees.rest) scan unsettled (builds_same (facts_of seen s.id) s agrees.facts ∙ agrees.well.builds) first,
+      looked_enough (facts_of seen s.id) s agrees.rest agrees.facts agrees.tally agrees.count works.phase looked,
+    )
 
 -- the scan of a name is none of a descriptor's
 no_build : (name : List ℕ) (scan : Purpose) → is_build_scan scan ≡ true → same_scan (scans.RelName name) scan ≡ false
@@ -267,7 +279,10 @@ looked_up_to scenario old new had has was name given at agrees played works next
           ∙ (λ i. record placed { read = (ap (λ p. is_wanted (scans.RelName name) p || was.read) next.at ∙ ap (λ t. t || was.read) (same_scan-itself (scans.RelName name))) i });
       facts = record {
         running = runs_on (was.finished + 1) was (facts_of old was.id) agrees.facts acting.runs;
-        lists = agrees.facts.lists; owed = sym (ap owed_at works.phase); took = sym (ap is_taken_back works.phase); taken = λ from is. absurd (cc (is, works.phase));
+        lists = agrees.facts.lists;
+        owed = sym (ap owed_at works.phase);
+        took = sym (ap is_taken_back works.phase);
+        taken = λ from is. absurd (cc (is, works.phase));
         usable = λ scan build. ap (λ t. t || (facts_of old was.id).usable scan) (no_build name scan build) ∙ agrees.facts.usable scan build;
         kept = λ i d within. let k = agrees.facts.kept i d within in record { build = k.build; rows_are = k.rows_are ∙ sym (rows_by-others old was.id (scans.RelName name) (get_or was.kept i d).scan count ((facts_of old was.id).rows (get_or was.kept i d).scan) (no_build name (get_or was.kept i d).scan k.build)) };
         given = λ read. subst (λ p. RowsFit (facts_after old was event).rows p given.items) (sym next.at) (rows_by-own old was.id (scans.RelName name) count ((facts_of old was.id).rows (scans.RelName name)) ∙ sym rows_are);
@@ -403,7 +418,10 @@ built_to scenario old new had has was scan given at agrees played works next loo
           ∙ (λ i. record placed { read = ap (λ p. is_wanted scan p || was.read) next.at i });
       facts = record {
         running = runs_on (was.finished + 1) was (facts_of old was.id) agrees.facts acting.runs;
-        lists = agrees.facts.lists; owed = sym (ap owed_at works.phase); took = sym (ap is_taken_back works.phase); taken = λ from is. absurd (cc (is, works.phase));
+        lists = agrees.facts.lists;
+        owed = sym (ap owed_at works.phase);
+        took = sym (ap is_taken_back works.phase);
+        taken = λ from is. absurd (cc (is, works.phase));
         usable = λ other build. ap (λ t. same_scan scan other || t) (agrees.facts.usable other build) ∙ or_comm (same_scan scan other) (is_kept was.kept other)
             ∙ sym (list_any-append (λ (k : KeptScan). same_scan k.scan other) was.kept (made ∷ []) ∙ ap (λ t. is_kept was.kept other || t) (or_comm (same_scan scan other) false));
         kept = All-push (ReadRight (facts_after old was event).rows) was.kept made
@@ -471,7 +489,7 @@ built_to scenario old new had has was scan given at agrees played works next loo
     leaves = own_leaves old e was.id may refl (λ name. other_scan (scans.RelName name) scan (no_build name scan first.1.0)) refl
 
 -- a scan for a descriptor
-pub built_enters : (scenario : Scenario) (old new : List Entry) (had has : ℕ → ℕ) (was : Backend) (scan : Purpose) (scanned : Scanned) (kept : List KeptScan) → Agrees scenario old was → IsPlayed scenario old → IsWorking was → NextBuild was scan → was.looked ≡ true
-    → GivesRows old new had has was.id (was.finished + 1) scan scanned → kept ≡ was.kept ++ record { scan = scan; rows = scanned.rows.items; at = scanned.at } ∷ [] → Enters scenario old new was (record was { looked = false; kept = kept })
-built_enters scenario old new had has was scan scanned kept agrees played works next looked gives pushed =
-    subst (λ k. Enters scenario old new was (record was { looked = false; kept = k })) (sym pushed) (built_to scenario old new had has was scan scanned.rows.items scanned.at agrees played works next looked gives.rows gives.at gives.appends)
+pub built_enters : (scenario : Scenario) (old new : List Entry) (had has : ℕ → ℕ) (was : Backend) (scan : Purpose) (scanned : Scanned) (given : List Row) (kept : List KeptScan) → Agrees scenario old was → IsPlayed scenario old → IsWorking was → NextBuild was scan → was.looked ≡ true
+    → GivesRows old new had has was.id (was.finished + 1) scan scanned → given ≡ scanned.rows.items → kept ≡ was.kept ++ record { scan = scan; rows = given; at = scanned.at } ∷ [] → Enters scenario old new was (record was { looked = false; kept = kept })
+built_enters scenario old new had has was scan scanned given kept agrees played works next looked gives rows_are pushed =
+    subst (λ k. Enters scenario old new was (record was { looked = false; kept = k })) (sym pushed) (built_to scenario old new had has was scan given scanned.at agrees played works next looked (rows_are ∙ gives.rows) gives.at gives.appends)
