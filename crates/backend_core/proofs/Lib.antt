@@ -8,3 +8,4 @@ pub mod Looks
 pub mod Acting
 pub mod Scanning
 pub mod Locking
+pub mod Others
