@@ -4,6 +4,11 @@ pub mod StaysRead
 pub mod SeesRelation
 pub mod Stepping
 pub mod Carry
+pub mod Looks
+pub mod Acting
+pub mod Scanning
+pub mod Locking
+pub mod Others
 pub mod NewTable
 pub mod Writing
 pub mod Clashing

@@ -5,6 +5,7 @@ mod backend;
 mod kept_scan;
 mod next;
 mod phase;
+mod reads;
 mod writes;
 
 pub use backend::Backend;
