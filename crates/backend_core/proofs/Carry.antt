@@ -139,7 +139,12 @@ way-more history e was now rest later command same writes relations way = by_way
     by_way (inl u) = inl (record { found = same.found ∙ u.found; plan = same.plan ∙ u.plan; opened = same.opened ∙ u.opened; unwritten = written ∙ u.unwritten })
     by_way (inr (inl m)) = inr (inl (record { name = m.name; mode = m.mode; further = m.further; found = same.found ∙ m.found; command_is = m.command_is; plan = same.plan ∙ m.plan; unwritten = written ∙ m.unwritten }))
     by_way (inr (inr (inl f))) = inr (inr (inl (record {
-      name = f.name; field = f.field; rel = f.rel; kind = f.kind; command_is = f.command_is; found = same.found ∙ f.found;
+      name = f.name;
+      field = f.field;
+      rel = f.rel;
+      kind = f.kind;
+      command_is = f.command_is;
+      found = same.found ∙ f.found;
       sees = subst (λ b. SeesRelation (history ++ e ∷ []) b f.rel f.kind) (sym same.id) (relations f.rel f.kind f.sees);
       stage = by_stage f.stage;
       unwritten = written ∙ f.unwritten;
@@ -177,10 +182,10 @@ command-more history e was now rest later same given writes places relations fit
   later = later-more history e was now rest later same writes fits.later;
   given_at = subst (λ b. PlaceFits (history ++ e ∷ []) b (plan_at now.exec) now.read now.given_at) (sym same.id) (subst (λ p. PlaceFits (history ++ e ∷ []) was.id p now.read now.given_at) (sym same.plan)
       (subst (λ r. PlaceFits (history ++ e ∷ []) was.id (plan_at was.exec) r now.given_at) (sym given.read) (subst (λ at. PlaceFits (history ++ e ∷ []) was.id (plan_at was.exec) was.read at) (sym given.given_at)
-        (place-more history e was.id (plan_at was.exec) was.read was.given_at places fits.given_at))));
+      (place-more history e was.id (plan_at was.exec) was.read was.given_at places fits.given_at))));
   given_seen = subst (λ b. GivenSeen (history ++ e ∷ []) b (plan_at now.exec) now.read now.given.items) (sym same.id) (subst (λ p. GivenSeen (history ++ e ∷ []) was.id p now.read now.given.items) (sym same.plan)
       (subst (λ r. GivenSeen (history ++ e ∷ []) was.id (plan_at was.exec) r now.given.items) (sym given.read) (subst (λ l. GivenSeen (history ++ e ∷ []) was.id (plan_at was.exec) was.read l) (sym given.given)
-        (given-more history e was.id (plan_at was.exec) was.read was.given.items relations fits.given_seen))));
+      (given-more history e was.id (plan_at was.exec) was.read was.given.items relations fits.given_seen))));
 }
 
 -- without an answer there is none that has to fit
@@ -261,6 +266,10 @@ look_allowed scenario seen b c played = none_waited seen b (sound_is_legal seen 
 
 pub look_true : (scenario : Scenario) (seen : List Entry) (b : ℕ) → IsPlayed scenario seen → LooksTruly seen b (events.Look false)
 look_true scenario seen b played = none_waits seen b (log_of-none seen (sound_is_legal seen played.sound))
+
+-- so it may look, where it works
+pub look_call : (scenario : Scenario) (seen : List Entry) (s : Backend) → Agrees scenario seen s → IsPlayed scenario seen → s.phase ≡ phases.Working → MayCall scenario seen (entry_of s.id (s.finished + 1) (events.Look false))
+look_call scenario seen s agrees played phase = may_call scenario seen s (events.Look false) agrees (ap is_visible_at phase) (ap is_taken_back phase) refl (look_allowed scenario seen s.id (s.finished + 1) played)
 
 -- the running command is the first of those that are left
 pub left_command : {X : Type 0} (xs : List X) (n : ℕ) (x : X) → slice_get xs n ≡ Some x → drop n xs ≡ x ∷ drop (n + 1) xs

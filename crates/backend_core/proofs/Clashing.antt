@@ -5,7 +5,6 @@ use Rattle.std.specs.Str.{bytes_eq}
 use Rattle.std.specs.declared.alloc.Global.{Global}
 use Rattle.std.specs.declared.vec.Vec.{Vec}
 use Rattle.event_kinds.specs.declared.entry.Event.TheVariants as events
-use Rattle.rel_desc.specs.declared.error.CommandError.TheVariants as errors
 use Rattle.ddl_effect.specs.declared.exec.Exec.TheVariants as stages
 use Rattle.ddl_effect.specs.Plans.{Fails}
 use Rattle.ddl_effect.specs.Commands.{writing}
@@ -32,7 +31,7 @@ use Rattle.cacheless.specs.Schedule.{LooksTruly}
 use Rattle.backend_core.specs.Types.{Purpose, Command, CommandError, Scenario, Entry, Event, Draft, OwnLock, Phase, OwnTransaction, Backend}
 use Rattle.backend_core.specs.declared.phase.Phase.TheVariants as phases
 use Rattle.backend_core.specs.NewTables.{AddsTables}
-use Rattle.backend_core.specs.Refusals.{error_of}
+use Rattle.backend_core.specs.Refusals.{clash_error, error_of}
 use Rattle.backend_core.specs.State.{is_ended, written_in, running_in, is_taken_back, owed_at, Rest, rest_of, session_at}
 use Rattle.backend_core.specs.Agrees.{IsPlayed, FactsFit, TallyFits, Agrees}
 use Rattle.backend_core.specs.Steps.{IsWorking, Enters}
@@ -45,11 +44,6 @@ use Rattle.backend_core.proofs.Writing.{after_asking, asked_well, is_unanswered,
 abbrev pub clash_event : List ℕ → Clash → Event
 clash_event name (clashes.Row rel) = events.ClashRow name rel
 clash_event name (clashes.Running xid) = events.ClashRunning name xid
-
--- the error with which the command ends
-abbrev pub clash_error : List ℕ → Clash → CommandError
-clash_error name (clashes.Row rel) = errors.RelationExists name
-clash_error name (clashes.Running xid) = errors.NameInUse name xid
 
 -- the session after such an entry
 abbrev pub failed_at : Backend → Rest → ℕ → CommandError → Session
@@ -185,18 +179,21 @@ module _ (scenario : Scenario) (old : List Entry) (was : Backend) (agrees : Agre
   fails_enters new had has played clashes = own_enters scenario old new had has was failed event agrees (waits scenario old was agrees works draft at) with.on (suits clashes.is_new) keeps (follows played clashes.appends.comes) clashes.appends
 
 -- the name of a new table is taken
-pub clash_enters : (scenario : Scenario) (old new : List Entry) (had has : ℕ → ℕ) (was : Backend) (agrees : Agrees scenario old was) (works : IsWorking was) (draft : Draft) (at : plan_at was.exec ≡ writing draft) (name : List ℕ) (clash : Clash) (writes : Vec ℕ Global) (locks : Vec OwnLock Global) → writes.items ≡ was.writes.items → locks.items ≡ was.locks.items → IsPlayed scenario old
+clash_enters : (scenario : Scenario) (old new : List Entry) (had has : ℕ → ℕ) (was : Backend) (agrees : Agrees scenario old was) (works : IsWorking was) (draft : Draft) (at : plan_at was.exec ≡ writing draft) (name : List ℕ) (clash : Clash) (writes : Vec ℕ Global) (locks : Vec OwnLock Global) → writes.items ≡ was.writes.items → locks.items ≡ was.locks.items → IsPlayed scenario old
     → Clashes old new had has was.id draft name (entry_of was.id (was.finished + 1) (clash_event name clash)) → Enters scenario old new was (record was { exec = stages.Failing (clash_error name clash); writes = writes; locks = locks })
 clash_enters scenario old new had has was agrees works draft at name clash writes locks wrote locked played clashes =
     fails_enters scenario old was agrees works draft at name (clash_event name clash) (clash_error name clash) (fails_with old was agrees.rest name clash) writes locks wrote locked new had has played clashes
 
+-- the entry of a write that is refused
+refused_entry : (old new : List Entry) (had has : ℕ → ℕ) (b c : ℕ) (draft : Draft) (name : List ℕ) (clash : Clash) → Writes old new had has b c draft (Err (refusals.Clash name clash)) → Clashes old new had has b draft name (entry_of b c (clash_event name clash))
+refused_entry old new had has b c draft name (clashes.Row rel) writes = writes
+refused_entry old new had has b c draft name (clashes.Running xid) writes = writes
+
 -- a write that is refused, but for want of memory
-pub refusal_enters : (scenario : Scenario) (old new : List Entry) (had has : ℕ → ℕ) (was : Backend) (agrees : Agrees scenario old was) (works : IsWorking was) (draft : Draft) (at : plan_at was.exec ≡ writing draft) (refusal : WriteRefusal) (error : CommandError) (writes : Vec ℕ Global) (locks : Vec OwnLock Global) → writes.items ≡ was.writes.items → locks.items ≡ was.locks.items → IsPlayed scenario old
-    → error_of refusal ≡ Some error → Writes old new had has was.id (was.finished + 1) draft (Err refusal) → Enters scenario old new was (record was { exec = stages.Failing error; writes = writes; locks = locks })
-refusal_enters scenario old new had has was agrees works draft at (refusals.Clash name (clashes.Row rel)) error writes locks wrote locked played is asked =
-    let same : errors.RelationExists name ≡ error = cc is in
-    subst (λ x. Enters scenario old new was (record was { exec = stages.Failing x; writes = writes; locks = locks })) same (clash_enters scenario old new had has was agrees works draft at name (clashes.Row rel) writes locks wrote locked played asked)
-refusal_enters scenario old new had has was agrees works draft at (refusals.Clash name (clashes.Running xid)) error writes locks wrote locked played is asked =
-    let same : errors.NameInUse name xid ≡ error = cc is in
-    subst (λ x. Enters scenario old new was (record was { exec = stages.Failing x; writes = writes; locks = locks })) same (clash_enters scenario old new had has was agrees works draft at name (clashes.Running xid) writes locks wrote locked played asked)
-refusal_enters scenario old new had has was agrees works draft at refusals.NoMemory error writes locks wrote locked played is asked = absurd (cc)
+pub refusal_enters : (scenario : Scenario) (old new : List Entry) (had has : ℕ → ℕ) (was : Backend) (agrees : Agrees scenario old was) (works : IsWorking was) (draft : Draft) (at : plan_at was.exec ≡ writing draft) (refusal : WriteRefusal) (error : CommandError)
+    (writes : Vec ℕ Global) (locks : Vec OwnLock Global) → writes.items ≡ was.writes.items → locks.items ≡ was.locks.items → IsPlayed scenario old → error_of refusal ≡ Some error → Writes old new had has was.id (was.finished + 1) draft (Err refusal)
+    → Enters scenario old new was (record was { exec = stages.Failing error; writes = writes; locks = locks })
+refusal_enters scenario old new had has was agrees works draft at (refusals.Clash name clash) error writes locks wrote locked played is refused =
+    subst (λ x. Enters scenario old new was (record was { exec = stages.Failing x; writes = writes; locks = locks })) (let same : clash_error name clash ≡ error = cc is in same)
+    (clash_enters scenario old new had has was agrees works draft at name clash writes locks wrote locked played (refused_entry old new had has was.id (was.finished + 1) draft name clash refused))
+refusal_enters scenario old new had has was agrees works draft at refusals.NoMemory error writes locks wrote locked played is refused = absurd (cc)

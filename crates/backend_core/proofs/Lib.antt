@@ -26,3 +26,4 @@ pub mod Joining
 pub mod Waiting
 pub mod Shown
 pub mod Finishing
+pub mod Others

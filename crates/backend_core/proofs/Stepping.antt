@@ -83,7 +83,7 @@ lines-more scenario seen e b c [] commands places = refl
 lines-more scenario seen e b c (f ∷ finished) [] places = refl
 lines-more scenario seen e b c (f ∷ finished) (command ∷ commands) places =
     ap (λ h. record { backend = b; command = c; text = answer_text (answer_judged scenario h b c f command f.refused) } ∷ lines_from scenario (seen ++ e ∷ []) b (c + 1) finished commands)
-      (take-append-le f.judged seen (e ∷ []) (places 0 f (omega arith)))
+    (take-append-le f.judged seen (e ∷ []) (places 0 f (omega arith)))
     ∙ ap (λ l. line_of scenario seen b c f command ∷ l) (lines-more scenario seen e b (c + 1) finished commands (λ i d within. places (suc i) d (omega (arith, within))))
 
 -- so it agrees after its own entry
@@ -156,10 +156,13 @@ own_agrees scenario old was now event agrees waits on keeps follows = record {
 -- and the entry is next
 pub own_next : (scenario : Scenario) (old : List Entry) (was : Backend) (event : Event) (agrees : Agrees scenario old was) → Waits agrees
     → MayPlayIn (next_oid old) (facts_of old was.id) (slice_get was.commands was.finished) (session_at was agrees.rest) event → IsNext scenario old (entry_of was.id (was.finished + 1) event)
-own_next scenario old was event agrees waits plays = (agrees.number,
-    subst (λ o. MayPlayAt scenario old was.id o (was.finished + 1) event) (sym (agrees.is ∙ ap Some waits))
-    (ap (λ n. n + 1) (sym agrees.count),
-     subst (λ o. MayPlayIn (next_oid old) (facts_of old was.id) o (session_at was agrees.rest) event) (sym (ap (slice_get (commands_of scenario was.id)) agrees.count ∙ ap (λ l. slice_get l was.finished) (sym agrees.commands))) plays))
+own_next scenario old was event agrees waits plays = (
+  agrees.number,
+  subst (λ o. MayPlayAt scenario old was.id o (was.finished + 1) event) (sym (agrees.is ∙ ap Some waits)) (
+    ap (λ n. n + 1) (sym agrees.count),
+    subst (λ o. MayPlayIn (next_oid old) (facts_of old was.id) o (session_at was agrees.rest) event) (sym (ap (slice_get (commands_of scenario was.id)) agrees.count ∙ ap (λ l. slice_get l was.finished) (sym agrees.commands))) plays,
+  ),
+)
 
 -- a backend's own entry
 pub own_enters : (scenario : Scenario) (old new : List Entry) (had has : ℕ → ℕ) (was now : Backend) (event : Event) (agrees : Agrees scenario old was) → Waits agrees → GoesOn event

@@ -7,6 +7,7 @@ mod kept_scan;
 mod next;
 mod nexts;
 mod phase;
+mod reads;
 mod writes;
 mod silent;
 pub use backend::Backend;

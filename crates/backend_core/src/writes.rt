@@ -18,7 +18,8 @@ impl Backend {
     ghost use Rattle.backend_core.specs.declared.next.Next.{Next};
     ghost use Rattle.backend_core.specs.Steps.{Enters, IsNextOf};
 
-    /// Writes what its command makes, or ends the command where its new name is taken.
+    /// Writes the new table of its command, or ends the command where the table's name is taken.
+    /// Condition: a write comes next. Out of memory, the backend may not be used any more.
     pub(crate) fn write<L: Seg>(&mut self, alloc: Global, seg: &mut L) -> Result<(), NoMemory>
         requires agrees { Agrees (L.script seg.old) (L.history seg.old) self.old }
         requires played { IsPlayed (L.script seg.old) (L.history seg.old) }
