@@ -2,6 +2,10 @@
 #![tactic(auto)]
 
 mod backend;
+mod begun;
+mod ends;
+mod finish;
+mod join;
 mod kept_scan;
 mod next;
 mod nexts;
