@@ -22,7 +22,7 @@ use Rattle.cacheless.specs.Lines.{answer_judged, line_of, lines_from}
 use Rattle.cacheless.proofs.Settling.{finishes}
 use Rattle.backend_core.specs.Types.{Command, CommandError, Scenario, Entry, Event, Line, Exec, Opening, OwnTransaction, Phase, Backend}
 use Rattle.backend_core.specs.declared.phase.Phase.TheVariants as phases
-use Rattle.backend_core.specs.State.{owed_at, granted, is_visible_at, is_taken_back, is_ended, is_out, one_if, running_in, builds_missing, begins_in, owed_first, end_in_block, end_in_well, end_in_badly, end_at, is_inside, blocks_next, Rest, rest_of, session_at, HasCommand}
+use Rattle.backend_core.specs.State.{owed_at, granted, is_visible_at, is_taken_back, is_ended, is_out, one_if, running_in, builds_missing, begins_in, owed_first, end_in_block, end_in_well, end_in_badly, end_at, is_inside, blocks_passed, blocks_next, Rest, rest_of, session_at, HasCommand}
 use Rattle.backend_core.specs.Agrees.{RunsAlone, RunsBlock, RunsBy, TransactionFits, IsOver, EndFits, Well, AnswerFits, Agrees}
 use Rattle.backend_core.specs.Steps.{NextFinish, AgreesNow}
 use Rattle.backend_core.proofs.Carry.{left_command, clear_at, no_answer}
@@ -369,3 +369,14 @@ finish_keeps scenario seen was exec blocked blocks opened lines text agrees_now 
 
     number : was.finished + 1 ≡ 1 + length agrees.rest.finished
     number = omega (arith, agrees.count)
+
+-- the same, of what the code has at hand: the commands as a slice, the answer as it is taken out
+pub finished_keeps : (scenario : Scenario) (seen : List Entry) (was : Backend) (commands : List Command) (command : Command) (exec : Exec) (blocked : Bool) (blocks : Blocks) (taken : Option (List ℕ)) (opened : List Opening) (lines : List Line) (text : List ℕ)
+    → AgreesNow scenario seen was → NextFinish was → slice_get was.commands was.finished ≡ Some command → blocks ≡ blocks_passed (plan_at was.exec) (was.finished + 1) command was.blocks → commands ≡ was.commands
+    → plan_at exec ≡ plan_first blocks (slice_get commands (was.finished + 1)) → blocked ≡ is_some (refused_first blocks (slice_get commands (was.finished + 1))) → taken ≡ None → opened ≡ [] → was.answer ≡ Some text
+    → lines ≡ was.lines ++ record { backend = was.id; command = was.finished + 1; text = text } ∷ [] → AgreesNow scenario seen (record (at_next was exec blocked blocks opened lines) { answer = taken })
+finished_keeps scenario seen was commands command exec blocked blocks taken opened lines text agrees next at blocks_are same plan refused none nothing answer lines_are =
+    let one : command ≡ next.has.command = cc (at, next.has.at) in
+    subst (λ o. AgreesNow scenario seen (record (at_next was exec blocked blocks opened lines) { answer = o })) (sym none)
+    (finish_keeps scenario seen was exec blocked blocks opened lines text agrees next (blocks_are ∙ ap (blocks_next was) one)
+      (plan ∙ ap (λ l. plan_first blocks (slice_get l (was.finished + 1))) same) (refused ∙ ap (λ l. is_some (refused_first blocks (slice_get l (was.finished + 1)))) same) nothing answer lines_are)
