@@ -1,14 +1,14 @@
-use base_types::{Command, NoMemory};
-use ddl_effect::Exec;
-use rel_desc::CommandError;
-use std::alloc::Global;
-use txn_blocks::{BlockCause, TxnBlocks};
-
 ghost use Rattle.std.specs.Prelude.{◌≡◌, true, All, IfOk, is_some, slice_get};
 ghost use Rattle.ddl_effect.specs.Plans.{is_built};
 ghost use Rattle.ddl_effect.specs.Commands.{plan_of};
 ghost use Rattle.ddl_effect.specs.Stages.{plan_at};
 ghost use Rattle.cacheless.specs.Session.{none_open, plan_first, refused_first};
+
+use base_types::{Command, NoMemory};
+use ddl_effect::Exec;
+use rel_desc::CommandError;
+use std::alloc::Global;
+use txn_blocks::{BlockCause, TxnBlocks};
 
 // A command at its beginning: what it does, and whether the blocks refuse it.
 #[derive(Drop)]
@@ -29,12 +29,18 @@ pub(crate) fn begun(
     ensures blocked { IfOk result (λ begun. begun.blocked ≡ is_some (refused_first blocks.now (slice_get commands.now index))) }
 {
     let Some(command) = commands.get(index as usize) else {
-        return Ok(AtStart { exec: Exec::Done, blocked: false });
+        return Ok(AtStart {
+            exec: Exec::Done,
+            blocked: false,
+        });
     };
     match blocks.admit(command) {
         Ok(()) => {
             let exec = Exec::new(alloc, command)?;
-            Ok(AtStart { exec, blocked: false })
+            Ok(AtStart {
+                exec,
+                blocked: false,
+            })
         }
         Err(BlockCause::Failed) => Ok(refused(CommandError::BlockFailed)),
         Err(BlockCause::NoBlock) => Ok(refused(CommandError::NoBlock)),
@@ -47,5 +53,8 @@ fn refused(error: CommandError) -> AtStart
     ensures exec { result.exec ≡ Exec.Failing error }
     ensures blocked { result.blocked ≡ true }
 {
-    AtStart { exec: Exec::Failing(error), blocked: true }
+    AtStart {
+        exec: Exec::Failing(error),
+        blocked: true,
+    }
 }

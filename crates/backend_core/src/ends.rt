@@ -1,9 +1,9 @@
+ghost use Rattle.std.specs.Prelude.{◌≡◌, filter, nat_lt};
+
 use crate::{Backend, Life, Phase};
 use base_types::Xid;
 use cacheless::OwnLock;
 use seg_calls::Seg;
-
-ghost use Rattle.std.specs.Prelude.{◌≡◌, filter, nat_lt};
 
 impl Backend {
     ghost use Rattle.std.specs.Prelude.{◌≡◌, ◌<◌};

@@ -1,14 +1,14 @@
-use crate::{Backend, Phase};
+ghost use Rattle.std.specs.Prelude.{◌≡◌};
+ghost use Rattle.ddl_effect.specs.Stages.{plan_at};
+ghost use Rattle.backend_core.specs.State.{blocks_passed};
+
 use crate::begun::begun;
+use crate::{Backend, Phase};
 use base_types::{Command, Listed, NoMemory};
 use ddl_effect::Exec;
 use event_kinds::Line;
 use std::alloc::Global;
 use txn_blocks::TxnBlocks;
-
-ghost use Rattle.std.specs.Prelude.{◌≡◌};
-ghost use Rattle.ddl_effect.specs.Stages.{plan_at};
-ghost use Rattle.backend_core.specs.State.{blocks_passed};
 
 impl Backend {
     ghost use Rattle.std.specs.Prelude.{◌<◌, List, OnOk};
