@@ -1,9 +1,9 @@
 -- A command at its beginning.
-use Rattle.std.proofs.Common.{◌≡◌, ◌<◌, ◌≤◌, ◌+◌, ◌∙◌, ◌⊎◌, inl, inr, ℕ, Bool, true, false, Option, Some, None, List, [], refl, sym, ap, subst, map, length, is_some, slice_get, nat_le, arith}
+use Rattle.std.proofs.Common.{◌≡◌, ◌<◌, ◌+◌, ◌∙◌, inl, ℕ, Bool, true, false, Option, Some, None, List, [], refl, sym, ap, subst, map, length, is_some, slice_get, nat_le, arith}
 use Rattle.base_types.specs.declared.dropped.TheConstants.{MOST_COLUMNS}
 use Rattle.base_types.specs.declared.command.Command.TheVariants as commands
 use Rattle.rel_desc.specs.declared.error.CommandError.TheVariants as errors
-use Rattle.ddl_effect.specs.Plans.{Plan, Done, Fails, Absent, Do, NotBuilt, Lookup, Write}
+use Rattle.ddl_effect.specs.Plans.{Plan, Done, Fails, Do, Lookup, Write}
 use Rattle.ddl_effect.specs.Commands.{plan_of, if_passes, if_no_column, first_twice, writing, new_table}
 use Rattle.ddl_effect.specs.Blocks.{Blocks, ends_block, refused_by}
 use Rattle.ddl_effect.specs.Stages.{plan_at}
@@ -12,7 +12,7 @@ use Rattle.cacheless.specs.Session.{none_open, plan_admitted, plan_first, refuse
 use Rattle.backend_core.specs.Types.{Row, Command, NewColumn, CommandError, Draft, Entry, Backend}
 use Rattle.backend_core.specs.NewTables.{IsNewTable}
 use Rattle.backend_core.specs.State.{is_out, Rest}
-use Rattle.backend_core.specs.Agrees.{PlaceFits, GivenSeen, EndsAlone, IsUntouched, Way, CommandFits}
+use Rattle.backend_core.specs.Agrees.{PlaceFits, GivenSeen, EndsAlone, CommandFits}
 
 -- what is left of a command at its beginning, and whether the blocks refuse it
 pub record Begins (s : Backend) : Type 0 where

@@ -1,30 +1,27 @@
 -- A commit becomes visible.
-use Rattle.std.proofs.Common.{◌≡◌, ◌≢◌, ◌≤◌, ◌+◌, ◌∙◌, ◌&&◌, ◌==◌, ◌∷◌, ◌⊎◌, inl, inr, ℕ, Bool, true, false, not, arith, Option, Some, None, List, [], refl, sym, ap, subst, length, map, is_none, is_some, slice_get, unwrap_or}
+use Rattle.std.proofs.Common.{◌≡◌, ◌+◌, ◌∙◌, ◌==◌, inr, ℕ, true, false, not, arith, Option, Some, None, List, [], refl, sym, ap, subst, length, map, is_none, is_some, unwrap_or}
 use Rattle.std.specs.Prelude.{nat_le}
-use Rattle.std.specs.List.{list_any}
 use Rattle.std.specs.Option.{option_map, option_map_or}
 use Rattle.std.proofs.lemmas.Bool.{le-leb, eq-eqb}
 use Rattle.event_kinds.specs.declared.entry.Event.TheVariants as events
 use Rattle.history_model.specs.Drawn.{next_oid}
-use Rattle.history_model.specs.Legal.{AllowsEvent}
 use Rattle.history_model.specs.Sent.{Written, has_write_from, unsent_in}
-use Rattle.history_model.specs.Transactions.{Running, begun, has_xid, is_visible, running_transaction_of, runs_as}
+use Rattle.history_model.specs.Transactions.{begun, has_xid, is_visible}
 use Rattle.history_model.proofs.Every.{any-weaker}
 use Rattle.seg_calls.specs.Calls.{entry_of, MayCall, Appends}
 use Rattle.cacheless.specs.Facts.{Facts, facts_of}
 use Rattle.cacheless.specs.Locks.{cleared}
-use Rattle.cacheless.specs.Owed.{owed_after}
-use Rattle.cacheless.specs.Ends.{Commits, xid_of, next_sent, next_of_commit, next_of_end}
+use Rattle.cacheless.specs.Ends.{Commits, xid_of, next_sent, next_of_end}
 use Rattle.cacheless.specs.Plays.{MayPlayIn, IsEnd}
-use Rattle.cacheless.specs.Sessions.{placed_at, noted}
+use Rattle.cacheless.specs.Sessions.{placed_at}
 use Rattle.backend_core.specs.Types.{Xid, Scenario, Entry, OwnTransaction, Phase, Backend}
 use Rattle.backend_core.specs.declared.phase.Phase.TheVariants as phases
-use Rattle.backend_core.specs.State.{owed_at, granted, is_visible_at, is_taken_back, is_ended, is_out, running_in, end_at, has_write_since, owed_first, session_at, HasCommand}
-use Rattle.backend_core.specs.Agrees.{IsPlayed, RunsBy, Agrees}
+use Rattle.backend_core.specs.State.{owed_at, granted, is_visible_at, is_taken_back, is_ended, is_out, running_in, owed_first, session_at, HasCommand}
+use Rattle.backend_core.specs.Agrees.{IsPlayed, Agrees}
 use Rattle.backend_core.specs.Steps.{NextCommit, Enters}
 use Rattle.backend_core.proofs.Stepping.{own_enters}
 use Rattle.backend_core.proofs.Carry.{may_call, clear_at}
-use Rattle.backend_core.proofs.Ending.{owed_by_end, end_from, is_end, first_of_end, waits_to_end, left_same, runs_unless}
+use Rattle.backend_core.proofs.Ending.{owed_by_end, end_from, is_end, first_of_end, waits_to_end, runs_unless}
 use Rattle.backend_core.proofs.EndEntries.{session_clear, end_follows, runs_on, free_running}
 
 -- the Xid of its transaction
@@ -61,9 +58,10 @@ hidden_at p (Some t) hidden = hidden
 
 -- it may be entered
 pub commit_call : (scenario : Scenario) (seen : List Entry) (s : Backend) (xid : Xid) → Agrees scenario seen s → NextCommit s xid.0 → MayCall scenario seen (entry_of s.id (s.finished + 1) (events.Visible xid))
-commit_call scenario seen s xid agrees next = may_call scenario seen s (events.Visible xid) agrees (ap is_visible_at next.working.phase) (ap is_taken_back next.working.phase) refl
-    (ap (has_xid xid.0) agrees.facts.running ∙ has_own s.phase s.running xid.0 next.xid_is,
-     ap (has_write_from 0) agrees.facts.lists ∙ write_from_first next.first _ next.written)
+commit_call scenario seen s xid agrees next = may_call scenario seen s (events.Visible xid) agrees (ap is_visible_at next.working.phase) (ap is_taken_back next.working.phase) refl (
+  ap (has_xid xid.0) agrees.facts.running ∙ has_own s.phase s.running xid.0 next.xid_is,
+  ap (has_write_from 0) agrees.facts.lists ∙ write_from_first next.first _ next.written,
+)
 
 -- it is the next entry of the end
 visible_next : (facts : Facts) (first xid : ℕ) → has_write_from first facts.lists ≡ true → is_visible facts.running ≡ false → xid_of facts ≡ xid → next_of_end facts (Commits first) ≡ Some (events.Visible (record { 0 = xid }))
@@ -94,17 +92,32 @@ commit_enters scenario old new had has was xid agrees played next appends =
           ∙ (λ i. record (placed_at (length old + 1) (was.finished + 1) (events.Visible xid) (session_at was agrees.rest)) { ended = ap is_ended next.working.phase i });
       facts = record {
         running = ap (λ o. Some (record (begun (was.finished + 1) o) { visible = true })) agrees.facts.running ∙ shown was.phase was.running (was.finished + 1) runs;
-        lists = agrees.facts.lists; owed = refl; took = refl; taken = λ from is. absurd (cc); usable = agrees.facts.usable; kept = agrees.facts.kept; given = agrees.facts.given;
+        lists = agrees.facts.lists;
+        owed = refl;
+        took = refl;
+        taken = λ from is. absurd (cc);
+        usable = agrees.facts.usable;
+        kept = agrees.facts.kept;
+        given = agrees.facts.given;
       };
       tally = λ _. ap (λ n. agrees.rest.tally.looks + n) (sym (ap granted next.working.phase)) ∙ agrees.tally (ap is_ended next.working.phase);
       well = record {
-        built = agrees.well.built; few = agrees.well.few; most = agrees.well.most; builds = agrees.well.builds; blocked = agrees.well.blocked; refused = agrees.well.refused;
-        plain = agrees.well.plain; opens = agrees.well.opens; levels = agrees.well.levels; first = agrees.well.first;
+        built = agrees.well.built;
+        few = agrees.well.few;
+        most = agrees.well.most;
+        builds = agrees.well.builds;
+        blocked = agrees.well.blocked;
+        refused = agrees.well.refused;
+        plain = agrees.well.plain;
+        opens = agrees.well.opens;
+        levels = agrees.well.levels;
+        first = agrees.well.first;
         transaction = runs_on was phases.Visible was.writes was.locks was.blocks.block (ap is_ended next.working.phase) refl (runs_unless was was.phase agrees.well.transaction (ap is_ended next.working.phase));
         written = agrees.well.written;
         end = record { has = record { command = works.command; at = works.at }; out = out; first = next.first; end = next.end; runs = first_runs; written = next.written };
         answered = λ _ none. absurd (cc (none, next.answered));
-        come_out = agrees.well.come_out; past = agrees.well.past;
+        come_out = agrees.well.come_out;
+        past = agrees.well.past;
         free = λ _ command. free_running now command.command hidden;
         granted = λ is. absurd (cc);
         clear = inr clear;
@@ -112,7 +125,7 @@ commit_enters scenario old new had has was xid agrees played next appends =
       };
     })
     (end_follows scenario old was phases.Visible was.running was.writes was.locks (events.Visible xid) agrees played appends.comes tt
-      (record { id = refl; commands = refl; finished = refl; answer = refl; plan = refl; opened = refl; block = refl; refused = refl; found = refl }) refl refl (λ _. refl) (λ _. next.answered))
+    (record { id = refl; commands = refl; finished = refl; answer = refl; plan = refl; opened = refl; block = refl; refused = refl; found = refl }) refl refl (λ _. refl) (λ _. next.answered))
     appends
   where
     now : Backend
@@ -143,4 +156,4 @@ commit_enters scenario old new had has was xid agrees played next appends =
     ends = is_end facts was agrees.rest works (events.Visible xid) agrees.facts agrees.well agrees.count out (ap is_ended next.working.phase) (agrees.facts.owed ∙ ap owed_at next.working.phase)
         (ap (owed_by_end [] (owed_first was works.command)) next.end ∙ next.working.free)
         (ap (next_of_end facts) next.end ∙ visible_next facts next.first xid.0 (ap (has_write_from next.first) agrees.facts.lists ∙ next.written)
-          (ap is_visible agrees.facts.running ∙ hidden_at was.phase was.running (ap is_visible_at next.working.phase)) (ap (λ o. option_map_or (λ t. unwrap_or t.xid 0) o 0) agrees.facts.running ∙ xid_running was.phase was.running xid.0 next.xid_is))
+        (ap is_visible agrees.facts.running ∙ hidden_at was.phase was.running (ap is_visible_at next.working.phase)) (ap (λ o. option_map_or (λ t. unwrap_or t.xid 0) o 0) agrees.facts.running ∙ xid_running was.phase was.running xid.0 next.xid_is))

@@ -1,5 +1,5 @@
 -- What the entries of a command's end leave as it was.
-use Rattle.std.proofs.Common.{◌≡◌, ◌+◌, ◌∙◌, ◌&&◌, ◌++◌, ◌∷◌, ◌⊎◌, inl, inr, ℕ, Bool, true, false, not, Option, Some, None, List, [], refl, sym, ap, subst, length, drop, map, filter, cond, All, is_none, is_some, slice_get, arith}
+use Rattle.std.proofs.Common.{◌≡◌, ◌+◌, ◌∙◌, ◌&&◌, ◌++◌, ◌∷◌, inl, inr, ℕ, Bool, true, false, not, Option, List, [], refl, sym, ap, length, drop, map, filter, cond, is_none, is_some}
 use Rattle.std.specs.Prelude.{nat_lt}
 use Rattle.std.proofs.Math.Bool.{and-false}
 use Rattle.std.specs.declared.vec.Vec.{Vec}
@@ -20,7 +20,7 @@ use Rattle.backend_core.specs.Types.{Row, Purpose, Command, Scenario, Entry, Eve
 use Rattle.backend_core.specs.declared.phase.Phase.TheVariants as phases
 use Rattle.backend_core.specs.NewTables.{AddsTables}
 use Rattle.backend_core.specs.State.{is_out, is_ended, begins_in, owed_first, Rest, session_at, HasCommand}
-use Rattle.backend_core.specs.Agrees.{IsPlayed, RunsAlone, RunsBy, Well, GivenSeen, Agrees}
+use Rattle.backend_core.specs.Agrees.{IsPlayed, RunsBy, Well, GivenSeen, Agrees}
 use Rattle.backend_core.proofs.Stepping.{facts_after, session_after, rest_after, Follows}
 use Rattle.backend_core.proofs.Carry.{may_come, place_read-more, has_written-quiet, kept-more, SameCommand, later-more, place-more, answer-more, accepted-clear}
 use Rattle.backend_core.proofs.Ending.{has_or_none}

@@ -1,28 +1,24 @@
 -- The end of a command, as the code works it out, is the end that its facts and its session give.
-use Rattle.std.proofs.Common.{◌≡◌, ◌+◌, ◌∙◌, ◌&&◌, ◌||◌, ℕ, Bool, true, false, not, Option, Some, None, List, [], ◌∷◌, ◌++◌, ◌≤◌, ◌⊎◌, inl, inr, cond, refl, sym, ap, subst, length, drop, map, filter, All, is_none, is_some, slice_get, arith}
+use Rattle.std.proofs.Common.{◌≡◌, ◌+◌, ◌∙◌, ℕ, Bool, true, false, not, Option, Some, None, List, [], ◌∷◌, ◌++◌, ◌⊎◌, inl, inr, refl, sym, ap, subst, length, drop, map, All, is_some, slice_get}
 use Rattle.std.specs.Option.{option_map_or}
-use Rattle.std.specs.List.{flat_map, AllByRecursion}
 use Rattle.std.proofs.lemmas.Option.{slice_get_within, slice_get_cases, get_or_from_slice_get}
 use Rattle.std.proofs.lemmas.List.Elements.{All-get_or}
-use Rattle.std.proofs.lemmas.List.{drop_more, drop_all}
-use Rattle.base_types.specs.Scans.{build_scans, is_build_scan}
-use Rattle.base_types.specs.declared.kind.Kind.TheVariants as kinds
+use Rattle.std.proofs.lemmas.List.{drop_all}
 use Rattle.base_types.specs.declared.command.Command.TheVariants as commands
 use Rattle.ddl_effect.specs.Plans.{Plan, Done, Fails, Absent, Do, NotBuilt, is_built}
 use Rattle.ddl_effect.specs.Commands.{plan_of}
-use Rattle.ddl_effect.specs.Blocks.{Block, Level, Outside, Inside, Failed, ends_block, ends_failure, refused_in, innermost, blocks_well, blocks_badly}
+use Rattle.ddl_effect.specs.Blocks.{Block, Level, Outside, Inside, Failed, ends_block, refused_in, innermost, blocks_well, blocks_badly}
 use Rattle.ddl_effect.specs.Stages.{plan_at}
-use Rattle.history_model.specs.Transactions.{Running}
 use Rattle.history_model.specs.Writes.{is_empty}
 use Rattle.cacheless.specs.Facts.{Facts, facts_of}
-use Rattle.cacheless.specs.Session.{Session, none_open, refused_first, Outcome, Well as CameWell, Badly, Unsettled, outcome_of, is_settled}
-use Rattle.cacheless.specs.Owed.{Owes, OwesLook, OwesScan, owed_after, owed_at_start, unusable, builds_owed, act_owed, scans_owed, owed_of}
+use Rattle.cacheless.specs.Session.{none_open, refused_first, Outcome, Well as CameWell, Badly, Unsettled, outcome_of, is_settled}
+use Rattle.cacheless.specs.Owed.{Owes, OwesScan, owed_after, scans_owed, owed_of}
 use Rattle.cacheless.specs.Ends.{End, Ends, Commits, TakesBack, end_of_all, end_of_block, end_well, end_badly, end_of, end_left, next_of_end}
 use Rattle.cacheless.specs.Plays.{owed_at_end, IsEnd}
 use Rattle.cacheless.specs.Settled.{settled}
 use Rattle.cacheless.proofs.Settling.{waits-end}
-use Rattle.backend_core.specs.Types.{Oid, Kind, Purpose, Command, Scenario, Entry, Event, Opening, KeptScan, OwnTransaction, Phase, Backend}
-use Rattle.backend_core.specs.State.{running_in, running_at, is_kept, missing, builds_missing, act_missing, scans_missing, is_out, is_ended, begins_in, owed_first, end_of_running, end_in_block, end_in_well, end_in_badly, end_at, is_inside, blocks_next, Rest, session_at, HasCommand}
+use Rattle.backend_core.specs.Types.{Purpose, Command, Scenario, Entry, Event, OwnTransaction, Phase, Backend}
+use Rattle.backend_core.specs.State.{running_in, running_at, builds_missing, act_missing, scans_missing, is_out, is_ended, owed_first, end_of_running, end_in_block, end_in_well, end_in_badly, end_at, is_inside, blocks_next, Rest, session_at, HasCommand}
 use Rattle.backend_core.specs.declared.phase.Phase.TheVariants as phases
 use Rattle.backend_core.specs.Agrees.{FactsFit, RunsBy, TransactionFits, Well, Agrees}
 use Rattle.backend_core.proofs.Stepping.{Waits}

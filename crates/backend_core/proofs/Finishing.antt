@@ -1,5 +1,5 @@
 -- The end of a command with no entry left, and the beginning of the next.
-use Rattle.std.proofs.Common.{◌≡◌, ◌≢◌, ◌≤◌, ◌<◌, ◌+◌, ◌∙◌, ◌&&◌, ◌∷◌, ◌++◌, ◌==◌, ◌⊎◌, inl, inr, ℕ, Bool, true, false, not, Option, Some, None, List, [], refl, sym, ap, subst, length, map, take, drop, suc, All, is_none, is_some, slice_get, arith}
+use Rattle.std.proofs.Common.{◌≡◌, ◌≢◌, ◌≤◌, ◌+◌, ◌∙◌, ◌&&◌, ◌∷◌, ◌++◌, ◌==◌, ◌⊎◌, inl, inr, ℕ, Bool, true, false, not, Option, Some, None, List, [], refl, sym, ap, subst, length, drop, suc, is_none, is_some, slice_get, arith}
 use Rattle.std.specs.Option.{option_map_or}
 use Rattle.std.proofs.lemmas.Bool.{ne_eqb, both_ways}
 use Rattle.std.proofs.lemmas.List.{length_push, drop_all}
@@ -7,23 +7,21 @@ use Rattle.std.proofs.lemmas.List.Elements.{All-push}
 use Rattle.std.proofs.lemmas.Option.{slice_get_within, slice_get_cases}
 use Rattle.std.proofs.Math.Bool.{and-false}
 use Rattle.base_types.specs.declared.command.Command.TheVariants as commands
-use Rattle.rel_desc.specs.Answers.{answer_text}
-use Rattle.ddl_effect.specs.Blocks.{Block, Level, Blocks, Outside, Inside, Failed, no_block, is_open, ends_block, refused_in, refused_by, innermost, blocks_begun, blocks_well, blocks_badly}
+use Rattle.ddl_effect.specs.Blocks.{Block, Level, Blocks, Outside, Inside, Failed, no_block, is_open, ends_block, refused_in, refused_by, innermost, blocks_well, blocks_badly}
 use Rattle.ddl_effect.specs.Stages.{plan_at}
 use Rattle.history_model.specs.Transactions.{begun}
 use Rattle.history_model.specs.Writes.{is_empty}
 use Rattle.cacheless.specs.Facts.{Facts, facts_of}
-use Rattle.cacheless.specs.Locks.{cleared}
 use Rattle.cacheless.specs.Session.{Session, Finished, Outcome, Well as CameWell, Badly, Unsettled, outcome_of, is_settled, first_of, plan_first, refused_first}
-use Rattle.cacheless.specs.Owed.{OwesLook, owed_after, owed_of}
+use Rattle.cacheless.specs.Owed.{OwesLook, owed_of}
 use Rattle.cacheless.specs.Ends.{End, Ends, Commits, TakesBack, end_of, end_left, next_of_end}
 use Rattle.cacheless.specs.Settled.{settled, finished_as, blocks_after, next_session}
-use Rattle.cacheless.specs.Lines.{answer_judged, line_of, lines_from}
+use Rattle.cacheless.specs.Lines.{line_of, lines_from}
 use Rattle.cacheless.proofs.Settling.{finishes}
 use Rattle.backend_core.specs.Types.{Command, CommandError, Scenario, Entry, Event, Line, Exec, Opening, OwnTransaction, Phase, Backend}
 use Rattle.backend_core.specs.declared.phase.Phase.TheVariants as phases
-use Rattle.backend_core.specs.State.{owed_at, granted, is_visible_at, is_taken_back, is_ended, is_out, one_if, running_in, builds_missing, begins_in, owed_first, end_in_block, end_in_well, end_in_badly, end_at, is_inside, blocks_next, Rest, rest_of, session_at, HasCommand}
-use Rattle.backend_core.specs.Agrees.{RunsAlone, RunsBlock, RunsBy, TransactionFits, IsOver, EndFits, Well, AnswerFits, Agrees}
+use Rattle.backend_core.specs.State.{owed_at, is_visible_at, is_taken_back, is_ended, is_out, one_if, running_in, builds_missing, begins_in, owed_first, end_in_block, end_in_well, end_in_badly, end_at, blocks_passed, blocks_next, rest_of, session_at, HasCommand}
+use Rattle.backend_core.specs.Agrees.{RunsBy, TransactionFits, IsOver, EndFits, Well, Agrees}
 use Rattle.backend_core.specs.Steps.{NextFinish, AgreesNow}
 use Rattle.backend_core.proofs.Carry.{left_command, clear_at, no_answer}
 use Rattle.backend_core.proofs.Ending.{left_same, owed_none, runs_unless}
@@ -68,7 +66,7 @@ begun_first s at phase free (inl none) = absurd (cc (starts, free))
     starts : owed_first s commands.Begin ≡ OwesLook ∷ []
     starts = ap (λ t. elim (t && is_none s.running) [ true ↦ OwesLook ∷ [] | false ↦ [] ])
         (ap (λ b. elim b as (λ x. Bool) [ Outside ↦ not (is_ended s.phase) && true | block ↦ false ]) at ∙ ap (λ p. not (is_ended p) && true) phase)
-      ∙ ap (λ o. elim (is_none o) [ true ↦ OwesLook ∷ [] | false ↦ [] ]) none
+        ∙ ap (λ o. elim (is_none o) [ true ↦ OwesLook ∷ [] | false ↦ [] ]) none
 begun_first s at phase free (inr alone) = (by_own s.running alone.first, λ _. alone.first)
   where
     by_own : (own : Option OwnTransaction) → option_map_or (λ t. t.first) own 0 ≡ s.finished + 1 → is_some own ≡ true
@@ -274,21 +272,30 @@ finish_keeps scenario seen was exec blocked blocks opened lines text agrees_now 
     count = length_push agrees.rest.finished (finished_as session) ∙ ap (λ n. n + 1) agrees.count;
     is = agrees.is ∙ ap Some
         (ap (λ l. settled facts l session) (left_command was.commands was.finished command has.at)
-         ∙ finishes facts command (drop (was.finished + 1) was.commands) session fin.out ended owed
-         ∙ ap (settled facts (drop (was.finished + 1) was.commands)) (λ i. record begun_session { blocks = same_blocks i; left = left_is i; blocked = blocked_is i; opened = sym nothing i }));
+        ∙ finishes facts command (drop (was.finished + 1) was.commands) session fin.out ended owed
+        ∙ ap (settled facts (drop (was.finished + 1) was.commands)) (λ i. record begun_session { blocks = same_blocks i; left = left_is i; blocked = blocked_is i; opened = sym nothing i }));
     facts = record {
       running = agrees.facts.running ∙ hidden_next was.phase was.running fin.hidden;
-      lists = agrees.facts.lists; owed = agrees.facts.owed ∙ fin.after; took = agrees.facts.took ∙ fin.standing; taken = λ from is. absurd (cc);
-      usable = agrees.facts.usable; kept = agrees.facts.kept; given = λ read. absurd (cc);
+      lists = agrees.facts.lists;
+      owed = agrees.facts.owed ∙ fin.after;
+      took = agrees.facts.took ∙ fin.standing;
+      taken = λ from is. absurd (cc);
+      usable = agrees.facts.usable;
+      kept = agrees.facts.kept;
+      given = λ read. absurd (cc);
     };
     tally = λ _. omega (arith, not_started was.running (was.finished + 1) agrees.well.first);
     life = record { last = agrees.life.last; alive = agrees.life.alive; most = omega (arith, agrees.life.most) };
     well = record {
-      built = agrees.well.built; few = agrees.well.few; most = omega (arith, slice_get_within was.commands was.finished command has.at);
+      built = agrees.well.built;
+      few = agrees.well.few;
+      most = omega (arith, slice_get_within was.commands was.finished command has.at);
       builds = ap (builds_missing was.kept) nothing;
-      blocked = refused; refused = λ _. plan;
+      blocked = refused;
+      refused = λ _. plan;
       plain = plain_at now begins;
-      opens = levels.opens; levels = levels.low;
+      opens = levels.opens;
+      levels = levels.low;
       first = omega (arith, agrees.well.first);
       transaction = runs_now now blocks.block (subst (λ b. NextBy was.running b.levels b.block) (sym blocks_are) fin.next);
       written = agrees.well.written;
@@ -369,3 +376,14 @@ finish_keeps scenario seen was exec blocked blocks opened lines text agrees_now 
 
     number : was.finished + 1 ≡ 1 + length agrees.rest.finished
     number = omega (arith, agrees.count)
+
+-- the same, of what the code has at hand: the commands as a slice, the answer as it is taken out
+pub finished_keeps : (scenario : Scenario) (seen : List Entry) (was : Backend) (commands : List Command) (command : Command) (exec : Exec) (blocked : Bool) (blocks : Blocks) (taken : Option (List ℕ)) (opened : List Opening) (lines : List Line) (text : List ℕ)
+    → AgreesNow scenario seen was → NextFinish was → slice_get was.commands was.finished ≡ Some command → blocks ≡ blocks_passed (plan_at was.exec) (was.finished + 1) command was.blocks → commands ≡ was.commands
+    → plan_at exec ≡ plan_first blocks (slice_get commands (was.finished + 1)) → blocked ≡ is_some (refused_first blocks (slice_get commands (was.finished + 1))) → taken ≡ None → opened ≡ [] → was.answer ≡ Some text
+    → lines ≡ was.lines ++ record { backend = was.id; command = was.finished + 1; text = text } ∷ [] → AgreesNow scenario seen (record (at_next was exec blocked blocks opened lines) { answer = taken })
+finished_keeps scenario seen was commands command exec blocked blocks taken opened lines text agrees next at blocks_are same plan refused none nothing answer lines_are =
+    let one : command ≡ next.has.command = cc (at, next.has.at) in
+    subst (λ o. AgreesNow scenario seen (record (at_next was exec blocked blocks opened lines) { answer = o })) (sym none)
+    (finish_keeps scenario seen was exec blocked blocks opened lines text agrees next (blocks_are ∙ ap (blocks_next was) one)
+    (plan ∙ ap (λ l. plan_first blocks (slice_get l (was.finished + 1))) same) (refused ∙ ap (λ l. is_some (refused_first blocks (slice_get l (was.finished + 1)))) same) nothing answer lines_are)

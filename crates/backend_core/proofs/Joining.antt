@@ -1,21 +1,21 @@
 -- A backend joins.
-use Rattle.std.proofs.Common.{◌≡◌, ◌≤◌, ◌+◌, ◌∙◌, ◌∷◌, ◌++◌, ◌==◌, inl, inr, ℕ, true, false, not, Some, None, List, [], refl, sym, ap, subst, length, map, drop, All, is_some, slice_get, arith}
+use Rattle.std.proofs.Common.{◌≡◌, ◌≤◌, ◌+◌, ◌∙◌, ◌∷◌, ◌++◌, ◌==◌, inl, inr, ℕ, true, not, Some, List, [], refl, sym, ap, subst, length, map, drop, All, is_some, slice_get, arith}
 use Rattle.std.specs.Option.{option_map_or}
 use Rattle.std.proofs.lemmas.Bool.{eq-eqb, both_ways}
 use Rattle.std.proofs.lemmas.List.{length_push}
 use Rattle.std.proofs.lemmas.List.Elements.{All-nil}
 use Rattle.event_kinds.specs.declared.entry.Event.TheVariants as events
 use Rattle.ddl_effect.specs.Plans.{is_built}
-use Rattle.ddl_effect.specs.Commands.{plan_of, commands_of}
-use Rattle.ddl_effect.specs.Blocks.{Blocks, no_block, is_open, innermost}
+use Rattle.ddl_effect.specs.Commands.{plan_of}
+use Rattle.ddl_effect.specs.Blocks.{no_block, is_open, innermost}
 use Rattle.history_model.specs.Legal.{FollowsVisible, FollowsGone}
 use Rattle.history_model.specs.Lives.{FollowsLife}
 use Rattle.history_model.specs.Sent.{has_write_from}
 use Rattle.history_model.specs.Transactions.{is_visible}
-use Rattle.history_model.specs.Writes.{has_written, is_empty}
+use Rattle.history_model.specs.Writes.{is_empty}
 use Rattle.history_model.proofs.Reading.{life_of-own}
 use Rattle.seg_calls.specs.Calls.{entry_of, MayCall, Appends}
-use Rattle.cacheless.specs.Facts.{Facts, facts_of, facts_by}
+use Rattle.cacheless.specs.Facts.{facts_of, facts_by}
 use Rattle.cacheless.specs.Locks.{cleared}
 use Rattle.cacheless.specs.Session.{Session, none_open, first_of, at_command, plan_first, refused_first}
 use Rattle.cacheless.specs.Plays.{MayPlayAt}
@@ -23,8 +23,8 @@ use Rattle.cacheless.specs.Settled.{settled}
 use Rattle.cacheless.proofs.Reading.{facts_of-own, session_of-own}
 use Rattle.backend_core.specs.Types.{Command, Scenario, Entry, KeptScan, Backend}
 use Rattle.backend_core.specs.declared.phase.Life.TheVariants as lives
-use Rattle.backend_core.specs.State.{owed_at, granted, is_taken_back, is_ended, one_if, running_in, written_in, is_kept, builds_missing, Rest, rest_of, session_at, HasCommand}
-use Rattle.backend_core.specs.Agrees.{ReadRight, FactsFit, TallyFits, RunsBy, EndFits, Well, KeptFits, IsNew, HasNotJoined, Agrees}
+use Rattle.backend_core.specs.State.{owed_at, granted, is_taken_back, is_ended, one_if, running_in, written_in, is_kept, builds_missing, rest_of}
+use Rattle.backend_core.specs.Agrees.{ReadRight, FactsFit, RunsBy, EndFits, Well, KeptFits, IsNew, HasNotJoined}
 use Rattle.backend_core.specs.Steps.{AgreesNow, Enters}
 use Rattle.backend_core.proofs.Carry.{has_written-quiet, no_answer}
 use Rattle.backend_core.proofs.Ending.{fits_unless}
@@ -61,7 +61,9 @@ new_begins s new = record {
 -- what the code keeps from then on
 new_well : (s : Backend) → All (λ command. is_built (plan_of none_open command) ≡ true) s.commands → length s.commands ≤ 20000 → IsNew s s.id s.commands → Well (joined s)
 new_well s built few new = record {
-  built = built; few = few; most = omega (arith, new.finished);
+  built = built;
+  few = few;
+  most = omega (arith, new.finished);
   builds = ap (builds_missing s.kept) new.opened;
   blocked = begins.blocked;
   refused = λ _. begins.plan;
@@ -120,8 +122,14 @@ join_enters scenario old new had has was before appends = record {
           ∙ ap (λ l. Some (settled (facts_by old was.id 0 events.Start (facts_of old was.id)) l (at_command no_block [] [] (length old + 1) (first_of l)))) (sym before.commands)
           ∙ ap (λ f. Some (settled f was.commands first)) (sym (facts_of-own old e was.id own))
           ∙ (λ i. Some (settled (facts_of (old ++ e ∷ []) was.id) (drop (sym before.new.finished i) was.commands) (record first {
-              blocks = sym before.new.blocks i; left = (ap (plan_first no_block) (first_is was.commands) ∙ sym before.new.exec) i; blocked = (ap (λ o. is_some (refused_first no_block o)) (first_is was.commands) ∙ sym before.new.blocked) i;
-              opened = sym before.new.opened i; read = sym before.new.read i; ended = sym (ap is_ended before.new.phase) i; locks = sym before.new.locks i })));
+            blocks = sym before.new.blocks i;
+            left = (ap (plan_first no_block) (first_is was.commands) ∙ sym before.new.exec) i;
+            blocked = (ap (λ o. is_some (refused_first no_block o)) (first_is was.commands) ∙ sym before.new.blocked) i;
+            opened = sym before.new.opened i;
+            read = sym before.new.read i;
+            ended = sym (ap is_ended before.new.phase) i;
+            locks = sym before.new.locks i;
+          })));
       facts = subst (λ f. FactsFit f now) (sym (facts_of-own old e was.id own ∙ ap (facts_by old was.id 0 events.Start) before.facts)) (new_facts old was before.new);
       tally = λ _. omega (arith, ap granted before.new.phase, ap (λ o. option_map_or (λ t. one_if (t.first == was.finished + 1)) o 0) before.new.running, ap one_if before.new.looked);
       life = record { last = 0; alive = life_of-own old e was.id own; most = omega arith };

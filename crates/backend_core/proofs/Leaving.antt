@@ -6,20 +6,19 @@ use Rattle.std.proofs.lemmas.List.{length_push}
 use Rattle.event_kinds.specs.declared.entry.Event.TheVariants as events
 use Rattle.ddl_effect.specs.Commands.{commands_of}
 use Rattle.history_model.specs.Drawn.{next_oid}
-use Rattle.history_model.specs.Lives.{life_of}
 use Rattle.history_model.proofs.Reading.{life_of-own}
 use Rattle.seg_calls.specs.Calls.{entry_of, MayCall, Appends}
 use Rattle.cacheless.specs.Facts.{Facts, facts_of}
 use Rattle.cacheless.specs.Lines.{lines_from}
 use Rattle.cacheless.specs.Plays.{MayPlayIn}
 use Rattle.cacheless.specs.Settled.{settled}
-use Rattle.cacheless.specs.Sessions.{entered, commands_left, session_by, session_of}
+use Rattle.cacheless.specs.Sessions.{entered, commands_left, session_by}
 use Rattle.cacheless.proofs.Reading.{session_of-own}
-use Rattle.backend_core.specs.Types.{Command, Scenario, Entry, Phase, Backend}
+use Rattle.backend_core.specs.Types.{Scenario, Entry, Phase, Backend}
 use Rattle.backend_core.specs.declared.phase.Life.TheVariants as lives
 use Rattle.backend_core.specs.declared.phase.Phase.TheVariants as phases
 use Rattle.backend_core.specs.State.{is_visible_at, is_taken_back, running_in, session_at}
-use Rattle.backend_core.specs.Agrees.{EndFits, Well, Agrees, HasLeft}
+use Rattle.backend_core.specs.Agrees.{EndFits, Agrees, HasLeft}
 use Rattle.backend_core.specs.Steps.{Steps}
 use Rattle.backend_core.proofs.Stepping.{Waits, facts_after, lines-more, own_next}
 use Rattle.backend_core.proofs.Carry.{may_call}
@@ -64,7 +63,7 @@ leave_steps scenario old new had has was agrees past none appends = record {
     finished = agrees.rest.finished;
     are = ap (λ o. option_map_or (λ now. now.finished) o [])
         (session_of-own scenario old e was.id own ∙ ap (session_by scenario after was.id (length old + 1) (was.finished + 1) events.Stop) (agrees.is ∙ ap Some waits)
-         ∙ ap (λ l. Some (settled after l (entered after l (length old + 1) (was.finished + 1) events.Stop (session_at was agrees.rest)))) none_to_do);
+        ∙ ap (λ l. Some (settled after l (entered after l (length old + 1) (was.finished + 1) events.Stop (session_at was agrees.rest)))) none_to_do);
     places = λ i d within. omega (arith, agrees.places.finished i d within, length_push old e);
     lines = agrees.lines ∙ sym (lines-more scenario old e was.id 1 agrees.rest.finished was.commands agrees.places.finished) ∙ ap (lines_from scenario (old ++ e ∷ []) was.id 1 agrees.rest.finished) agrees.commands;
   });

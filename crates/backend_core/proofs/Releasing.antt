@@ -1,5 +1,5 @@
 -- The locks of an end are released.
-use Rattle.std.proofs.Common.{◌≡◌, ◌≢◌, ◌≤◌, ◌+◌, ◌∙◌, ◌==◌, ◌∷◌, ◌⊎◌, inl, inr, ℕ, Bool, true, false, not, Option, Some, None, List, [], refl, sym, ap, subst, length, map, filter, is_none, is_some, slice_get, if◌then◌else◌, arith}
+use Rattle.std.proofs.Common.{◌≡◌, ◌≢◌, ◌≤◌, ◌+◌, ◌∙◌, ◌∷◌, ◌⊎◌, inl, inr, ℕ, Bool, true, false, Option, Some, None, List, [], refl, sym, ap, subst, length, map, filter, is_none, is_some, slice_get, if◌then◌else◌, arith}
 use Rattle.std.specs.Prelude.{nat_le, nat_lt}
 use Rattle.std.specs.Option.{option_map, option_map_or}
 use Rattle.std.proofs.lemmas.Bool.{eq-eqb, le-leb, both_ways, false_from_ne_true}
@@ -9,8 +9,8 @@ use Rattle.event_kinds.specs.declared.entry.Event.TheVariants as events
 use Rattle.history_model.specs.Drawn.{next_oid}
 use Rattle.history_model.specs.Legal.{FollowsVisible, FollowsGone, MayRelease}
 use Rattle.history_model.specs.Lives.{FollowsLife}
-use Rattle.history_model.specs.Sent.{Written, has_write_from, ends_transaction, left_in, unsent_in, lists_of}
-use Rattle.history_model.specs.Transactions.{Running, begun, after_release, is_visible, running_transaction_of}
+use Rattle.history_model.specs.Sent.{Written, has_write_from, ends_transaction, unsent_in}
+use Rattle.history_model.specs.Transactions.{begun, after_release, is_visible, running_transaction_of}
 use Rattle.history_model.proofs.NoMessages.{left_none, unsent_none}
 use Rattle.seg_calls.specs.Calls.{entry_of, took_back, MayCall, Appends}
 use Rattle.cacheless.specs.Facts.{Facts, facts_of}
@@ -19,14 +19,14 @@ use Rattle.cacheless.specs.Owed.{Owes, owed_after}
 use Rattle.cacheless.specs.Ends.{End, Ends, Commits, TakesBack, xid_of, next_sent, next_of_commit, next_of_end}
 use Rattle.cacheless.specs.Plays.{MayPlayIn, IsEnd}
 use Rattle.cacheless.specs.Sessions.{placed_at}
-use Rattle.backend_core.specs.Types.{Command, Scenario, Entry, Event, OwnLock, OwnTransaction, Phase, Backend}
+use Rattle.backend_core.specs.Types.{Scenario, Entry, Event, OwnLock, OwnTransaction, Phase, Backend}
 use Rattle.backend_core.specs.declared.phase.Phase.TheVariants as phases
-use Rattle.backend_core.specs.State.{owed_at, granted, is_visible_at, is_taken_back, is_ended, is_out, running_in, running_at, lists_at, written_in, end_of_running, end_at, is_inside, blocks_next, has_write_since, owed_first, session_at, HasCommand}
+use Rattle.backend_core.specs.State.{owed_at, granted, is_visible_at, is_taken_back, is_ended, is_out, running_in, running_at, lists_at, written_in, end_of_running, end_at, has_write_since, owed_first, session_at, HasCommand}
 use Rattle.backend_core.specs.Agrees.{IsPlayed, CommitFits, TakeBackFits, EndFits, Well, Agrees}
 use Rattle.backend_core.specs.Steps.{NextRelease, AfterCommit, AfterTakingBack, WithoutWrite, AtTheEnd, Enters}
-use Rattle.backend_core.proofs.Stepping.{Waits, own_enters}
+use Rattle.backend_core.proofs.Stepping.{own_enters}
 use Rattle.backend_core.proofs.Carry.{number_short, clear_at}
-use Rattle.backend_core.proofs.Ending.{owed_by_end, end_from, first_begun, is_end, end_of_all-same, has_or_none, first_of_end, over_after, waits_to_end, waits_after_all, runs_unless}
+use Rattle.backend_core.proofs.Ending.{owed_by_end, end_from, first_begun, is_end, end_of_all-same, has_or_none, first_of_end, over_after, waits_to_end, waits_after_all}
 use Rattle.backend_core.proofs.EndEntries.{IsAnswered, out_at_end, session_clear, end_follows, free_running, free_ended, filter-cleared}
 
 -- a commit that is visible, with its writes
@@ -264,18 +264,31 @@ release_enters scenario old new had has was from writes locks agrees played next
         running = ap (λ o. after_release from (begun (was.finished + 1) o)) agrees.facts.running ∙ ended_own was.phase was.running (was.finished + 1) from rel.first;
         lists = ap (λ o. elim (ends_transaction from o) [ true ↦ [] | false ↦ facts.lists ]) agrees.facts.running
             ∙ ap (λ l. elim (ends_transaction from (running_at was)) [ true ↦ [] | false ↦ l ]) agrees.facts.lists ∙ none_left was from agrees.well rel.first ∙ ap (map written_in) (sym none);
-        owed = refl; took = refl; taken = λ n is. absurd (cc); usable = agrees.facts.usable; kept = agrees.facts.kept; given = agrees.facts.given;
+        owed = refl;
+        took = refl;
+        taken = λ n is. absurd (cc);
+        usable = agrees.facts.usable;
+        kept = agrees.facts.kept;
+        given = agrees.facts.given;
       };
       tally = λ going. absurd (cc);
       well = record {
-        built = agrees.well.built; few = agrees.well.few; most = agrees.well.most; builds = agrees.well.builds; blocked = agrees.well.blocked; refused = agrees.well.refused;
-        plain = agrees.well.plain; opens = agrees.well.opens; levels = agrees.well.levels;
+        built = agrees.well.built;
+        few = agrees.well.few;
+        most = agrees.well.most;
+        builds = agrees.well.builds;
+        blocked = agrees.well.blocked;
+        refused = agrees.well.refused;
+        plain = agrees.well.plain;
+        opens = agrees.well.opens;
+        levels = agrees.well.levels;
         first = omega arith;
         transaction = refl;
         written = λ some. absurd (both_ways _ (ap (λ ws. has_write_from 0 (map written_in ws)) none) some);
         end = λ command. (out, over_after was command.command from (rel.end (record { command = command.command; at = command.at })));
         answered = λ command free. let some : is_some was.answer ≡ true = rel.answered (record { command = command.command; at = command.at }) in absurd (cc (free, some));
-        come_out = agrees.well.come_out; past = agrees.well.past;
+        come_out = agrees.well.come_out;
+        past = agrees.well.past;
         free = λ _ command. free_ended now command.command refl;
         granted = λ is. absurd (cc);
         clear = inr (ap (map cleared) kept ∙ filter-cleared from was.locks.items ∙ ap (filter (λ lock. nat_lt lock.command from)) clear ∙ sym kept);
@@ -283,7 +296,7 @@ release_enters scenario old new had has was from writes locks agrees played next
       };
     })
     (end_follows scenario old was phases.Ended None writes locks (events.Release from) agrees played appends.comes tt
-      (record { id = refl; commands = refl; finished = refl; answer = refl; plan = refl; opened = refl; block = refl; refused = refl; found = refl }) refl refl (λ _. refl) rel.answered)
+    (record { id = refl; commands = refl; finished = refl; answer = refl; plan = refl; opened = refl; block = refl; refused = refl; found = refl }) refl refl (λ _. refl) rel.answered)
     appends
   where
     now : Backend

@@ -1,7 +1,6 @@
 -- What was written is taken back.
-use Rattle.std.proofs.Common.{◌≡◌, ◌+◌, ◌∙◌, ◌||◌, ◌∷◌, ◌⊎◌, inl, inr, ℕ, Bool, true, false, not, Option, Some, None, List, [], refl, sym, ap, subst, cond, length, map, filter, is_none, is_some, slice_get, arith}
-use Rattle.std.specs.Prelude.{nat_le, nat_lt}
-use Rattle.std.specs.List.{list_any}
+use Rattle.std.proofs.Common.{◌≡◌, ◌+◌, ◌∙◌, ◌||◌, ◌∷◌, inl, inr, ℕ, Bool, true, false, not, Option, Some, None, List, [], refl, sym, ap, subst, cond, length, map, filter, is_some, slice_get}
+use Rattle.std.specs.Prelude.{nat_lt}
 use Rattle.std.specs.Option.{option_map_or}
 use Rattle.std.proofs.lemmas.Bool.{ltb-true, lt-leb}
 use Rattle.std.specs.declared.vec.Vec.{Vec}
@@ -9,7 +8,7 @@ use Rattle.std.specs.declared.alloc.Global.{Global}
 use Rattle.event_kinds.specs.declared.entry.Event.TheVariants as events
 use Rattle.history_model.specs.Drawn.{next_oid}
 use Rattle.history_model.specs.Read.{is_usable}
-use Rattle.history_model.specs.Sent.{Written, has_write_from}
+use Rattle.history_model.specs.Sent.{has_write_from}
 use Rattle.history_model.specs.Transactions.{begun}
 use Rattle.history_model.proofs.NoMessages.{usable_by-none}
 use Rattle.seg_calls.specs.Calls.{entry_of, MayCall, Appends}
@@ -17,14 +16,14 @@ use Rattle.cacheless.specs.Facts.{Facts, facts_of}
 use Rattle.cacheless.specs.Locks.{cleared}
 use Rattle.cacheless.specs.Owed.{owed_after}
 use Rattle.cacheless.specs.Ends.{TakesBack, next_of_end}
-use Rattle.cacheless.specs.Plays.{MayPlayIn, IsEnd, IsLastEnd}
+use Rattle.cacheless.specs.Plays.{MayPlayIn, IsEnd}
 use Rattle.cacheless.specs.Sessions.{placed_at}
 use Rattle.backend_core.specs.Types.{Scenario, Entry, OwnTransaction, Phase, Backend}
 use Rattle.backend_core.specs.declared.phase.Phase.TheVariants as phases
-use Rattle.backend_core.specs.State.{owed_at, granted, is_visible_at, is_taken_back, is_ended, is_out, running_in, written_in, end_of_running, end_at, has_write_since, owed_first, session_at, HasCommand}
+use Rattle.backend_core.specs.State.{owed_at, granted, is_visible_at, is_taken_back, is_ended, is_out, running_in, written_in, owed_first, session_at, HasCommand}
 use Rattle.backend_core.specs.Agrees.{IsPlayed, Agrees}
 use Rattle.backend_core.specs.Steps.{NextTakeBack, Enters}
-use Rattle.backend_core.proofs.Stepping.{Waits, own_enters}
+use Rattle.backend_core.proofs.Stepping.{own_enters}
 use Rattle.backend_core.proofs.Carry.{may_call, clear_at}
 use Rattle.backend_core.proofs.Ending.{owed_by_end, is_end, end_of_all-same, has_or_none, waits_to_end, waits_after_all, runs_unless}
 use Rattle.backend_core.proofs.EndEntries.{IsAnswered, out_at_end, session_clear, end_follows, runs_on, free_running}
@@ -78,15 +77,25 @@ take_back_enters scenario old new had has was from writes agrees played next kep
       facts = record {
         running = ap (λ o. Some (begun (was.finished + 1) o)) agrees.facts.running ∙ goes_on was.phase was.running (was.finished + 1) from (ap is_visible_at next.phase) runs;
         lists = ap (filter (λ w. nat_lt w.command from)) agrees.facts.lists ∙ filter-written from was.writes.items ∙ ap (map written_in) (sym kept);
-        owed = refl; took = refl;
+        owed = refl;
+        took = refl;
         taken = λ other is. let same : from ≡ other = cc in ap (λ n. Some (events.Gone n)) same;
         usable = λ scan build. usable_by-none old was.id (was.finished + 1) scan (events.Gone from) (is_usable old was.id scan) refl ∙ agrees.facts.usable scan build;
-        kept = agrees.facts.kept; given = agrees.facts.given;
+        kept = agrees.facts.kept;
+        given = agrees.facts.given;
       };
       tally = λ _. ap (λ n. agrees.rest.tally.looks + n) (sym (ap granted next.phase)) ∙ agrees.tally (ap is_ended next.phase);
       well = record {
-        built = agrees.well.built; few = agrees.well.few; most = agrees.well.most; builds = agrees.well.builds; blocked = agrees.well.blocked; refused = agrees.well.refused;
-        plain = agrees.well.plain; opens = agrees.well.opens; levels = agrees.well.levels; first = agrees.well.first;
+        built = agrees.well.built;
+        few = agrees.well.few;
+        most = agrees.well.most;
+        builds = agrees.well.builds;
+        blocked = agrees.well.blocked;
+        refused = agrees.well.refused;
+        plain = agrees.well.plain;
+        opens = agrees.well.opens;
+        levels = agrees.well.levels;
+        first = agrees.well.first;
         transaction = runs_on was (phases.TakenBack from) writes was.locks was.blocks.block (ap is_ended next.phase) refl (runs_unless was was.phase agrees.well.transaction (ap is_ended next.phase));
         written = λ _. written;
         end = record {
@@ -94,7 +103,8 @@ take_back_enters scenario old new had has was from writes agrees played next kep
           none = ap (λ ws. has_write_from from (map written_in ws)) kept ∙ none_from from was.writes.items;
         };
         answered = λ command none. let some : is_some was.answer ≡ true = answered (record { command = command.command; at = command.at }) in absurd (cc (none, some));
-        come_out = agrees.well.come_out; past = agrees.well.past;
+        come_out = agrees.well.come_out;
+        past = agrees.well.past;
         free = λ _ command. free_running now command.command (ap (λ t. not t) runs);
         granted = λ is. absurd (cc);
         clear = inr clear;
@@ -102,7 +112,7 @@ take_back_enters scenario old new had has was from writes agrees played next kep
       };
     })
     (end_follows scenario old was (phases.TakenBack from) was.running writes was.locks (events.Gone from) agrees played appends.comes tt
-      (record { id = refl; commands = refl; finished = refl; answer = refl; plan = refl; opened = refl; block = refl; refused = refl; found = refl }) refl refl (λ _. refl) answered)
+    (record { id = refl; commands = refl; finished = refl; answer = refl; plan = refl; opened = refl; block = refl; refused = refl; found = refl }) refl refl (λ _. refl) answered)
     appends
   where
     now : Backend

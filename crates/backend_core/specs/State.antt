@@ -139,9 +139,13 @@ end_at s command = elim (outcome_of (plan_at s.exec)) [ Well ↦ end_in_well s c
 abbrev pub is_inside : Blocks → Bool
 is_inside blocks = elim blocks.block [ Inside ↦ true | block ↦ false ]
 
+-- the blocks after a command of this number, by what is left of its plan
+abbrev pub blocks_passed : Plan → ℕ → Command → Blocks → Blocks
+blocks_passed plan number command blocks = elim (outcome_of plan) [ Well ↦ blocks_well number command blocks | outcome ↦ blocks_badly blocks ]
+
 -- the blocks after the running command
 abbrev pub blocks_next : Backend → Command → Blocks
-blocks_next s command = elim (outcome_of (plan_at s.exec)) [ Well ↦ blocks_well (s.finished + 1) command s.blocks | outcome ↦ blocks_badly s.blocks ]
+blocks_next s command = blocks_passed (plan_at s.exec) (s.finished + 1) command s.blocks
 
 -- a write of this command or a later one wasn't taken back
 abbrev pub has_write_since : ℕ → Backend → Bool

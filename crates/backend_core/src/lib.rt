@@ -3,6 +3,10 @@
 
 mod answers;
 mod backend;
+mod begun;
+mod ends;
+mod finish;
+mod join;
 mod kept_scan;
 mod next;
 mod nexts;
