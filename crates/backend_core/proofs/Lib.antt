@@ -8,3 +8,5 @@ pub mod Ending
 pub mod Nexting
 pub mod Finding
 pub mod Shown
+pub mod ReadPlaces
+pub mod Answered
