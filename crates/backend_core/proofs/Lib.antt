@@ -27,3 +27,5 @@ pub mod Waiting
 pub mod Shown
 pub mod Finishing
 pub mod Others
+pub mod ReadPlaces
+pub mod Answered

@@ -1,9 +1,10 @@
 -- What the running command answers, by what its backend holds.
-use Rattle.std.specs.Prelude.{ℕ, Option, Some, None, List, [], ◌∷◌, map, if◌then◌else◌}
+use Rattle.std.specs.Prelude.{◌≡◌, ℕ, Option, Some, None, List, [], ◌∷◌, map, if◌then◌else◌}
 use Rattle.std.specs.List.{find}
 use Rattle.base_types.specs.Fields.{field_text, fields_of, read_by}
 use Rattle.base_types.specs.Scans.{same_scan}
 use Rattle.base_types.specs.declared.command.Command.TheVariants as commands
+use Rattle.rel_desc.specs.Answers.{answer_text}
 use Rattle.rel_desc.specs.declared.answer.Answer.TheVariants as answers
 use Rattle.rel_desc.specs.declared.answer.Shown.{Shown}
 use Rattle.rel_desc.specs.declared.error.CommandError.TheVariants.{NoRelation}
@@ -13,6 +14,7 @@ use Rattle.cacheless.specs.Lines.{commit_answer}
 use Rattle.cacheless.specs.Locks.{clear_modes}
 use Rattle.cacheless.specs.Protected.{protects}
 use Rattle.backend_core.specs.Types.{Field, Purpose, Command, Answer, Opening, OwnLock, KeptScan, Backend}
+use Rattle.backend_core.specs.State.{HasCommand}
 
 -- the scan that is kept for a purpose
 abbrev pub kept_for : List KeptScan → Purpose → Option KeptScan
@@ -52,3 +54,8 @@ answer_left s command plan = answer_done s command
 -- what the running command answers
 abbrev pub answer_at : Backend → Command → Answer
 answer_at s command = answer_left s command (plan_at s.exec)
+
+-- the text is that of what the running command answers
+pub record IsToldText (s : Backend) (text : List ℕ) : Type 0 where
+  pub has : HasCommand s
+  pub is : text ≡ answer_text (answer_at s has.command)

@@ -9,7 +9,7 @@ ghost use Rattle.cacheless.specs.Locks.{clear_modes};
 ghost use Rattle.cacheless.specs.Protected.{protects};
 ghost use Rattle.backend_core.specs.declared.next.Next.TheVariants as nexts;
 ghost use Rattle.backend_core.specs.State.{is_out};
-ghost use Rattle.backend_core.specs.Answering.{kept_for, shown_by, shown_kept, shown_of, shown_first, answer_done, answer_at};
+ghost use Rattle.backend_core.specs.Answering.{kept_for, shown_by, shown_kept, shown_of, shown_first, answer_done, answer_at, IsToldText};
 ghost use Rattle.backend_core.specs.Steps.{IsNextOf, AgreesNow};
 ghost use Rattle.backend_core.specs.Measure.{left_of};
 
@@ -30,16 +30,24 @@ impl Backend {
         ensures keeps { OnOk result ((scenario : Scenario) (seen : List Entry) → AgreesNow scenario seen self.old → AgreesNow scenario seen self.new) }
         ensures less { OnOk result (left_of self.new < left_of self.old) }
     {
-        match self.commands.as_slice().get(self.finished as usize) {
-            Some(command) => {
-                let told = self.told(alloc, command)?;
-                let mut text = Vec::new(alloc);
-                answer_text(&told, &mut text)?;
-                self.answer = Some(Listed::from_vec(text));
-                Ok(())
-            }
+        let text = match self.commands.as_slice().get(self.finished as usize) {
+            Some(command) => self.told_text(alloc, command)?,
             None => unreachable!(),
-        }
+        };
+        self.answer = Some(text);
+        Ok(())
+    }
+
+    // The text of what its command answers.
+    fn told_text(&self, alloc: Global, command: &Command) -> Result<Listed<u8>, NoMemory>
+        requires at { slice_get self.now.commands self.now.finished ≡ Some command.now }
+        requires out { is_out self.now ≡ true }
+        ensures { IfOk result (IsToldText self.now) }
+    {
+        let told = self.told(alloc, command)?;
+        let mut text = Vec::new(alloc);
+        answer_text(&told, &mut text)?;
+        Ok(Listed::from_vec(text))
     }
 
     // What its command answers.

@@ -176,7 +176,7 @@ acted-locks : (facts : Facts) (command : Command) (s : Session) (free : Bool) �
 acted-locks facts command s true = acted_on-locks facts s.left s
 acted-locks facts command s false = refl
 
-settled-locks : (facts : Facts) (commands : List Command) (s : Session) → (settled facts commands s).locks ≡ s.locks
+pub settled-locks : (facts : Facts) (commands : List Command) (s : Session) → (settled facts commands s).locks ≡ s.locks
 settled-locks facts [] s = refl
 settled-locks facts (command ∷ rest) s = by_end (is_finished facts command (acted facts command s)) (settled-locks facts rest) ∙ acted-locks facts command s _
   where
