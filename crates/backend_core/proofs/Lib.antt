@@ -29,3 +29,4 @@ pub mod Finishing
 pub mod Others
 pub mod ReadPlaces
 pub mod Answered
+pub mod Stepped

@@ -101,14 +101,20 @@ impl Backend {
         ensures script { L.script seg.new ≡ L.script seg.old }
         ensures steps { OnOk result (Steps (L.script seg.old) (L.history seg.old) (L.history seg.new) self.old self.new) }
     {
-        Err(NoMemory)
+        match self.life {
+            Life::Unstarted => {
+                self.join(seg);
+                self.settle(alloc, seg)
+            }
+            Life::Alive => self.go_on(alloc, seg),
+            Life::Stopped => unreachable!(),
+        }
     }
 
-    /// The answer lines of its finished commands, in order; the backend is given up.
-    pub fn into_lines(self) -> Vec<Line>
-        ensures { result.items ≡ self.lines }
+    /// The answer lines of its finished commands, in order.
+    pub fn transcript(&self) -> &[Line]
+        ensures { result.now ≡ self.now.lines }
     {
-        let Backend { lines, .. } = self;
-        lines.into_vec()
+        self.lines.as_slice()
     }
 }

@@ -25,6 +25,7 @@ impl Backend {
         requires next { IsNextOf self.old nexts.Finish }
         ensures keeps { OnOk result ((scenario : Scenario) (seen : List Entry) → AgreesNow scenario seen self.old → AgreesNow scenario seen self.new) }
         ensures less { OnOk result (left_of self.new < left_of self.old) }
+        ensures same { OnOk result (self.new.id ≡ self.old.id) }
     {
         let number = self.finished + 1;
         let Some(command) = self.commands.as_slice().get(self.finished as usize) else {

@@ -12,8 +12,10 @@ mod next;
 mod nexts;
 mod phase;
 mod reads;
-mod writes;
 mod silent;
+mod steps;
+mod writes;
+
 pub use backend::Backend;
 pub use kept_scan::KeptScan;
 pub use next::Next;

@@ -1,4 +1,4 @@
-ghost use Rattle.std.specs.Prelude.{◌≡◌};
+ghost use Rattle.std.specs.Prelude.{◌≡◌, ◌↔◌, IsTrue};
 ghost use Rattle.backend_core.specs.Steps.{makes_entry as is_entry};
 
 use base_types::{Kind, Mode, Name, Oid, Purpose, Xid};
@@ -37,6 +37,15 @@ pub enum Next {
 }
 
 impl Next {
+    ghost use Rattle.backend_core.specs.declared.next.Next.TheVariants as nexts;
+
+    // Whether it is the last entry.
+    pub(crate) fn leaves(self) -> bool
+        ensures { IsTrue result ↔ (self ≡ nexts.Leave) }
+    {
+        matches!(self, Next::Leave)
+    }
+
     // Whether it makes an entry.
     pub(crate) fn makes_entry(self) -> bool
         ensures { result ≡ is_entry self }

@@ -16,6 +16,7 @@ impl Backend {
         requires next { IsNextOf self.old nexts.Find }
         ensures keeps { (scenario : Scenario) (seen : List Entry) → AgreesNow scenario seen self.old → AgreesNow scenario seen self.new }
         ensures less { left_of self.new < left_of self.old }
+        ensures same { self.new.id ≡ self.old.id }
     {
         self.exec.give(self.given.as_slice());
         self.read = false;
@@ -26,6 +27,7 @@ impl Backend {
         requires next { IsNextOf self.old (nexts.Open rel kind) }
         ensures keeps { OnOk result ((scenario : Scenario) (seen : List Entry) → AgreesNow scenario seen self.old → AgreesNow scenario seen self.new) }
         ensures less { OnOk result (left_of self.new < left_of self.old) }
+        ensures same { OnOk result (self.new.id ≡ self.old.id) }
     {
         self.opened.push(Opening { rel, kind })?;
         self.exec.give(&[]);

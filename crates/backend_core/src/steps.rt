@@ -10,9 +10,26 @@ impl Backend {
     ghost use Rattle.base_types.specs.Scenario.{Scenario};
     ghost use Rattle.event_kinds.specs.declared.entry.Entry.{Entry};
     ghost use Rattle.backend_core.specs.declared.next.Next.TheVariants as nexts;
-    ghost use Rattle.backend_core.specs.Agrees.{Agrees, AwaitsEntry, IsPlayed};
+    ghost use Rattle.backend_core.specs.Agrees.{Agrees, AwaitsEntry, IsPlayed, Well};
     ghost use Rattle.backend_core.specs.Measure.{left_of};
-    ghost use Rattle.backend_core.specs.Steps.{AgreesNow, Enters, IsNextOf, makes_entry as is_entry};
+    ghost use Rattle.backend_core.specs.Steps.{AgreesNow, Enters, Steps, IsNextOf, makes_entry as is_entry};
+
+    // Its step, where it has joined and hasn't left.
+    pub(crate) fn go_on<L: Seg>(&mut self, alloc: Global, seg: &mut L) -> Result<(), NoMemory>
+        requires waits { AwaitsEntry (L.script seg.old) (L.history seg.old) self.old }
+        requires played { IsPlayed (L.script seg.old) (L.history seg.old) }
+        requires place { 0 < L.promised seg.old self.old.id }
+        ensures script { L.script seg.new ≡ L.script seg.old }
+        ensures steps { OnOk result (Steps (L.script seg.old) (L.history seg.old) (L.history seg.new) self.old self.new) }
+    {
+        let next = self.next();
+        if next.leaves() {
+            self.leave(seg);
+            return Ok(());
+        }
+        self.enter(alloc, seg, next)?;
+        self.settle(alloc, seg)
+    }
 
     // Makes its next entry, if that isn't its last one.
     pub(crate) fn enter<L: Seg>(&mut self, alloc: Global, seg: &mut L, next: Next) -> Result<(), NoMemory>
@@ -46,7 +63,7 @@ impl Backend {
     pub(crate) fn settle<L: Seg>(&mut self, alloc: Global, seg: &L) -> Result<(), NoMemory>
         requires agrees { AgreesNow (L.script seg.now) (L.history seg.now) self.old }
         requires played { IsPlayed (L.script seg.now) (L.history seg.now) }
-        ensures { OnOk result (AwaitsEntry (L.script seg.now) (L.history seg.now) self.new) }
+        ensures waits { OnOk result (AwaitsEntry (L.script seg.now) (L.history seg.now) self.new) }
         ensures same { OnOk result (self.new.id ≡ self.old.id) }
     {
         'settling: loop {
@@ -60,9 +77,10 @@ impl Backend {
 
     // Does what needs no entry.
     fn pass(&mut self, alloc: Global, next: Next) -> Result<(), NoMemory>
+        requires well { Well self.old }
         requires next { IsNextOf self.old next }
         requires silent { is_entry next ≡ false }
-        ensures keeps { OnOk result ((scenario : Scenario) (seen : List Entry) → IsPlayed scenario seen → AgreesNow scenario seen self.old → AgreesNow scenario seen self.new) }
+        ensures keeps { OnOk result ((scenario : Scenario) (seen : List Entry) → AgreesNow scenario seen self.old → AgreesNow scenario seen self.new) }
         ensures less { OnOk result (left_of self.new < left_of self.old) }
         ensures same { OnOk result (self.new.id ≡ self.old.id) }
     {
