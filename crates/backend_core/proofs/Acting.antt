@@ -1,23 +1,22 @@
 -- A backend that is about to do an act of its command's plan.
-use Rattle.std.proofs.Common.{◌≡◌, ◌≢◌, ◌+◌, ◌⊎◌, inl, inr, ◌∙◌, ℕ, Bool, true, false, not, Option, Some, None, List, [], ◌∷◌, ◌++◌, ◌==◌, ◌&&◌, refl, sym, ap, subst, is_none, is_some, slice_get, length, map, unwrap_or}
+use Rattle.std.proofs.Common.{◌≡◌, ◌≢◌, ◌⊎◌, inl, inr, ◌∙◌, ℕ, Bool, true, false, not, Option, Some, None, List, [], ◌∷◌, ◌&&◌, refl, sym, ap, subst, is_none, is_some, slice_get, length, map, unwrap_or}
 use Rattle.std.specs.Prelude.{nat_le}
-use Rattle.std.specs.Option.{option_map_or}
 use Rattle.base_types.specs.Scenario.{Scenario}
 use Rattle.base_types.specs.declared.command.Command.TheVariants as commands
 use Rattle.base_types.specs.Fields.{has_field}
 use Rattle.base_types.specs.declared.dropped.TheConstants.{MOST_COLUMNS}
 use Rattle.rel_desc.specs.declared.error.CommandError.TheVariants as errors
-use Rattle.ddl_effect.specs.Plans.{Plan, Done, Fails, Absent, NotBuilt, Do, Act, Lookup, Open}
-use Rattle.ddl_effect.specs.Commands.{plan_of, if_passes, if_no_column, first_twice, opening, showing, writing, new_table, creating}
-use Rattle.ddl_effect.specs.Blocks.{Block, Outside, Inside, Failed, Blocks, no_block, ends_block, ends_failure, refused_in, refused_by}
+use Rattle.ddl_effect.specs.Plans.{Plan, Done, Fails, Absent, NotBuilt, Do, Open}
+use Rattle.ddl_effect.specs.Commands.{plan_of, if_passes, if_no_column, first_twice, opening, showing, writing, new_table}
+use Rattle.ddl_effect.specs.Blocks.{Block, Outside, Inside, Failed, no_block, ends_block, ends_failure, refused_in, refused_by}
 use Rattle.ddl_effect.specs.Stages.{plan_at}
 use Rattle.cacheless.specs.Owed.{Owes, OwesLook}
 use Rattle.cacheless.specs.Session.{Badly, outcome_of, is_settled, none_open, refused_first, plan_admitted, plan_first}
-use Rattle.backend_core.specs.Types.{Oid, Kind, Field, Command, CommandError, Row, Purpose, Entry, KeptScan, Phase, OwnTransaction, Backend}
+use Rattle.backend_core.specs.Types.{Oid, Kind, Field, Command, CommandError, Row, Purpose, Entry, Backend}
 use Rattle.backend_core.specs.declared.phase.Phase.TheVariants as phases
 use Rattle.backend_core.specs.NewTables.{SeesRelation}
-use Rattle.backend_core.specs.State.{is_ended, begins_in, owed_first, act_missing, scans_missing, Rest, HasCommand}
-use Rattle.backend_core.specs.Agrees.{Well, RunsAlone, RunsBlock, TransactionFits, IsUntouched, IsMissing, HasOpened, IsFound, IsWritten, Way, CommandFits, Agrees}
+use Rattle.backend_core.specs.State.{is_ended, begins_in, act_missing, scans_missing, Rest, HasCommand}
+use Rattle.backend_core.specs.Agrees.{Well, RunsAlone, RunsBlock, HasOpened, Way, Agrees}
 use Rattle.backend_core.specs.Steps.{IsWorking}
 use Rattle.backend_core.proofs.Carry.{missing_at}
 

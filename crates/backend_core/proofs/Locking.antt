@@ -1,5 +1,5 @@
 -- The locks that a backend asks for.
-use Rattle.std.proofs.Common.{Err, ◌≡◌, ◌≢◌, ◌<◌, ◌+◌, ◌⊎◌, inl, inr, ◌∙◌, ℕ, Bool, true, false, not, Option, Some, None, List, [], ◌∷◌, ◌++◌, ◌==◌, ◌&&◌, ◌||◌, if◌then◌else◌, refl, sym, ap, subst, length, drop, filter, map, get_or, is_some, is_none, slice_get, unwrap_or, arith}
+use Rattle.std.proofs.Common.{Err, ◌≡◌, ◌<◌, ◌+◌, inl, inr, ◌∙◌, ℕ, Bool, true, false, not, Option, Some, None, List, [], ◌∷◌, ◌++◌, ◌||◌, if◌then◌else◌, refl, sym, ap, subst, length, drop, map, unwrap_or, arith}
 use Rattle.std.specs.declared.alloc.Global.{Global}
 use Rattle.std.specs.declared.vec.Vec.{Vec}
 use Rattle.base_types.specs.Scenario.{Scenario}
@@ -7,12 +7,12 @@ use Rattle.base_types.specs.declared.row.Row.TheVariants as rows
 use Rattle.base_types.specs.declared.scan.Purpose.TheVariants as scans
 use Rattle.event_kinds.specs.declared.entry.Event.TheVariants as events
 use Rattle.rel_desc.specs.declared.error.CommandError.TheVariants as errors
-use Rattle.ddl_effect.specs.Plans.{Plan, Fails, Do, Act, Lookup, Open}
+use Rattle.ddl_effect.specs.Plans.{Plan, Fails, Do, Act, Lookup}
 use Rattle.ddl_effect.specs.Stages.{plan_at}
 use Rattle.ddl_effect.specs.declared.exec.Exec.TheVariants as stages
 use Rattle.history_model.specs.Drawn.{next_oid}
 use Rattle.history_model.specs.Held.{held_of, holds}
-use Rattle.history_model.specs.Orderly.{MayComeNext, IsSound}
+use Rattle.history_model.specs.Orderly.{MayComeNext}
 use Rattle.history_model.specs.Writes.{is_empty}
 use Rattle.history_model.proofs.Prefixes.{EachEntry-weaker}
 use Rattle.seg_calls.specs.Calls.{entry_of, Appends, Locks}
@@ -20,20 +20,20 @@ use Rattle.seg_calls.specs.declared.refusal.LockRefusal.{LockRefusal}
 use Rattle.seg_calls.specs.declared.refusal.LockRefusal.TheVariants.{Conflict}
 use Rattle.cacheless.specs.Facts.{Facts, facts_of}
 use Rattle.cacheless.specs.Locks.{cleared, has_lock}
-use Rattle.cacheless.specs.Session.{Session, Badly, Well as Goes, Unsettled, outcome_of, first_of}
-use Rattle.cacheless.specs.Owed.{Owes, OwesLook, OwesScan, owed_at_start, owed_after, builds_owed, act_owed, scans_owed, owed_of, owes_accept}
+use Rattle.cacheless.specs.Session.{Session, Badly, outcome_of, first_of}
+use Rattle.cacheless.specs.Owed.{OwesScan, owed_at_start, owed_after, builds_owed, act_owed, owed_of, owes_accept}
 use Rattle.cacheless.specs.Settled.{class_oid, if_locked, looked_up, gives, done_here}
 use Rattle.cacheless.specs.Sessions.{placed_at}
 use Rattle.cacheless.specs.Plays.{IsLock, MayPlayIn}
 use Rattle.cacheless.proofs.HeldLocks.{Follows, grant_of, locks_of, locks_are_held, lock_is_held}
 use Rattle.cacheless.proofs.Settling.{waits-act}
-use Rattle.backend_core.specs.Types.{Oid, Mode, Kind, Row, Purpose, Command, CommandError, Entry, Event, OwnLock, Backend}
+use Rattle.backend_core.specs.Types.{Oid, Mode, Row, Purpose, Command, Entry, Event, OwnLock, Backend}
 use Rattle.backend_core.specs.declared.phase.Phase.TheVariants as phases
-use Rattle.backend_core.specs.State.{owed_at, granted, is_taken_back, is_ended, running_in, running_at, builds_missing, scans_missing, unlocked_of, Rest, session_at, HasCommand}
-use Rattle.backend_core.specs.Agrees.{IsPlayed, FactsFit, RowsFit, Well, GivenSeen, Agrees}
+use Rattle.backend_core.specs.State.{owed_at, granted, is_taken_back, is_ended, running_in, builds_missing, scans_missing, unlocked_of, Rest, session_at, HasCommand}
+use Rattle.backend_core.specs.Agrees.{IsPlayed, FactsFit, RowsFit, GivenSeen, Agrees}
 use Rattle.backend_core.specs.Steps.{IsWorking, NextLock, Enters}
 use Rattle.backend_core.proofs.Stepping.{Waits, facts_after, session_after, rest_after, own_enters}
-use Rattle.backend_core.proofs.Carry.{MayCome, may_come, Leaves, own_leaves, has_written-quiet, kept-more, command-more, no_answer, waits_at, left_command, scans_same, missing_at, owed_scans, clear_at, accepted-clear}
+use Rattle.backend_core.proofs.Carry.{MayCome, may_come, Leaves, own_leaves, has_written-quiet, kept-more, command-more, no_answer, waits_at, scans_same, missing_at, owed_scans, clear_at, accepted-clear}
 use Rattle.backend_core.proofs.Looks.{not_empty-after}
 use Rattle.backend_core.proofs.Acting.{acts, IsActing, is_acting}
 use Rattle.backend_core.proofs.Scanning.{transaction-more, end_free, runs_on}

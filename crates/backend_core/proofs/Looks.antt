@@ -1,5 +1,5 @@
 -- The looks of a backend: at its transaction's start, after a grant, and before a scan.
-use Rattle.std.proofs.Common.{◌≡◌, ◌≢◌, ◌≤◌, ◌<◌, ◌+◌, ◌⊎◌, inl, inr, ◌∙◌, ℕ, Bool, true, false, not, Option, Some, None, List, [], ◌∷◌, ◌++◌, ◌==◌, ◌&&◌, ◌||◌, refl, sym, ap, subst, length, drop, take, set, get_or, map, is_none, is_some, slice_get, unwrap_or, arith}
+use Rattle.std.proofs.Common.{◌≡◌, ◌≢◌, ◌≤◌, ◌<◌, ◌+◌, ◌⊎◌, inl, inr, ◌∙◌, ℕ, Bool, true, false, not, Option, Some, None, List, [], ◌∷◌, ◌++◌, ◌==◌, ◌&&◌, ◌||◌, refl, sym, ap, subst, length, drop, take, set, get_or, map, is_none, is_some, arith}
 use Rattle.std.specs.Prelude.{nat_le}
 use Rattle.std.specs.Option.{option_map, option_map_or}
 use Rattle.std.specs.declared.alloc.Global.{Global}
@@ -11,25 +11,24 @@ use Rattle.std.proofs.lemmas.List.Edits.{map_over_more}
 use Rattle.base_types.specs.Scenario.{Scenario}
 use Rattle.event_kinds.specs.declared.entry.Event.TheVariants as events
 use Rattle.ddl_effect.specs.Blocks.{Block, Outside, Inside, Failed, ends_block, refused_by, no_block}
-use Rattle.ddl_effect.specs.Stages.{plan_at}
 use Rattle.history_model.specs.Drawn.{next_oid}
-use Rattle.history_model.specs.Transactions.{Running, begun}
+use Rattle.history_model.specs.Transactions.{begun}
 use Rattle.history_model.specs.Writes.{is_empty}
 use Rattle.seg_calls.specs.Calls.{entry_of, Appends, MayCall}
 use Rattle.cacheless.specs.Facts.{Facts, facts_of}
 use Rattle.cacheless.specs.Locks.{cleared}
-use Rattle.cacheless.specs.Session.{Session, Tally, Badly, outcome_of, first_of}
+use Rattle.cacheless.specs.Session.{Session, Badly, outcome_of, first_of}
 use Rattle.cacheless.specs.Owed.{Owes, OwesFetch, OwesLook, begins, owed_at_start, owed_after, builds_owed, owes_accept}
-use Rattle.cacheless.specs.Sessions.{placed_at, accepted}
+use Rattle.cacheless.specs.Sessions.{placed_at}
 use Rattle.cacheless.specs.Plays.{may_look, MayPlayIn}
 use Rattle.cacheless.proofs.Settling.{waits-owed}
 use Rattle.backend_core.specs.Types.{Command, OwnLock, Entry, Phase, OwnTransaction, Backend}
 use Rattle.backend_core.specs.declared.phase.Phase.TheVariants as phases
-use Rattle.backend_core.specs.State.{owed_at, granted, is_visible_at, is_taken_back, is_ended, one_if, running_in, running_at, begun_own, begins_in, owed_first, has_write_since, builds_missing, Rest, session_at, HasCommand}
+use Rattle.backend_core.specs.State.{owed_at, granted, is_visible_at, is_taken_back, is_ended, one_if, running_in, begun_own, begins_in, owed_first, Rest, session_at, HasCommand}
 use Rattle.backend_core.specs.Agrees.{IsPlayed, FactsFit, TallyFits, Well, RunsAlone, RunsBlock, TransactionFits, Agrees}
 use Rattle.backend_core.specs.Steps.{OwesLookNow, Enters}
-use Rattle.backend_core.proofs.Stepping.{Waits, facts_after, session_after, rest_after, own_enters}
-use Rattle.backend_core.proofs.Carry.{MayCome, may_come, Leaves, own_leaves, kept-more, command-more, no_answer, look_true, look_allowed, may_call, none_running, waits_at, left_command, start_owed, builds_same, clear_at, accepted-clear}
+use Rattle.backend_core.proofs.Stepping.{facts_after, session_after, rest_after, own_enters}
+use Rattle.backend_core.proofs.Carry.{MayCome, may_come, Leaves, own_leaves, kept-more, command-more, no_answer, look_true, look_allowed, may_call, waits_at, left_command, start_owed, builds_same, clear_at, accepted-clear}
 
 one_at_most : (t : Bool) → one_if t ≤ 1
 one_at_most true = omega arith

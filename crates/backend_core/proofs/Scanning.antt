@@ -1,8 +1,8 @@
 -- The scans of a backend, and the look before each.
-use Rattle.std.proofs.Common.{◌≡◌, ◌≢◌, ◌≤◌, ◌<◌, ◌+◌, ◌⊎◌, inl, inr, ◌∙◌, ℕ, Bool, true, false, not, Option, Some, None, List, [], ◌∷◌, ◌++◌, ◌==◌, ◌&&◌, ◌||◌, if◌then◌else◌, refl, sym, ap, subst, length, get_or, cond, filter, take, drop, map, All, is_none, is_some, slice_get, lt-ltb, arith}
+use Rattle.std.proofs.Common.{◌≡◌, ◌≢◌, ◌<◌, ◌+◌, ◌⊎◌, inl, inr, ◌∙◌, ℕ, Bool, true, false, not, Option, Some, None, List, [], ◌∷◌, ◌++◌, ◌==◌, ◌&&◌, ◌||◌, if◌then◌else◌, refl, sym, ap, subst, length, get_or, cond, filter, take, drop, All, is_none, is_some, slice_get, lt-ltb, arith}
 use Rattle.std.specs.Bool.{⊤}
 use Rattle.std.specs.List.{list_any, flat_map, AllByRecursion}
-use Rattle.std.specs.Option.{option_map, option_map_or}
+use Rattle.std.specs.Option.{option_map_or}
 use Rattle.std.proofs.Math.Bool.{or_comm}
 use Rattle.std.proofs.lemmas.Bool.{eq-eqb}
 use Rattle.std.proofs.lemmas.List.Folds.{list_any-append, list_any_at}
@@ -13,36 +13,33 @@ use Rattle.base_types.specs.Scans.{same_scan, build_scans, is_build_scan}
 use Rattle.base_types.specs.Scenario.{Scenario}
 use Rattle.base_types.specs.declared.scanned.Scanned.{Scanned}
 use Rattle.base_types.specs.declared.kind.Kind.TheVariants.{Table, Index}
-use Rattle.base_types.specs.declared.command.Command.TheVariants as commands
 use Rattle.base_types.specs.declared.row.Row.TheVariants as rows
 use Rattle.base_types.specs.declared.scan.Purpose.TheVariants as scans
 use Rattle.base_types.proofs.SameScan.{same_scan-true, same_scan-itself}
 use Rattle.event_kinds.specs.declared.entry.Event.TheVariants as events
-use Rattle.ddl_effect.specs.Plans.{Plan, Done, Fails, Absent, NotBuilt, Do, Act, Lookup, Open, Column, Read, Lock, Write}
-use Rattle.ddl_effect.specs.Commands.{plan_of, if_passes, if_no_column, opening, showing, writing}
+use Rattle.ddl_effect.specs.Plans.{Plan, Do, Lookup, Open}
 use Rattle.ddl_effect.specs.Blocks.{Block, Outside, Inside, Failed, innermost, ends_block, refused_by, no_block}
 use Rattle.ddl_effect.specs.Stages.{plan_at}
 use Rattle.history_model.specs.Drawn.{next_oid}
-use Rattle.history_model.specs.Read.{is_scan_of, rows_by, place_read}
-use Rattle.history_model.specs.Transactions.{Running, begun}
+use Rattle.history_model.specs.Read.{rows_by}
+use Rattle.history_model.specs.Transactions.{begun}
 use Rattle.history_model.specs.Versions.{answer_of}
 use Rattle.history_model.specs.Writes.{is_empty}
 use Rattle.seg_calls.specs.Calls.{entry_of, Appends, GivesRows}
 use Rattle.cacheless.specs.Facts.{Facts, facts_of}
-use Rattle.cacheless.specs.Locks.{cleared}
-use Rattle.cacheless.specs.Session.{Session, Tally, Unsettled, Well as Goes, Badly, Outcome, outcome_of, is_settled, none_open, plan_first, first_of, number_of}
-use Rattle.cacheless.specs.Owed.{owed_after, unusable, builds_owed, act_owed, act_next, scans_next, scans_owed, is_next_scan}
+use Rattle.cacheless.specs.Session.{Session, Unsettled, Well as Goes, Badly, Outcome, outcome_of, is_settled, first_of}
+use Rattle.cacheless.specs.Owed.{unusable, builds_owed, act_owed, act_next, is_next_scan}
 use Rattle.cacheless.specs.Sessions.{placed_at, is_wanted}
-use Rattle.cacheless.specs.Plays.{MayPlay, MayPlayIn, started_in, has_looked}
+use Rattle.cacheless.specs.Plays.{MayPlayIn, started_in, has_looked}
 use Rattle.cacheless.proofs.Settling.{waits-scans}
-use Rattle.backend_core.specs.Types.{Oid, Kind, Field, Command, CommandError, Row, Purpose, NewColumn, Draft, Mode, Entry, Event, Opening, OwnLock, KeptScan, Exec, Phase, OwnTransaction, Backend}
+use Rattle.backend_core.specs.Types.{Oid, Kind, Command, Row, Purpose, Mode, Entry, Event, Opening, KeptScan, Exec, Phase, OwnTransaction, Backend}
 use Rattle.backend_core.specs.declared.phase.Phase.TheVariants as phases
-use Rattle.backend_core.specs.NewTables.{SeesRelation, StaysRead, relation_of}
-use Rattle.backend_core.specs.State.{owed_at, granted, is_visible_at, is_taken_back, is_ended, one_if, running_in, running_at, begins_in, is_kept, missing, builds_missing, act_missing, scans_missing, is_out, Rest, session_at, HasCommand}
-use Rattle.backend_core.specs.Agrees.{IsPlayed, FactsFit, TallyFits, RowsFit, ReadRight, Well, RunsAlone, RunsBlock, TransactionFits, CommitFits, TakeBackFits, EndFits, IsUntouched, IsFound, Way, CommandFits, PlaceFits, KeptFits, GivenSeen, Agrees}
+use Rattle.backend_core.specs.NewTables.{StaysRead, relation_of}
+use Rattle.backend_core.specs.State.{owed_at, granted, is_taken_back, is_ended, one_if, running_in, running_at, begins_in, is_kept, missing, builds_missing, act_missing, scans_missing, is_out, Rest, session_at, HasCommand}
+use Rattle.backend_core.specs.Agrees.{IsPlayed, FactsFit, TallyFits, RowsFit, ReadRight, Well, RunsAlone, RunsBlock, TransactionFits, CommitFits, TakeBackFits, EndFits, PlaceFits, KeptFits, GivenSeen, Agrees}
 use Rattle.backend_core.specs.Steps.{IsWorking, NextLookUp, NextBuild, Enters}
-use Rattle.backend_core.proofs.SeesRelation.{SeesRelation-more, found_seen, read_stays-after}
-use Rattle.backend_core.proofs.Stepping.{Waits, facts_after, session_after, rest_after, own_enters}
+use Rattle.backend_core.proofs.SeesRelation.{found_seen, read_stays-after}
+use Rattle.backend_core.proofs.Stepping.{Waits, facts_after, rest_after, own_enters}
 use Rattle.backend_core.proofs.Carry.{MayCome, may_come, Leaves, own_leaves, LeavesWrites, LeavesRelations, leaves_relations, has_written-quiet, place_read-scan, kept-more, SameCommand, way-more, later-more, command-more, no_answer, look_true, waits_at, scans_same, builds_same, act_same, missing_at, owed_free, clear_at, accepted-clear}
 use Rattle.backend_core.proofs.Looks.{may_look_at}
 use Rattle.backend_core.proofs.Acting.{acts, IsActing, is_acting, missing_acts, open_sees}
