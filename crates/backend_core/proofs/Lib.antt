@@ -9,3 +9,14 @@ pub mod Acting
 pub mod Scanning
 pub mod Locking
 pub mod Others
+pub mod Ending
+pub mod EndEntries
+pub mod Committing
+pub mod TakingBack
+pub mod Releasing
+pub mod Leaving
+pub mod Beginning
+pub mod Joining
+pub mod Finishing
+pub mod Nexting
+pub mod Finding

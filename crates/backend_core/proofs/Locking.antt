@@ -1,5 +1,6 @@
 -- The locks that a backend asks for.
 use Rattle.std.proofs.Common.{Err, ◌≡◌, ◌<◌, ◌+◌, inl, inr, ◌∙◌, ℕ, Bool, true, false, not, Option, Some, None, List, [], ◌∷◌, ◌++◌, ◌||◌, if◌then◌else◌, refl, sym, ap, subst, length, drop, map, unwrap_or, arith}
+use Rattle.std.specs.Option.{option_map_or}
 use Rattle.std.specs.declared.alloc.Global.{Global}
 use Rattle.std.specs.declared.vec.Vec.{Vec}
 use Rattle.base_types.specs.Scenario.{Scenario}
@@ -8,6 +9,7 @@ use Rattle.base_types.specs.declared.scan.Purpose.TheVariants as scans
 use Rattle.event_kinds.specs.declared.entry.Event.TheVariants as events
 use Rattle.rel_desc.specs.declared.error.CommandError.TheVariants as errors
 use Rattle.ddl_effect.specs.Plans.{Plan, Fails, Do, Act, Lookup}
+use Rattle.ddl_effect.specs.Blocks.{ends_block}
 use Rattle.ddl_effect.specs.Stages.{plan_at}
 use Rattle.ddl_effect.specs.declared.exec.Exec.TheVariants as stages
 use Rattle.history_model.specs.Drawn.{next_oid}
@@ -132,7 +134,7 @@ granted_enters scenario old new had has was rel mode locks agrees played works n
         kept = agrees.facts.kept;
         given = agrees.facts.given;
       };
-      tally = omega (arith, agrees.tally, ap granted works.phase);
+      tally = λ _. omega (arith, agrees.tally (ap is_ended works.phase), ap granted works.phase);
       well = record {
         built = agrees.well.built;
         few = agrees.well.few;
@@ -140,13 +142,16 @@ granted_enters scenario old new had has was rel mode locks agrees played works n
         builds = agrees.well.builds;
         blocked = agrees.well.blocked;
         refused = agrees.well.refused;
+        plain = agrees.well.plain;
+        opens = agrees.well.opens;
         levels = agrees.well.levels;
         first = agrees.well.first;
         transaction = transaction-more was now (ap is_ended works.phase) refl refl refl refl refl agrees.well.transaction;
         written = agrees.well.written;
-        end = tt;
+        end = record { command = works.has.command; at = works.has.at };
         answered = λ _ _. inr refl;
         come_out = agrees.well.come_out;
+        past = agrees.well.past;
         free = λ some. absurd (cc (some, acting.unanswered));
         granted = λ _. record { runs = acting.runs; unanswered = acting.unanswered };
         clear = inl refl;
@@ -219,6 +224,8 @@ refused_enters scenario old new had has was rel mode holder held agrees played w
         builds = agrees.well.builds;
         blocked = agrees.well.blocked;
         refused = λ blocked. absurd (cc (blocked, acting.unblocked));
+        plain = λ command at ends. absurd (cc (ap (λ o. option_map_or ends_block o false) (sym works.has.at ∙ at), acting.goes, ends));
+        opens = agrees.well.opens;
         levels = agrees.well.levels;
         first = agrees.well.first;
         transaction = transaction-more was now (ap is_ended works.phase) (ap is_ended works.phase) refl refl refl refl agrees.well.transaction;
@@ -226,6 +233,7 @@ refused_enters scenario old new had has was rel mode holder held agrees played w
         end = end_free now works.phase;
         answered = λ _ _. inl works.phase;
         come_out = λ _. refl;
+        past = λ none. refl;
         free = λ some. absurd (cc (some, acting.unanswered));
         granted = λ is. absurd (cc (is, works.phase));
         clear = inr (clear_at was agrees.well (λ is. absurd (cc (is, works.phase))));

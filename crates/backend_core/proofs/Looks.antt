@@ -25,7 +25,7 @@ use Rattle.cacheless.proofs.Settling.{waits-owed}
 use Rattle.backend_core.specs.Types.{Command, OwnLock, Entry, Phase, OwnTransaction, Backend}
 use Rattle.backend_core.specs.declared.phase.Phase.TheVariants as phases
 use Rattle.backend_core.specs.State.{owed_at, granted, is_visible_at, is_taken_back, is_ended, one_if, running_in, begun_own, begins_in, owed_first, Rest, session_at, HasCommand}
-use Rattle.backend_core.specs.Agrees.{IsPlayed, FactsFit, TallyFits, Well, RunsAlone, RunsBlock, TransactionFits, Agrees}
+use Rattle.backend_core.specs.Agrees.{IsPlayed, FactsFit, TallyFits, Well, RunsAlone, RunsBlock, RunsBy, TransactionFits, Agrees}
 use Rattle.backend_core.specs.Steps.{OwesLookNow, Enters}
 use Rattle.backend_core.proofs.Stepping.{facts_after, session_after, rest_after, own_enters}
 use Rattle.backend_core.proofs.Carry.{MayCome, may_come, Leaves, own_leaves, kept-more, command-more, no_answer, look_true, look_allowed, may_call, waits_at, left_command, start_owed, builds_same, clear_at, accepted-clear}
@@ -65,7 +65,7 @@ record OwedLook (scenario : Scenario) (old : List Entry) (was : Backend) (agrees
   unanswered : is_some was.answer ≡ false
   counted : agrees.rest.tally.looks + 1 ≡ agrees.rest.tally.scans + agrees.rest.tally.grants + option_map_or (λ t. one_if (t.first == was.finished + 1)) now.running 0 + one_if was.looked
   first : option_map_or (λ t. t.first) now.running 0 ≤ was.finished + 1
-  transaction : TransactionFits now
+  transaction : TransactionFits now phases.Working
   locks : (session_after old was (events.Look false) agrees.rest).locks ≡ now.locks.items
   clear : map cleared now.locks.items ≡ now.locks.items
 
@@ -81,7 +81,7 @@ owed_look scenario old new had has was locks agrees played owes appends =
     (waits_at scenario old was agrees owes.has (λ rest. waits-owed (facts_of old was.id) owes.has.command rest (session_at was agrees.rest) owes.owed))
     (record { session = λ _ _ _ _ _ _. refl; finished = λ _. refl; life = λ _. refl })
     (record {
-      plays = subst (λ o. MayPlayIn (next_oid old) (facts_of old was.id) o (session_at was agrees.rest) (events.Look false)) (sym owes.has.at) (may_look_at (facts_of old was.id) was agrees.rest agrees.facts agrees.tally);
+      plays = subst (λ o. MayPlayIn (next_oid old) (facts_of old was.id) o (session_at was agrees.rest) (events.Look false)) (sym owes.has.at) (may_look_at (facts_of old was.id) was agrees.rest agrees.facts (agrees.tally owes.going));
       needed = tt;
       truly = look_true scenario old was.id played;
       tables = tt;
@@ -99,7 +99,7 @@ owed_look scenario old new had has was locks agrees played owes appends =
         kept = agrees.facts.kept;
         given = agrees.facts.given;
       };
-      tally = omega (arith, owes.counted);
+      tally = λ _. omega (arith, owes.counted);
       well = record {
         built = agrees.well.built;
         few = agrees.well.few;
@@ -107,6 +107,8 @@ owed_look scenario old new had has was locks agrees played owes appends =
         builds = agrees.well.builds;
         blocked = agrees.well.blocked;
         refused = agrees.well.refused;
+        plain = agrees.well.plain;
+        opens = agrees.well.opens;
         levels = agrees.well.levels;
         first = owes.first;
         transaction = owes.transaction;
@@ -114,6 +116,7 @@ owed_look scenario old new had has was locks agrees played owes appends =
         end = tt;
         answered = λ _ _. inl refl;
         come_out = agrees.well.come_out;
+        past = agrees.well.past;
         free = λ some. absurd (cc (some, owes.unanswered));
         granted = λ is. absurd (cc);
         clear = inr owes.clear;
@@ -180,7 +183,7 @@ first_look scenario old new had has was locks agrees played at some phase unansw
   hidden = ap is_visible_at phase;
   going = ap is_ended phase;
   unanswered = unanswered;
-  counted = omega (arith, agrees.tally, ap granted phase, ap (λ o. option_map_or (λ t. one_if (t.first == was.finished + 1)) o 0) none, ap (λ o. one_if ((begun_own (was.finished + 1) o).first == was.finished + 1)) none, ap one_if (eq-eqb (was.finished + 1) (was.finished + 1) refl));
+  counted = omega (arith, agrees.tally (ap is_ended phase), ap granted phase, ap (λ o. option_map_or (λ t. one_if (t.first == was.finished + 1)) o 0) none, ap (λ o. one_if ((begun_own (was.finished + 1) o).first == was.finished + 1)) none, ap one_if (eq-eqb (was.finished + 1) (was.finished + 1) refl));
   first = omega (arith, ap (λ o. (begun_own (was.finished + 1) o).first) none);
   transaction = by_block was.blocks.block begun;
   locks = ap (λ s. s.locks) (accepted-clear (facts_after old was (events.Look false)) (first_of (drop was.finished was.commands)) (placed_at (length old + 1) (was.finished + 1) (events.Look false) (session_at was agrees.rest)) clear) ∙ sym clear ∙ sym items;
@@ -200,7 +203,7 @@ first_look scenario old new had has was locks agrees played at some phase unansw
     clear = clear_at was agrees.well (λ is. absurd (cc (is, phase)))
 
     by_block : (b : Block) → elim b as (λ x. Bool) [ Outside ↦ not (ends_block at.command) && not (is_ended was.phase) && is_none (refused_by no_block at.command) | block ↦ false ] ≡ true
-        → elim b as (λ x. Type 0) [ Outside ↦ (now.running ≡ None) ⊎ RunsAlone now | Inside ↦ RunsBlock now | Failed ↦ now.running ≡ None ]
+        → RunsBy now b
     by_block Outside first = inr (record { has = record { command = at.command; at = at.at }; begins = subst (λ p. begins_in was.blocks p at.command ≡ true) phase begun; first = ap (λ o. (begun_own (was.finished + 1) o).first) none })
     by_block Inside first = absurd (cc)
     by_block Failed first = absurd (cc)
@@ -227,9 +230,9 @@ granted_look scenario old new had has was locks agrees played at phase items app
   hidden = ap is_visible_at phase;
   going = ap is_ended phase;
   unanswered = (agrees.well.granted phase).unanswered;
-  counted = omega (arith, agrees.tally, ap granted phase, ap (λ o. option_map_or (λ t. one_if (t.first == was.finished + 1)) o 0) same);
+  counted = omega (arith, agrees.tally (ap is_ended phase), ap granted phase, ap (λ o. option_map_or (λ t. one_if (t.first == was.finished + 1)) o 0) same);
   first = omega (arith, agrees.well.first, ap (λ o. option_map_or (λ t. t.first) o 0) same);
-  transaction = by_block was.blocks.block (subst (λ p. elim p as (λ x. Type 0) [ phases.Ended ↦ was.running ≡ None | q ↦ elim was.blocks.block as (λ x. Type 0) [ Outside ↦ (was.running ≡ None) ⊎ RunsAlone was | Inside ↦ RunsBlock was | Failed ↦ was.running ≡ None ] ]) phase agrees.well.transaction);
+  transaction = by_block was.blocks.block (subst (TransactionFits was) phase agrees.well.transaction);
   locks = ap (λ t. elim t as (λ x. List OwnLock) [ true ↦ was.locks.items | false ↦ map cleared was.locks.items ])
       (ap (λ l. owes_accept (facts_after old was (events.Look false)) (first_of l) placed) (left_command was.commands was.finished at.command at.at) ∙ accepts (facts_after old was (events.Look false)) at.command placed refl refl (builds_same (facts_of old was.id) was agrees.facts ∙ agrees.well.builds)) ∙ sym items;
   clear = ap (map cleared) items ∙ cleared_twice was.locks.items ∙ sym items;
@@ -244,15 +247,14 @@ granted_look scenario old new had has was locks agrees played at phase items app
     placed : Session
     placed = placed_at (length old + 1) (was.finished + 1) (events.Look false) (session_at was agrees.rest)
 
-    by_block : (b : Block) → elim b as (λ x. Type 0) [ Outside ↦ (was.running ≡ None) ⊎ RunsAlone was | Inside ↦ RunsBlock was | Failed ↦ was.running ≡ None ]
-        → elim b as (λ x. Type 0) [ Outside ↦ (now.running ≡ None) ⊎ RunsAlone now | Inside ↦ RunsBlock now | Failed ↦ now.running ≡ None ]
+    by_block : (b : Block) → RunsBy was b → RunsBy now b
     by_block Outside (inl none) = inl (same ∙ none)
     by_block Outside (inr alone) = inr (record {
       has = record { command = alone.has.command; at = alone.has.at };
       begins = subst (λ p. begins_in was.blocks p alone.has.command ≡ true) phase alone.begins;
       first = ap (λ o. option_map_or (λ t. t.first) o 0) same ∙ alone.first;
     })
-    by_block Inside block = record { runs = refl; first = ap (λ o. option_map_or (λ t. t.first) o 0) same ∙ block.first }
+    by_block Inside block = record { runs = refl; first = λ command. ap (λ o. option_map_or (λ t. t.first) o 0) same ∙ block.first command }
     by_block Failed none = same ∙ none
 
 -- where a look is owed, the command works or a lock was granted

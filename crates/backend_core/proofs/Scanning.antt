@@ -36,7 +36,7 @@ use Rattle.backend_core.specs.Types.{Oid, Kind, Command, Row, Purpose, Mode, Ent
 use Rattle.backend_core.specs.declared.phase.Phase.TheVariants as phases
 use Rattle.backend_core.specs.NewTables.{StaysRead, relation_of}
 use Rattle.backend_core.specs.State.{owed_at, granted, is_taken_back, is_ended, one_if, running_in, running_at, begins_in, is_kept, missing, builds_missing, act_missing, scans_missing, is_out, Rest, session_at, HasCommand}
-use Rattle.backend_core.specs.Agrees.{IsPlayed, FactsFit, TallyFits, RowsFit, ReadRight, Well, RunsAlone, RunsBlock, TransactionFits, CommitFits, TakeBackFits, EndFits, PlaceFits, KeptFits, GivenSeen, Agrees}
+use Rattle.backend_core.specs.Agrees.{IsPlayed, FactsFit, TallyFits, RowsFit, ReadRight, Well, RunsAlone, RunsBlock, RunsBy, TransactionFits, EndFits, PlaceFits, KeptFits, GivenSeen, Agrees}
 use Rattle.backend_core.specs.Steps.{IsWorking, NextLookUp, NextBuild, Enters}
 use Rattle.backend_core.proofs.SeesRelation.{found_seen, read_stays-after}
 use Rattle.backend_core.proofs.Stepping.{Waits, facts_after, rest_after, own_enters}
@@ -46,20 +46,17 @@ use Rattle.backend_core.proofs.Acting.{acts, IsActing, is_acting, missing_acts, 
 
 -- a transaction fits in another state, if its release isn't made in either
 pub transaction-more : (was now : Backend) → is_ended was.phase ≡ false → is_ended now.phase ≡ false → now.blocks ≡ was.blocks → now.running ≡ was.running → now.finished ≡ was.finished → now.commands ≡ was.commands
-    → TransactionFits was → TransactionFits now
-transaction-more was now going goes blocks running finished commands fits = to_phase now.phase goes (subst (λ b. InBlock now b) (ap (λ x. x.block) (sym blocks)) (by_block was.blocks.block (from_phase was.phase going fits)))
+    → TransactionFits was was.phase → TransactionFits now now.phase
+transaction-more was now going goes blocks running finished commands fits = to_phase now.phase goes (subst (RunsBy now) (ap (λ x. x.block) (sym blocks)) (by_block was.blocks.block (from_phase was.phase going fits)))
   where
-    InBlock : Backend → Block → Type 0
-    InBlock s b = elim b as (λ x. Type 0) [ Outside ↦ (s.running ≡ None) ⊎ RunsAlone s | Inside ↦ RunsBlock s | Failed ↦ s.running ≡ None ]
-
-    from_phase : (p : Phase) → is_ended p ≡ false → elim p as (λ x. Type 0) [ phases.Ended ↦ was.running ≡ None | q ↦ InBlock was was.blocks.block ] → InBlock was was.blocks.block
+    from_phase : (p : Phase) → is_ended p ≡ false → TransactionFits was p → RunsBy was was.blocks.block
     from_phase phases.Working h f = f
     from_phase phases.Granted h f = f
     from_phase phases.Visible h f = f
     from_phase (phases.TakenBack from) h f = f
     from_phase phases.Ended h f = absurd (cc)
 
-    to_phase : (p : Phase) → is_ended p ≡ false → InBlock now now.blocks.block → elim p as (λ x. Type 0) [ phases.Ended ↦ now.running ≡ None | q ↦ InBlock now now.blocks.block ]
+    to_phase : (p : Phase) → is_ended p ≡ false → RunsBy now now.blocks.block → TransactionFits now p
     to_phase phases.Working h f = f
     to_phase phases.Granted h f = f
     to_phase phases.Visible h f = f
@@ -72,19 +69,19 @@ transaction-more was now going goes blocks running finished commands fits = to_p
     same_begins : (command : Command) → begins_in now.blocks now.phase command ≡ begins_in was.blocks was.phase command
     same_begins command = ap (λ b. begins_in b now.phase command) blocks ∙ ap (λ t. elim was.blocks.block as (λ x. Bool) [ Outside ↦ not (ends_block command) && not t && is_none (refused_by no_block command) | block ↦ false ]) (goes ∙ sym going)
 
-    by_block : (b : Block) → InBlock was b → InBlock now b
+    by_block : (b : Block) → RunsBy was b → RunsBy now b
     by_block Outside (inl none) = inl (running ∙ none)
     by_block Outside (inr alone) = inr (record {
       has = record { command = alone.has.command; at = ap (λ l. slice_get l now.finished) commands ∙ ap (slice_get was.commands) finished ∙ alone.has.at };
       begins = same_begins alone.has.command ∙ alone.begins;
       first = first ∙ alone.first ∙ ap (λ n. n + 1) (sym finished);
     })
-    by_block Inside block = record { runs = ap is_some running ∙ block.runs; first = first ∙ block.first ∙ ap (λ n. innermost (n + 1) was.blocks.levels) (sym finished) ∙ ap (λ b. innermost (now.finished + 1) b.levels) (sym blocks) }
+    by_block Inside block = record { runs = ap is_some running ∙ block.runs; first = λ command. first ∙ block.first command ∙ ap (λ b. innermost command b.levels) (sym blocks) }
     by_block Failed none = running ∙ none
 
 -- the end isn't on its way
-pub end_free : (s : Backend) → s.phase ≡ phases.Working → EndFits s
-end_free s phase = subst (λ p. elim p as (λ x. Type 0) [ phases.Visible ↦ CommitFits s | phases.TakenBack from ↦ TakeBackFits s from | phases.Ended ↦ is_out s ≡ true | q ↦ ⊤ ]) (sym phase) tt
+pub end_free : (s : Backend) → s.phase ≡ phases.Working → EndFits s s.phase
+end_free s phase = subst (EndFits s) (sym phase) tt
 
 -- the same state but for its reading: where it works, it stays well
 pub reads_well : (was : Backend) (exec : Exec) (looked read : Bool) (given : Vec Row Global) (given_at : ℕ) (kept : List KeptScan) → was.phase ≡ phases.Working → builds_missing kept was.opened ≡ [] → plan_at exec ≡ plan_at was.exec
@@ -96,6 +93,9 @@ reads_well was exec looked read given given_at kept phase builds plan well = rec
   builds = builds;
   blocked = well.blocked;
   refused = λ blocked. plan ∙ well.refused blocked;
+  plain = λ command at ends unblocked. plan ∙ well.plain command at ends unblocked;
+  opens = well.opens;
+  past = λ none. ap (λ p. is_settled (outcome_of p)) plan ∙ well.past none;
   levels = well.levels;
   first = well.first;
   transaction = transaction-more was (record was { exec = exec; looked = looked; read = read; given = given; given_at = given_at; kept = kept }) (ap is_ended phase) (ap is_ended phase) refl refl refl refl well.transaction;
@@ -137,7 +137,7 @@ scan_look_enters scenario old new had has was agrees played works some unlooked 
     own_enters scenario old new had has was now (events.Look false) agrees (waits_scan scenario old was agrees works.has some)
     (record { session = λ _ _ _ _ _ _. refl; finished = λ _. refl; life = λ _. refl })
     (record {
-      plays = subst (λ o. MayPlayIn (next_oid old) (facts_of old was.id) o (session_at was agrees.rest) (events.Look false)) (sym works.has.at) (may_look_at (facts_of old was.id) was agrees.rest agrees.facts agrees.tally);
+      plays = subst (λ o. MayPlayIn (next_oid old) (facts_of old was.id) o (session_at was agrees.rest) (events.Look false)) (sym works.has.at) (may_look_at (facts_of old was.id) was agrees.rest agrees.facts (agrees.tally (ap is_ended works.phase)));
       needed = tt;
       truly = look_true scenario old was.id played;
       tables = tt;
@@ -155,7 +155,7 @@ scan_look_enters scenario old new had has was agrees played works some unlooked 
         kept = agrees.facts.kept;
         given = agrees.facts.given;
       };
-      tally = omega (arith, agrees.tally, ap one_if unlooked);
+      tally = λ _. omega (arith, agrees.tally (ap is_ended works.phase), ap one_if unlooked);
       well = reads_well was was.exec true was.read was.given was.given_at was.kept works.phase agrees.well.builds refl agrees.well;
     })
     (record {
@@ -226,7 +226,7 @@ may_scan scenario seen s agrees works scan count looked unsettled first =
     subst (λ o. MayPlayIn (next_oid seen) (facts_of seen s.id) o (session_at s agrees.rest) (events.Scan scan count)) (sym works.has.at) (
       owed_free scenario seen s agrees works.phase,
       next_scan (facts_of seen s.id) (session_at s agrees.rest) scan unsettled (builds_same (facts_of seen s.id) s agrees.facts ∙ agrees.well.builds) first,
-      looked_enough (facts_of seen s.id) s agrees.rest agrees.facts agrees.tally agrees.count works.phase looked,
+      looked_enough (facts_of seen s.id) s agrees.rest agrees.facts (agrees.tally (ap is_ended works.phase)) agrees.count works.phase looked,
     )
 
 -- the scan of a name is none of a descriptor's
@@ -284,7 +284,7 @@ looked_up_to scenario old new had has was name given at agrees played works next
         kept = λ i d within. let k = agrees.facts.kept i d within in record { build = k.build; rows_are = k.rows_are ∙ sym (rows_by-others old was.id (scans.RelName name) (get_or was.kept i d).scan count ((facts_of old was.id).rows (get_or was.kept i d).scan) (no_build name (get_or was.kept i d).scan k.build)) };
         given = λ read. subst (λ p. RowsFit (facts_after old was event).rows p given.items) (sym next.at) (rows_by-own old was.id (scans.RelName name) count ((facts_of old was.id).rows (scans.RelName name)) ∙ sym rows_are);
       };
-      tally = omega (arith, agrees.tally, ap one_if looked);
+      tally = λ _. omega (arith, agrees.tally (ap is_ended works.phase), ap one_if looked);
       well = reads_well was was.exec false true given at was.kept works.phase agrees.well.builds refl agrees.well;
     })
     (record {
@@ -426,7 +426,7 @@ built_to scenario old new had has was scan given at agrees played works next loo
             (record { build = first.1.0; rows_are = rows_are ∙ sym (rows_by-own old was.id scan count ((facts_of old was.id).rows scan)) });
         given = λ read. rows_fit old was.id scan count (facts_of old was.id).rows first.1.0 (plan_at was.exec) was.given.items (agrees.facts.given read);
       };
-      tally = omega (arith, agrees.tally, ap one_if looked);
+      tally = λ _. omega (arith, agrees.tally (ap is_ended works.phase), ap one_if looked);
       well = reads_well was was.exec false was.read was.given was.given_at now.kept works.phase (builds_less was.kept (made ∷ []) was.opened agrees.well.builds) refl agrees.well;
     })
     (record {

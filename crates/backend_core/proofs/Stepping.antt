@@ -20,7 +20,7 @@ use Rattle.cacheless.specs.Lines.{lines_from, line_of, answer_judged}
 use Rattle.cacheless.proofs.Reading.{facts_of-own, session_of-own}
 use Rattle.backend_core.specs.Types.{Command, Scenario, Entry, Event, Backend}
 use Rattle.backend_core.specs.NewTables.{AddsTables}
-use Rattle.backend_core.specs.State.{Rest, rest_of, session_at, HasCommand}
+use Rattle.backend_core.specs.State.{is_ended, Rest, rest_of, session_at, HasCommand}
 use Rattle.backend_core.specs.Agrees.{FactsFit, TallyFits, Well, CommandFits, KeptFits, AnswerFits, Agrees}
 use Rattle.backend_core.specs.Steps.{AgreesNow, Enters}
 
@@ -59,7 +59,7 @@ pub record Keeps (old : List Entry) (was now : Backend) (event : Event) (rest : 
   pub moves : Moves was now
   pub session : session_after old was event rest ≡ session_at now (rest_after old was event rest)
   pub facts : FactsFit (facts_after old was event) now
-  pub tally : TallyFits (tally_by event rest.tally) now
+  pub tally : is_ended now.phase ≡ false → TallyFits (tally_by event rest.tally) now
   pub well : Well now
 
 -- what it owes after its own entry of the history

@@ -1,5 +1,5 @@
 -- How a backend agrees with a history.
-use Rattle.std.specs.Prelude.{◌≡◌, ◌≢◌, ◌≤◌, ◌<◌, ◌+◌, ◌⊎◌, ℕ, Bool, true, false, Option, Some, None, List, [], ◌∷◌, ◌==◌, map, drop, take, length, All, slice_get, is_some, ⊤}
+use Rattle.std.specs.Prelude.{◌≡◌, ◌≢◌, ◌≤◌, ◌<◌, ◌+◌, ◌⊎◌, ℕ, Bool, true, false, not, Option, Some, None, List, [], ◌∷◌, ◌==◌, map, drop, take, length, All, slice_get, is_some, ⊤}
 use Rattle.std.specs.Option.{option_map_or}
 use Rattle.base_types.specs.Scans.{is_build_scan}
 use Rattle.base_types.specs.Scenario.{IsBackend}
@@ -10,12 +10,12 @@ use Rattle.event_kinds.specs.declared.entry.Event.TheVariants as events
 use Rattle.rel_desc.specs.Answers.{answer_text}
 use Rattle.ddl_effect.specs.Plans.{Plan, Done, Fails, Absent, Do, Lookup, Write, is_built}
 use Rattle.ddl_effect.specs.Commands.{plan_of, commands_of, looking_up, showing}
-use Rattle.ddl_effect.specs.Blocks.{Outside, Inside, Failed, no_block, innermost}
+use Rattle.ddl_effect.specs.Blocks.{Block, Outside, Inside, Failed, no_block, is_open, innermost, ends_block}
 use Rattle.ddl_effect.specs.Stages.{plan_at}
 use Rattle.history_model.specs.Lives.{Life, Unstarted, Alive, Stopped, life_of}
 use Rattle.history_model.specs.Orderly.{IsSound}
 use Rattle.history_model.specs.Read.{IsEconomical, place_read}
-use Rattle.history_model.specs.Writes.{has_written}
+use Rattle.history_model.specs.Writes.{has_written, is_empty}
 use Rattle.seg_calls.specs.Calls.{took_back}
 use Rattle.cacheless.specs.Facts.{Facts, facts_of}
 use Rattle.cacheless.specs.Session.{Finished, Tally, none_open, plan_first, refused_first}
@@ -27,11 +27,11 @@ use Rattle.cacheless.specs.Sessions.{session_of}
 use Rattle.cacheless.specs.Plays.{Plays}
 use Rattle.cacheless.specs.Schedule.{AreLooksTrue}
 use Rattle.cacheless.specs.Lines.{answer_judged, lines_from}
-use Rattle.backend_core.specs.Types.{Oid, Mode, Kind, Field, Row, Purpose, Command, NewColumn, CommandError, Scenario, Entry, Draft, KeptScan, Backend}
+use Rattle.backend_core.specs.Types.{Oid, Mode, Kind, Field, Row, Purpose, Command, NewColumn, CommandError, Scenario, Entry, Draft, KeptScan, Phase, Backend}
 use Rattle.backend_core.specs.declared.phase.Life.TheVariants as lives
 use Rattle.backend_core.specs.declared.phase.Phase.TheVariants as phases
 use Rattle.backend_core.specs.NewTables.{IsNewTable, HasTables, StaysRead, SeesRelation}
-use Rattle.backend_core.specs.State.{owed_at, granted, is_taken_back, one_if, running_at, lists_at, is_kept, builds_missing, is_out, begins_in, owed_first, end_at, has_write_since, end_of_running, Rest, session_at, HasCommand}
+use Rattle.backend_core.specs.State.{owed_at, granted, is_taken_back, is_ended, one_if, running_at, lists_at, is_kept, builds_missing, is_out, begins_in, owed_first, end_at, is_inside, blocks_next, has_write_since, end_of_running, Rest, session_at, HasCommand}
 
 -- a history that the script's commands played so far
 pub record IsPlayed (scenario : Scenario) (history : List Entry) : Type 0 where
@@ -89,14 +89,21 @@ pub record RunsAlone (s : Backend) : Type 0 where
   pub begins : begins_in s.blocks s.phase has.command ≡ true
   pub first : option_map_or (λ t. t.first) s.running 0 ≡ s.finished + 1
 
--- the transaction of a block
+-- the transaction of a block, whichever command runs
 pub record RunsBlock (s : Backend) : Type 0 where
   pub runs : is_some s.running ≡ true
-  pub first : option_map_or (λ t. t.first) s.running 0 ≡ innermost (s.finished + 1) s.blocks.levels
+  pub first : (command : ℕ) → option_map_or (λ t. t.first) s.running 0 ≡ innermost command s.blocks.levels
 
 -- the transaction of a backend, by its blocks: outside blocks that of the running command, in a block that of the block's first command
-abbrev pub TransactionFits : Backend → Type 0
-TransactionFits s = elim s.phase [ phases.Ended ↦ s.running ≡ None | phase ↦ elim s.blocks.block [ Outside ↦ (s.running ≡ None) ⊎ RunsAlone s | Inside ↦ RunsBlock s | Failed ↦ s.running ≡ None ] ]
+abbrev pub RunsBy : Backend → Block → Type 0
+RunsBy s Outside = (s.running ≡ None) ⊎ RunsAlone s
+RunsBy s Inside = RunsBlock s
+RunsBy s Failed = s.running ≡ None
+
+-- the same by the phase: none once the command is ended
+abbrev pub TransactionFits : Backend → Phase → Type 0
+TransactionFits s phases.Ended = s.running ≡ None
+TransactionFits s phase = RunsBy s s.blocks.block
 
 -- a commit on its way: it is that of the running transaction
 pub record CommitFits (s : Backend) : Type 0 where
@@ -112,14 +119,21 @@ pub record TakeBackFits (s : Backend) (from : ℕ) : Type 0 where
   pub end : ((has : HasCommand s) → (is_out s ≡ true) × (end_at s has.command ≡ TakesBack from)) × (slice_get s.commands s.finished ≡ None → end_of_running s.running ≡ TakesBack from)
   pub none : has_write_since from s ≡ false
 
--- the end of a command, once it is on its way
-abbrev pub EndFits : Backend → Type 0
-EndFits s = elim s.phase [
-  | phases.Visible ↦ CommitFits s
-  | phases.TakenBack from ↦ TakeBackFits s from
-  | phases.Ended ↦ is_out s ≡ true
-  | phase ↦ ⊤
-]
+-- an end that is made: if it is that of a command, no block goes on after it
+abbrev pub IsOver : Backend → Type 0
+IsOver s = (has : HasCommand s) → (is_out s ≡ true) × (is_inside (blocks_next s has.command) ≡ false)
+
+-- what belongs to a phase: a grant to a command, and the end of a command, once it is on its way
+abbrev pub EndFits : Backend → Phase → Type 0
+EndFits s phases.Working = ⊤
+EndFits s phases.Granted = HasCommand s
+EndFits s phases.Visible = CommitFits s
+EndFits s (phases.TakenBack from) = TakeBackFits s from
+EndFits s phases.Ended = IsOver s
+
+-- a command that ends blocks does nothing else, if the blocks admit it
+abbrev pub EndsAlone : Backend → Type 0
+EndsAlone s = (command : Command) → slice_get s.commands s.finished ≡ Some command → ends_block command ≡ true → s.blocked ≡ false → plan_at s.exec ≡ Done
 
 -- a lock was granted right before
 pub record IsGranted (s : Backend) : Type 0 where
@@ -134,13 +148,16 @@ pub record Well (s : Backend) : Type 0 where
   pub builds : builds_missing s.kept s.opened ≡ []
   pub blocked : s.blocked ≡ is_some (refused_first s.blocks (slice_get s.commands s.finished))
   pub refused : s.blocked ≡ true → plan_at s.exec ≡ plan_first s.blocks (slice_get s.commands s.finished)
+  pub plain : EndsAlone s
+  pub opens : is_open s.blocks ≡ not (is_empty s.blocks.levels)
   pub levels : innermost (s.finished + 1) s.blocks.levels ≤ s.finished + 1
   pub first : option_map_or (λ t. t.first) s.running 0 ≤ s.finished + 1
-  pub transaction : TransactionFits s
+  pub transaction : TransactionFits s s.phase
   pub written : has_write_since 0 s ≡ true → option_map_or (λ t. is_some t.xid) s.running false ≡ true
-  pub end : EndFits s
+  pub end : EndFits s s.phase
   pub answered : HasCommand s → is_some s.answer ≡ false → (s.phase ≡ phases.Working) ⊎ (s.phase ≡ phases.Granted)
   pub come_out : is_some s.answer ≡ true → is_out s ≡ true
+  pub past : slice_get s.commands s.finished ≡ None → is_out s ≡ true
   pub free : is_some s.answer ≡ true → (has : HasCommand s) → owed_first s has.command ≡ []
   pub granted : s.phase ≡ phases.Granted → IsGranted s
   pub clear : (s.phase ≡ phases.Granted) ⊎ (map cleared s.locks.items ≡ s.locks.items)
@@ -226,7 +243,7 @@ pub record Agrees (scenario : Scenario) (seen : List Entry) (s : Backend) : Type
   pub count : length rest.finished ≡ s.finished
   pub is : session_of scenario seen s.id ≡ Some (settled (facts_of seen s.id) (drop s.finished s.commands) (session_at s rest))
   pub facts : FactsFit (facts_of seen s.id) s
-  pub tally : TallyFits rest.tally s
+  pub tally : is_ended s.phase ≡ false → TallyFits rest.tally s
   pub life : IsAlive (life_of seen s.id) s
   pub well : Well s
   pub command : CommandFits seen s rest

@@ -3,3 +3,5 @@ pub mod NewTables
 pub mod State
 pub mod Agrees
 pub mod Steps
+pub mod Endings
+pub mod Measure

@@ -7,7 +7,7 @@ use Rattle.base_types.specs.declared.row.Row.TheVariants as rows
 use Rattle.base_types.specs.declared.scan.Purpose.TheVariants as scans
 use Rattle.base_types.specs.declared.command.Command.TheVariants as commands
 use Rattle.ddl_effect.specs.Plans.{Plan, Do, Lookup, Column, rests_on}
-use Rattle.ddl_effect.specs.Blocks.{Block, Outside, Inside, Failed, Blocks, no_block, ends_block, refused_by, innermost}
+use Rattle.ddl_effect.specs.Blocks.{Block, Outside, Inside, Failed, Blocks, no_block, ends_block, refused_by, innermost, blocks_well, blocks_badly}
 use Rattle.ddl_effect.specs.Stages.{plan_at}
 use Rattle.history_model.specs.Transactions.{Running}
 use Rattle.history_model.specs.Sent.{Written, has_write_from}
@@ -134,6 +134,18 @@ end_in_badly s = elim s.blocked [ true ↦ Ends | false ↦ TakesBack (innermost
 -- the end of the running command
 abbrev pub end_at : Backend → Command → End
 end_at s command = elim (outcome_of (plan_at s.exec)) [ Well ↦ end_in_well s command | Badly ↦ end_in_badly s | Unsettled ↦ Ends ]
+
+-- a block is open that hasn't failed
+abbrev pub is_inside : Blocks → Bool
+is_inside blocks = elim blocks.block [ Inside ↦ true | block ↦ false ]
+
+-- the blocks after a command of this number, by what is left of its plan
+abbrev pub blocks_passed : Plan → ℕ → Command → Blocks → Blocks
+blocks_passed plan number command blocks = elim (outcome_of plan) [ Well ↦ blocks_well number command blocks | outcome ↦ blocks_badly blocks ]
+
+-- the blocks after the running command
+abbrev pub blocks_next : Backend → Command → Blocks
+blocks_next s command = blocks_passed (plan_at s.exec) (s.finished + 1) command s.blocks
 
 -- a write of this command or a later one wasn't taken back
 abbrev pub has_write_since : ℕ → Backend → Bool

@@ -111,7 +111,7 @@ pub record NextWrite (s : Backend) : Type 0 where
 -- the commit of the running command comes next
 pub record NextCommit (s : Backend) (xid : ℕ) : Type 0 where
   pub working : IsWorking s
-  pub out : is_out s ≡ true
+  pub answered : is_some s.answer ≡ true
   pub first : ℕ
   pub end : end_at s working.has.command ≡ Commits first
   pub written : has_write_since first s ≡ true
@@ -120,14 +120,14 @@ pub record NextCommit (s : Backend) (xid : ℕ) : Type 0 where
 -- taking back of what the running command or, after the last command, its transaction wrote comes next
 pub record NextTakeBack (s : Backend) (from : ℕ) : Type 0 where
   pub phase : s.phase ≡ phases.Working
-  pub end : ((has : HasCommand s) → (owed_first s has.command ≡ []) × (is_out s ≡ true) × (end_at s has.command ≡ TakesBack from)) × (slice_get s.commands s.finished ≡ None → end_of_running s.running ≡ TakesBack from)
+  pub end : ((has : HasCommand s) → (owed_first s has.command ≡ []) × (is_some s.answer ≡ true) × (end_at s has.command ≡ TakesBack from)) × (slice_get s.commands s.finished ≡ None → end_of_running s.running ≡ TakesBack from)
   pub written : has_write_since from s ≡ true
 
 -- the release of the end of the running command comes next, or after the last command that of its transaction
 pub data NextRelease (s : Backend) (from : ℕ) : Type 0 where
   AfterCommit : s.phase ≡ phases.Visible → option_map_or (λ t. Some t.first) s.running None ≡ Some from → NextRelease s from
   AfterTakingBack : s.phase ≡ phases.TakenBack from → NextRelease s from
-  WithoutWrite : (working : IsWorking s) → is_out s ≡ true → (end_at s working.has.command ≡ Commits from) ⊎ (end_at s working.has.command ≡ TakesBack from) → has_write_since from s ≡ false → NextRelease s from
+  WithoutWrite : (working : IsWorking s) → is_some s.answer ≡ true → (end_at s working.has.command ≡ Commits from) ⊎ (end_at s working.has.command ≡ TakesBack from) → has_write_since from s ≡ false → NextRelease s from
   AtTheEnd : s.phase ≡ phases.Working → slice_get s.commands s.finished ≡ None → end_of_running s.running ≡ TakesBack from → has_write_since from s ≡ false → NextRelease s from
 
 -- nothing is left of the running command but to pass over it
@@ -147,7 +147,7 @@ IsNextOf s nexts.Write = IsWorking s × NextWrite s
 IsNextOf s (nexts.Commit xid) = NextCommit s xid.0
 IsNextOf s (nexts.TakeBack from) = NextTakeBack s from
 IsNextOf s (nexts.Release from) = NextRelease s from
-IsNextOf s nexts.Leave = (slice_get s.commands s.finished ≡ None) × (s.running ≡ None) × (s.phase ≡ phases.Working)
+IsNextOf s nexts.Leave = (slice_get s.commands s.finished ≡ None) × (s.running ≡ None)
 IsNextOf s nexts.Find = IsWorking s × NextFind s
 IsNextOf s (nexts.Open rel kind) = IsWorking s × NextOpen s rel kind
 IsNextOf s nexts.Answer = IsWorking s × (is_out s ≡ true) × (s.answer ≡ None)

@@ -1,3 +1,4 @@
+use crate::begun::begun;
 use crate::{KeptScan, Life, OwnTransaction, Phase};
 use base_types::{Command, Listed, NoMemory, Row};
 use cacheless::{Opening, OwnLock};
@@ -51,7 +52,29 @@ impl Backend {
         requires built { All (λ command. is_built (plan_of none_open command) ≡ true) commands }
         ensures { IfOk result (λ s. IsNew s id commands) }
     {
-        Err(NoMemory)
+        let blocks = TxnBlocks::new();
+        let first = begun(alloc, &blocks, commands.as_slice(), 0)?;
+        Ok(Backend {
+            id,
+            commands,
+            life: Life::Unstarted,
+            finished: 0,
+            exec: first.exec,
+            blocked: first.blocked,
+            phase: Phase::Working,
+            answer: None,
+            blocks,
+            running: None,
+            writes: Vec::new(alloc),
+            looked: false,
+            read: false,
+            given: Vec::new(alloc),
+            given_at: 0,
+            opened: Listed::new(alloc),
+            locks: Vec::new(alloc),
+            kept: Listed::new(alloc),
+            lines: Listed::new(alloc),
+        })
     }
 
     /// Its number, from 1.

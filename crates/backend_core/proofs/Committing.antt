@@ -1,0 +1,159 @@
+-- A commit becomes visible.
+use Rattle.std.proofs.Common.{◌≡◌, ◌+◌, ◌∙◌, ◌==◌, inr, ℕ, true, false, not, arith, Option, Some, None, List, [], refl, sym, ap, subst, length, map, is_none, is_some, unwrap_or}
+use Rattle.std.specs.Prelude.{nat_le}
+use Rattle.std.specs.Option.{option_map, option_map_or}
+use Rattle.std.proofs.lemmas.Bool.{le-leb, eq-eqb}
+use Rattle.event_kinds.specs.declared.entry.Event.TheVariants as events
+use Rattle.history_model.specs.Drawn.{next_oid}
+use Rattle.history_model.specs.Sent.{Written, has_write_from, unsent_in}
+use Rattle.history_model.specs.Transactions.{begun, has_xid, is_visible}
+use Rattle.history_model.proofs.Every.{any-weaker}
+use Rattle.seg_calls.specs.Calls.{entry_of, MayCall, Appends}
+use Rattle.cacheless.specs.Facts.{Facts, facts_of}
+use Rattle.cacheless.specs.Locks.{cleared}
+use Rattle.cacheless.specs.Ends.{Commits, xid_of, next_sent, next_of_end}
+use Rattle.cacheless.specs.Plays.{MayPlayIn, IsEnd}
+use Rattle.cacheless.specs.Sessions.{placed_at}
+use Rattle.backend_core.specs.Types.{Xid, Scenario, Entry, OwnTransaction, Phase, Backend}
+use Rattle.backend_core.specs.declared.phase.Phase.TheVariants as phases
+use Rattle.backend_core.specs.State.{owed_at, granted, is_visible_at, is_taken_back, is_ended, is_out, running_in, owed_first, session_at, HasCommand}
+use Rattle.backend_core.specs.Agrees.{IsPlayed, Agrees}
+use Rattle.backend_core.specs.Steps.{NextCommit, Enters}
+use Rattle.backend_core.proofs.Stepping.{own_enters}
+use Rattle.backend_core.proofs.Carry.{may_call, clear_at}
+use Rattle.backend_core.proofs.Ending.{owed_by_end, end_from, is_end, first_of_end, waits_to_end, runs_unless}
+use Rattle.backend_core.proofs.EndEntries.{session_clear, end_follows, runs_on, free_running}
+
+-- the Xid of its transaction
+abbrev pub xid_own : Option OwnTransaction → Option ℕ
+xid_own own = option_map_or (λ t. option_map_or (λ x. Some x.0) t.xid None) own None
+
+has_own : (p : Phase) (own : Option OwnTransaction) (xid : ℕ) → xid_own own ≡ Some xid → has_xid xid (running_in p own) ≡ true
+has_own p None xid is = absurd (cc)
+has_own p (Some t) xid is = by_xid t.xid is
+  where
+    by_xid : (o : Option Xid) → option_map_or (λ x. Some x.0) o None ≡ Some xid → option_map_or (λ own. own == xid) (option_map (λ x. x.0) o) false ≡ true
+    by_xid None at = absurd (cc)
+    by_xid (Some x) at = eq-eqb x.0 xid cc
+
+xid_running : (p : Phase) (own : Option OwnTransaction) (xid : ℕ) → xid_own own ≡ Some xid → option_map_or (λ t. unwrap_or t.xid 0) (running_in p own) 0 ≡ xid
+xid_running p None xid is = absurd (cc)
+xid_running p (Some t) xid is = by_xid t.xid is
+  where
+    by_xid : (o : Option Xid) → option_map_or (λ x. Some x.0) o None ≡ Some xid → unwrap_or (option_map (λ x. x.0) o) 0 ≡ xid
+    by_xid None at = absurd (cc)
+    by_xid (Some x) at = cc
+
+runs_xid : (own : Option OwnTransaction) (xid : ℕ) → xid_own own ≡ Some xid → is_some own ≡ true
+runs_xid None xid is = absurd (cc)
+runs_xid (Some t) xid is = refl
+
+-- a write of some command is one of a command from 0 on
+pub write_from_first : (from : ℕ) (lists : List Written) → has_write_from from lists ≡ true → has_write_from 0 lists ≡ true
+write_from_first from lists is = any-weaker (λ w. nat_le from w.command) (λ w. nat_le 0 w.command) (λ w at. le-leb 0 w.command (omega arith)) lists is
+
+hidden_at : (p : Phase) (own : Option OwnTransaction) → is_visible_at p ≡ false → is_visible (running_in p own) ≡ false
+hidden_at p None hidden = refl
+hidden_at p (Some t) hidden = hidden
+
+-- it may be entered
+pub commit_call : (scenario : Scenario) (seen : List Entry) (s : Backend) (xid : Xid) → Agrees scenario seen s → NextCommit s xid.0 → MayCall scenario seen (entry_of s.id (s.finished + 1) (events.Visible xid))
+commit_call scenario seen s xid agrees next = may_call scenario seen s (events.Visible xid) agrees (ap is_visible_at next.working.phase) (ap is_taken_back next.working.phase) refl (
+  ap (has_xid xid.0) agrees.facts.running ∙ has_own s.phase s.running xid.0 next.xid_is,
+  ap (has_write_from 0) agrees.facts.lists ∙ write_from_first next.first _ next.written,
+)
+
+-- it is the next entry of the end
+visible_next : (facts : Facts) (first xid : ℕ) → has_write_from first facts.lists ≡ true → is_visible facts.running ≡ false → xid_of facts ≡ xid → next_of_end facts (Commits first) ≡ Some (events.Visible (record { 0 = xid }))
+visible_next facts first xid written hidden is =
+    ap (λ t. Some (elim t [ true ↦ elim (is_visible facts.running) [ true ↦ next_sent first (length (unsent_in facts.lists facts.running)) | false ↦ events.Visible (record { 0 = xid_of facts }) ] | false ↦ events.Release first ])) written
+    ∙ ap (λ t. Some (elim t [ true ↦ next_sent first (length (unsent_in facts.lists facts.running)) | false ↦ events.Visible (record { 0 = xid_of facts }) ])) hidden
+    ∙ ap (λ x. Some (events.Visible (record { 0 = x }))) is
+
+shown : (p : Phase) (own : Option OwnTransaction) (command : ℕ) → is_some own ≡ true → Some (record (begun command (running_in p own)) { visible = true }) ≡ running_in phases.Visible own
+shown p None command runs = absurd (cc)
+shown p (Some t) command runs = refl
+
+some_first : (own : Option OwnTransaction) (n first : ℕ) → is_some own ≡ true → option_map_or (λ t. t.first) own n ≡ first → option_map_or (λ t. Some t.first) own None ≡ Some first
+some_first None n first runs is = absurd (cc)
+some_first (Some t) n first runs is = ap Some is
+
+-- the state after it
+pub commit_enters : (scenario : Scenario) (old new : List Entry) (had has : ℕ → ℕ) (was : Backend) (xid : Xid) (agrees : Agrees scenario old was) → IsPlayed scenario old → NextCommit was xid.0
+    → Appends old new had has (entry_of was.id (was.finished + 1) (events.Visible xid)) → Enters scenario old new was (record was { phase = phases.Visible })
+commit_enters scenario old new had has was xid agrees played next appends =
+    own_enters scenario old new had has was now (events.Visible xid) agrees
+    (waits_to_end scenario old was agrees works (events.Visible xid) out (ends.1))
+    (record { session = λ _ _ _ _ _ _. refl; finished = λ _. refl; life = λ _. refl })
+    (record { plays = subst (λ o. MayPlayIn (next_oid old) facts o (session_at was agrees.rest) (events.Visible xid)) (sym works.at) ends; needed = tt; truly = tt; tables = tt })
+    (record {
+      moves = record { id = refl; commands = refl; finished = refl; life = refl; lines = refl };
+      session = session_clear old was (events.Visible xid) agrees.rest clear
+          ∙ (λ i. record (placed_at (length old + 1) (was.finished + 1) (events.Visible xid) (session_at was agrees.rest)) { ended = ap is_ended next.working.phase i });
+      facts = record {
+        running = ap (λ o. Some (record (begun (was.finished + 1) o) { visible = true })) agrees.facts.running ∙ shown was.phase was.running (was.finished + 1) runs;
+        lists = agrees.facts.lists;
+        owed = refl;
+        took = refl;
+        taken = λ from is. absurd (cc);
+        usable = agrees.facts.usable;
+        kept = agrees.facts.kept;
+        given = agrees.facts.given;
+      };
+      tally = λ _. ap (λ n. agrees.rest.tally.looks + n) (sym (ap granted next.working.phase)) ∙ agrees.tally (ap is_ended next.working.phase);
+      well = record {
+        built = agrees.well.built;
+        few = agrees.well.few;
+        most = agrees.well.most;
+        builds = agrees.well.builds;
+        blocked = agrees.well.blocked;
+        refused = agrees.well.refused;
+        plain = agrees.well.plain;
+        opens = agrees.well.opens;
+        levels = agrees.well.levels;
+        first = agrees.well.first;
+        transaction = runs_on was phases.Visible was.writes was.locks was.blocks.block (ap is_ended next.working.phase) refl (runs_unless was was.phase agrees.well.transaction (ap is_ended next.working.phase));
+        written = agrees.well.written;
+        end = record { has = record { command = works.command; at = works.at }; out = out; first = next.first; end = next.end; runs = first_runs; written = next.written };
+        answered = λ _ none. absurd (cc (none, next.answered));
+        come_out = agrees.well.come_out;
+        past = agrees.well.past;
+        free = λ _ command. free_running now command.command hidden;
+        granted = λ is. absurd (cc);
+        clear = inr clear;
+        table = agrees.well.table;
+      };
+    })
+    (end_follows scenario old was phases.Visible was.running was.writes was.locks (events.Visible xid) agrees played appends.comes tt
+    (record { id = refl; commands = refl; finished = refl; answer = refl; plan = refl; opened = refl; block = refl; refused = refl; found = refl }) refl refl (λ _. refl) (λ _. next.answered))
+    appends
+  where
+    now : Backend
+    now = record was { phase = phases.Visible }
+
+    works : HasCommand was
+    works = next.working.has
+
+    facts : Facts
+    facts = facts_of old was.id
+
+    out : is_out was ≡ true
+    out = agrees.well.come_out next.answered
+
+    runs : is_some was.running ≡ true
+    runs = runs_xid was.running xid.0 next.xid_is
+
+    hidden : is_none was.running ≡ false
+    hidden = ap (λ t. not t) runs
+
+    clear : map cleared was.locks.items ≡ was.locks.items
+    clear = clear_at was agrees.well (λ is. absurd (cc (is, next.working.phase)))
+
+    first_runs : option_map_or (λ t. Some t.first) was.running None ≡ Some next.first
+    first_runs = some_first was.running (was.finished + 1) next.first runs (first_of_end was agrees.well works next.first (ap is_ended next.working.phase) (ap end_from next.end))
+
+    ends : IsEnd facts works.command (session_at was agrees.rest) (events.Visible xid)
+    ends = is_end facts was agrees.rest works (events.Visible xid) agrees.facts agrees.well agrees.count out (ap is_ended next.working.phase) (agrees.facts.owed ∙ ap owed_at next.working.phase)
+        (ap (owed_by_end [] (owed_first was works.command)) next.end ∙ next.working.free)
+        (ap (next_of_end facts) next.end ∙ visible_next facts next.first xid.0 (ap (has_write_from next.first) agrees.facts.lists ∙ next.written)
+        (ap is_visible agrees.facts.running ∙ hidden_at was.phase was.running (ap is_visible_at next.working.phase)) (ap (λ o. option_map_or (λ t. unwrap_or t.xid 0) o 0) agrees.facts.running ∙ xid_running was.phase was.running xid.0 next.xid_is))

@@ -1,0 +1,166 @@
+-- What a backend does next.
+use Rattle.std.proofs.Common.{◌≡◌, ◌∙◌, ℕ, Bool, true, false, not, ◌&&◌, ◌||◌, Option, Some, None, List, [], ◌∷◌, refl, sym, ap, subst, filter, map, is_none, is_some, slice_get, ◌⊎◌, inl, inr, arith}
+use Rattle.std.specs.Prelude.{nat_le}
+use Rattle.std.specs.List.{find, list_any}
+use Rattle.std.proofs.lemmas.Bool.{le-leb}
+use Rattle.std.specs.Option.{option_map_or}
+use Rattle.base_types.specs.Scans.{build_scans}
+use Rattle.ddl_effect.specs.Plans.{Plan, Do, Lookup, Open, Write}
+use Rattle.ddl_effect.specs.Stages.{plan_at, want_of}
+use Rattle.ddl_effect.specs.declared.want.Want.{Want}
+use Rattle.ddl_effect.specs.declared.want.Want.TheVariants as wants
+use Rattle.ddl_effect.specs.declared.exec.Exec.TheVariants as stages
+use Rattle.history_model.specs.Sent.{has_write_from}
+use Rattle.cacheless.specs.Session.{Outcome, Unsettled, Well as CameWell, Badly, outcome_of}
+use Rattle.cacheless.specs.Ends.{Ends, Commits, TakesBack}
+use Rattle.cacheless.specs.Owed.{OwesLook}
+use Rattle.backend_core.specs.Types.{Oid, Mode, Kind, Row, Purpose, Command, Draft, Exec, Xid, OwnTransaction, Backend}
+use Rattle.backend_core.specs.declared.phase.Phase.TheVariants as phases
+use Rattle.backend_core.specs.State.{is_kept, is_out, begins_in, end_at, has_write_since, written_in, unlocked_of, HasCommand}
+use Rattle.backend_core.specs.Agrees.{Well, EndFits, CommitFits}
+use Rattle.backend_core.specs.Steps.{OwesLookNow, IsWorking, NextLookUp, NextBuild, NextLock, NextFind, NextOpen, NextWrite, NextCommit, NextRelease, WithoutWrite, NextFinish}
+
+-- how a plan comes out, by what it wants
+abbrev pub outcome_by : Want → Outcome
+outcome_by wants.Done = CameWell
+outcome_by (wants.Fails error) = Badly
+outcome_by (wants.Absent name) = Badly
+outcome_by want = Unsettled
+
+pub outcome-want : (exec : Exec) → outcome_of (plan_at exec) ≡ outcome_by (want_of (plan_at exec))
+outcome-want stages.Done = refl
+outcome-want (stages.Failing error) = refl
+outcome-want (stages.Missing name) = refl
+outcome-want (stages.Finding name mode field) = refl
+outcome-want (stages.Opening rel kind) = refl
+outcome-want (stages.Writing draft) = refl
+
+-- the command has come out well, or badly
+pub out_well : (exec : Exec) → want_of (plan_at exec) ≡ wants.Done → outcome_of (plan_at exec) ≡ CameWell
+out_well exec is = outcome-want exec ∙ ap outcome_by is
+
+pub out_badly : (exec : Exec) (w : Want) → want_of (plan_at exec) ≡ w → outcome_by w ≡ Badly → outcome_of (plan_at exec) ≡ Badly
+out_badly exec w is badly = outcome-want exec ∙ ap outcome_by is ∙ badly
+
+-- no command reads a column or rows, or locks a further relation
+abbrev pub is_wanted_yet : Want → Bool
+is_wanted_yet (wants.Column rel name) = false
+is_wanted_yet (wants.Read scan) = false
+is_wanted_yet (wants.Lock rel mode) = false
+is_wanted_yet want = true
+
+pub wanted_yet : (exec : Exec) → is_wanted_yet (want_of (plan_at exec)) ≡ true
+wanted_yet stages.Done = refl
+wanted_yet (stages.Failing error) = refl
+wanted_yet (stages.Missing name) = refl
+wanted_yet (stages.Finding name mode field) = refl
+wanted_yet (stages.Opening rel kind) = refl
+wanted_yet (stages.Writing draft) = refl
+
+-- the plan that wants a lookup
+wants_lookup : (p : Plan) (name : List ℕ) (mode : Mode) → want_of p ≡ wants.Lookup name mode → (rest : List Row → Plan) × (p ≡ Do (Lookup name mode) rest)
+wants_lookup (Do (Lookup n m) rest) name mode is = let name_is : n ≡ name = cc in let mode_is : m ≡ mode = cc in (rest, λ i. Do (Lookup (name_is i) (mode_is i)) rest)
+wants_lookup p name mode is = absurd (cc)
+
+wants_open : (p : Plan) (rel : Oid) (kind : Kind) → want_of p ≡ wants.Open rel kind → (rest : List Row → Plan) × (p ≡ Do (Open rel kind) rest)
+wants_open (Do (Open r k) rest) rel kind is = let rel_is : r ≡ rel = cc in let kind_is : k ≡ kind = cc in (rest, λ i. Do (Open (rel_is i) (kind_is i)) rest)
+wants_open p rel kind is = absurd (cc)
+
+wants_write : (p : Plan) → want_of p ≡ wants.Write → (draft : Draft) × (rest : List Row → Plan) × (p ≡ Do (Write draft) rest)
+wants_write (Do (Write draft) rest) is = (draft, rest, refl)
+wants_write p is = absurd (cc)
+
+pub next_write : (s : Backend) → want_of (plan_at s.exec) ≡ wants.Write → NextWrite s
+next_write s is = let at = wants_write (plan_at s.exec) is in record { draft = at.0; rest = at.1; at = at.2 }
+
+pub next_look_up : (s : Backend) (name : List ℕ) (mode : Mode) → want_of (plan_at s.exec) ≡ wants.Lookup name mode → s.read ≡ false → NextLookUp s name
+next_look_up s name mode is unread = let at = wants_lookup (plan_at s.exec) name mode is in record { mode = mode; rest = at.0; at = at.1; unread = unread }
+
+pub next_lock : (s : Backend) (name : List ℕ) (mode : Mode) (rel : Oid) → want_of (plan_at s.exec) ≡ wants.Lookup name mode → s.read ≡ true → unlocked_of s.locks.items mode s.given.items ≡ Some rel → NextLock s rel mode
+next_lock s name mode rel is read unlocked = let at = wants_lookup (plan_at s.exec) name mode is in record { name = name; rest = at.0; at = at.1; read = read; unlocked = unlocked }
+
+pub next_find : (s : Backend) (name : List ℕ) (mode : Mode) → want_of (plan_at s.exec) ≡ wants.Lookup name mode → s.read ≡ true → unlocked_of s.locks.items mode s.given.items ≡ None → NextFind s
+next_find s name mode is read locked = let at = wants_lookup (plan_at s.exec) name mode is in record { name = name; mode = mode; rest = at.0; at = at.1; read = read; locked = locked }
+
+find_first : {X : Type 0} (p : X → Bool) (xs : List X) (y : X) → find p xs ≡ Some y → (more : List X) × (filter p xs ≡ y ∷ more)
+find_first {X = X} p [] y h = absurd (cc)
+find_first {X = X} p (x ∷ xs) y h = elim (p x) as (λ t. p x ≡ t → (more : List X) × (filter p (x ∷ xs) ≡ y ∷ more)) [
+  | true ↦ λ e. let same : x ≡ y = cc (simp e at h) in (filter p xs, simp e (ap (λ z. z ∷ filter p xs) same))
+  | false ↦ λ e. let more = find_first p xs y (simp e at h) in (more.0, simp e more.1)
+] refl
+
+find_none : {X : Type 0} (p : X → Bool) (xs : List X) → find p xs ≡ None → filter p xs ≡ []
+find_none p [] h = refl
+find_none p (x ∷ xs) h = elim (p x) as (λ t. p x ≡ t → filter p (x ∷ xs) ≡ []) [
+  | true ↦ λ e. absurd (cc (simp e at h))
+  | false ↦ λ e. simp e (find_none p xs (simp e at h))
+] refl
+
+pub next_build : (s : Backend) (rel : Oid) (kind : Kind) (scan : Purpose) → want_of (plan_at s.exec) ≡ wants.Open rel kind → find (λ d. not (is_kept s.kept d)) (build_scans kind rel) ≡ Some scan → NextBuild s scan
+next_build s rel kind scan is found =
+    let at = wants_open (plan_at s.exec) rel kind is in
+    let first = find_first (λ d. not (is_kept s.kept d)) (build_scans kind rel) scan found in
+    record { rel = rel; kind = kind; rest = at.0; at = at.1; more = first.0; first = first.1 }
+
+pub next_open : (s : Backend) (rel : Oid) (kind : Kind) → want_of (plan_at s.exec) ≡ wants.Open rel kind → find (λ d. not (is_kept s.kept d)) (build_scans kind rel) ≡ None → NextOpen s rel kind
+next_open s rel kind is none = let at = wants_open (plan_at s.exec) rel kind is in record { rest = at.0; at = at.1; none = find_none (λ d. not (is_kept s.kept d)) (build_scans kind rel) none }
+
+-- the running command is the one at this place
+pub the_command : (s : Backend) (has : HasCommand s) (command : Command) → slice_get s.commands s.finished ≡ Some command → has.command ≡ command
+the_command s has command at = let both : Some has.command ≡ Some command = sym has.at ∙ at in cc
+
+pub working : (s : Backend) (command : Command) → slice_get s.commands s.finished ≡ Some command → s.phase ≡ phases.Working → (begins_in s.blocks s.phase command && is_none s.running) ≡ false → IsWorking s
+working s command at phase free = record { has = record { command = command; at = at }; phase = phase; free = ap (λ t. elim t [ true ↦ OwesLook ∷ [] | false ↦ [] ]) free }
+
+pub owes_look : (s : Backend) (command : Command) → slice_get s.commands s.finished ≡ Some command → (begins_in s.blocks s.phase command && is_none s.running) ≡ true → OwesLookNow s
+owes_look s command at owes = (record { command = command; at = at }, inl (λ none. absurd (let both : OwesLook ∷ [] ≡ [] = sym (ap (λ t. elim t [ true ↦ OwesLook ∷ [] | false ↦ [] ]) owes) ∙ none in cc)))
+
+-- writes since a command, by the commands alone
+pub writes_since : (from : ℕ) (commands : List ℕ) → list_any (λ c. nat_le from c) commands ≡ has_write_from from (map written_in commands)
+writes_since from [] = refl
+writes_since from (c ∷ commands) = ap (λ t. nat_le from c || t) (writes_since from commands)
+
+no_command : (s : Backend) → HasCommand s → slice_get s.commands s.finished ≡ None → ⊥
+no_command s has none = let both : Some has.command ≡ None = sym has.at ∙ none in absurd (cc)
+
+-- after the last command nothing but a taking back is on its way
+pub not_granted : (s : Backend) → Well s → slice_get s.commands s.finished ≡ None → s.phase ≡ phases.Granted → ⊥
+not_granted s well none is = no_command s (subst (EndFits s) is well.end) none
+
+pub not_visible : (s : Backend) → Well s → slice_get s.commands s.finished ≡ None → s.phase ≡ phases.Visible → ⊥
+not_visible s well none is = let end : CommitFits s = subst (EndFits s) is well.end in no_command s end.has none
+
+pub finishes_now : (s : Backend) (command : Command) → slice_get s.commands s.finished ≡ Some command → IsWorking s → is_some s.answer ≡ true → end_at s command ≡ Ends → NextFinish s
+finishes_now s command at work answered end = record {
+  has = work.has;
+  answered = λ none. absurd (let both : false ≡ true = sym (ap is_some none) ∙ answered in cc);
+  ended = inr (work.phase, work.free, ap (end_at s) (the_command s work.has command at) ∙ end);
+}
+
+pub releases_now : (s : Backend) (command : Command) (from : ℕ) → slice_get s.commands s.finished ≡ Some command → IsWorking s → is_some s.answer ≡ true → has_write_since from s ≡ false
+    → (end_at s command ≡ Commits from) ⊎ (end_at s command ≡ TakesBack from) → NextRelease s from
+releases_now s command from at work answered none end = WithoutWrite work answered (subst (λ c. (end_at s c ≡ Commits from) ⊎ (end_at s c ≡ TakesBack from)) (sym (the_command s work.has command at)) end) none
+
+-- a write since a command is a write
+some_write : (from : ℕ) (commands : List ℕ) → has_write_from from (map written_in commands) ≡ true → has_write_from 0 (map written_in commands) ≡ true
+some_write from [] is = is
+some_write from (c ∷ commands) is = ap (λ t. t || has_write_from 0 (map written_in commands)) (le-leb 0 c (omega arith))
+
+has_xid : (s : Backend) (from : ℕ) → Well s → has_write_since from s ≡ true → option_map_or (λ t. is_some t.xid) s.running false ≡ true
+has_xid s from well written = well.written (some_write from s.writes.items written)
+
+-- a transaction that has written has its Xid
+pub not_without_xid : (s : Backend) (from : ℕ) (own : OwnTransaction) → Well s → has_write_since from s ≡ true → s.running ≡ Some own → own.xid ≡ None → ⊥
+not_without_xid s from own well written runs none =
+    let both : true ≡ false = sym (has_xid s from well written) ∙ ap (λ o. option_map_or (λ (t : OwnTransaction). is_some t.xid) o false) runs ∙ ap (λ (o : Option Xid). is_some o) none in absurd (cc)
+
+pub commits_now : (s : Backend) (command : Command) (first : ℕ) (own : OwnTransaction) (xid : Xid) → slice_get s.commands s.finished ≡ Some command → IsWorking s → is_some s.answer ≡ true → has_write_since first s ≡ true
+    → end_at s command ≡ Commits first → s.running ≡ Some own → own.xid ≡ Some xid → NextCommit s xid.0
+commits_now s command first own xid at work answered written end runs has = record {
+  working = work;
+  answered = answered;
+  first = first;
+  end = ap (end_at s) (the_command s work.has command at) ∙ end;
+  written = written;
+  xid_is = ap (λ o. option_map_or (λ (t : OwnTransaction). option_map_or (λ x. Some x.0) t.xid None) o None) runs ∙ ap (λ o. option_map_or (λ (x : Xid). Some x.0) o None) has;
+}
