@@ -13,10 +13,9 @@ use Rattle.ddl_effect.specs.Stages.{plan_at}
 use Rattle.cacheless.specs.Owed.{Owes, OwesLook}
 use Rattle.cacheless.specs.Session.{Badly, outcome_of, is_settled, none_open, refused_first, plan_admitted, plan_first}
 use Rattle.backend_core.specs.Types.{Oid, Kind, Field, Command, CommandError, Row, Purpose, Entry, Backend}
-use Rattle.backend_core.specs.declared.phase.Phase.TheVariants as phases
 use Rattle.backend_core.specs.NewTables.{SeesRelation}
 use Rattle.backend_core.specs.State.{is_ended, begins_in, act_missing, scans_missing, Rest, HasCommand}
-use Rattle.backend_core.specs.Agrees.{Well, RunsAlone, RunsBlock, RunsBy, TransactionFits, HasOpened, Way, Agrees}
+use Rattle.backend_core.specs.Agrees.{Well, RunsBy, TransactionFits, HasOpened, Way, Agrees}
 use Rattle.backend_core.specs.Steps.{IsWorking}
 use Rattle.backend_core.proofs.Carry.{missing_at}
 

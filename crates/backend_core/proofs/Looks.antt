@@ -25,7 +25,7 @@ use Rattle.cacheless.proofs.Settling.{waits-owed}
 use Rattle.backend_core.specs.Types.{Command, OwnLock, Entry, Phase, OwnTransaction, Backend}
 use Rattle.backend_core.specs.declared.phase.Phase.TheVariants as phases
 use Rattle.backend_core.specs.State.{owed_at, granted, is_visible_at, is_taken_back, is_ended, one_if, running_in, begun_own, begins_in, owed_first, Rest, session_at, HasCommand}
-use Rattle.backend_core.specs.Agrees.{IsPlayed, FactsFit, TallyFits, Well, RunsAlone, RunsBlock, RunsBy, TransactionFits, Agrees}
+use Rattle.backend_core.specs.Agrees.{IsPlayed, FactsFit, TallyFits, Well, RunsBy, TransactionFits, Agrees}
 use Rattle.backend_core.specs.Steps.{OwesLookNow, Enters}
 use Rattle.backend_core.proofs.Stepping.{facts_after, session_after, rest_after, own_enters}
 use Rattle.backend_core.proofs.Carry.{MayCome, may_come, Leaves, own_leaves, kept-more, command-more, no_answer, look_true, look_allowed, may_call, waits_at, left_command, start_owed, builds_same, clear_at, accepted-clear}
