@@ -1,23 +1,21 @@
 -- A backend that is about to do an act of its command's plan.
-use Rattle.std.proofs.Common.{◌≡◌, ◌≢◌, ◌+◌, ◌⊎◌, inl, inr, ◌∙◌, ℕ, Bool, true, false, not, Option, Some, None, List, [], ◌∷◌, ◌++◌, ◌==◌, ◌&&◌, refl, sym, ap, subst, is_none, is_some, slice_get, length, map, unwrap_or}
+use Rattle.std.proofs.Common.{◌≡◌, ◌≢◌, ◌⊎◌, inl, inr, ◌∙◌, ℕ, Bool, true, false, not, Option, Some, None, List, [], ◌∷◌, ◌&&◌, refl, sym, ap, subst, is_none, is_some, slice_get, length, map, unwrap_or}
 use Rattle.std.specs.Prelude.{nat_le}
-use Rattle.std.specs.Option.{option_map_or}
 use Rattle.base_types.specs.Scenario.{Scenario}
 use Rattle.base_types.specs.declared.command.Command.TheVariants as commands
 use Rattle.base_types.specs.Fields.{has_field}
 use Rattle.base_types.specs.declared.dropped.TheConstants.{MOST_COLUMNS}
 use Rattle.rel_desc.specs.declared.error.CommandError.TheVariants as errors
-use Rattle.ddl_effect.specs.Plans.{Plan, Done, Fails, Absent, NotBuilt, Do, Act, Lookup, Open}
-use Rattle.ddl_effect.specs.Commands.{plan_of, if_passes, if_no_column, first_twice, opening, showing, writing, new_table, creating}
-use Rattle.ddl_effect.specs.Blocks.{Block, Outside, Inside, Failed, Blocks, no_block, ends_block, ends_failure, refused_in, refused_by}
+use Rattle.ddl_effect.specs.Plans.{Plan, Done, Fails, Absent, NotBuilt, Do, Open}
+use Rattle.ddl_effect.specs.Commands.{plan_of, if_passes, if_no_column, first_twice, opening, showing, writing, new_table}
+use Rattle.ddl_effect.specs.Blocks.{Block, Outside, Inside, Failed, no_block, ends_block, ends_failure, refused_in, refused_by}
 use Rattle.ddl_effect.specs.Stages.{plan_at}
 use Rattle.cacheless.specs.Owed.{Owes, OwesLook}
 use Rattle.cacheless.specs.Session.{Badly, outcome_of, is_settled, none_open, refused_first, plan_admitted, plan_first}
-use Rattle.backend_core.specs.Types.{Oid, Kind, Field, Command, CommandError, Row, Purpose, Entry, KeptScan, Phase, OwnTransaction, Backend}
-use Rattle.backend_core.specs.declared.phase.Phase.TheVariants as phases
+use Rattle.backend_core.specs.Types.{Oid, Kind, Field, Command, CommandError, Row, Purpose, Entry, Backend}
 use Rattle.backend_core.specs.NewTables.{SeesRelation}
-use Rattle.backend_core.specs.State.{is_ended, begins_in, owed_first, act_missing, scans_missing, Rest, HasCommand}
-use Rattle.backend_core.specs.Agrees.{Well, RunsAlone, RunsBlock, TransactionFits, IsUntouched, IsMissing, HasOpened, IsFound, IsWritten, Way, CommandFits, Agrees}
+use Rattle.backend_core.specs.State.{is_ended, begins_in, act_missing, scans_missing, Rest, HasCommand}
+use Rattle.backend_core.specs.Agrees.{Well, RunsBy, TransactionFits, HasOpened, Way, Agrees}
 use Rattle.backend_core.specs.Steps.{IsWorking}
 use Rattle.backend_core.proofs.Carry.{missing_at}
 
@@ -31,6 +29,7 @@ pub record IsActing (seen : List Entry) (s : Backend) (rest : Rest) (command : C
   pub unanswered : is_some s.answer ≡ false
   pub unrefused : rest.refused ≡ None
   pub unblocked : s.blocked ≡ false
+  pub goes : ends_block command ≡ false
   pub way : Way seen s rest command
   pub runs : is_some s.running ≡ true
 
@@ -74,7 +73,7 @@ none_or_some (Some x) = refl
 -- the transaction runs
 runs_at : (s : Backend) (works : IsWorking s) → Well s → s.blocked ≡ false → ends_failure works.has.command ≡ false → is_some s.running ≡ true
 runs_at s works well unblocked other = by_block s.blocks.block refl
-    (subst (λ p. elim p as (λ x. Type 0) [ phases.Ended ↦ s.running ≡ None | q ↦ elim s.blocks.block as (λ x. Type 0) [ Outside ↦ (s.running ≡ None) ⊎ RunsAlone s | Inside ↦ RunsBlock s | Failed ↦ s.running ≡ None ] ]) works.phase well.transaction)
+    (subst (TransactionFits s) works.phase well.transaction)
   where
     command : Command
     command = works.has.command
@@ -96,7 +95,7 @@ runs_at s works well unblocked other = by_block s.blocks.block refl
     failed : s.blocks.block ≡ Failed → is_some (refused_in Failed command) ≡ false → is_some s.running ≡ true
     failed is allowed = absurd (cc (other, allowed))
 
-    by_block : (b : Block) → s.blocks.block ≡ b → elim b as (λ x. Type 0) [ Outside ↦ (s.running ≡ None) ⊎ RunsAlone s | Inside ↦ RunsBlock s | Failed ↦ s.running ≡ None ] → is_some s.running ≡ true
+    by_block : (b : Block) → s.blocks.block ≡ b → RunsBy s b → is_some s.running ≡ true
     by_block Outside is fits = some_of (runs_outside (begins_in s.blocks s.phase command) (is_none s.running) (begins is) works.free)
       where
         some_of : is_none s.running ≡ false → is_some s.running ≡ true
@@ -114,6 +113,7 @@ is_acting scenario seen s agrees works acting = record {
   unanswered = unanswered;
   unrefused = unrefused;
   unblocked = unblocked;
+  goes = ends_less works.has.command (acts_way seen s agrees.rest works.has.command acting way);
   way = way;
   runs = runs_at s works agrees.well unblocked (acts_way seen s agrees.rest works.has.command acting way);
 }

@@ -12,6 +12,7 @@ pub mod Looks
 pub mod Acting
 pub mod Scanning
 pub mod Locking
+pub mod Others
 pub mod EndEntries
 pub mod Committing
 pub mod TakingBack
@@ -26,7 +27,6 @@ pub mod Joining
 pub mod Waiting
 pub mod Shown
 pub mod Finishing
-pub mod Others
 pub mod ReadPlaces
 pub mod Answered
 pub mod Stepped

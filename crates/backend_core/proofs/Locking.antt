@@ -1,5 +1,6 @@
 -- The locks that a backend asks for.
-use Rattle.std.proofs.Common.{◌≡◌, ◌≢◌, ◌<◌, ◌+◌, ◌⊎◌, inl, inr, ◌∙◌, ℕ, Bool, true, false, not, Option, Some, None, List, [], ◌∷◌, ◌++◌, ◌==◌, ◌&&◌, ◌||◌, if◌then◌else◌, refl, sym, ap, subst, length, drop, filter, map, get_or, is_some, is_none, slice_get, unwrap_or, arith}
+use Rattle.std.proofs.Common.{Err, ◌≡◌, ◌<◌, ◌+◌, inl, inr, ◌∙◌, ℕ, Bool, true, false, not, Option, Some, None, List, [], ◌∷◌, ◌++◌, ◌||◌, if◌then◌else◌, refl, sym, ap, subst, length, drop, map, unwrap_or, arith}
+use Rattle.std.specs.Option.{option_map_or}
 use Rattle.std.specs.declared.alloc.Global.{Global}
 use Rattle.std.specs.declared.vec.Vec.{Vec}
 use Rattle.base_types.specs.Scenario.{Scenario}
@@ -7,31 +8,34 @@ use Rattle.base_types.specs.declared.row.Row.TheVariants as rows
 use Rattle.base_types.specs.declared.scan.Purpose.TheVariants as scans
 use Rattle.event_kinds.specs.declared.entry.Event.TheVariants as events
 use Rattle.rel_desc.specs.declared.error.CommandError.TheVariants as errors
-use Rattle.ddl_effect.specs.Plans.{Plan, Fails, Do, Act, Lookup, Open}
+use Rattle.ddl_effect.specs.Plans.{Plan, Fails, Do, Act, Lookup}
+use Rattle.ddl_effect.specs.Blocks.{ends_block}
 use Rattle.ddl_effect.specs.Stages.{plan_at}
 use Rattle.ddl_effect.specs.declared.exec.Exec.TheVariants as stages
 use Rattle.history_model.specs.Drawn.{next_oid}
 use Rattle.history_model.specs.Held.{held_of, holds}
-use Rattle.history_model.specs.Orderly.{MayComeNext, IsSound}
+use Rattle.history_model.specs.Orderly.{MayComeNext}
 use Rattle.history_model.specs.Writes.{is_empty}
 use Rattle.history_model.proofs.Prefixes.{EachEntry-weaker}
-use Rattle.seg_calls.specs.Calls.{entry_of, Appends}
+use Rattle.seg_calls.specs.Calls.{entry_of, Appends, Locks}
+use Rattle.seg_calls.specs.declared.refusal.LockRefusal.{LockRefusal}
+use Rattle.seg_calls.specs.declared.refusal.LockRefusal.TheVariants.{Conflict}
 use Rattle.cacheless.specs.Facts.{Facts, facts_of}
 use Rattle.cacheless.specs.Locks.{cleared, has_lock}
-use Rattle.cacheless.specs.Session.{Session, Badly, Well as Goes, Unsettled, outcome_of, first_of}
-use Rattle.cacheless.specs.Owed.{Owes, OwesLook, OwesScan, owed_at_start, owed_after, builds_owed, act_owed, scans_owed, owed_of, owes_accept}
+use Rattle.cacheless.specs.Session.{Session, Badly, outcome_of, first_of}
+use Rattle.cacheless.specs.Owed.{OwesScan, owed_at_start, owed_after, builds_owed, act_owed, owed_of, owes_accept}
 use Rattle.cacheless.specs.Settled.{class_oid, if_locked, looked_up, gives, done_here}
 use Rattle.cacheless.specs.Sessions.{placed_at}
 use Rattle.cacheless.specs.Plays.{IsLock, MayPlayIn}
 use Rattle.cacheless.proofs.HeldLocks.{Follows, grant_of, locks_of, locks_are_held, lock_is_held}
 use Rattle.cacheless.proofs.Settling.{waits-act}
-use Rattle.backend_core.specs.Types.{Oid, Mode, Kind, Row, Purpose, Command, CommandError, Entry, Event, OwnLock, Backend}
+use Rattle.backend_core.specs.Types.{Oid, Mode, Row, Purpose, Command, Entry, Event, OwnLock, Backend}
 use Rattle.backend_core.specs.declared.phase.Phase.TheVariants as phases
-use Rattle.backend_core.specs.State.{owed_at, granted, is_taken_back, is_ended, running_in, running_at, builds_missing, scans_missing, unlocked_of, Rest, session_at, HasCommand}
-use Rattle.backend_core.specs.Agrees.{IsPlayed, FactsFit, RowsFit, Well, GivenSeen, Agrees}
+use Rattle.backend_core.specs.State.{owed_at, granted, is_taken_back, is_ended, running_in, builds_missing, scans_missing, unlocked_of, Rest, session_at, HasCommand}
+use Rattle.backend_core.specs.Agrees.{IsPlayed, FactsFit, RowsFit, GivenSeen, Agrees}
 use Rattle.backend_core.specs.Steps.{IsWorking, NextLock, Enters}
 use Rattle.backend_core.proofs.Stepping.{Waits, facts_after, session_after, rest_after, own_enters}
-use Rattle.backend_core.proofs.Carry.{MayCome, may_come, Leaves, own_leaves, has_written-quiet, kept-more, command-more, no_answer, waits_at, left_command, scans_same, missing_at, owed_scans, clear_at, accepted-clear}
+use Rattle.backend_core.proofs.Carry.{MayCome, may_come, Leaves, own_leaves, has_written-quiet, kept-more, command-more, no_answer, waits_at, scans_same, missing_at, owed_scans, clear_at, accepted-clear}
 use Rattle.backend_core.proofs.Looks.{not_empty-after}
 use Rattle.backend_core.proofs.Acting.{acts, IsActing, is_acting}
 use Rattle.backend_core.proofs.Scanning.{transaction-more, end_free, runs_on}
@@ -75,9 +79,10 @@ waits_lock scenario seen s agrees has rel mode next = waits_at scenario seen s a
 -- the lock is next
 may_lock : (scenario : Scenario) (seen : List Entry) (s : Backend) (agrees : Agrees scenario seen s) (works : IsWorking s) (rel : Oid) (mode : Mode) → NextLock s rel mode
     → (owed_of (facts_of seen s.id) works.has.command (session_at s agrees.rest) ≡ []) × IsLock (facts_of seen s.id) (plan_at s.exec) rel mode
-may_lock scenario seen s agrees works rel mode next =
-    (owed_scans scenario seen s agrees works ∙ ap (map OwesScan) (none_missing s next.name mode next.rest agrees.well.builds next.at next.read),
-     subst (λ p. IsLock (facts_of seen s.id) p rel mode) (sym next.at) (ap class_oid (found_rows (facts_of seen s.id) s next.name mode next.rest agrees.facts next.at next.read) ∙ (unlocked s.locks.items mode s.given.items rel next.unlocked).names, refl))
+may_lock scenario seen s agrees works rel mode next = (
+  owed_scans scenario seen s agrees works ∙ ap (map OwesScan) (none_missing s next.name mode next.rest agrees.well.builds next.at next.read),
+  subst (λ p. IsLock (facts_of seen s.id) p rel mode) (sym next.at) (ap class_oid (found_rows (facts_of seen s.id) s next.name mode next.rest agrees.facts next.at next.read) ∙ (unlocked s.locks.items mode s.given.items rel next.unlocked).names, refl),
+)
 
 -- the backend doesn't hold it
 pub lock_new : (scenario : Scenario) (seen : List Entry) (s : Backend) → Agrees scenario seen s → IsPlayed scenario seen → IsWorking s → (rel : Oid) (mode : Mode) → NextLock s rel mode → holds (held_of seen) s.id rel mode ≡ false
@@ -121,11 +126,26 @@ granted_enters scenario old new had has was rel mode locks agrees played works n
       };
       facts = record {
         running = runs_on (was.finished + 1) was (facts_of old was.id) agrees.facts acting.runs ∙ ap (λ p. running_in p was.running) works.phase;
-        lists = agrees.facts.lists; owed = refl; took = refl; taken = λ from is. absurd (cc); usable = agrees.facts.usable; kept = agrees.facts.kept; given = agrees.facts.given;
+        lists = agrees.facts.lists;
+        owed = refl;
+        took = refl;
+        taken = λ from is. absurd (cc);
+        usable = agrees.facts.usable;
+        kept = agrees.facts.kept;
+        given = agrees.facts.given;
       };
       tally = λ _. omega (arith, agrees.tally (ap is_ended works.phase), ap granted works.phase);
       well = record {
-        built = agrees.well.built; few = agrees.well.few; most = agrees.well.most; builds = agrees.well.builds; blocked = agrees.well.blocked; refused = agrees.well.refused; plain = agrees.well.plain; opens = agrees.well.opens; levels = agrees.well.levels; first = agrees.well.first;
+        built = agrees.well.built;
+        few = agrees.well.few;
+        most = agrees.well.most;
+        builds = agrees.well.builds;
+        blocked = agrees.well.blocked;
+        refused = agrees.well.refused;
+        plain = agrees.well.plain;
+        opens = agrees.well.opens;
+        levels = agrees.well.levels;
+        first = agrees.well.first;
         transaction = transaction-more was now (ap is_ended works.phase) refl refl refl refl refl agrees.well.transaction;
         written = agrees.well.written;
         end = record { command = works.has.command; at = works.has.at };
@@ -188,20 +208,32 @@ refused_enters scenario old new had has was rel mode holder held agrees played w
       session = accepted-clear (facts_after old was event) (first_of (drop was.finished was.commands)) (placed_at (length old + 1) (was.finished + 1) event (session_at was agrees.rest)) (clear_at was agrees.well (λ is. absurd (cc (is, works.phase))));
       facts = record {
         running = runs_on (was.finished + 1) was (facts_of old was.id) agrees.facts acting.runs;
-        lists = agrees.facts.lists; owed = sym (ap owed_at works.phase); took = sym (ap is_taken_back works.phase); taken = λ from is. absurd (cc (is, works.phase)); usable = agrees.facts.usable; kept = agrees.facts.kept; given = λ read. tt;
+        lists = agrees.facts.lists;
+        owed = sym (ap owed_at works.phase);
+        took = sym (ap is_taken_back works.phase);
+        taken = λ from is. absurd (cc (is, works.phase));
+        usable = agrees.facts.usable;
+        kept = agrees.facts.kept;
+        given = λ read. tt;
       };
-      tally = λ _. agrees.tally (ap is_ended works.phase);
+      tally = agrees.tally;
       well = record {
-        built = agrees.well.built; few = agrees.well.few; most = agrees.well.most; builds = agrees.well.builds; blocked = agrees.well.blocked;
+        built = agrees.well.built;
+        few = agrees.well.few;
+        most = agrees.well.most;
+        builds = agrees.well.builds;
+        blocked = agrees.well.blocked;
         refused = λ blocked. absurd (cc (blocked, acting.unblocked));
-        plain = λ command here ends free. absurd (cc (agrees.well.plain command here ends free, next.at));
-        opens = agrees.well.opens; levels = agrees.well.levels; first = agrees.well.first;
+        plain = λ command at ends. absurd (cc (ap (λ o. option_map_or ends_block o false) (sym works.has.at ∙ at), acting.goes, ends));
+        opens = agrees.well.opens;
+        levels = agrees.well.levels;
+        first = agrees.well.first;
         transaction = transaction-more was now (ap is_ended works.phase) (ap is_ended works.phase) refl refl refl refl agrees.well.transaction;
         written = agrees.well.written;
         end = end_free now works.phase;
         answered = λ _ _. inl works.phase;
         come_out = λ _. refl;
-        past = λ _. refl;
+        past = λ none. refl;
         free = λ some. absurd (cc (some, acting.unanswered));
         granted = λ is. absurd (cc (is, works.phase));
         clear = inr (clear_at was agrees.well (λ is. absurd (cc (is, works.phase))));
@@ -239,3 +271,10 @@ refused_enters scenario old new had has was rel mode holder held agrees played w
 
     may : MayCome old e
     may = may_come scenario old e played appends.comes tt
+
+-- the same for what the call answered
+pub refusal_enters : (scenario : Scenario) (old new : List Entry) (had has : ℕ → ℕ) (was : Backend) (rel : Oid) (mode : Mode) (refusal : LockRefusal) (holder of : ℕ) (held under : Mode) → Agrees scenario old was → IsPlayed scenario old → IsWorking was → NextLock was rel mode
+    → refusal ≡ Conflict holder held → of ≡ holder → under ≡ held → Locks old new had has was.id (was.finished + 1) rel mode (Err refusal) → Enters scenario old new was (record was { exec = stages.Failing (errors.Locked rel of under) })
+refusal_enters scenario old new had has was rel mode refusal holder of held under agrees played works next is holder_is held_is locks =
+    subst (λ h. Enters scenario old new was (record was { exec = stages.Failing (errors.Locked rel h under) })) (sym holder_is) (subst (λ m. Enters scenario old new was (record was { exec = stages.Failing (errors.Locked rel holder m) })) (sym held_is)
+    (refused_enters scenario old new had has was rel mode holder held agrees played works next (subst (λ r. Locks old new had has was.id (was.finished + 1) rel mode (Err r)) is locks)))

@@ -1,33 +1,34 @@
 -- The looks of a backend: at its transaction's start, after a grant, and before a scan.
-use Rattle.std.proofs.Common.{◌≡◌, ◌≢◌, ◌≤◌, ◌+◌, ◌⊎◌, inl, inr, ◌∙◌, ℕ, Bool, true, false, not, Option, Some, None, List, [], ◌∷◌, ◌++◌, ◌==◌, ◌&&◌, ◌||◌, refl, sym, ap, subst, length, drop, map, is_none, is_some, slice_get, unwrap_or, arith}
+use Rattle.std.proofs.Common.{◌≡◌, ◌≢◌, ◌≤◌, ◌<◌, ◌+◌, ◌⊎◌, inl, inr, ◌∙◌, ℕ, Bool, true, false, not, Option, Some, None, List, [], ◌∷◌, ◌++◌, ◌==◌, ◌&&◌, ◌||◌, refl, sym, ap, subst, length, drop, take, set, get_or, map, is_none, is_some, arith}
 use Rattle.std.specs.Prelude.{nat_le}
 use Rattle.std.specs.Option.{option_map, option_map_or}
 use Rattle.std.specs.declared.alloc.Global.{Global}
 use Rattle.std.specs.declared.vec.Vec.{Vec}
 use Rattle.std.proofs.Math.Bool.{and-false}
 use Rattle.std.proofs.lemmas.Bool.{eq-eqb, le-leb}
+use Rattle.std.proofs.lemmas.List.{get_or_default}
+use Rattle.std.proofs.lemmas.List.Edits.{map_over_more}
 use Rattle.base_types.specs.Scenario.{Scenario}
 use Rattle.event_kinds.specs.declared.entry.Event.TheVariants as events
 use Rattle.ddl_effect.specs.Blocks.{Block, Outside, Inside, Failed, ends_block, refused_by, no_block}
-use Rattle.ddl_effect.specs.Stages.{plan_at}
 use Rattle.history_model.specs.Drawn.{next_oid}
-use Rattle.history_model.specs.Transactions.{Running, begun}
+use Rattle.history_model.specs.Transactions.{begun}
 use Rattle.history_model.specs.Writes.{is_empty}
-use Rattle.seg_calls.specs.Calls.{entry_of, Appends}
+use Rattle.seg_calls.specs.Calls.{entry_of, Appends, MayCall}
 use Rattle.cacheless.specs.Facts.{Facts, facts_of}
 use Rattle.cacheless.specs.Locks.{cleared}
-use Rattle.cacheless.specs.Session.{Session, Tally, Badly, outcome_of, first_of}
+use Rattle.cacheless.specs.Session.{Session, Badly, outcome_of, first_of}
 use Rattle.cacheless.specs.Owed.{Owes, OwesFetch, OwesLook, begins, owed_at_start, owed_after, builds_owed, owes_accept}
-use Rattle.cacheless.specs.Sessions.{placed_at, accepted}
+use Rattle.cacheless.specs.Sessions.{placed_at}
 use Rattle.cacheless.specs.Plays.{may_look, MayPlayIn}
 use Rattle.cacheless.proofs.Settling.{waits-owed}
 use Rattle.backend_core.specs.Types.{Command, OwnLock, Entry, Phase, OwnTransaction, Backend}
 use Rattle.backend_core.specs.declared.phase.Phase.TheVariants as phases
-use Rattle.backend_core.specs.State.{owed_at, granted, is_visible_at, is_ended, one_if, running_in, running_at, begins_in, owed_first, has_write_since, builds_missing, Rest, session_at, HasCommand}
-use Rattle.backend_core.specs.Agrees.{IsPlayed, FactsFit, TallyFits, Well, RunsAlone, RunsBlock, RunsBy, TransactionFits, Agrees}
+use Rattle.backend_core.specs.State.{owed_at, granted, is_visible_at, is_taken_back, is_ended, one_if, running_in, begun_own, begins_in, owed_first, Rest, session_at, HasCommand}
+use Rattle.backend_core.specs.Agrees.{IsPlayed, FactsFit, TallyFits, Well, RunsBy, TransactionFits, Agrees}
 use Rattle.backend_core.specs.Steps.{OwesLookNow, Enters}
-use Rattle.backend_core.proofs.Stepping.{Waits, facts_after, session_after, rest_after, own_enters}
-use Rattle.backend_core.proofs.Carry.{MayCome, may_come, Leaves, own_leaves, kept-more, command-more, no_answer, look_true, none_running, waits_at, left_command, start_owed, builds_same, clear_at, accepted-clear}
+use Rattle.backend_core.proofs.Stepping.{facts_after, session_after, rest_after, own_enters}
+use Rattle.backend_core.proofs.Carry.{MayCome, may_come, Leaves, own_leaves, kept-more, command-more, no_answer, look_true, look_allowed, may_call, waits_at, left_command, start_owed, builds_same, clear_at, accepted-clear}
 
 one_at_most : (t : Bool) → one_if t ≤ 1
 one_at_most true = omega arith
@@ -51,10 +52,6 @@ may_look_at facts s rest fits tally = ap (λ l. elim l [ OwesFetch ∷ owed ↦ 
     at_phase (phases.TakenBack from) = within
     at_phase phases.Ended = within
 
--- the transaction of an entry
-abbrev pub begun_own : ℕ → Option OwnTransaction → OwnTransaction
-begun_own number own = unwrap_or own (record { first = number; xid = None })
-
 begun_is : (number : ℕ) (p : Phase) (own : Option OwnTransaction) → is_visible_at p ≡ false → Some (begun number (running_in p own)) ≡ running_in phases.Working (Some (begun_own number own))
 begun_is number p None hidden = refl
 begun_is number p (Some t) hidden = λ i. Some (record { first = t.first; xid = option_map (λ x. x.0) t.xid; published = 0; visible = hidden i })
@@ -68,7 +65,7 @@ record OwedLook (scenario : Scenario) (old : List Entry) (was : Backend) (agrees
   unanswered : is_some was.answer ≡ false
   counted : agrees.rest.tally.looks + 1 ≡ agrees.rest.tally.scans + agrees.rest.tally.grants + option_map_or (λ t. one_if (t.first == was.finished + 1)) now.running 0 + one_if was.looked
   first : option_map_or (λ t. t.first) now.running 0 ≤ was.finished + 1
-  transaction : TransactionFits now now.phase
+  transaction : TransactionFits now phases.Working
   locks : (session_after old was (events.Look false) agrees.rest).locks ≡ now.locks.items
   clear : map cleared now.locks.items ≡ now.locks.items
 
@@ -94,11 +91,25 @@ owed_look scenario old new had has was locks agrees played owes appends =
       session = λ i. record (session_after old was (events.Look false) agrees.rest) { ended = owes.going i; locks = owes.locks i };
       facts = record {
         running = ap (λ o. Some (begun (was.finished + 1) o)) agrees.facts.running ∙ begun_is (was.finished + 1) was.phase was.running owes.hidden;
-        lists = agrees.facts.lists; owed = refl; took = refl; taken = λ from is. absurd (cc); usable = agrees.facts.usable; kept = agrees.facts.kept; given = agrees.facts.given;
+        lists = agrees.facts.lists;
+        owed = refl;
+        took = refl;
+        taken = λ from is. absurd (cc);
+        usable = agrees.facts.usable;
+        kept = agrees.facts.kept;
+        given = agrees.facts.given;
       };
       tally = λ _. omega (arith, owes.counted);
       well = record {
-        built = agrees.well.built; few = agrees.well.few; most = agrees.well.most; builds = agrees.well.builds; blocked = agrees.well.blocked; refused = agrees.well.refused; plain = agrees.well.plain; opens = agrees.well.opens; levels = agrees.well.levels;
+        built = agrees.well.built;
+        few = agrees.well.few;
+        most = agrees.well.most;
+        builds = agrees.well.builds;
+        blocked = agrees.well.blocked;
+        refused = agrees.well.refused;
+        plain = agrees.well.plain;
+        opens = agrees.well.opens;
+        levels = agrees.well.levels;
         first = owes.first;
         transaction = owes.transaction;
         written = λ some. written_xid (was.finished + 1) was.running (agrees.well.written some);
@@ -147,6 +158,11 @@ not_empty-after (x ∷ xs) ys some = refl
 cleared_twice : (locks : List OwnLock) → map cleared (map cleared locks) ≡ map cleared locks
 cleared_twice [] = refl
 cleared_twice (lock ∷ locks) = ap (λ l. cleared lock ∷ l) (cleared_twice locks)
+
+-- one more lock is made clear
+pub clears_more : (locks now : List OwnLock) (given : List OwnLock) (i : ℕ) (d : OwnLock) → i < length given → given ≡ locks → length now ≡ length given → now ≡ map cleared (take i locks) ++ drop i locks
+    → set now i (cleared (get_or now i d)) ≡ map cleared (take (i + 1) locks) ++ drop (i + 1) locks
+clears_more locks now given i d within same long done = map_over_more cleared locks now i (get_or now i d) (omega (arith, within, ap length same)) done (get_or_default now i d (get_or now i d) (omega (arith, within, long)))
 
 -- where a look is owed at the start, no transaction runs, and the command begins one
 first_owed : (begins none : Bool) → elim (begins && none) as (λ t. List Owes) [ true ↦ OwesLook ∷ [] | false ↦ [] ] ≢ [] → (begins ≡ true) × (none ≡ true)
@@ -241,24 +257,42 @@ granted_look scenario old new had has was locks agrees played at phase items app
     by_block Inside block = record { runs = refl; first = λ command. ap (λ o. option_map_or (λ t. t.first) o 0) same ∙ block.first command }
     by_block Failed none = same ∙ none
 
--- the look that is owed, at the transaction's start or after a grant
-pub look_enters : (scenario : Scenario) (old new : List Entry) (had has : ℕ → ℕ) (was : Backend) (running : Option OwnTransaction) (locks : Vec OwnLock Global) → Agrees scenario old was → IsPlayed scenario old → OwesLookNow was
-    → running ≡ Some (begun_own (was.finished + 1) was.running) → locks.items ≡ map cleared was.locks.items
-    → Appends old new had has (entry_of was.id (was.finished + 1) (events.Look false)) → Enters scenario old new was (record was { phase = phases.Working; running = running; locks = locks })
-look_enters scenario old new had has was running locks agrees played owes is items appends =
-    subst (λ own. Enters scenario old new was (record was { phase = phases.Working; running = own; locks = locks })) (sym is) (by_owed owes.1)
+-- where a look is owed, the command works or a lock was granted
+owed_phase : (s : Backend) → Well s → OwesLookNow s → ((s.phase ≡ phases.Working) × (is_some s.answer ≡ false)) ⊎ (s.phase ≡ phases.Granted)
+owed_phase s well owes = by_owed owes.1
   where
-    by_answer : (t : Bool) → is_some was.answer ≡ t → owed_first was owes.0.command ≢ [] → is_some was.answer ≡ false
-    by_answer true answered some = absurd (some (agrees.well.free answered owes.0))
+    by_answer : (t : Bool) → is_some s.answer ≡ t → owed_first s owes.0.command ≢ [] → is_some s.answer ≡ false
+    by_answer true answered some = absurd (some (well.free answered owes.0))
     by_answer false none some = none
 
-    by_owed : (owed_first was owes.0.command ≢ []) ⊎ (was.phase ≡ phases.Granted) → Enters scenario old new was (record was { phase = phases.Working; running = Some (begun_own (was.finished + 1) was.running); locks = locks })
-    by_owed (inr granted) = granted_look scenario old new had has was locks agrees played owes.0 granted items appends
-    by_owed (inl some) = by_phase (agrees.well.answered owes.0 unanswered)
-      where
-        unanswered : is_some was.answer ≡ false
-        unanswered = by_answer (is_some was.answer) refl some
+    by_phase : is_some s.answer ≡ false → (s.phase ≡ phases.Working) ⊎ (s.phase ≡ phases.Granted) → ((s.phase ≡ phases.Working) × (is_some s.answer ≡ false)) ⊎ (s.phase ≡ phases.Granted)
+    by_phase none (inl working) = inl (working, none)
+    by_phase none (inr granted) = inr granted
 
-        by_phase : (was.phase ≡ phases.Working) ⊎ (was.phase ≡ phases.Granted) → Enters scenario old new was (record was { phase = phases.Working; running = Some (begun_own (was.finished + 1) was.running); locks = locks })
-        by_phase (inl working) = first_look scenario old new had has was locks agrees played owes.0 some working unanswered items appends
-        by_phase (inr granted) = granted_look scenario old new had has was locks agrees played owes.0 granted items appends
+    by_owed : (owed_first s owes.0.command ≢ []) ⊎ (s.phase ≡ phases.Granted) → ((s.phase ≡ phases.Working) × (is_some s.answer ≡ false)) ⊎ (s.phase ≡ phases.Granted)
+    by_owed (inr granted) = inr granted
+    by_owed (inl some) = let none = by_answer (is_some s.answer) refl some in by_phase none (well.answered owes.0 none)
+
+-- so the look may be made
+pub owed_call : (scenario : Scenario) (seen : List Entry) (s : Backend) → Agrees scenario seen s → IsPlayed scenario seen → OwesLookNow s → MayCall scenario seen (entry_of s.id (s.finished + 1) (events.Look false))
+owed_call scenario seen s agrees played owes = by_phase (owed_phase s agrees.well owes)
+  where
+    at_phase : is_visible_at s.phase ≡ false → is_taken_back s.phase ≡ false → MayCall scenario seen (entry_of s.id (s.finished + 1) (events.Look false))
+    at_phase hidden standing = may_call scenario seen s (events.Look false) agrees hidden standing refl (look_allowed scenario seen s.id (s.finished + 1) played)
+
+    by_phase : ((s.phase ≡ phases.Working) × (is_some s.answer ≡ false)) ⊎ (s.phase ≡ phases.Granted) → MayCall scenario seen (entry_of s.id (s.finished + 1) (events.Look false))
+    by_phase (inl working) = at_phase (ap is_visible_at working.0) (ap is_taken_back working.0)
+    by_phase (inr granted) = at_phase (ap is_visible_at granted) (ap is_taken_back granted)
+
+-- the look that is owed, at the transaction's start or after a grant
+pub look_enters : (scenario : Scenario) (old new : List Entry) (had has : ℕ → ℕ) (was : Backend) (own : OwnTransaction) (locks : Vec OwnLock Global) → Agrees scenario old was → IsPlayed scenario old → OwesLookNow was
+    → own ≡ begun_own (was.finished + 1) was.running → locks.items ≡ map cleared was.locks.items
+    → Appends old new had has (entry_of was.id (was.finished + 1) (events.Look false)) → Enters scenario old new was (record was { phase = phases.Working; running = Some own; locks = locks })
+look_enters scenario old new had has was own locks agrees played owes is items appends =
+    subst (λ t. Enters scenario old new was (record was { phase = phases.Working; running = Some t; locks = locks })) (sym is) (by_owed owes.1 (owed_phase was agrees.well owes))
+  where
+    by_owed : (owed_first was owes.0.command ≢ []) ⊎ (was.phase ≡ phases.Granted) → ((was.phase ≡ phases.Working) × (is_some was.answer ≡ false)) ⊎ (was.phase ≡ phases.Granted)
+        → Enters scenario old new was (record was { phase = phases.Working; running = Some (begun_own (was.finished + 1) was.running); locks = locks })
+    by_owed (inl some) (inl working) = first_look scenario old new had has was locks agrees played owes.0 some working.0 working.1 items appends
+    by_owed (inr granted) p = granted_look scenario old new had has was locks agrees played owes.0 granted items appends
+    by_owed (inl some) (inr granted) = granted_look scenario old new had has was locks agrees played owes.0 granted items appends

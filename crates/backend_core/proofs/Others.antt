@@ -1,5 +1,5 @@
 -- Another backend's entry changes nothing of where a backend is.
-use Rattle.std.proofs.Common.{◌≡◌, ◌≤◌, ◌+◌, ◌∙◌, ℕ, false, Some, List, [], ◌∷◌, ◌++◌, ◌==◌, sym, ap, subst, length, drop, All, refl, arith}
+use Rattle.std.proofs.Common.{◌≡◌, ◌≤◌, ◌∙◌, false, Some, List, [], ◌∷◌, ◌++◌, ◌==◌, sym, ap, subst, length, drop, All, refl, arith}
 use Rattle.std.specs.Option.{option_map_or}
 use Rattle.std.proofs.lemmas.List.{length_push}
 use Rattle.base_types.specs.Scenario.{Scenario}
@@ -46,7 +46,11 @@ agrees-other scenario seen e s other may agrees = record {
 -- a backend that hasn't joined still has no entry
 not_joined-other : (scenario : Scenario) (seen : List Entry) (e : Entry) (s : Backend) → (e.backend == s.id) ≡ false → HasNotJoined scenario seen s → HasNotJoined scenario (seen ++ e ∷ []) s
 not_joined-other scenario seen e s other before = record {
-  number = before.number; commands = before.commands; built = before.built; few = before.few; new = before.new;
+  number = before.number;
+  commands = before.commands;
+  built = before.built;
+  few = before.few;
+  new = before.new;
   session = session_of-other scenario seen e s.id other ∙ before.session;
   facts = facts_of-other seen e s.id other ∙ before.facts;
   life = life_of-other seen e s.id other ∙ before.life;

@@ -1,8 +1,7 @@
 -- The scans of a backend, and the look before each.
-use Rattle.std.proofs.Common.{◌≡◌, ◌≢◌, ◌≤◌, ◌<◌, ◌+◌, ◌⊎◌, inl, inr, ◌∙◌, ℕ, Bool, true, false, not, Option, Some, None, List, [], ◌∷◌, ◌++◌, ◌==◌, ◌&&◌, ◌||◌, if◌then◌else◌, refl, sym, ap, subst, length, get_or, cond, filter, take, drop, map, All, is_none, is_some, slice_get, lt-ltb, arith}
-use Rattle.std.specs.Bool.{⊤}
+use Rattle.std.proofs.Common.{◌≡◌, ◌≢◌, ◌<◌, ◌+◌, inl, inr, ◌∙◌, ℕ, Bool, true, false, not, Option, Some, None, List, [], ◌∷◌, ◌++◌, ◌==◌, ◌&&◌, ◌||◌, if◌then◌else◌, refl, sym, ap, subst, length, get_or, cond, filter, take, drop, All, is_none, is_some, slice_get, lt-ltb, arith}
 use Rattle.std.specs.List.{list_any, flat_map, AllByRecursion}
-use Rattle.std.specs.Option.{option_map, option_map_or}
+use Rattle.std.specs.Option.{option_map_or}
 use Rattle.std.proofs.Math.Bool.{or_comm}
 use Rattle.std.proofs.lemmas.Bool.{eq-eqb}
 use Rattle.std.proofs.lemmas.List.Folds.{list_any-append, list_any_at}
@@ -13,36 +12,33 @@ use Rattle.base_types.specs.Scans.{same_scan, build_scans, is_build_scan}
 use Rattle.base_types.specs.Scenario.{Scenario}
 use Rattle.base_types.specs.declared.scanned.Scanned.{Scanned}
 use Rattle.base_types.specs.declared.kind.Kind.TheVariants.{Table, Index}
-use Rattle.base_types.specs.declared.command.Command.TheVariants as commands
 use Rattle.base_types.specs.declared.row.Row.TheVariants as rows
 use Rattle.base_types.specs.declared.scan.Purpose.TheVariants as scans
 use Rattle.base_types.proofs.SameScan.{same_scan-true, same_scan-itself}
 use Rattle.event_kinds.specs.declared.entry.Event.TheVariants as events
-use Rattle.ddl_effect.specs.Plans.{Plan, Done, Fails, Absent, NotBuilt, Do, Act, Lookup, Open, Column, Read, Lock, Write}
-use Rattle.ddl_effect.specs.Commands.{plan_of, if_passes, if_no_column, opening, showing, writing}
+use Rattle.ddl_effect.specs.Plans.{Plan, Do, Lookup, Open}
 use Rattle.ddl_effect.specs.Blocks.{Block, Outside, Inside, Failed, innermost, ends_block, refused_by, no_block}
 use Rattle.ddl_effect.specs.Stages.{plan_at}
 use Rattle.history_model.specs.Drawn.{next_oid}
-use Rattle.history_model.specs.Read.{is_scan_of, rows_by, place_read}
-use Rattle.history_model.specs.Transactions.{Running, begun}
+use Rattle.history_model.specs.Read.{rows_by}
+use Rattle.history_model.specs.Transactions.{begun}
 use Rattle.history_model.specs.Versions.{answer_of}
 use Rattle.history_model.specs.Writes.{is_empty}
 use Rattle.seg_calls.specs.Calls.{entry_of, Appends, GivesRows}
 use Rattle.cacheless.specs.Facts.{Facts, facts_of}
-use Rattle.cacheless.specs.Locks.{cleared}
-use Rattle.cacheless.specs.Session.{Session, Tally, Unsettled, Well as Goes, Badly, Outcome, outcome_of, is_settled, none_open, plan_first, first_of, number_of}
-use Rattle.cacheless.specs.Owed.{owed_after, unusable, builds_owed, act_owed, act_next, scans_next, scans_owed, is_next_scan}
+use Rattle.cacheless.specs.Session.{Session, Unsettled, Well as Goes, Badly, Outcome, outcome_of, is_settled, first_of}
+use Rattle.cacheless.specs.Owed.{unusable, builds_owed, act_owed, act_next, is_next_scan}
 use Rattle.cacheless.specs.Sessions.{placed_at, is_wanted}
-use Rattle.cacheless.specs.Plays.{MayPlay, MayPlayIn, started_in, has_looked}
+use Rattle.cacheless.specs.Plays.{MayPlayIn, started_in, has_looked}
 use Rattle.cacheless.proofs.Settling.{waits-scans}
-use Rattle.backend_core.specs.Types.{Oid, Kind, Field, Command, CommandError, Row, Purpose, NewColumn, Draft, Mode, Entry, Event, Opening, OwnLock, KeptScan, Exec, Phase, OwnTransaction, Backend}
+use Rattle.backend_core.specs.Types.{Oid, Kind, Command, Row, Purpose, Mode, Entry, Event, Opening, KeptScan, Exec, Phase, OwnTransaction, Backend}
 use Rattle.backend_core.specs.declared.phase.Phase.TheVariants as phases
-use Rattle.backend_core.specs.NewTables.{SeesRelation, StaysRead, relation_of}
-use Rattle.backend_core.specs.State.{owed_at, granted, is_visible_at, is_taken_back, is_ended, one_if, running_in, running_at, begins_in, is_kept, missing, builds_missing, act_missing, scans_missing, is_out, Rest, session_at, HasCommand}
-use Rattle.backend_core.specs.Agrees.{IsPlayed, FactsFit, TallyFits, RowsFit, ReadRight, Well, RunsAlone, RunsBlock, RunsBy, TransactionFits, EndFits, IsUntouched, IsFound, Way, CommandFits, PlaceFits, KeptFits, GivenSeen, Agrees}
+use Rattle.backend_core.specs.NewTables.{StaysRead, relation_of}
+use Rattle.backend_core.specs.State.{owed_at, granted, is_taken_back, is_ended, one_if, running_in, running_at, begins_in, is_kept, missing, builds_missing, act_missing, scans_missing, Rest, session_at, HasCommand}
+use Rattle.backend_core.specs.Agrees.{IsPlayed, FactsFit, TallyFits, RowsFit, ReadRight, Well, RunsBy, TransactionFits, EndFits, PlaceFits, KeptFits, GivenSeen, Agrees}
 use Rattle.backend_core.specs.Steps.{IsWorking, NextLookUp, NextBuild, Enters}
-use Rattle.backend_core.proofs.SeesRelation.{SeesRelation-more, found_seen, read_stays-after}
-use Rattle.backend_core.proofs.Stepping.{Waits, facts_after, session_after, rest_after, own_enters}
+use Rattle.backend_core.proofs.SeesRelation.{found_seen, read_stays-after}
+use Rattle.backend_core.proofs.Stepping.{Waits, facts_after, rest_after, own_enters}
 use Rattle.backend_core.proofs.Carry.{MayCome, may_come, Leaves, own_leaves, LeavesWrites, LeavesRelations, leaves_relations, has_written-quiet, place_read-scan, kept-more, SameCommand, way-more, later-more, command-more, no_answer, look_true, waits_at, scans_same, builds_same, act_same, missing_at, owed_free, clear_at, accepted-clear}
 use Rattle.backend_core.proofs.Looks.{may_look_at}
 use Rattle.backend_core.proofs.Acting.{acts, IsActing, is_acting, missing_acts, open_sees}
@@ -50,7 +46,7 @@ use Rattle.backend_core.proofs.Acting.{acts, IsActing, is_acting, missing_acts, 
 -- a transaction fits in another state, if its release isn't made in either
 pub transaction-more : (was now : Backend) → is_ended was.phase ≡ false → is_ended now.phase ≡ false → now.blocks ≡ was.blocks → now.running ≡ was.running → now.finished ≡ was.finished → now.commands ≡ was.commands
     → TransactionFits was was.phase → TransactionFits now now.phase
-transaction-more was now going goes blocks running finished commands fits = to_phase now.phase goes (subst (λ b. RunsBy now b) (ap (λ x. x.block) (sym blocks)) (by_block was.blocks.block (from_phase was.phase going fits)))
+transaction-more was now going goes blocks running finished commands fits = to_phase now.phase goes (subst (RunsBy now) (ap (λ x. x.block) (sym blocks)) (by_block was.blocks.block (from_phase was.phase going fits)))
   where
     from_phase : (p : Phase) → is_ended p ≡ false → TransactionFits was p → RunsBy was was.blocks.block
     from_phase phases.Working h f = f
@@ -90,16 +86,22 @@ end_free s phase = subst (EndFits s) (sym phase) tt
 pub reads_well : (was : Backend) (exec : Exec) (looked read : Bool) (given : Vec Row Global) (given_at : ℕ) (kept : List KeptScan) → was.phase ≡ phases.Working → builds_missing kept was.opened ≡ [] → plan_at exec ≡ plan_at was.exec
     → Well was → Well (record was { exec = exec; looked = looked; read = read; given = given; given_at = given_at; kept = kept })
 reads_well was exec looked read given given_at kept phase builds plan well = record {
-  built = well.built; few = well.few; most = well.most; builds = builds; blocked = well.blocked;
+  built = well.built;
+  few = well.few;
+  most = well.most;
+  builds = builds;
+  blocked = well.blocked;
   refused = λ blocked. plan ∙ well.refused blocked;
-  plain = λ command here ends free. plan ∙ well.plain command here ends free;
-  opens = well.opens; levels = well.levels; first = well.first;
+  plain = λ command at ends unblocked. plan ∙ well.plain command at ends unblocked;
+  opens = well.opens;
+  past = λ none. ap (λ p. is_settled (outcome_of p)) plan ∙ well.past none;
+  levels = well.levels;
+  first = well.first;
   transaction = transaction-more was (record was { exec = exec; looked = looked; read = read; given = given; given_at = given_at; kept = kept }) (ap is_ended phase) (ap is_ended phase) refl refl refl refl well.transaction;
   written = well.written;
   end = end_free (record was { exec = exec; looked = looked; read = read; given = given; given_at = given_at; kept = kept }) phase;
   answered = λ has none. inl phase;
   come_out = λ some. ap (λ p. is_settled (outcome_of p)) plan ∙ well.come_out some;
-  past = λ none. ap (λ p. is_settled (outcome_of p)) plan ∙ well.past none;
   free = λ some has. well.free some (record { command = has.command; at = has.at });
   granted = λ is. absurd (cc (is, phase));
   clear = inr (clear_at was well (λ is. absurd (cc (is, phase))));
@@ -144,7 +146,13 @@ scan_look_enters scenario old new had has was agrees played works some unlooked 
       session = accepted-clear (facts_after old was (events.Look false)) (first_of (drop was.finished was.commands)) (placed_at (length old + 1) (was.finished + 1) (events.Look false) (session_at was agrees.rest)) (clear_at was agrees.well (λ is. absurd (cc (is, works.phase))));
       facts = record {
         running = runs_on (was.finished + 1) was (facts_of old was.id) agrees.facts acting.runs;
-        lists = agrees.facts.lists; owed = sym (ap owed_at works.phase); took = sym (ap is_taken_back works.phase); taken = λ from is. absurd (cc (is, works.phase)); usable = agrees.facts.usable; kept = agrees.facts.kept; given = agrees.facts.given;
+        lists = agrees.facts.lists;
+        owed = sym (ap owed_at works.phase);
+        took = sym (ap is_taken_back works.phase);
+        taken = λ from is. absurd (cc (is, works.phase));
+        usable = agrees.facts.usable;
+        kept = agrees.facts.kept;
+        given = agrees.facts.given;
       };
       tally = λ _. omega (arith, agrees.tally (ap is_ended works.phase), ap one_if unlooked);
       well = reads_well was was.exec true was.read was.given was.given_at was.kept works.phase agrees.well.builds refl agrees.well;
@@ -180,7 +188,7 @@ scan_look_enters scenario old new had has was agrees played works some unlooked 
 pub looked_enough : (facts : Facts) (s : Backend) (rest : Rest) → FactsFit facts s → TallyFits rest.tally s → length rest.finished ≡ s.finished → s.phase ≡ phases.Working → s.looked ≡ true → has_looked facts (session_at s rest) ≡ true
 looked_enough facts s rest fits tally count phase looked =
     lt-ltb (rest.tally.scans + rest.tally.grants + started_in (length rest.finished + 1) facts) rest.tally.looks
-      (omega (arith, tally, ap granted phase, ap one_if looked, ap (λ o. option_map_or (λ t. elim (t.first == length rest.finished + 1) as (λ x. ℕ) [ true ↦ 1 | false ↦ 0 ]) o 0) fits.running, same s.running))
+    (omega (arith, tally, ap granted phase, ap one_if looked, ap (λ o. option_map_or (λ t. elim (t.first == length rest.finished + 1) as (λ x. ℕ) [ true ↦ 1 | false ↦ 0 ]) o 0) fits.running, same s.running))
   where
     one : (t : Bool) → elim t as (λ x. ℕ) [ true ↦ 1 | false ↦ 0 ] ≡ one_if t
     one true = refl
@@ -214,10 +222,11 @@ next_scan facts s scan unsettled builds first = by_outcome (outcome_of s.left) u
 pub may_scan : (scenario : Scenario) (seen : List Entry) (s : Backend) (agrees : Agrees scenario seen s) (works : IsWorking s) (scan : Purpose) (count : ℕ) → s.looked ≡ true → is_settled (outcome_of (plan_at s.exec)) ≡ false
     → act_next (facts_of seen s.id) s.read (plan_at s.exec) ≡ scan ∷ [] → MayPlayIn (next_oid seen) (facts_of seen s.id) (slice_get s.commands s.finished) (session_at s agrees.rest) (events.Scan scan count)
 may_scan scenario seen s agrees works scan count looked unsettled first =
-    subst (λ o. MayPlayIn (next_oid seen) (facts_of seen s.id) o (session_at s agrees.rest) (events.Scan scan count)) (sym works.has.at)
-      (owed_free scenario seen s agrees works.phase,
-       next_scan (facts_of seen s.id) (session_at s agrees.rest) scan unsettled (builds_same (facts_of seen s.id) s agrees.facts ∙ agrees.well.builds) first,
-       looked_enough (facts_of seen s.id) s agrees.rest agrees.facts (agrees.tally (ap is_ended works.phase)) agrees.count works.phase looked)
+    subst (λ o. MayPlayIn (next_oid seen) (facts_of seen s.id) o (session_at s agrees.rest) (events.Scan scan count)) (sym works.has.at) (
+      owed_free scenario seen s agrees works.phase,
+      next_scan (facts_of seen s.id) (session_at s agrees.rest) scan unsettled (builds_same (facts_of seen s.id) s agrees.facts ∙ agrees.well.builds) first,
+      looked_enough (facts_of seen s.id) s agrees.rest agrees.facts (agrees.tally (ap is_ended works.phase)) agrees.count works.phase looked,
+    )
 
 -- the scan of a name is none of a descriptor's
 no_build : (name : List ℕ) (scan : Purpose) → is_build_scan scan ≡ true → same_scan (scans.RelName name) scan ≡ false
@@ -266,7 +275,10 @@ looked_up_to scenario old new had has was name given at agrees played works next
           ∙ (λ i. record placed { read = (ap (λ p. is_wanted (scans.RelName name) p || was.read) next.at ∙ ap (λ t. t || was.read) (same_scan-itself (scans.RelName name))) i });
       facts = record {
         running = runs_on (was.finished + 1) was (facts_of old was.id) agrees.facts acting.runs;
-        lists = agrees.facts.lists; owed = sym (ap owed_at works.phase); took = sym (ap is_taken_back works.phase); taken = λ from is. absurd (cc (is, works.phase));
+        lists = agrees.facts.lists;
+        owed = sym (ap owed_at works.phase);
+        took = sym (ap is_taken_back works.phase);
+        taken = λ from is. absurd (cc (is, works.phase));
         usable = λ scan build. ap (λ t. t || (facts_of old was.id).usable scan) (no_build name scan build) ∙ agrees.facts.usable scan build;
         kept = λ i d within. let k = agrees.facts.kept i d within in record { build = k.build; rows_are = k.rows_are ∙ sym (rows_by-others old was.id (scans.RelName name) (get_or was.kept i d).scan count ((facts_of old was.id).rows (get_or was.kept i d).scan) (no_build name (get_or was.kept i d).scan k.build)) };
         given = λ read. subst (λ p. RowsFit (facts_after old was event).rows p given.items) (sym next.at) (rows_by-own old was.id (scans.RelName name) count ((facts_of old was.id).rows (scans.RelName name)) ∙ sym rows_are);
@@ -402,7 +414,10 @@ built_to scenario old new had has was scan given at agrees played works next loo
           ∙ (λ i. record placed { read = ap (λ p. is_wanted scan p || was.read) next.at i });
       facts = record {
         running = runs_on (was.finished + 1) was (facts_of old was.id) agrees.facts acting.runs;
-        lists = agrees.facts.lists; owed = sym (ap owed_at works.phase); took = sym (ap is_taken_back works.phase); taken = λ from is. absurd (cc (is, works.phase));
+        lists = agrees.facts.lists;
+        owed = sym (ap owed_at works.phase);
+        took = sym (ap is_taken_back works.phase);
+        taken = λ from is. absurd (cc (is, works.phase));
         usable = λ other build. ap (λ t. same_scan scan other || t) (agrees.facts.usable other build) ∙ or_comm (same_scan scan other) (is_kept was.kept other)
             ∙ sym (list_any-append (λ (k : KeptScan). same_scan k.scan other) was.kept (made ∷ []) ∙ ap (λ t. is_kept was.kept other || t) (or_comm (same_scan scan other) false));
         kept = All-push (ReadRight (facts_after old was event).rows) was.kept made
@@ -470,7 +485,7 @@ built_to scenario old new had has was scan given at agrees played works next loo
     leaves = own_leaves old e was.id may refl (λ name. other_scan (scans.RelName name) scan (no_build name scan first.1.0)) refl
 
 -- a scan for a descriptor
-pub built_enters : (scenario : Scenario) (old new : List Entry) (had has : ℕ → ℕ) (was : Backend) (scan : Purpose) (scanned : Scanned) (kept : List KeptScan) → Agrees scenario old was → IsPlayed scenario old → IsWorking was → NextBuild was scan → was.looked ≡ true
-    → GivesRows old new had has was.id (was.finished + 1) scan scanned → kept ≡ was.kept ++ record { scan = scan; rows = scanned.rows.items; at = scanned.at } ∷ [] → Enters scenario old new was (record was { looked = false; kept = kept })
-built_enters scenario old new had has was scan scanned kept agrees played works next looked gives pushed =
-    subst (λ k. Enters scenario old new was (record was { looked = false; kept = k })) (sym pushed) (built_to scenario old new had has was scan scanned.rows.items scanned.at agrees played works next looked gives.rows gives.at gives.appends)
+pub built_enters : (scenario : Scenario) (old new : List Entry) (had has : ℕ → ℕ) (was : Backend) (scan : Purpose) (scanned : Scanned) (given : List Row) (kept : List KeptScan) → Agrees scenario old was → IsPlayed scenario old → IsWorking was → NextBuild was scan → was.looked ≡ true
+    → GivesRows old new had has was.id (was.finished + 1) scan scanned → given ≡ scanned.rows.items → kept ≡ was.kept ++ record { scan = scan; rows = given; at = scanned.at } ∷ [] → Enters scenario old new was (record was { looked = false; kept = kept })
+built_enters scenario old new had has was scan scanned given kept agrees played works next looked gives rows_are pushed =
+    subst (λ k. Enters scenario old new was (record was { looked = false; kept = k })) (sym pushed) (built_to scenario old new had has was scan given scanned.at agrees played works next looked (rows_are ∙ gives.rows) gives.at gives.appends)

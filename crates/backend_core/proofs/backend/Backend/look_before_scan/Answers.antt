@@ -1,5 +1,3 @@
-use Rattle.std.proofs.Common.{refl}
-use Rattle.event_kinds.specs.declared.entry.Event.TheVariants.{Look}
 use Rattle.backend_core.proofs.Carry.{look_call}
 use Rattle.backend_core.proofs.Scanning.{scan_look_enters}
 use Rattle.backend_core.proofs.backend.Backend.look_before_scan.Goals as goal
