@@ -40,15 +40,15 @@ impl Next {
     ghost use Rattle.backend_core.specs.declared.next.Next.TheVariants as nexts;
 
     // Whether it is the last entry.
-    pub(crate) fn leaves(self) -> bool
-        ensures { IsTrue result ↔ (self ≡ nexts.Leave) }
+    pub(crate) fn leaves(&self) -> bool
+        ensures { IsTrue result ↔ (self.now ≡ nexts.Leave) }
     {
         matches!(self, Next::Leave)
     }
 
     // Whether it makes an entry.
-    pub(crate) fn makes_entry(self) -> bool
-        ensures { result ≡ is_entry self }
+    pub(crate) fn makes_entry(&self) -> bool
+        ensures { result ≡ is_entry self.now }
     {
         !matches!(
             self,

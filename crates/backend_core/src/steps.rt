@@ -27,31 +27,31 @@ impl Backend {
             self.leave(seg);
             return Ok(());
         }
-        self.enter(alloc, seg, next)?;
+        self.enter(alloc, seg, &next)?;
         self.settle(alloc, seg)
     }
 
     // Makes its next entry, if that isn't its last one.
-    pub(crate) fn enter<L: Seg>(&mut self, alloc: Global, seg: &mut L, next: Next) -> Result<(), NoMemory>
+    pub(crate) fn enter<L: Seg>(&mut self, alloc: Global, seg: &mut L, next: &Next) -> Result<(), NoMemory>
         requires agrees { Agrees (L.script seg.old) (L.history seg.old) self.old }
         requires played { IsPlayed (L.script seg.old) (L.history seg.old) }
         requires place { 0 < L.promised seg.old self.old.id }
-        requires next { IsNextOf self.old next }
-        requires entry { is_entry next ≡ true }
-        requires stays { next ≢ nexts.Leave }
+        requires next { IsNextOf self.old next.now }
+        requires entry { is_entry next.now ≡ true }
+        requires stays { next.now ≢ nexts.Leave }
         ensures script { L.script seg.new ≡ L.script seg.old }
         ensures enters { OnOk result (Enters (L.script seg.old) (L.history seg.old) (L.history seg.new) self.old self.new) }
     {
         match next {
             Next::Look => self.look(seg),
             Next::LookBeforeScan => self.look_before_scan(seg),
-            Next::LookUp(name) => self.look_up(seg, name)?,
-            Next::Build(scan) => self.build(seg, &scan)?,
-            Next::Lock { rel, mode } => self.lock(seg, rel, mode)?,
+            Next::LookUp(name) => self.look_up(seg, *name)?,
+            Next::Build(scan) => self.build(seg, scan)?,
+            Next::Lock { rel, mode } => self.lock(seg, *rel, *mode)?,
             Next::Write => self.write(alloc, seg)?,
-            Next::Commit { xid } => self.commit(seg, xid),
-            Next::TakeBack { from } => self.take_back(seg, from),
-            Next::Release { from } => self.release(seg, from),
+            Next::Commit { xid } => self.commit(seg, *xid),
+            Next::TakeBack { from } => self.take_back(seg, *from),
+            Next::Release { from } => self.release(seg, *from),
             Next::Leave | Next::Find | Next::Open { .. } | Next::Answer | Next::Finish => {
                 unreachable!()
             }
@@ -71,15 +71,15 @@ impl Backend {
             if next.makes_entry() {
                 return Ok(());
             }
-            self.pass(alloc, next)?;
+            self.pass(alloc, &next)?;
         }
     }
 
     // Does what needs no entry.
-    fn pass(&mut self, alloc: Global, next: Next) -> Result<(), NoMemory>
+    fn pass(&mut self, alloc: Global, next: &Next) -> Result<(), NoMemory>
         requires well { Well self.old }
-        requires next { IsNextOf self.old next }
-        requires silent { is_entry next ≡ false }
+        requires next { IsNextOf self.old next.now }
+        requires silent { is_entry next.now ≡ false }
         ensures keeps { OnOk result ((scenario : Scenario) (seen : List Entry) → AgreesNow scenario seen self.old → AgreesNow scenario seen self.new) }
         ensures less { OnOk result (left_of self.new < left_of self.old) }
         ensures same { OnOk result (self.new.id ≡ self.old.id) }
@@ -89,7 +89,7 @@ impl Backend {
                 self.find();
                 Ok(())
             }
-            Next::Open { rel, kind } => self.open(rel, kind),
+            Next::Open { rel, kind } => self.open(*rel, *kind),
             Next::Answer => self.answer(alloc),
             Next::Finish => self.finish(alloc),
             _ => unreachable!(),

@@ -1,0 +1,7 @@
+use Rattle.std.proofs.Common.{subst, sym}
+use Rattle.backend_core.specs.Agrees.{IsPlayed}
+use Rattle.backend_core.proofs.Stepped.{enters_played}
+use Rattle.backend_core.proofs.backend.Backend.go_on.Goals as goal
+
+pub settle-requires-clause-played : goal.settle-requires-clause-played
+settle-requires-clause-played g c = subst (λ k. IsPlayed k (g.L.Seg.history c.enter.new.seg)) (sym c.enter.ensures.script) (enters_played _ _ _ _ _ c.requires.played c.in_ok-enter.ensures.enters)
