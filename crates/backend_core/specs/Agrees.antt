@@ -267,6 +267,11 @@ pub record HasLeft (scenario : Scenario) (seen : List Entry) (s : Backend) : Typ
   pub places : All (λ f. f.judged ≤ length seen) finished
   pub lines : s.lines ≡ lines_from scenario seen s.id 1 finished (commands_of scenario s.id)
 
+-- a backend that agrees with a history and goes on only with an entry: nothing is left to settle
+pub record AwaitsEntry (scenario : Scenario) (seen : List Entry) (s : Backend) : Type 0 where
+  pub agrees : Agrees scenario seen s
+  pub waits : settled (facts_of seen s.id) (drop s.finished s.commands) (session_at s agrees.rest) ≡ session_at s agrees.rest
+
 -- where a backend is in a history
 abbrev pub Stands : Scenario → List Entry → Backend → Type 0
-Stands scenario seen s = elim s.life [ lives.Unstarted ↦ HasNotJoined scenario seen s | lives.Alive ↦ Agrees scenario seen s | lives.Stopped ↦ HasLeft scenario seen s ]
+Stands scenario seen s = elim s.life [ lives.Unstarted ↦ HasNotJoined scenario seen s | lives.Alive ↦ AwaitsEntry scenario seen s | lives.Stopped ↦ HasLeft scenario seen s ]
