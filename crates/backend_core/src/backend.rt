@@ -81,6 +81,13 @@ impl Backend {
         Err(NoMemory)
     }
 
+    /// The answer lines of its finished commands, in order.
+    pub fn transcript(&self) -> &[Line]
+        ensures { result.now ≡ self.now.lines }
+    {
+        self.lines.as_slice()
+    }
+
     /// The answer lines of its finished commands, in order; the backend is given up.
     pub fn into_lines(self) -> Vec<Line>
         ensures { result.items ≡ self.lines }
