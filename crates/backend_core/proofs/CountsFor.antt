@@ -1,5 +1,5 @@
 -- What counts for a backend goes on counting for it, where only tables are made.
-use Rattle.std.proofs.Common.{◌≡◌, ◌≤◌, ◌<◌, ◌∙◌, ◌⊎◌, inl, inr, ℕ, Bool, true, false, Option, Some, None, List, [], ◌∷◌, ◌++◌, ◌==◌, ◌||◌, ◌&&◌, refl, sym, ap, subst, filter, arith}
+use Rattle.std.proofs.Common.{◌≡◌, ◌≤◌, ◌<◌, ◌∙◌, ◌⊎◌, inl, inr, ℕ, Bool, true, false, Option, Some, None, List, [], ◌∷◌, ◌++◌, ◌||◌, refl, sym, ap, subst, filter, arith}
 use Rattle.std.specs.List.{AllByRecursion}
 use Rattle.std.specs.Option.{IfSome}
 use Rattle.std.proofs.lemmas.Bool.{eqb-true, both_ways, or_cases, or_left, or_right, le-leb}
@@ -27,7 +27,7 @@ use Rattle.history_model.proofs.Runs.{Runs}
 use Rattle.history_model.proofs.Seen.{runs-after}
 use Rattle.history_model.proofs.Touched.{OfStamps, Touch}
 use Rattle.backend_core.specs.NewTables.{AddsTables, IsTableVersion, HasTables, is_version_of, CountsFor}
-use Rattle.backend_core.proofs.Tables.{next_oid-rises, is_kept, stamp_of, added_by, versions-after, IsNewVersion, added-new}
+use Rattle.backend_core.proofs.Tables.{next_oid-rises, survives, stamp_of, added_by, versions-after, IsNewVersion, added-new}
 
 -- between a backend's visibility step and the release after it such an event doesn't come
 pub hidden_by : (v : Bool) (event : Event) → FollowsVisible v event → (FollowsVisible true event → ⊥) → v ≡ false
@@ -58,7 +58,7 @@ started history b c follows lives = of (life_of history b) refl follows
     of Stopped is first = absurd first
 
 ends_none : (history : List Entry) (b : ℕ) (item : Item) → HasTables history → EndsOnce history b item
-ends_none history b item tables = every-weaker (IsTableVersion (next_oid history) tables.made_by) (λ v. ends history b item v ≡ true → IfSome v.ended (λ s. (other : ℕ) → runs_as history other s.xid.0 ≡ false))
+ends_none history b item tables = every-weaker (IsTableVersion (next_oid history) tables.stamps) (λ v. ends history b item v ≡ true → IfSome v.ended (λ s. (other : ℕ) → runs_as history other s.xid.0 ≡ false))
     (λ v is here. subst (λ o. IfSome o (λ s. (other : ℕ) → runs_as history other s.xid.0 ≡ false)) (sym is.whole) tt) (versions_of history) tables.versions
 
 lawful_event : (history : List Entry) (b c : ℕ) (event : Event) → Lives history → HasTables history → MayFollow history (record { backend = b; command = c; event = event }) → IsLawfulEvent history b c event
@@ -104,9 +104,9 @@ pub CountsFor-more : (history : List Entry) (e : Entry) (b : ℕ) (rel : Oid) �
 CountsFor-more history e b rel sound tables comes adds counted = record {
   drawn = omega (arith, counted.drawn, next_oid-rises history e);
   counted = subst (AllByRecursion Counts) (sym (versions-after history e tables adds))
-      (every-append Counts (filter (λ v. is_kept history e.backend e.event v.by) (versions_of history)) (added_by e.command e.event)
-      (every-filter Counts (λ v. is_kept history e.backend e.event v.by) (versions_of history)
-      (every-weaker (λ v. OfStamps (Touch history) v × Counted v) (λ v. is_kept history e.backend e.event v.by ≡ true → Counts v) (λ v both kept is. stamp_counts history e b v.by v.row law ordered.runs both.0.0 (both.1 is)) (versions_of history)
+      (every-append Counts (filter (λ v. survives history e.backend e.event v.by) (versions_of history)) (added_by e.command e.event)
+      (every-filter Counts (λ v. survives history e.backend e.event v.by) (versions_of history)
+      (every-weaker (λ v. OfStamps (Touch history) v × Counted v) (λ v. survives history e.backend e.event v.by ≡ true → Counts v) (λ v both kept is. stamp_counts history e b v.by v.row law ordered.runs both.0.0 (both.1 is)) (versions_of history)
       (every-both (OfStamps (Touch history)) Counted (versions_of history) ordered.touched counted.counted)))
       (every-weaker (λ v. is_version_of rel v ≡ false) Counts (λ v other is. absurd (both_ways _ other is)) (added_by e.command e.event) (new_other history e.command e.event rel adds counted.drawn)));
 }

@@ -3,3 +3,9 @@ pub mod CountsFor
 pub mod StaysRead
 pub mod SeesRelation
 pub mod Stepping
+pub mod Carry
+pub mod Looks
+pub mod Acting
+pub mod Scanning
+pub mod Locking
+pub mod Others

@@ -1,9 +1,9 @@
 -- A relation that a backend sees it sees until it takes the relation's rows back itself; and what it found by name, it sees.
-use Rattle.std.proofs.Common.{◌≡◌, ◌≤◌, ◌<◌, ◌+◌, ◌∙◌, ◌⊎◌, inl, inr, ℕ, suc, Bool, true, false, not, Option, Some, None, List, [], ◌∷◌, ◌++◌, ◌==◌, ◌||◌, ◌&&◌, cond, refl, sym, ap, subst, map, filter, fold, arith, append_assoc, append-nil}
+use Rattle.std.proofs.Common.{◌≡◌, ◌<◌, ◌+◌, ◌∙◌, ◌⊎◌, inl, inr, ℕ, suc, Bool, true, false, not, Option, Some, None, List, [], ◌∷◌, ◌++◌, ◌==◌, ◌||◌, ◌&&◌, cond, refl, sym, ap, subst, map, filter, fold, arith, append_assoc, append-nil}
 use Rattle.std.specs.Prelude.{nat_le, ⊤}
 use Rattle.std.specs.List.{AllByRecursion, insert, position_or_len}
 use Rattle.std.specs.Option.{IfSome}
-use Rattle.std.proofs.lemmas.Bool.{eqb-true, eq-eqb, both_ways, or_cases, and_parts, false_from_ne_true}
+use Rattle.std.proofs.lemmas.Bool.{eq-eqb, both_ways, or_cases, false_from_ne_true}
 use Rattle.base_types.specs.declared.ids.Oid.{Oid}
 use Rattle.base_types.specs.declared.kind.Kind.{Kind}
 use Rattle.base_types.specs.declared.row.Row.{Row}
@@ -23,18 +23,19 @@ use Rattle.history_model.specs.Drawn.{next_oid}
 use Rattle.history_model.specs.Legal.{FollowsVisible}
 use Rattle.history_model.specs.Orderly.{main_rel, MayComeNext, IsSound}
 use Rattle.history_model.specs.Transactions.{running_transaction_of, is_visible, runs_as, is_committed}
-use Rattle.history_model.specs.Versions.{versions_of, counts, sees, answer_of, is_back}
-use Rattle.history_model.proofs.Every.{every, every-weaker, every-filter, every-both}
+use Rattle.history_model.specs.Versions.{versions_of, counts, sees, answer_of}
+use Rattle.history_model.proofs.Every.{every, every-weaker, every-filter}
 use Rattle.history_model.proofs.Ordered.{sound_ordered, one_version}
 use Rattle.history_model.proofs.Runs.{Runs}
 use Rattle.history_model.proofs.Seen.{counts_at, every_command, seen-same, Apart, Pairwise, pair-weaker}
-use Rattle.backend_core.specs.NewTables.{AddsTables, IsTableVersion, HasTables, is_version_of, CountsFor, relation_of, HasNone, StaysRead, SeesRelation, is_gone, takes_back}
-use Rattle.backend_core.proofs.Tables.{is_kept}
+use Rattle.backend_core.specs.NewTables.{AddsTables, IsTableVersion, HasTables, is_version_of, relation_of, HasNone, StaysRead, SeesRelation, is_own_gone}
+use Rattle.seg_calls.specs.Calls.{took_back}
+use Rattle.backend_core.proofs.Tables.{survives}
 use Rattle.backend_core.proofs.CountsFor.{hidden_by, CountsFor-more}
 use Rattle.backend_core.proofs.StaysRead.{row_in, rows-none, whole_seen, oid_eq, answer-same, StaysRead-more}
 
 -- what counts for a backend no other takes back
-spared : (history : List Entry) (a b : ℕ) (event : Event) (s : Stamp) → Runs history → FollowsVisible (is_visible (running_transaction_of history a)) event → (is_gone event && (a == b)) ≡ false → counts history b s ≡ true → is_kept history a event s ≡ true
+spared : (history : List Entry) (a b : ℕ) (event : Event) (s : Stamp) → Runs history → FollowsVisible (is_visible (running_transaction_of history a)) event → (took_back (Some event) && (a == b)) ≡ false → counts history b s ≡ true → survives history a event s ≡ true
 spared history a b (events.Gone from) s runs visible other is = by_test (runs_as history a s.xid.0) refl
   where
     hidden : is_visible (running_transaction_of history a) ≡ false
@@ -50,17 +51,25 @@ spared history a b (events.Gone from) s runs visible other is = by_test (runs_as
 spared history a b event s runs visible other is = refl
 
 -- a relation that a backend sees it sees after one more entry, unless the entry takes its own writes back
-pub SeesRelation-more : (history : List Entry) (e : Entry) (b : ℕ) (rel : Oid) (kind : Kind) → IsSound history → HasTables history → MayComeNext history e → AddsTables history e.event → takes_back b e ≡ false → SeesRelation history b rel kind
+pub SeesRelation-more : (history : List Entry) (e : Entry) (b : ℕ) (rel : Oid) (kind : Kind) → IsSound history → HasTables history → MayComeNext history e → AddsTables history e.event → is_own_gone b e ≡ false → SeesRelation history b rel kind
     → SeesRelation (history ++ e ∷ []) b rel kind
 SeesRelation-more history e b rel kind sound tables comes adds other sees' = record {
   counted = CountsFor-more history e b rel sound tables comes adds sees'.counted;
   name = sees'.name;
   fill = sees'.fill;
   row = answer-same history e b (scans.Class rel) rel sound tables comes adds sees'.counted refl
-      (every-weaker (λ v. is_version_of rel v ≡ true → counts history b v.by ≡ true) (λ v. is_version_of rel v ≡ true → is_kept history e.backend e.event v.by ≡ true)
+      (every-weaker (λ v. is_version_of rel v ≡ true → counts history b v.by ≡ true) (λ v. is_version_of rel v ≡ true → survives history e.backend e.event v.by ≡ true)
       (λ v counted own. spared history e.backend b e.event v.by (sound_ordered history sound).runs comes.follows.visible other (counted own)) (versions_of history) sees'.counted.counted)
       ∙ sees'.row;
 }
+
+-- another backend's entry takes none of its writes back
+pub other_not_gone : (b : ℕ) (e : Entry) → (e.backend == b) ≡ false → is_own_gone b e ≡ false
+other_not_gone b e other = ap (λ t. took_back (Some e.event) && t) other ∙ and_false (took_back (Some e.event))
+  where
+    and_false : (t : Bool) → (t && false) ≡ false
+    and_false true = refl
+    and_false false = refl
 
 -- what holds of the rows that are seen, holds of the first that is asked for
 head_holds : (Q : Row → Type 0) (p : Row → Bool) (g : Version → Bool) (x : Row) (more : List Row) (vs : List Version) → AllByRecursion (λ v. g v ≡ true → Q v.row) vs → filter p (map row_in (filter g vs)) ≡ x ∷ more → Q x
@@ -89,7 +98,7 @@ only_one p q g x more (v ∷ vs) pairs passes is = by_seen (g v) refl is (only_o
         let here : q v.row ≡ true = ap q same ∙ passes in
         ap (λ t. cond t (v.row ∷ filter q rest) (filter q rest)) here ∙ ap (λ r. r ∷ filter q rest) same
         ∙ ap (λ l. x ∷ l) (rows-none q (filter g vs) (every-filter (λ w. q w.row ≡ false) g vs
-            (every-weaker (λ w. q v.row ≡ true → q w.row ≡ true → g v ≡ true → g w ≡ true → ⊥) (λ w. g w ≡ true → q w.row ≡ false) (λ w apart also. false_from_ne_true (q w.row) (λ twice. apart here twice seen also)) vs pairs.0)))
+        (every-weaker (λ w. q v.row ≡ true → q w.row ≡ true → g v ≡ true → g w ≡ true → ⊥) (λ w. g w ≡ true → q w.row ≡ false) (λ w apart also. false_from_ne_true (q w.row) (λ twice. apart here twice seen also)) vs pairs.0)))
 
     later : (u : Bool) → q v.row ≡ u → g v ≡ true → filter p rest ≡ x ∷ more → (filter p rest ≡ x ∷ more → filter q rest ≡ x ∷ []) → cond u (v.row ∷ filter q rest) (filter q rest) ≡ x ∷ []
     later true own seen there one = absurd (head_holds (λ row. q row ≡ true → ⊥) p g x more vs
@@ -152,7 +161,7 @@ found_seen history b name oid own kind fill more sound tables found = record {
     drawn = head_holds (λ row. (main_rel row).0 < next_oid history) (selects (scans.RelName name)) (sees history b) row more (versions_of history)
         (every-weaker Table (λ v. sees history b v ≡ true → (main_rel v.row).0 < next_oid history) (λ v is seen. is.drawn) (versions_of history) tables.versions) first;
     counted = every-weaker Table (λ v. is_version_of oid v ≡ true → counts history b v.by ≡ true)
-        (λ v is of. ap (counts history b) (is.made ∙ ap tables.made_by (oid_eq (main_rel v.row) oid of)) ∙ made) (versions_of history) tables.versions;
+        (λ v is of. ap (counts history b) (is.made ∙ ap tables.stamps (oid_eq (main_rel v.row) oid of)) ∙ made) (versions_of history) tables.versions;
   };
   name = own;
   fill = fill;
@@ -160,7 +169,7 @@ found_seen history b name oid own kind fill more sound tables found = record {
 }
   where
     Table : Version → Type 0
-    Table = IsTableVersion (next_oid history) tables.made_by
+    Table = IsTableVersion (next_oid history) tables.stamps
 
     row : Row
     row = rows.Class oid own kind fill
@@ -168,9 +177,9 @@ found_seen history b name oid own kind fill more sound tables found = record {
     first : filter (selects (scans.RelName name)) (map row_in (filter (sees history b) (versions_of history))) ≡ row ∷ more
     first = sym (in_turn name [] (filter (selects (scans.RelName name)) (map row_in (filter (sees history b) (versions_of history))))) ∙ found
 
-    made : counts history b (tables.made_by oid) ≡ true
-    made = head_holds (λ r. counts history b (tables.made_by (main_rel r)) ≡ true) (selects (scans.RelName name)) (sees history b) row more (versions_of history)
-        (every-weaker Table (λ v. sees history b v ≡ true → counts history b (tables.made_by (main_rel v.row)) ≡ true)
+    made : counts history b (tables.stamps oid) ≡ true
+    made = head_holds (λ r. counts history b (tables.stamps (main_rel r)) ≡ true) (selects (scans.RelName name)) (sees history b) row more (versions_of history)
+        (every-weaker Table (λ v. sees history b v ≡ true → counts history b (tables.stamps (main_rel v.row)) ≡ true)
         (λ v is seen. ap (counts history b) (sym is.made) ∙ sym (whole_seen (counts history b) v is.whole) ∙ seen) (versions_of history) tables.versions) first
 
 -- a scan for the descriptor of a relation that is seen stays read

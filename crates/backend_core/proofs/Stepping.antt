@@ -1,31 +1,28 @@
 -- A backend's own entry, whichever it is.
-use Rattle.std.proofs.Common.{◌≡◌, ◌≤◌, ◌<◌, ◌+◌, ◌∙◌, ℕ, Bool, true, false, Option, Some, None, List, [], ◌∷◌, ◌++◌, ◌==◌, ◌&&◌, refl, sym, ap, subst, length, drop, take, map, All, is_none, is_some, slice_get, arith, Fits, w32, if◌then◌else◌, suc}
+use Rattle.std.proofs.Common.{◌≡◌, ◌≤◌, ◌+◌, ◌∙◌, ℕ, Bool, true, false, Some, List, [], ◌∷◌, ◌++◌, ◌==◌, refl, sym, ap, subst, length, drop, All, is_some, slice_get, arith, if◌then◌else◌, suc}
 use Rattle.std.proofs.lemmas.Bool.{eq-eqb}
 use Rattle.std.proofs.lemmas.List.{take-append-le, length_push}
-use Rattle.std.proofs.lemmas.Option.{slice_get_within}
 use Rattle.base_types.specs.Scenario.{IsBackend}
 use Rattle.ddl_effect.specs.Commands.{commands_of}
-use Rattle.event_kinds.specs.declared.entry.Event.TheVariants as events
 use Rattle.history_model.specs.Drawn.{next_oid}
 use Rattle.history_model.specs.Lives.{Alive, life_by, life_of}
 use Rattle.history_model.specs.Read.{ScansOnlyIfNeeded}
 use Rattle.history_model.proofs.Reading.{life_of-own}
 use Rattle.seg_calls.specs.Calls.{entry_of, Appends}
 use Rattle.cacheless.specs.Facts.{Facts, facts_of, facts_by}
-use Rattle.cacheless.specs.Session.{Session, Finished, Tally, first_of}
+use Rattle.cacheless.specs.Session.{Session, Finished}
 use Rattle.cacheless.specs.Settled.{settled}
-use Rattle.cacheless.specs.Sessions.{placed_at, noted, tally_by, ends_command, entered, commands_left, session_by, session_of}
-use Rattle.cacheless.specs.Plays.{IsNext, MayPlay, MayPlayIn, MayPlayAt}
+use Rattle.cacheless.specs.Sessions.{noted, tally_by, ends_command, entered, commands_left, session_by, session_of}
+use Rattle.cacheless.specs.Plays.{IsNext, MayPlayIn, MayPlayAt}
 use Rattle.cacheless.specs.Schedule.{LooksTruly}
 use Rattle.rel_desc.specs.Answers.{answer_text}
 use Rattle.cacheless.specs.Lines.{lines_from, line_of, answer_judged}
 use Rattle.cacheless.proofs.Reading.{facts_of-own, session_of-own}
-use Rattle.backend_core.specs.Types.{Command, Scenario, Entry, Event, KeptScan, Backend}
-use Rattle.backend_core.specs.declared.phase.Life.TheVariants as lives
+use Rattle.backend_core.specs.Types.{Command, Scenario, Entry, Event, Backend}
 use Rattle.backend_core.specs.NewTables.{AddsTables}
 use Rattle.backend_core.specs.State.{Rest, rest_of, session_at, HasCommand}
-use Rattle.backend_core.specs.Agrees.{IsPlayed, FactsFit, TallyFits, IsAlive, Well, CommandFits, KeptFits, PlacesFit, AnswerFits, Agrees}
-use Rattle.backend_core.specs.Steps.{IsNow, AgreesNow, Enters}
+use Rattle.backend_core.specs.Agrees.{FactsFit, TallyFits, Well, CommandFits, KeptFits, AnswerFits, Agrees}
+use Rattle.backend_core.specs.Steps.{AgreesNow, Enters}
 
 -- nothing is left to settle
 abbrev pub Waits : {scenario : Scenario} {seen : List Entry} {s : Backend} → Agrees scenario seen s → Type 0
@@ -70,7 +67,7 @@ pub record Follows (scenario : Scenario) (old : List Entry) (was now : Backend) 
   pub command : CommandFits (old ++ entry_of was.id (was.finished + 1) event ∷ []) now (rest_after old was event rest)
   pub kept : All (KeptFits (old ++ entry_of was.id (was.finished + 1) event ∷ []) was.id) now.kept
   pub answer : AnswerFits scenario (old ++ entry_of was.id (was.finished + 1) event ∷ []) now (rest_after old was event rest)
-  pub judged : is_some now.answer ≡ false → ends_command event ≡ false
+  pub judged : HasCommand now → is_some now.answer ≡ false → ends_command event ≡ false
 
 -- what the history and the script ask of the entry
 pub record Suits (scenario : Scenario) (old : List Entry) (was : Backend) (event : Event) (rest : Rest) : Type 0 where
@@ -86,7 +83,7 @@ lines-more scenario seen e b c [] commands places = refl
 lines-more scenario seen e b c (f ∷ finished) [] places = refl
 lines-more scenario seen e b c (f ∷ finished) (command ∷ commands) places =
     ap (λ h. record { backend = b; command = c; text = answer_text (answer_judged scenario h b c f command f.refused) } ∷ lines_from scenario (seen ++ e ∷ []) b (c + 1) finished commands)
-      (take-append-le f.judged seen (e ∷ []) (places 0 f (omega arith)))
+    (take-append-le f.judged seen (e ∷ []) (places 0 f (omega arith)))
     ∙ ap (λ l. line_of scenario seen b c f command ∷ l) (lines-more scenario seen e b (c + 1) finished commands (λ i d within. places (suc i) d (omega (arith, within))))
 
 -- so it agrees after its own entry
@@ -125,7 +122,7 @@ own_agrees scenario old was now event agrees waits on keeps follows = record {
         ∙ ap (λ b. lines_from scenario new b 1 rest.finished was.commands) (sym keeps.moves.id)
         ∙ ap (lines_from scenario new now.id 1 rest.finished) (sym keeps.moves.commands);
   };
-  now = record { last = sym longer; judged = λ none. ap (λ t. if t then agrees.rest.judged else length old + 1) (follows.judged none) ∙ sym longer };
+  now = record { last = sym longer; judged = λ has none. ap (λ t. if t then agrees.rest.judged else length old + 1) (follows.judged has none) ∙ sym longer };
 }
   where
     e : Entry
@@ -159,10 +156,13 @@ own_agrees scenario old was now event agrees waits on keeps follows = record {
 -- and the entry is next
 pub own_next : (scenario : Scenario) (old : List Entry) (was : Backend) (event : Event) (agrees : Agrees scenario old was) → Waits agrees
     → MayPlayIn (next_oid old) (facts_of old was.id) (slice_get was.commands was.finished) (session_at was agrees.rest) event → IsNext scenario old (entry_of was.id (was.finished + 1) event)
-own_next scenario old was event agrees waits plays = (agrees.number,
-    subst (λ o. MayPlayAt scenario old was.id o (was.finished + 1) event) (sym (agrees.is ∙ ap Some waits))
-    (ap (λ n. n + 1) (sym agrees.count),
-     subst (λ o. MayPlayIn (next_oid old) (facts_of old was.id) o (session_at was agrees.rest) event) (sym (ap (slice_get (commands_of scenario was.id)) agrees.count ∙ ap (λ l. slice_get l was.finished) (sym agrees.commands))) plays))
+own_next scenario old was event agrees waits plays = (
+  agrees.number,
+  subst (λ o. MayPlayAt scenario old was.id o (was.finished + 1) event) (sym (agrees.is ∙ ap Some waits)) (
+    ap (λ n. n + 1) (sym agrees.count),
+    subst (λ o. MayPlayIn (next_oid old) (facts_of old was.id) o (session_at was agrees.rest) event) (sym (ap (slice_get (commands_of scenario was.id)) agrees.count ∙ ap (λ l. slice_get l was.finished) (sym agrees.commands))) plays,
+  ),
+)
 
 -- a backend's own entry
 pub own_enters : (scenario : Scenario) (old new : List Entry) (had has : ℕ → ℕ) (was now : Backend) (event : Event) (agrees : Agrees scenario old was) → Waits agrees → GoesOn event

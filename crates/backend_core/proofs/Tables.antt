@@ -1,12 +1,10 @@
 -- What one more entry does to the versions of rows, where only tables are made: it adds those of a relation that wasn't drawn, or it takes some away by their stamps.
-use Rattle.std.proofs.Common.{◌≡◌, ◌≤◌, ◌<◌, ◌+◌, ◌-◌, ◌∙◌, ℕ, Bool, true, false, not, Option, Some, None, List, [], ◌∷◌, ◌++◌, ◌==◌, ◌&&◌, cond, if◌then◌else◌, refl, sym, ap, subst, map, filter, fold, length, arith, append_assoc, append-nil}
+use Rattle.std.proofs.Common.{◌≡◌, ◌≤◌, ◌<◌, ◌+◌, ◌∙◌, ℕ, Bool, true, false, not, Option, Some, None, List, [], ◌∷◌, ◌++◌, ◌==◌, if◌then◌else◌, refl, sym, ap, subst, map, filter, fold, length, arith, append_assoc, append-nil}
 use Rattle.std.specs.List.{AllByRecursion, flat_map, enumerate_from}
 use Rattle.std.specs.Option.{option_map_or}
 use Rattle.std.proofs.lemmas.Bool.{ne_eqb, eq-eqb}
 use Rattle.base_types.specs.declared.ids.Oid.{Oid}
-use Rattle.base_types.specs.declared.ids.Xid.{Xid}
 use Rattle.base_types.specs.declared.row.Row.{Row}
-use Rattle.base_types.specs.declared.row.Row.TheVariants as rows
 use Rattle.base_types.specs.declared.command.NewColumn.{NewColumn}
 use Rattle.event_kinds.specs.declared.entry.Entry.{Entry}
 use Rattle.event_kinds.specs.declared.entry.Event.{Event}
@@ -15,18 +13,17 @@ use Rattle.event_kinds.specs.declared.entry.Item.{Item}
 use Rattle.event_kinds.specs.declared.entry.Item.TheVariants as forms
 use Rattle.row_visibility.specs.declared.version.Stamp.{Stamp}
 use Rattle.row_visibility.specs.declared.version.Version.{Version}
-use Rattle.ddl_effect.specs.declared.draft.Draft.{Draft}
-use Rattle.ddl_effect.specs.Commands.{new_table, table_row, new_column}
+use Rattle.ddl_effect.specs.Commands.{new_table, new_column}
 use Rattle.ddl_effect.specs.Drawing.{drawn_change}
 use Rattle.history_model.specs.Changes.{item_of}
 use Rattle.history_model.specs.Drawn.{drawn_by, next_oid, next_oid_by}
-use Rattle.history_model.specs.Orderly.{main_rel, MayComeNext, IsSound}
+use Rattle.history_model.specs.Orderly.{main_rel, MayComeNext}
 use Rattle.history_model.specs.Versions.{versions_of, versions_by, change_by, end_by, ends, version_of, added_row, is_back, end_back}
 use Rattle.history_model.proofs.Prefixes.{EachEntry-more}
 use Rattle.history_model.proofs.Reading.{versions_of-more, next_oid-more}
 use Rattle.history_model.proofs.Every.{every-weaker, every-append, every-filter}
 use Rattle.seg_calls.specs.Calls.{items_drawn}
-use Rattle.backend_core.specs.NewTables.{IsNewTable, AddsTable, AddsTables, is_table_row, IsTableVersion, HasTables, HasSoundTables}
+use Rattle.backend_core.specs.NewTables.{AddsTable, AddsTables, is_table_row, IsTableVersion, HasTables, HasSoundTables}
 
 -- a change adds a row of a table with this oid
 abbrev pub IsTableItem : ℕ → Item → Type 0
@@ -59,10 +56,10 @@ oid-grows event next = omega arith
 pub next_oid-rises : (history : List Entry) (e : Entry) → next_oid history ≤ next_oid (history ++ e ∷ [])
 next_oid-rises history e = rw next_oid-more (oid-grows e.event (next_oid history))
 
--- the versions of these stamps stay
-abbrev pub is_kept : List Entry → ℕ → Event → Stamp → Bool
-is_kept history a (events.Gone from) s = not (is_back history a from s)
-is_kept history a event s = true
+-- the event leaves the versions of this stamp
+abbrev pub survives : List Entry → ℕ → Event → Stamp → Bool
+survives history a (events.Gone from) s = not (is_back history a from s)
+survives history a event s = true
 
 -- the stamp of what an event adds
 abbrev pub stamp_of : ℕ → Event → Stamp
@@ -100,7 +97,7 @@ all_kept [] = refl
 all_kept (v ∷ vs) = ap (λ l. v ∷ l) (all_kept vs)
 
 versions-by : (history : List Entry) (a c : ℕ) (event : Event) (vs : List Version) → AllByRecursion (λ v. v.ended ≡ None) vs → AddsTables history event
-    → versions_by history a c event vs ≡ filter (λ v. is_kept history a event v.by) vs ++ added_by c event
+    → versions_by history a c event vs ≡ filter (λ v. survives history a event v.by) vs ++ added_by c event
 versions-by history a c (events.Write xid items) vs whole adds =
     adds-all history a (next_oid history) (record { xid = xid; command = c }) items vs (table_items history items adds)
     ∙ ap (λ l. l ++ added_by c (events.Write xid items)) (sym (all_kept vs))
@@ -111,9 +108,9 @@ versions-by history a c event vs whole adds = sym (all_kept vs) ∙ sym (append-
 
 -- the versions after one more entry
 pub versions-after : (history : List Entry) (e : Entry) → HasTables history → AddsTables history e.event
-    → versions_of (history ++ e ∷ []) ≡ filter (λ v. is_kept history e.backend e.event v.by) (versions_of history) ++ added_by e.command e.event
+    → versions_of (history ++ e ∷ []) ≡ filter (λ v. survives history e.backend e.event v.by) (versions_of history) ++ added_by e.command e.event
 versions-after history e tables adds = versions_of-more history e
-    ∙ versions-by history e.backend e.command e.event (versions_of history) (every-weaker (IsTableVersion (next_oid history) tables.made_by) (λ v. v.ended ≡ None) (λ v is. is.whole) (versions_of history) tables.versions) adds
+    ∙ versions-by history e.backend e.command e.event (versions_of history) (every-weaker (IsTableVersion (next_oid history) tables.stamps) (λ v. v.ended ≡ None) (λ v is. is.whole) (versions_of history) tables.versions) adds
 
 -- a new version: of the relation that is drawn
 pub record IsNewVersion (next after : ℕ) (stamp : Stamp) (v : Version) : Type 0 where
@@ -136,16 +133,16 @@ added-new history c event adds = tt
 
 -- no version is there at the start
 pub HasTables-start : HasTables []
-HasTables-start = record { made_by = λ rel. record { xid = record { 0 = 0 }; command = 0 }; versions = tt }
+HasTables-start = record { stamps = λ rel. record { xid = record { 0 = 0 }; command = 0 }; versions = tt }
 
 -- tables alone are there after one more entry
 pub HasTables-more : (history : List Entry) (e : Entry) → HasTables history → AddsTables history e.event → HasTables (history ++ e ∷ [])
 HasTables-more history e tables adds = record {
-  made_by = made;
+  stamps = made;
   versions = subst (AllByRecursion (IsTableVersion after made)) (sym (versions-after history e tables adds))
-      (every-append (IsTableVersion after made) (filter (λ v. is_kept history e.backend e.event v.by) (versions_of history)) (added_by e.command e.event)
-      (every-filter (IsTableVersion after made) (λ v. is_kept history e.backend e.event v.by) (versions_of history)
-      (every-weaker (IsTableVersion (next_oid history) tables.made_by) (λ v. is_kept history e.backend e.event v.by ≡ true → IsTableVersion after made v) (λ v is kept. old v is) (versions_of history) tables.versions))
+      (every-append (IsTableVersion after made) (filter (λ v. survives history e.backend e.event v.by) (versions_of history)) (added_by e.command e.event)
+      (every-filter (IsTableVersion after made) (λ v. survives history e.backend e.event v.by) (versions_of history)
+      (every-weaker (IsTableVersion (next_oid history) tables.stamps) (λ v. survives history e.backend e.event v.by ≡ true → IsTableVersion after made v) (λ v is kept. old v is) (versions_of history) tables.versions))
       (every-weaker (IsNewVersion (next_oid history) (next_oid_by e.event (next_oid history)) (stamp_of e.command e.event)) (IsTableVersion after made) new (added_by e.command e.event) (added-new history e.command e.event adds)));
 }
   where
@@ -153,14 +150,14 @@ HasTables-more history e tables adds = record {
     after = next_oid (history ++ e ∷ [])
 
     made : Oid → Stamp
-    made rel = if rel.0 == next_oid history then stamp_of e.command e.event else tables.made_by rel
+    made rel = if rel.0 == next_oid history then stamp_of e.command e.event else tables.stamps rel
 
-    old : (v : Version) → IsTableVersion (next_oid history) tables.made_by v → IsTableVersion after made v
+    old : (v : Version) → IsTableVersion (next_oid history) tables.stamps v → IsTableVersion after made v
     old v is = record {
       drawn = omega (arith, is.drawn, next_oid-rises history e);
       table = is.table;
       whole = is.whole;
-      made = is.made ∙ ap (λ t. if t then stamp_of e.command e.event else tables.made_by (main_rel v.row)) (sym (ne_eqb (main_rel v.row).0 (next_oid history) (λ same. absurd (omega (arith, is.drawn, same)))));
+      made = is.made ∙ ap (λ t. if t then stamp_of e.command e.event else tables.stamps (main_rel v.row)) (sym (ne_eqb (main_rel v.row).0 (next_oid history) (λ same. absurd (omega (arith, is.drawn, same)))));
     }
 
     new : (v : Version) → IsNewVersion (next_oid history) (next_oid_by e.event (next_oid history)) (stamp_of e.command e.event) v → IsTableVersion after made v
@@ -168,7 +165,7 @@ HasTables-more history e tables adds = record {
       drawn = omega (arith, is.rel, is.drawn, next_oid-more history e);
       table = is.table;
       whole = is.whole;
-      made = is.made ∙ ap (λ t. if t then stamp_of e.command e.event else tables.made_by (main_rel v.row)) (sym (eq-eqb (main_rel v.row).0 (next_oid history) is.rel));
+      made = is.made ∙ ap (λ t. if t then stamp_of e.command e.event else tables.stamps (main_rel v.row)) (sym (eq-eqb (main_rel v.row).0 (next_oid history) is.rel));
     }
 
 pub HasSoundTables-start : HasSoundTables []

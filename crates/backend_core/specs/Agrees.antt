@@ -10,7 +10,7 @@ use Rattle.event_kinds.specs.declared.entry.Event.TheVariants as events
 use Rattle.rel_desc.specs.Answers.{answer_text}
 use Rattle.ddl_effect.specs.Plans.{Plan, Done, Fails, Absent, Do, Lookup, Write, is_built}
 use Rattle.ddl_effect.specs.Commands.{plan_of, commands_of, looking_up, showing}
-use Rattle.ddl_effect.specs.Blocks.{Outside, Inside, Failed, Blocks, no_block, refused_by, innermost, ends_block, needs_block}
+use Rattle.ddl_effect.specs.Blocks.{Outside, Inside, Failed, no_block, innermost}
 use Rattle.ddl_effect.specs.Stages.{plan_at}
 use Rattle.history_model.specs.Lives.{Life, Unstarted, Alive, Stopped, life_of}
 use Rattle.history_model.specs.Orderly.{IsSound}
@@ -18,19 +18,20 @@ use Rattle.history_model.specs.Read.{IsEconomical, place_read}
 use Rattle.history_model.specs.Writes.{has_written}
 use Rattle.seg_calls.specs.Calls.{took_back}
 use Rattle.cacheless.specs.Facts.{Facts, facts_of}
-use Rattle.cacheless.specs.Session.{Finished, Tally, none_open, plan_first, refused_first, is_settled, outcome_of}
+use Rattle.cacheless.specs.Session.{Finished, Tally, none_open, plan_first, refused_first}
+use Rattle.cacheless.specs.Locks.{cleared}
 use Rattle.cacheless.specs.Owed.{owed_after}
-use Rattle.cacheless.specs.Ends.{Ends, Commits, TakesBack}
+use Rattle.cacheless.specs.Ends.{Commits, TakesBack}
 use Rattle.cacheless.specs.Settled.{settled, finished_as}
 use Rattle.cacheless.specs.Sessions.{session_of}
-use Rattle.cacheless.specs.Plays.{Plays, started_in}
+use Rattle.cacheless.specs.Plays.{Plays}
 use Rattle.cacheless.specs.Schedule.{AreLooksTrue}
-use Rattle.cacheless.specs.Lines.{answer_judged, lines_from, lines_of_backend}
-use Rattle.backend_core.specs.Types.{Oid, Mode, Kind, Field, Row, Purpose, Command, NewColumn, CommandError, Scenario, Entry, Event, Draft, Opening, KeptScan, Backend}
+use Rattle.cacheless.specs.Lines.{answer_judged, lines_from}
+use Rattle.backend_core.specs.Types.{Oid, Mode, Kind, Field, Row, Purpose, Command, NewColumn, CommandError, Scenario, Entry, Draft, KeptScan, Backend}
 use Rattle.backend_core.specs.declared.phase.Life.TheVariants as lives
 use Rattle.backend_core.specs.declared.phase.Phase.TheVariants as phases
-use Rattle.backend_core.specs.NewTables.{IsNewTable, AddsTables, HasTables, StaysRead, SeesRelation}
-use Rattle.backend_core.specs.State.{owed_at, granted, is_taken_back, one_if, running_at, lists_at, is_kept, builds_missing, is_out, begins_in, end_at, has_write_since, end_of_running, Rest, session_at, HasCommand}
+use Rattle.backend_core.specs.NewTables.{IsNewTable, HasTables, StaysRead, SeesRelation}
+use Rattle.backend_core.specs.State.{owed_at, granted, is_taken_back, one_if, running_at, lists_at, is_kept, builds_missing, is_out, begins_in, owed_first, end_at, has_write_since, end_of_running, Rest, session_at, HasCommand}
 
 -- a history that the script's commands played so far
 pub record IsPlayed (scenario : Scenario) (history : List Entry) : Type 0 where
@@ -120,6 +121,11 @@ EndFits s = elim s.phase [
   | phase ↦ ⊤
 ]
 
+-- a lock was granted right before
+pub record IsGranted (s : Backend) : Type 0 where
+  pub runs : is_some s.running ≡ true
+  pub unanswered : is_some s.answer ≡ false
+
 -- what the code keeps by itself
 pub record Well (s : Backend) : Type 0 where
   pub built : All (λ command. is_built (plan_of none_open command) ≡ true) s.commands
@@ -133,8 +139,11 @@ pub record Well (s : Backend) : Type 0 where
   pub transaction : TransactionFits s
   pub written : has_write_since 0 s ≡ true → option_map_or (λ t. is_some t.xid) s.running false ≡ true
   pub end : EndFits s
-  pub answered : is_some s.answer ≡ false → (s.phase ≡ phases.Working) ⊎ (s.phase ≡ phases.Granted)
+  pub answered : HasCommand s → is_some s.answer ≡ false → (s.phase ≡ phases.Working) ⊎ (s.phase ≡ phases.Granted)
   pub come_out : is_some s.answer ≡ true → is_out s ≡ true
+  pub free : is_some s.answer ≡ true → (has : HasCommand s) → owed_first s has.command ≡ []
+  pub granted : s.phase ≡ phases.Granted → IsGranted s
+  pub clear : (s.phase ≡ phases.Granted) ⊎ (map cleared s.locks.items ≡ s.locks.items)
   pub table : (rest : List Row → Plan) (draft : Draft) → plan_at s.exec ≡ Do (Write draft) rest → IsNewTable draft
 
 -- a command that has done nothing yet, or none of what it does needs more than its own words

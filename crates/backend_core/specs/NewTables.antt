@@ -10,7 +10,7 @@ use Rattle.history_model.specs.Drawn.{next_oid}
 use Rattle.history_model.specs.Orderly.{main_rel, IsSound}
 use Rattle.history_model.specs.Versions.{versions_of, counts, answer_of}
 use Rattle.event_kinds.specs.declared.entry.Event.TheVariants as events
-use Rattle.seg_calls.specs.Calls.{items_drawn}
+use Rattle.seg_calls.specs.Calls.{items_drawn, took_back}
 use Rattle.row_visibility.specs.declared.version.Stamp.{Stamp}
 use Rattle.backend_core.specs.Types.{Oid, Kind, Row, Purpose, NewColumn, Draft, Version, Item, Entry, Event}
 
@@ -38,16 +38,16 @@ is_table_row (rows.Att rel num name col_type stat live) = true
 is_table_row row = false
 
 -- a version of a table's row: the table is drawn, the version isn't ended, and it has the stamp of the write that made the table
-pub record IsTableVersion (next : ℕ) (made_by : Oid → Stamp) (v : Version) : Type 0 where
+pub record IsTableVersion (next : ℕ) (stamps : Oid → Stamp) (v : Version) : Type 0 where
   pub drawn : (main_rel v.row).0 < next
   pub table : is_table_row v.row ≡ true
   pub whole : v.ended ≡ None
-  pub made : v.by ≡ made_by (main_rel v.row)
+  pub made : v.by ≡ stamps (main_rel v.row)
 
 -- all versions are of tables' rows as they were first written, and those of one table have one stamp
 pub record HasTables (history : List Entry) : Type 0 where
-  pub made_by : Oid → Stamp
-  pub versions : AllByRecursion (IsTableVersion (next_oid history) made_by) (versions_of history)
+  pub stamps : Oid → Stamp
+  pub versions : AllByRecursion (IsTableVersion (next_oid history) stamps) (versions_of history)
 
 -- a sound history that has tables alone
 pub record HasSoundTables (history : List Entry) : Type 0 where
@@ -92,11 +92,6 @@ pub record SeesRelation (history : List Entry) (b : ℕ) (rel : Oid) (kind : Kin
   pub fill : Option ℕ
   pub row : answer_of history b (scans.Class rel) ≡ rows.Class rel name kind fill ∷ []
 
--- the event takes writes back
-abbrev pub is_gone : Event → Bool
-is_gone (events.Gone from) = true
-is_gone event = false
-
 -- the entry takes writes of the backend back
-abbrev pub takes_back : ℕ → Entry → Bool
-takes_back b e = is_gone e.event && (e.backend == b)
+abbrev pub is_own_gone : ℕ → Entry → Bool
+is_own_gone b e = took_back (Some e.event) && (e.backend == b)

@@ -62,6 +62,10 @@ running_in phase own = option_map (λ t. record { first = t.first; xid = option_
 abbrev pub running_at : Backend → Option Running
 running_at s = running_in s.phase s.running
 
+-- the transaction of an entry: the running one, or else one that begins with this command
+abbrev pub begun_own : ℕ → Option OwnTransaction → OwnTransaction
+begun_own number own = unwrap_or own (record { first = number; xid = None })
+
 -- a write of a command, which has no messages
 abbrev pub written_in : ℕ → Written
 written_in command = record { command = command; cats = []; rels = [] }

@@ -30,10 +30,10 @@ pub record Steps (scenario : Scenario) (old new : List Entry) (was now : Backend
   pub tables : AddsTables old entry.event
   pub stands : Stands scenario new now
 
--- the places of a backend that has just made an entry, or passed on from there: its last entry is the history's last, and so its command is judged there, if it is not yet answered
+-- the places of a backend that has just made an entry, or passed on from there: its last entry is the history's last, and so its running command is judged there, if it is not yet answered
 pub record IsNow (seen : List Entry) (s : Backend) (rest : Rest) : Type 0 where
   pub last : rest.last ≡ length seen
-  pub judged : is_some s.answer ≡ false → rest.judged ≡ length seen
+  pub judged : HasCommand s → is_some s.answer ≡ false → rest.judged ≡ length seen
 
 -- a backend that agrees with a history that ends with its own entry
 pub record AgreesNow (scenario : Scenario) (seen : List Entry) (s : Backend) : Type 0 where

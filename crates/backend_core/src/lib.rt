@@ -5,6 +5,7 @@ mod backend;
 mod kept_scan;
 mod next;
 mod phase;
+mod reads;
 
 pub use backend::Backend;
 pub use kept_scan::KeptScan;

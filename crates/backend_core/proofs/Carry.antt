@@ -1,0 +1,353 @@
+-- What stays with one more entry, and what each entry of a backend needs.
+use Rattle.std.proofs.Common.{◌≡◌, ◌≢◌, ◌≤◌, ◌<◌, ◌+◌, ◌⊎◌, inl, inr, ◌∙◌, ℕ, Bool, true, false, Option, Some, None, List, [], ◌∷◌, ◌++◌, ◌==◌, ◌&&◌, ◌||◌, refl, sym, ap, subst, length, drop, take, map, All, get_or, is_none, is_some, slice_get, unwrap_or, arith, Fits, w32}
+use Rattle.std.proofs.Math.Bool.{and-false, or-false}
+use Rattle.std.proofs.lemmas.List.{drop_more, take-append-le}
+use Rattle.std.proofs.lemmas.Option.{slice_get_within, get_or_from_slice_get}
+use Rattle.base_types.specs.Scans.{build_scans, is_build_scan}
+use Rattle.base_types.specs.Scenario.{Scenario}
+use Rattle.base_types.specs.declared.kind.Kind.TheVariants.{Table, Index}
+use Rattle.base_types.specs.declared.row.Row.TheVariants as rows
+use Rattle.base_types.specs.declared.scan.Purpose.TheVariants as scans
+use Rattle.event_kinds.specs.declared.entry.Event.TheVariants as events
+use Rattle.rel_desc.specs.Answers.{answer_text}
+use Rattle.ddl_effect.specs.Plans.{Plan, Absent, Do, Lookup}
+use Rattle.ddl_effect.specs.Commands.{commands_of, showing}
+use Rattle.ddl_effect.specs.Stages.{plan_at}
+use Rattle.ddl_effect.specs.declared.exec.Exec.TheVariants as stages
+use Rattle.history_model.specs.Legal.{AllowsEvent}
+use Rattle.history_model.specs.Orderly.{MayComeNext, IsSound}
+use Rattle.history_model.specs.Read.{is_scan_of, read_at, place_read}
+use Rattle.history_model.specs.Transactions.{is_visible}
+use Rattle.history_model.specs.Writes.{has_written, is_write, is_empty}
+use Rattle.history_model.proofs.Reading.{read_at-own, place_read-other, has_written-more}
+use Rattle.history_model.proofs.Sound.{sound_is_legal}
+use Rattle.seg_calls.specs.Calls.{entry_of, MayCall, MayRequest}
+use Rattle.seg_calls.proofs.Allowed.{is_start, request_follows}
+use Rattle.seg_calls.proofs.Quiet.{log_of-none, none_waits, none_waited}
+use Rattle.cacheless.specs.Facts.{Facts, facts_of}
+use Rattle.cacheless.specs.Locks.{cleared}
+use Rattle.cacheless.specs.Session.{Session, Badly, outcome_of}
+use Rattle.cacheless.specs.Owed.{OwesLook, OwesScan, owed_at_start, owed_after, unusable, builds_owed, act_owed, scans_owed, owed_of, owes_accept}
+use Rattle.cacheless.specs.Settled.{settled, finished_as}
+use Rattle.cacheless.specs.Sessions.{accepted}
+use Rattle.cacheless.specs.Lines.{answer_judged}
+use Rattle.cacheless.specs.Schedule.{LooksTruly}
+use Rattle.backend_core.specs.Types.{Oid, Kind, Field, Command, Row, Purpose, Entry, Event, Opening, OwnLock, KeptScan, Exec, Phase, OwnTransaction, Backend}
+use Rattle.backend_core.specs.declared.phase.Phase.TheVariants as phases
+use Rattle.backend_core.specs.NewTables.{AddsTables, HasTables, SeesRelation, is_own_gone}
+use Rattle.backend_core.specs.State.{owed_at, is_visible_at, is_taken_back, running_in, is_kept, missing, builds_missing, act_missing, scans_missing, begins_in, owed_first, Rest, session_at, HasCommand}
+use Rattle.backend_core.specs.Agrees.{IsPlayed, FactsFit, Well, HasOpened, Way, PlaceFits, GivenSeen, CommandFits, KeptFits, AnswerFits, Agrees}
+use Rattle.backend_core.specs.Steps.{IsWorking}
+use Rattle.backend_core.proofs.SeesRelation.{other_not_gone, SeesRelation-more}
+use Rattle.backend_core.proofs.StaysRead.{StaysRead-more}
+use Rattle.backend_core.proofs.Stepping.{Waits}
+
+-- an entry that may come next, and adds tables alone
+pub record MayCome (history : List Entry) (e : Entry) : Type 0 where
+  pub sound : IsSound history
+  pub tables : HasTables history
+  pub comes : MayComeNext history e
+  pub adds : AddsTables history e.event
+
+pub may_come : (scenario : Scenario) (seen : List Entry) (e : Entry) → IsPlayed scenario seen → MayComeNext seen e → AddsTables seen e.event → MayCome seen e
+may_come scenario seen e played comes adds = record { sound = played.sound; tables = played.tables; comes = comes; adds = adds }
+
+-- the place of a scan, after an entry that isn't this scan
+pub place_read-more : (history : List Entry) (e : Entry) (b : ℕ) (scan : Purpose) → is_scan_of scan e.event ≡ false → place_read (history ++ e ∷ []) b scan ≡ place_read history b scan
+place_read-more history e b scan others = by_owner (e.backend == b) refl
+  where
+    by_owner : (t : Bool) → (e.backend == b) ≡ t → place_read (history ++ e ∷ []) b scan ≡ place_read history b scan
+    by_owner true own = ap (λ o. unwrap_or o 0) (read_at-own history e b scan own ∙ ap (λ t. elim t [ true ↦ Some (length history + 1) | false ↦ read_at history b scan ]) others)
+    by_owner false other = place_read-other history e b scan other
+
+-- and after the scan
+pub place_read-scan : (history : List Entry) (e : Entry) (b : ℕ) (scan : Purpose) → (e.backend == b) ≡ true → is_scan_of scan e.event ≡ true → place_read (history ++ e ∷ []) b scan ≡ length history + 1
+place_read-scan history e b scan own is = ap (λ o. unwrap_or o 0) (read_at-own history e b scan own ∙ ap (λ t. elim t [ true ↦ Some (length history + 1) | false ↦ read_at history b scan ]) is)
+
+-- the commands in which a backend has written, after an entry that is no write
+pub has_written-quiet : (history : List Entry) (e : Entry) (b c : ℕ) → is_write e.event ≡ false → has_written (history ++ e ∷ []) b c ≡ has_written history b c
+has_written-quiet history e b c quiet = has_written-more history e b c ∙ ap (λ t. has_written history b c || ((e.backend == b) && (e.command == c) && t)) quiet ∙ ap (λ t. has_written history b c || t) (and-false ((e.backend == b) && (e.command == c))) ∙ or-false (has_written history b c)
+
+-- and after another's
+pub has_written-other : (history : List Entry) (e : Entry) (b c : ℕ) → (e.backend == b) ≡ false → has_written (history ++ e ∷ []) b c ≡ has_written history b c
+has_written-other history e b c other = has_written-more history e b c ∙ ap (λ t. has_written history b c || (t && (e.command == c) && is_write e.event)) other ∙ or-false (has_written history b c)
+
+-- the scans that are kept, with one more entry that is none of them
+pub kept-more : (history : List Entry) (e : Entry) (b : ℕ) (kept : List KeptScan) → MayCome history e → All (λ k. is_scan_of k.scan e.event ≡ false) kept → All (KeptFits history b) kept → All (KeptFits (history ++ e ∷ []) b) kept
+kept-more history e b kept may none fits = λ i d within. record {
+  at = place_read-more history e b (get_or kept i d).scan (none i d within) ∙ (fits i d within).at;
+  stays = StaysRead-more history e b (get_or kept i d).scan (get_or kept i d).rows may.sound may.tables may.comes may.adds (fits i d within).stays;
+}
+
+-- or that is another's
+pub kept-other : (history : List Entry) (e : Entry) (b : ℕ) (kept : List KeptScan) → MayCome history e → (e.backend == b) ≡ false → All (KeptFits history b) kept → All (KeptFits (history ++ e ∷ []) b) kept
+kept-other history e b kept may other fits = λ i d within. record {
+  at = place_read-other history e b (get_or kept i d).scan other ∙ (fits i d within).at;
+  stays = StaysRead-more history e b (get_or kept i d).scan (get_or kept i d).rows may.sound may.tables may.comes may.adds (fits i d within).stays;
+}
+
+-- the same running command, as far as it is in doing what its plan says
+pub record SameCommand (was now : Backend) (rest later : Rest) : Type 0 where
+  pub id : now.id ≡ was.id
+  pub commands : now.commands ≡ was.commands
+  pub finished : now.finished ≡ was.finished
+  pub answer : now.answer ≡ was.answer
+  pub plan : plan_at now.exec ≡ plan_at was.exec
+  pub opened : now.opened ≡ was.opened
+  pub block : now.blocks.block ≡ was.blocks.block
+  pub refused : later.refused ≡ rest.refused
+  pub found : later.found ≡ rest.found
+
+-- and the same rows of its lookup
+pub record SameGiven (was now : Backend) : Type 0 where
+  pub read : now.read ≡ was.read
+  pub given : now.given.items ≡ was.given.items
+  pub given_at : now.given_at ≡ was.given_at
+
+-- an entry that is no write of the backend leaves its writes
+abbrev pub LeavesWrites : List Entry → Entry → ℕ → Type 0
+LeavesWrites history e b = (c : ℕ) → has_written (history ++ e ∷ []) b c ≡ has_written history b c
+
+-- an entry that is no scan of a name by the backend leaves the places of those
+abbrev pub LeavesPlaces : List Entry → Entry → ℕ → Type 0
+LeavesPlaces history e b = (name : List ℕ) → place_read (history ++ e ∷ []) b (scans.RelName name) ≡ place_read history b (scans.RelName name)
+
+-- an entry that takes back nothing of the backend leaves the relations that it sees
+abbrev pub LeavesRelations : List Entry → Entry → ℕ → Type 0
+LeavesRelations history e b = (rel : Oid) (kind : Kind) → SeesRelation history b rel kind → SeesRelation (history ++ e ∷ []) b rel kind
+
+pub leaves_relations : (history : List Entry) (e : Entry) (b : ℕ) → MayCome history e → is_own_gone b e ≡ false → LeavesRelations history e b
+leaves_relations history e b may stays = λ rel kind sees. SeesRelation-more history e b rel kind may.sound may.tables may.comes may.adds stays sees
+
+written_same : (history : List Entry) (e : Entry) (was now : Backend) (rest later : Rest) → SameCommand was now rest later → LeavesWrites history e was.id
+    → has_written (history ++ e ∷ []) now.id (now.finished + 1) ≡ has_written history was.id (was.finished + 1)
+written_same history e was now rest later same writes =
+    ap (λ b. has_written (history ++ e ∷ []) b (now.finished + 1)) same.id ∙ ap (λ n. has_written (history ++ e ∷ []) was.id (n + 1)) same.finished ∙ writes (was.finished + 1)
+
+-- how far a command is, with one more entry
+pub way-more : (history : List Entry) (e : Entry) (was now : Backend) (rest later : Rest) (command : Command) → SameCommand was now rest later → LeavesWrites history e was.id → LeavesRelations history e was.id
+    → Way history was rest command → Way (history ++ e ∷ []) now later command
+way-more history e was now rest later command same writes relations way = by_way way
+  where
+    written : has_written (history ++ e ∷ []) now.id (now.finished + 1) ≡ has_written history was.id (was.finished + 1)
+    written = written_same history e was now rest later same writes
+
+    opened_more : (name : List ℕ) (field : Option Field) (rel : Oid) (kind : Kind) → HasOpened was name field rel kind → HasOpened now name field rel kind
+    opened_more name field rel kind o = record { plan = same.plan ∙ o.plan; opened = same.opened ∙ o.opened; passes = o.passes }
+
+    by_way : Way history was rest command → Way (history ++ e ∷ []) now later command
+    by_way (inl u) = inl (record { found = same.found ∙ u.found; plan = same.plan ∙ u.plan; opened = same.opened ∙ u.opened; unwritten = written ∙ u.unwritten })
+    by_way (inr (inl m)) = inr (inl (record { name = m.name; mode = m.mode; further = m.further; found = same.found ∙ m.found; command_is = m.command_is; plan = same.plan ∙ m.plan; unwritten = written ∙ m.unwritten }))
+    by_way (inr (inr (inl f))) = inr (inr (inl (record {
+      name = f.name;
+      field = f.field;
+      rel = f.rel;
+      kind = f.kind;
+      command_is = f.command_is;
+      found = same.found ∙ f.found;
+      sees = subst (λ b. SeesRelation (history ++ e ∷ []) b f.rel f.kind) (sym same.id) (relations f.rel f.kind f.sees);
+      stage = by_stage f.stage;
+      unwritten = written ∙ f.unwritten;
+    })))
+      where
+        by_stage : ((plan_at was.exec ≡ showing f.name f.field f.rel f.kind) × (was.opened ≡ [])) ⊎ HasOpened was f.name f.field f.rel f.kind → ((plan_at now.exec ≡ showing f.name f.field f.rel f.kind) × (now.opened ≡ [])) ⊎ HasOpened now f.name f.field f.rel f.kind
+        by_stage (inl p) = inl (same.plan ∙ p.0, same.opened ∙ p.1)
+        by_stage (inr o) = inr (opened_more f.name f.field f.rel f.kind o)
+    by_way (inr (inr (inr w))) = inr (inr (inr (record { name = w.name; columns = w.columns; command_is = w.command_is; plan = same.plan ∙ w.plan; written = written ∙ w.written })))
+
+-- the commands in which it hasn't written
+pub later-more : (history : List Entry) (e : Entry) (was now : Backend) (rest later : Rest) → SameCommand was now rest later → LeavesWrites history e was.id → ((c : ℕ) → was.finished + 1 < c → has_written history was.id c ≡ false)
+    → (c : ℕ) → now.finished + 1 < c → has_written (history ++ e ∷ []) now.id c ≡ false
+later-more history e was now rest later same writes none = λ c after. ap (λ b. has_written (history ++ e ∷ []) b c) same.id ∙ writes c ∙ none c (omega (arith, after, same.finished))
+
+-- the place of a lookup's scan
+pub place-more : (history : List Entry) (e : Entry) (b : ℕ) (p : Plan) (read : Bool) (at : ℕ) → LeavesPlaces history e b → PlaceFits history b p read at → PlaceFits (history ++ e ∷ []) b p read at
+place-more history e b (Do (Lookup name mode) rest) true at places fits = places name ∙ fits
+place-more history e b (Do (Lookup name mode) rest) false at places fits = tt
+place-more history e b (Do act rest) read at places fits = tt
+place-more history e b (Absent name) read at places fits = places name ∙ fits
+place-more history e b p read at places fits = tt
+
+-- the relation that a lookup's rows name
+pub given-more : (history : List Entry) (e : Entry) (b : ℕ) (p : Plan) (read : Bool) (given : List Row) → LeavesRelations history e b → GivenSeen history b p read given → GivenSeen (history ++ e ∷ []) b p read given
+given-more history e b (Do (Lookup name mode) rest) true (rows.Class rel own kind fill ∷ more) relations seen = relations rel kind seen
+given-more history e b p read given relations seen = tt
+
+-- a command on its way, with one more entry
+pub command-more : (history : List Entry) (e : Entry) (was now : Backend) (rest later : Rest) → SameCommand was now rest later → SameGiven was now → LeavesWrites history e was.id → LeavesPlaces history e was.id → LeavesRelations history e was.id
+    → CommandFits history was rest → CommandFits (history ++ e ∷ []) now later
+command-more history e was now rest later same given writes places relations fits = record {
+  refused = λ error is. same.plan ∙ fits.refused error (sym same.refused ∙ is);
+  way = λ none free command at. way-more history e was now rest later command same writes relations (fits.way (ap is_some (sym same.answer) ∙ none) (sym same.refused ∙ free) command (ap (λ n. slice_get was.commands n) (sym same.finished) ∙ ap (λ l. slice_get l now.finished) (sym same.commands) ∙ at));
+  later = later-more history e was now rest later same writes fits.later;
+  given_at = subst (λ b. PlaceFits (history ++ e ∷ []) b (plan_at now.exec) now.read now.given_at) (sym same.id) (subst (λ p. PlaceFits (history ++ e ∷ []) was.id p now.read now.given_at) (sym same.plan)
+      (subst (λ r. PlaceFits (history ++ e ∷ []) was.id (plan_at was.exec) r now.given_at) (sym given.read) (subst (λ at. PlaceFits (history ++ e ∷ []) was.id (plan_at was.exec) was.read at) (sym given.given_at)
+      (place-more history e was.id (plan_at was.exec) was.read was.given_at places fits.given_at))));
+  given_seen = subst (λ b. GivenSeen (history ++ e ∷ []) b (plan_at now.exec) now.read now.given.items) (sym same.id) (subst (λ p. GivenSeen (history ++ e ∷ []) was.id p now.read now.given.items) (sym same.plan)
+      (subst (λ r. GivenSeen (history ++ e ∷ []) was.id (plan_at was.exec) r now.given.items) (sym given.read) (subst (λ l. GivenSeen (history ++ e ∷ []) was.id (plan_at was.exec) was.read l) (sym given.given)
+      (given-more history e was.id (plan_at was.exec) was.read was.given.items relations fits.given_seen))));
+}
+
+-- without an answer there is none that has to fit
+pub no_answer : (scenario : Scenario) (seen : List Entry) (s : Backend) (rest : Rest) → is_some s.answer ≡ false → AnswerFits scenario seen s rest
+no_answer scenario seen s rest none = λ text command is at. absurd (cc)
+
+-- an answer, with one more entry
+pub answer-more : (scenario : Scenario) (history : List Entry) (e : Entry) (was now : Backend) (rest later : Rest) → SameCommand was now rest later → later.judged ≡ rest.judged → rest.judged ≤ length history
+    → AnswerFits scenario history was rest → AnswerFits scenario (history ++ e ∷ []) now later
+answer-more scenario history e was now rest later same judged short fits = λ text command is at.
+    fits text command (sym same.answer ∙ is) (ap (λ n. slice_get was.commands n) (sym same.finished) ∙ ap (λ l. slice_get l now.finished) (sym same.commands) ∙ at)
+    ∙ ap (λ h. answer_text (answer_judged scenario h was.id (was.finished + 1) (finished_as (session_at was rest)) command rest.refused)) (sym (take-append-le rest.judged history (e ∷ []) short) ∙ ap (λ n. take n (history ++ e ∷ [])) (sym judged))
+    ∙ ap (λ f. answer_text (answer_judged scenario (take later.judged (history ++ e ∷ [])) was.id (was.finished + 1) f command rest.refused)) (λ i. record (finished_as (session_at now later)) { block = sym same.block i; refused = sym same.refused i; found = sym same.found i; judged = sym judged i })
+    ∙ ap (λ r. answer_text (answer_judged scenario (take later.judged (history ++ e ∷ [])) was.id (was.finished + 1) (finished_as (session_at now later)) command r)) (sym same.refused)
+    ∙ ap (λ n. answer_text (answer_judged scenario (take later.judged (history ++ e ∷ [])) was.id (n + 1) (finished_as (session_at now later)) command later.refused)) (sym same.finished)
+    ∙ ap (λ b. answer_text (answer_judged scenario (take later.judged (history ++ e ∷ [])) b (now.finished + 1) (finished_as (session_at now later)) command later.refused)) (sym same.id)
+
+-- all that the running command is carries over an entry of another backend, or one of its own that is no write, no scan of a name and takes nothing back
+pub record Leaves (history : List Entry) (e : Entry) (b : ℕ) : Type 0 where
+  pub writes : LeavesWrites history e b
+  pub places : LeavesPlaces history e b
+  pub relations : LeavesRelations history e b
+
+pub other_leaves : (history : List Entry) (e : Entry) (b : ℕ) → MayCome history e → (e.backend == b) ≡ false → Leaves history e b
+other_leaves history e b may other = record {
+  writes = λ c. has_written-other history e b c other;
+  places = λ name. place_read-other history e b (scans.RelName name) other;
+  relations = leaves_relations history e b may (other_not_gone b e other);
+}
+
+pub own_leaves : (history : List Entry) (e : Entry) (b : ℕ) → MayCome history e → is_write e.event ≡ false → ((name : List ℕ) → is_scan_of (scans.RelName name) e.event ≡ false) → is_own_gone b e ≡ false → Leaves history e b
+own_leaves history e b may unwritten unread stays = record {
+  writes = λ c. has_written-quiet history e b c unwritten;
+  places = λ name. place_read-more history e b (scans.RelName name) (unread name);
+  relations = leaves_relations history e b may stays;
+}
+
+-- the number of the running command, or after the last one
+pub number_fits : (s : Backend) → Well s → Fits w32 (s.finished + 1)
+number_fits s well = omega (arith, well.most, well.few)
+
+pub number_short : (scenario : Scenario) (seen : List Entry) (s : Backend) → Agrees scenario seen s → s.finished + 1 ≤ length (commands_of scenario s.id) + 1
+number_short scenario seen s agrees = omega (arith, agrees.well.most, ap length agrees.commands)
+
+-- which transaction runs, and whether it is visible
+running_visible : (p : Phase) (own : Option OwnTransaction) → is_visible_at p ≡ false → is_visible (running_in p own) ≡ false
+running_visible p None hidden = refl
+running_visible p (Some t) hidden = hidden
+
+pub none_running : (p : Phase) (own : Option OwnTransaction) → is_none (running_in p own) ≡ is_none own
+none_running p None = refl
+none_running p (Some t) = refl
+
+-- it may ask for something, but in the midst of a commit or of taking back
+pub may_request : (scenario : Scenario) (seen : List Entry) (s : Backend) → Agrees scenario seen s → is_visible_at s.phase ≡ false → is_taken_back s.phase ≡ false → MayRequest scenario seen s.id (s.finished + 1)
+may_request scenario seen s agrees hidden standing = record {
+  backend = agrees.number;
+  number = number_short scenario seen s agrees;
+  last = agrees.life.last;
+  alive = agrees.life.alive;
+  rises = agrees.life.most;
+  visible = ap is_visible agrees.facts.running ∙ running_visible s.phase s.running hidden;
+  gone = agrees.facts.took ∙ standing;
+}
+
+-- and so an entry that the history allows may be made
+pub may_call : (scenario : Scenario) (seen : List Entry) (s : Backend) (event : Event) → Agrees scenario seen s → is_visible_at s.phase ≡ false → is_taken_back s.phase ≡ false → is_start event ≡ false
+    → AllowsEvent seen s.id (s.finished + 1) event → MayCall scenario seen (entry_of s.id (s.finished + 1) event)
+may_call scenario seen s event agrees hidden standing other allows = record {
+  backend = agrees.number;
+  number = number_short scenario seen s agrees;
+  follows = request_follows scenario seen s.id (s.finished + 1) event (may_request scenario seen s agrees hidden standing) other allows;
+}
+
+-- a look says that nothing waits, and that is true
+pub look_allowed : (scenario : Scenario) (seen : List Entry) (b c : ℕ) → IsPlayed scenario seen → AllowsEvent seen b c (events.Look false)
+look_allowed scenario seen b c played = none_waited seen b (sound_is_legal seen played.sound)
+
+pub look_true : (scenario : Scenario) (seen : List Entry) (b : ℕ) → IsPlayed scenario seen → LooksTruly seen b (events.Look false)
+look_true scenario seen b played = none_waits seen b (log_of-none seen (sound_is_legal seen played.sound))
+
+-- so it may look, where it works
+pub look_call : (scenario : Scenario) (seen : List Entry) (s : Backend) → Agrees scenario seen s → IsPlayed scenario seen → s.phase ≡ phases.Working → MayCall scenario seen (entry_of s.id (s.finished + 1) (events.Look false))
+look_call scenario seen s agrees played phase = may_call scenario seen s (events.Look false) agrees (ap is_visible_at phase) (ap is_taken_back phase) refl (look_allowed scenario seen s.id (s.finished + 1) played)
+
+-- the running command is the first of those that are left
+pub left_command : {X : Type 0} (xs : List X) (n : ℕ) (x : X) → slice_get xs n ≡ Some x → drop n xs ≡ x ∷ drop (n + 1) xs
+left_command xs n x at = drop_more xs n x (slice_get_within xs n x at) ∙ ap (λ y. y ∷ drop (n + 1) xs) (get_or_from_slice_get xs n x x at)
+
+-- where the running command waits for an entry, the backend does
+pub waits_at : (scenario : Scenario) (seen : List Entry) (s : Backend) (agrees : Agrees scenario seen s) (has : HasCommand s)
+    → ((rest : List Command) → settled (facts_of seen s.id) (has.command ∷ rest) (session_at s agrees.rest) ≡ session_at s agrees.rest) → Waits agrees
+waits_at scenario seen s agrees has waits = ap (λ l. settled (facts_of seen s.id) l (session_at s agrees.rest)) (left_command s.commands s.finished has.command has.at) ∙ waits (drop (s.finished + 1) s.commands)
+
+-- what a command owes at its start
+pub start_owed : (facts : Facts) (command : Command) (s : Backend) (rest : Rest) → FactsFit facts s → owed_at_start facts command (session_at s rest) ≡ owed_first s command
+start_owed facts command s rest fits = ap (λ t. elim (begins_in s.blocks s.phase command && t) [ true ↦ OwesLook ∷ [] | false ↦ [] ]) (ap is_none fits.running ∙ none_running s.phase s.running)
+
+-- the scans that are owed are those that it misses
+unusable-missing : (facts : Facts) (kept : List KeptScan) → ((scan : Purpose) → is_build_scan scan ≡ true → facts.usable scan ≡ is_kept kept scan) → (kind : Kind) (rel : Oid)
+    → unusable facts (build_scans kind rel) ≡ missing kept (build_scans kind rel)
+unusable-missing facts kept usable Table rel =
+    rw (usable (scans.Class rel) refl, usable (scans.Attribute rel) refl, usable (scans.AttrDef rel) refl, usable (scans.Constraint rel) refl, usable (scans.Index rel) refl, usable (scans.Trigger rel) refl) refl
+unusable-missing facts kept usable Index rel = rw (usable (scans.Class rel) refl, usable (scans.IndexRow rel) refl) refl
+
+builds-missing : (facts : Facts) (kept : List KeptScan) → ((scan : Purpose) → is_build_scan scan ≡ true → facts.usable scan ≡ is_kept kept scan) → (opened : List Opening) → builds_owed facts opened ≡ builds_missing kept opened
+builds-missing facts kept usable [] = refl
+builds-missing facts kept usable (o ∷ opened) = ap (λ l. l ++ builds_owed facts opened) (unusable-missing facts kept usable o.kind o.rel) ∙ ap (λ l. missing kept (build_scans o.kind o.rel) ++ l) (builds-missing facts kept usable opened)
+
+-- no stage reads single rows of a descriptor
+act-missing : (facts : Facts) (kept : List KeptScan) → ((scan : Purpose) → is_build_scan scan ≡ true → facts.usable scan ≡ is_kept kept scan) → (read : Bool) (exec : Exec) → act_owed facts read (plan_at exec) ≡ act_missing kept read (plan_at exec)
+act-missing facts kept usable read stages.Done = refl
+act-missing facts kept usable read (stages.Failing error) = refl
+act-missing facts kept usable read (stages.Missing name) = refl
+act-missing facts kept usable read (stages.Finding name mode field) = refl
+act-missing facts kept usable read (stages.Opening rel kind) = unusable-missing facts kept usable kind rel
+act-missing facts kept usable read (stages.Writing draft) = refl
+
+pub builds_same : (facts : Facts) (s : Backend) → FactsFit facts s → builds_owed facts s.opened ≡ builds_missing s.kept s.opened
+builds_same facts s fits = builds-missing facts s.kept fits.usable s.opened
+
+pub act_same : (facts : Facts) (s : Backend) → FactsFit facts s → act_owed facts s.read (plan_at s.exec) ≡ act_missing s.kept s.read (plan_at s.exec)
+act_same facts s fits = act-missing facts s.kept fits.usable s.read s.exec
+
+pub scans_same : (facts : Facts) (s : Backend) (rest : Rest) → FactsFit facts s → scans_owed facts (session_at s rest) ≡ scans_missing s
+scans_same facts s rest fits = ap (λ l. elim (outcome_of (plan_at s.exec)) as (λ x. List Purpose) [ Badly ↦ [] | other ↦ l ])
+    (ap (λ l. l ++ act_owed facts s.read (plan_at s.exec)) (builds_same facts s fits) ∙ ap (λ l. builds_missing s.kept s.opened ++ l) (act_same facts s fits))
+
+-- where no scan is missing for an opened descriptor, the next act decides
+pub missing_at : (s : Backend) (p : Plan) → builds_missing s.kept s.opened ≡ [] → plan_at s.exec ≡ p → scans_missing s ≡ elim (outcome_of p) as (λ x. List Purpose) [ Badly ↦ [] | other ↦ act_missing s.kept s.read p ]
+missing_at s p builds at =
+    ap (λ q. elim (outcome_of q) as (λ x. List Purpose) [ Badly ↦ [] | other ↦ builds_missing s.kept s.opened ++ act_missing s.kept s.read q ]) at
+    ∙ ap (λ l. elim (outcome_of p) as (λ x. List Purpose) [ Badly ↦ [] | other ↦ l ++ act_missing s.kept s.read p ]) builds
+
+-- all that is owed by a command that does what its plan says
+pub owed_free : (scenario : Scenario) (seen : List Entry) (s : Backend) → Agrees scenario seen s → s.phase ≡ phases.Working → owed_after (facts_of seen s.id).last ≡ []
+owed_free scenario seen s agrees phase = agrees.facts.owed ∙ ap owed_at phase
+
+pub owed_scans : (scenario : Scenario) (seen : List Entry) (s : Backend) (agrees : Agrees scenario seen s) (works : IsWorking s) → owed_of (facts_of seen s.id) works.has.command (session_at s agrees.rest) ≡ map OwesScan (scans_missing s)
+owed_scans scenario seen s agrees works =
+    ap (λ l. l ++ owed_after (facts_of seen s.id).last ++ map OwesScan (scans_owed (facts_of seen s.id) (session_at s agrees.rest))) (start_owed (facts_of seen s.id) works.has.command s agrees.rest agrees.facts ∙ works.free)
+    ∙ ap (λ l. l ++ map OwesScan (scans_owed (facts_of seen s.id) (session_at s agrees.rest))) (owed_free scenario seen s agrees works.phase)
+    ∙ ap (map OwesScan) (scans_same (facts_of seen s.id) s agrees.rest agrees.facts)
+
+-- nothing but scans is owed, for the silent acts
+pub nothing_first : (scenario : Scenario) (seen : List Entry) (s : Backend) (agrees : Agrees scenario seen s) (works : IsWorking s)
+    → is_empty (owed_at_start (facts_of seen s.id) works.has.command (session_at s agrees.rest) ++ owed_after (facts_of seen s.id).last) ≡ true
+nothing_first scenario seen s agrees works =
+    ap (λ l. is_empty (l ++ owed_after (facts_of seen s.id).last)) (start_owed (facts_of seen s.id) works.has.command s agrees.rest agrees.facts ∙ works.free) ∙ ap is_empty (owed_free scenario seen s agrees works.phase)
+
+-- the locks are clear outside a grant
+pub clear_at : (s : Backend) → Well s → s.phase ≢ phases.Granted → map cleared s.locks.items ≡ s.locks.items
+clear_at s well outside = by_side well.clear
+  where
+    by_side : (s.phase ≡ phases.Granted) ⊎ (map cleared s.locks.items ≡ s.locks.items) → map cleared s.locks.items ≡ s.locks.items
+    by_side (inl is) = absurd (outside is)
+    by_side (inr clear) = clear
+
+-- clear locks stay as they are
+pub accepted-clear : (facts : Facts) (command : Option Command) (s : Session) → map cleared s.locks ≡ s.locks → accepted facts command s ≡ s
+accepted-clear facts command s clear = λ i. record s { locks = by_owed (owes_accept facts command s) i }
+  where
+    by_owed : (t : Bool) → elim t as (λ x. List OwnLock) [ true ↦ s.locks | false ↦ map cleared s.locks ] ≡ s.locks
+    by_owed true = refl
+    by_owed false = clear

@@ -1,0 +1,492 @@
+-- The scans of a backend, and the look before each.
+use Rattle.std.proofs.Common.{◌≡◌, ◌≢◌, ◌<◌, ◌+◌, ◌⊎◌, inl, inr, ◌∙◌, ℕ, Bool, true, false, not, Option, Some, None, List, [], ◌∷◌, ◌++◌, ◌==◌, ◌&&◌, ◌||◌, if◌then◌else◌, refl, sym, ap, subst, length, get_or, cond, filter, take, drop, All, is_none, is_some, slice_get, lt-ltb, arith}
+use Rattle.std.specs.Bool.{⊤}
+use Rattle.std.specs.List.{list_any, flat_map, AllByRecursion}
+use Rattle.std.specs.Option.{option_map_or}
+use Rattle.std.proofs.Math.Bool.{or_comm}
+use Rattle.std.proofs.lemmas.Bool.{eq-eqb}
+use Rattle.std.proofs.lemmas.List.Folds.{list_any-append, list_any_at}
+use Rattle.std.proofs.lemmas.List.Elements.{All-push}
+use Rattle.std.specs.declared.alloc.Global.{Global}
+use Rattle.std.specs.declared.vec.Vec.{Vec}
+use Rattle.base_types.specs.Scans.{same_scan, build_scans, is_build_scan}
+use Rattle.base_types.specs.Scenario.{Scenario}
+use Rattle.base_types.specs.declared.scanned.Scanned.{Scanned}
+use Rattle.base_types.specs.declared.kind.Kind.TheVariants.{Table, Index}
+use Rattle.base_types.specs.declared.row.Row.TheVariants as rows
+use Rattle.base_types.specs.declared.scan.Purpose.TheVariants as scans
+use Rattle.base_types.proofs.SameScan.{same_scan-true, same_scan-itself}
+use Rattle.event_kinds.specs.declared.entry.Event.TheVariants as events
+use Rattle.ddl_effect.specs.Plans.{Plan, Do, Lookup, Open}
+use Rattle.ddl_effect.specs.Blocks.{Block, Outside, Inside, Failed, innermost, ends_block, refused_by, no_block}
+use Rattle.ddl_effect.specs.Stages.{plan_at}
+use Rattle.history_model.specs.Drawn.{next_oid}
+use Rattle.history_model.specs.Read.{rows_by}
+use Rattle.history_model.specs.Transactions.{begun}
+use Rattle.history_model.specs.Versions.{answer_of}
+use Rattle.history_model.specs.Writes.{is_empty}
+use Rattle.seg_calls.specs.Calls.{entry_of, Appends, GivesRows}
+use Rattle.cacheless.specs.Facts.{Facts, facts_of}
+use Rattle.cacheless.specs.Session.{Session, Unsettled, Well as Goes, Badly, Outcome, outcome_of, is_settled, first_of}
+use Rattle.cacheless.specs.Owed.{unusable, builds_owed, act_owed, act_next, is_next_scan}
+use Rattle.cacheless.specs.Sessions.{placed_at, is_wanted}
+use Rattle.cacheless.specs.Plays.{MayPlayIn, started_in, has_looked}
+use Rattle.cacheless.proofs.Settling.{waits-scans}
+use Rattle.backend_core.specs.Types.{Oid, Kind, Command, Row, Purpose, Mode, Entry, Event, Opening, KeptScan, Exec, Phase, OwnTransaction, Backend}
+use Rattle.backend_core.specs.declared.phase.Phase.TheVariants as phases
+use Rattle.backend_core.specs.NewTables.{StaysRead, relation_of}
+use Rattle.backend_core.specs.State.{owed_at, granted, is_taken_back, is_ended, one_if, running_in, running_at, begins_in, is_kept, missing, builds_missing, act_missing, scans_missing, is_out, Rest, session_at, HasCommand}
+use Rattle.backend_core.specs.Agrees.{IsPlayed, FactsFit, TallyFits, RowsFit, ReadRight, Well, RunsAlone, RunsBlock, TransactionFits, CommitFits, TakeBackFits, EndFits, PlaceFits, KeptFits, GivenSeen, Agrees}
+use Rattle.backend_core.specs.Steps.{IsWorking, NextLookUp, NextBuild, Enters}
+use Rattle.backend_core.proofs.SeesRelation.{found_seen, read_stays-after}
+use Rattle.backend_core.proofs.Stepping.{Waits, facts_after, rest_after, own_enters}
+use Rattle.backend_core.proofs.Carry.{MayCome, may_come, Leaves, own_leaves, LeavesWrites, LeavesRelations, leaves_relations, has_written-quiet, place_read-scan, kept-more, SameCommand, way-more, later-more, command-more, no_answer, look_true, waits_at, scans_same, builds_same, act_same, missing_at, owed_free, clear_at, accepted-clear}
+use Rattle.backend_core.proofs.Looks.{may_look_at}
+use Rattle.backend_core.proofs.Acting.{acts, IsActing, is_acting, missing_acts, open_sees}
+
+-- a transaction fits in another state, if its release isn't made in either
+pub transaction-more : (was now : Backend) → is_ended was.phase ≡ false → is_ended now.phase ≡ false → now.blocks ≡ was.blocks → now.running ≡ was.running → now.finished ≡ was.finished → now.commands ≡ was.commands
+    → TransactionFits was → TransactionFits now
+transaction-more was now going goes blocks running finished commands fits = to_phase now.phase goes (subst (λ b. InBlock now b) (ap (λ x. x.block) (sym blocks)) (by_block was.blocks.block (from_phase was.phase going fits)))
+  where
+    InBlock : Backend → Block → Type 0
+    InBlock s b = elim b as (λ x. Type 0) [ Outside ↦ (s.running ≡ None) ⊎ RunsAlone s | Inside ↦ RunsBlock s | Failed ↦ s.running ≡ None ]
+
+    from_phase : (p : Phase) → is_ended p ≡ false → elim p as (λ x. Type 0) [ phases.Ended ↦ was.running ≡ None | q ↦ InBlock was was.blocks.block ] → InBlock was was.blocks.block
+    from_phase phases.Working h f = f
+    from_phase phases.Granted h f = f
+    from_phase phases.Visible h f = f
+    from_phase (phases.TakenBack from) h f = f
+    from_phase phases.Ended h f = absurd (cc)
+
+    to_phase : (p : Phase) → is_ended p ≡ false → InBlock now now.blocks.block → elim p as (λ x. Type 0) [ phases.Ended ↦ now.running ≡ None | q ↦ InBlock now now.blocks.block ]
+    to_phase phases.Working h f = f
+    to_phase phases.Granted h f = f
+    to_phase phases.Visible h f = f
+    to_phase (phases.TakenBack from) h f = f
+    to_phase phases.Ended h f = absurd (cc)
+
+    first : option_map_or (λ t. t.first) now.running 0 ≡ option_map_or (λ t. t.first) was.running 0
+    first = ap (λ o. option_map_or (λ t. t.first) o 0) running
+
+    same_begins : (command : Command) → begins_in now.blocks now.phase command ≡ begins_in was.blocks was.phase command
+    same_begins command = ap (λ b. begins_in b now.phase command) blocks ∙ ap (λ t. elim was.blocks.block as (λ x. Bool) [ Outside ↦ not (ends_block command) && not t && is_none (refused_by no_block command) | block ↦ false ]) (goes ∙ sym going)
+
+    by_block : (b : Block) → InBlock was b → InBlock now b
+    by_block Outside (inl none) = inl (running ∙ none)
+    by_block Outside (inr alone) = inr (record {
+      has = record { command = alone.has.command; at = ap (λ l. slice_get l now.finished) commands ∙ ap (slice_get was.commands) finished ∙ alone.has.at };
+      begins = same_begins alone.has.command ∙ alone.begins;
+      first = first ∙ alone.first ∙ ap (λ n. n + 1) (sym finished);
+    })
+    by_block Inside block = record { runs = ap is_some running ∙ block.runs; first = first ∙ block.first ∙ ap (λ n. innermost (n + 1) was.blocks.levels) (sym finished) ∙ ap (λ b. innermost (now.finished + 1) b.levels) (sym blocks) }
+    by_block Failed none = running ∙ none
+
+-- the end isn't on its way
+pub end_free : (s : Backend) → s.phase ≡ phases.Working → EndFits s
+end_free s phase = subst (λ p. elim p as (λ x. Type 0) [ phases.Visible ↦ CommitFits s | phases.TakenBack from ↦ TakeBackFits s from | phases.Ended ↦ is_out s ≡ true | q ↦ ⊤ ]) (sym phase) tt
+
+-- the same state but for its reading: where it works, it stays well
+pub reads_well : (was : Backend) (exec : Exec) (looked read : Bool) (given : Vec Row Global) (given_at : ℕ) (kept : List KeptScan) → was.phase ≡ phases.Working → builds_missing kept was.opened ≡ [] → plan_at exec ≡ plan_at was.exec
+    → Well was → Well (record was { exec = exec; looked = looked; read = read; given = given; given_at = given_at; kept = kept })
+reads_well was exec looked read given given_at kept phase builds plan well = record {
+  built = well.built;
+  few = well.few;
+  most = well.most;
+  builds = builds;
+  blocked = well.blocked;
+  refused = λ blocked. plan ∙ well.refused blocked;
+  levels = well.levels;
+  first = well.first;
+  transaction = transaction-more was (record was { exec = exec; looked = looked; read = read; given = given; given_at = given_at; kept = kept }) (ap is_ended phase) (ap is_ended phase) refl refl refl refl well.transaction;
+  written = well.written;
+  end = end_free (record was { exec = exec; looked = looked; read = read; given = given; given_at = given_at; kept = kept }) phase;
+  answered = λ has none. inl phase;
+  come_out = λ some. ap (λ p. is_settled (outcome_of p)) plan ∙ well.come_out some;
+  free = λ some has. well.free some (record { command = has.command; at = has.at });
+  granted = λ is. absurd (cc (is, phase));
+  clear = inr (clear_at was well (λ is. absurd (cc (is, phase))));
+  table = λ rest draft at. well.table rest draft (sym plan ∙ at);
+}
+
+-- a scan is missing: the backend waits for it
+is_empty-not : {X : Type 0} (xs : List X) → xs ≢ [] → is_empty xs ≡ false
+is_empty-not [] some = absurd (some refl)
+is_empty-not (x ∷ xs) some = refl
+
+pub waits_scan : (scenario : Scenario) (seen : List Entry) (s : Backend) (agrees : Agrees scenario seen s) (has : HasCommand s) → scans_missing s ≢ [] → Waits agrees
+waits_scan scenario seen s agrees has some = waits_at scenario seen s agrees has (λ rest. waits-scans (facts_of seen s.id) has.command rest (session_at s agrees.rest)
+    (ap is_empty (scans_same (facts_of seen s.id) s agrees.rest agrees.facts) ∙ is_empty-not (scans_missing s) some))
+
+-- its transaction goes on
+pub runs_on : (number : ℕ) (s : Backend) (facts : Facts) → FactsFit facts s → is_some s.running ≡ true → Some (begun number facts.running) ≡ running_at s
+runs_on number s facts fits runs = ap (λ o. Some (begun number o)) fits.running ∙ by_own s.running runs
+  where
+    by_own : (own : Option OwnTransaction) → is_some own ≡ true → Some (begun number (running_in s.phase own)) ≡ running_in s.phase own
+    by_own None h = absurd (cc)
+    by_own (Some t) h = refl
+
+both_none : {X : Type 0} (xs ys : List X) → xs ++ ys ≡ [] → (xs ≡ []) × (ys ≡ [])
+both_none [] ys none = (refl, none)
+both_none (x ∷ xs) ys none = absurd (cc)
+
+-- the look before a scan
+pub scan_look_enters : (scenario : Scenario) (old new : List Entry) (had has : ℕ → ℕ) (was : Backend) → Agrees scenario old was → IsPlayed scenario old → IsWorking was → scans_missing was ≢ [] → was.looked ≡ false
+    → Appends old new had has (entry_of was.id (was.finished + 1) (events.Look false)) → Enters scenario old new was (record was { looked = true })
+scan_look_enters scenario old new had has was agrees played works some unlooked appends =
+    own_enters scenario old new had has was now (events.Look false) agrees (waits_scan scenario old was agrees works.has some)
+    (record { session = λ _ _ _ _ _ _. refl; finished = λ _. refl; life = λ _. refl })
+    (record {
+      plays = subst (λ o. MayPlayIn (next_oid old) (facts_of old was.id) o (session_at was agrees.rest) (events.Look false)) (sym works.has.at) (may_look_at (facts_of old was.id) was agrees.rest agrees.facts agrees.tally);
+      needed = tt;
+      truly = look_true scenario old was.id played;
+      tables = tt;
+    })
+    (record {
+      moves = record { id = refl; commands = refl; finished = refl; life = refl; lines = refl };
+      session = accepted-clear (facts_after old was (events.Look false)) (first_of (drop was.finished was.commands)) (placed_at (length old + 1) (was.finished + 1) (events.Look false) (session_at was agrees.rest)) (clear_at was agrees.well (λ is. absurd (cc (is, works.phase))));
+      facts = record {
+        running = runs_on (was.finished + 1) was (facts_of old was.id) agrees.facts acting.runs;
+        lists = agrees.facts.lists;
+        owed = sym (ap owed_at works.phase);
+        took = sym (ap is_taken_back works.phase);
+        taken = λ from is. absurd (cc (is, works.phase));
+        usable = agrees.facts.usable;
+        kept = agrees.facts.kept;
+        given = agrees.facts.given;
+      };
+      tally = omega (arith, agrees.tally, ap one_if unlooked);
+      well = reads_well was was.exec true was.read was.given was.given_at was.kept works.phase agrees.well.builds refl agrees.well;
+    })
+    (record {
+      command = command-more old e was now agrees.rest later (record { id = refl; commands = refl; finished = refl; answer = refl; plan = refl; opened = refl; block = refl; refused = refl; found = refl }) (record { read = refl; given = refl; given_at = refl })
+          leaves.writes leaves.places leaves.relations agrees.command;
+      kept = kept-more old e was.id was.kept may (λ i d within. refl) agrees.kept;
+      answer = no_answer scenario (old ++ e ∷ []) now later acting.unanswered;
+      judged = λ _ _. refl;
+    })
+    appends
+  where
+    now : Backend
+    now = record was { looked = true }
+
+    acting : IsActing old was agrees.rest works.has.command
+    acting = is_acting scenario old was agrees works (missing_acts was agrees.well some)
+
+    e : Entry
+    e = entry_of was.id (was.finished + 1) (events.Look false)
+
+    later : Rest
+    later = rest_after old was (events.Look false) agrees.rest
+
+    may : MayCome old e
+    may = may_come scenario old e played appends.comes tt
+
+    leaves : Leaves old e was.id
+    leaves = own_leaves old e was.id may refl (λ name. refl) refl
+
+-- the count of looks is enough for one more scan
+pub looked_enough : (facts : Facts) (s : Backend) (rest : Rest) → FactsFit facts s → TallyFits rest.tally s → length rest.finished ≡ s.finished → s.phase ≡ phases.Working → s.looked ≡ true → has_looked facts (session_at s rest) ≡ true
+looked_enough facts s rest fits tally count phase looked =
+    lt-ltb (rest.tally.scans + rest.tally.grants + started_in (length rest.finished + 1) facts) rest.tally.looks
+    (omega (arith, tally, ap granted phase, ap one_if looked, ap (λ o. option_map_or (λ t. elim (t.first == length rest.finished + 1) as (λ x. ℕ) [ true ↦ 1 | false ↦ 0 ]) o 0) fits.running, same s.running))
+  where
+    one : (t : Bool) → elim t as (λ x. ℕ) [ true ↦ 1 | false ↦ 0 ] ≡ one_if t
+    one true = refl
+    one false = refl
+
+    same : (own : Option OwnTransaction) → option_map_or (λ t. elim (t.first == length rest.finished + 1) as (λ x. ℕ) [ true ↦ 1 | false ↦ 0 ]) (running_in s.phase own) 0 ≡ option_map_or (λ t. one_if (t.first == s.finished + 1)) own 0
+    same None = refl
+    same (Some t) = one (t.first == length rest.finished + 1) ∙ ap (λ n. one_if (t.first == n + 1)) count
+
+-- the first scan that the next act lacks may be made
+firsts_none : (facts : Facts) (opened : List Opening) → builds_owed facts opened ≡ [] → flat_map (λ o. take 1 (unusable facts (build_scans o.kind o.rel))) opened ≡ []
+firsts_none facts [] none = refl
+firsts_none facts (o ∷ opened) none = let parts = both_none (unusable facts (build_scans o.kind o.rel)) (builds_owed facts opened) none in
+    ap (λ l. take 1 l ++ flat_map (λ o. take 1 (unusable facts (build_scans o.kind o.rel))) opened) parts.0 ∙ firsts_none facts opened parts.1
+
+next_scan : (facts : Facts) (s : Session) (scan : Purpose) → is_settled (outcome_of s.left) ≡ false → builds_owed facts s.opened ≡ [] → act_next facts s.read s.left ≡ scan ∷ [] → is_next_scan scan facts s ≡ true
+next_scan facts s scan unsettled builds first = by_outcome (outcome_of s.left) unsettled
+  where
+    nexts : List Purpose
+    nexts = flat_map (λ o. take 1 (unusable facts (build_scans o.kind o.rel))) s.opened ++ act_next facts s.read s.left
+
+    here : list_any (same_scan scan) nexts ≡ true
+    here = ap (λ l. list_any (same_scan scan) (l ++ act_next facts s.read s.left)) (firsts_none facts s.opened builds) ∙ ap (list_any (same_scan scan)) first ∙ ap (λ t. t || false) (same_scan-itself scan)
+
+    by_outcome : (o : Outcome) → is_settled o ≡ false → list_any (same_scan scan) (elim o as (λ x. List Purpose) [ Badly ↦ [] | other ↦ nexts ]) ≡ true
+    by_outcome Unsettled un = here
+    by_outcome Goes un = absurd (cc)
+    by_outcome Badly un = absurd (cc)
+
+-- what a scan needs: it comes next, and a look was made for it
+pub may_scan : (scenario : Scenario) (seen : List Entry) (s : Backend) (agrees : Agrees scenario seen s) (works : IsWorking s) (scan : Purpose) (count : ℕ) → s.looked ≡ true → is_settled (outcome_of (plan_at s.exec)) ≡ false
+    → act_next (facts_of seen s.id) s.read (plan_at s.exec) ≡ scan ∷ [] → MayPlayIn (next_oid seen) (facts_of seen s.id) (slice_get s.commands s.finished) (session_at s agrees.rest) (events.Scan scan count)
+may_scan scenario seen s agrees works scan count looked unsettled first =
+    subst (λ o. MayPlayIn (next_oid seen) (facts_of seen s.id) o (session_at s agrees.rest) (events.Scan scan count)) (sym works.has.at) (
+      owed_free scenario seen s agrees works.phase,
+      next_scan (facts_of seen s.id) (session_at s agrees.rest) scan unsettled (builds_same (facts_of seen s.id) s agrees.facts ∙ agrees.well.builds) first,
+      looked_enough (facts_of seen s.id) s agrees.rest agrees.facts agrees.tally agrees.count works.phase looked,
+    )
+
+-- the scan of a name is none of a descriptor's
+no_build : (name : List ℕ) (scan : Purpose) → is_build_scan scan ≡ true → same_scan (scans.RelName name) scan ≡ false
+no_build name (scans.RelName other) build = absurd (cc)
+no_build name scan build = refl
+
+pub other_scan : (a b : Purpose) → same_scan a b ≡ false → same_scan b a ≡ false
+other_scan a b other = by_test (same_scan b a) refl
+  where
+    by_test : (t : Bool) → same_scan b a ≡ t → same_scan b a ≡ false
+    by_test true is = absurd (cc (subst (λ c. same_scan c b ≡ true) (same_scan-true b a is) (same_scan-itself b), other))
+    by_test false is = is
+
+rows_by-others : (old : List Entry) (b : ℕ) (made scan : Purpose) (count : ℕ) (given : List Row) → same_scan made scan ≡ false → rows_by old b scan (events.Scan made count) given ≡ given
+rows_by-others old b made scan count given other = ap (λ t. elim t [ true ↦ answer_of old b scan | false ↦ given ]) other
+
+rows_by-own : (old : List Entry) (b : ℕ) (made : Purpose) (count : ℕ) (given : List Row) → rows_by old b made (events.Scan made count) given ≡ answer_of old b made
+rows_by-own old b made count given = ap (λ t. elim t [ true ↦ answer_of old b made | false ↦ given ]) (same_scan-itself made)
+
+cons_not : {X : Type 0} (x : X) (xs ys : List X) → ys ≡ x ∷ xs → ys ≢ []
+cons_not x xs ys first none = absurd (cc)
+
+-- the relation that the rows of a name's scan name is seen
+named_seen : (old : List Entry) (e : Entry) (b : ℕ) (name : List ℕ) (mode : Mode) (rest : List Row → Plan) (given : List Row) → MayCome old e → LeavesRelations old e b → answer_of old b (scans.RelName name) ≡ given
+    → GivenSeen (old ++ e ∷ []) b (Do (Lookup name mode) rest) true given
+named_seen old e b name mode rest [] may relations is = tt
+named_seen old e b name mode rest (rows.Class rel own kind fill ∷ more) may relations is = relations rel kind (found_seen old b name rel own kind fill more may.sound may.tables is)
+named_seen old e b name mode rest (row ∷ more) may relations is = tt
+
+looked_up_to : (scenario : Scenario) (old new : List Entry) (had has : ℕ → ℕ) (was : Backend) (name : List ℕ) (given : Vec Row Global) (at : ℕ) → Agrees scenario old was → IsPlayed scenario old → IsWorking was → NextLookUp was name → was.looked ≡ true
+    → given.items ≡ answer_of old was.id (scans.RelName name) → at ≡ length old + 1
+    → Appends old new had has (entry_of was.id (was.finished + 1) (events.Scan (scans.RelName name) (length (answer_of old was.id (scans.RelName name)))))
+    → Enters scenario old new was (record was { looked = false; read = true; given = given; given_at = at })
+looked_up_to scenario old new had has was name given at agrees played works next looked rows_are at_is appends =
+    own_enters scenario old new had has was now event agrees (waits_scan scenario old was agrees works.has (cons_not (scans.RelName name) [] (scans_missing was) (missing_at was plan agrees.well.builds next.at ∙ ap (λ r. if r then [] else scans.RelName name ∷ []) next.unread)))
+    (record { session = λ _ _ _ _ _ _. refl; finished = λ _. refl; life = λ _. refl })
+    (record {
+      plays = may_scan scenario old was agrees works (scans.RelName name) count looked (ap (λ p. is_settled (outcome_of p)) next.at) (ap (act_next (facts_of old was.id) was.read) next.at ∙ ap (λ r. take 1 (if r then [] else scans.RelName name ∷ [])) next.unread);
+      needed = λ build. absurd (cc);
+      truly = tt;
+      tables = tt;
+    })
+    (record {
+      moves = record { id = refl; commands = refl; finished = refl; life = refl; lines = refl };
+      session = accepted-clear (facts_after old was event) (first_of (drop was.finished was.commands)) placed (clear_at was agrees.well (λ is. absurd (cc (is, works.phase))))
+          ∙ (λ i. record placed { read = (ap (λ p. is_wanted (scans.RelName name) p || was.read) next.at ∙ ap (λ t. t || was.read) (same_scan-itself (scans.RelName name))) i });
+      facts = record {
+        running = runs_on (was.finished + 1) was (facts_of old was.id) agrees.facts acting.runs;
+        lists = agrees.facts.lists;
+        owed = sym (ap owed_at works.phase);
+        took = sym (ap is_taken_back works.phase);
+        taken = λ from is. absurd (cc (is, works.phase));
+        usable = λ scan build. ap (λ t. t || (facts_of old was.id).usable scan) (no_build name scan build) ∙ agrees.facts.usable scan build;
+        kept = λ i d within. let k = agrees.facts.kept i d within in record { build = k.build; rows_are = k.rows_are ∙ sym (rows_by-others old was.id (scans.RelName name) (get_or was.kept i d).scan count ((facts_of old was.id).rows (get_or was.kept i d).scan) (no_build name (get_or was.kept i d).scan k.build)) };
+        given = λ read. subst (λ p. RowsFit (facts_after old was event).rows p given.items) (sym next.at) (rows_by-own old was.id (scans.RelName name) count ((facts_of old was.id).rows (scans.RelName name)) ∙ sym rows_are);
+      };
+      tally = omega (arith, agrees.tally, ap one_if looked);
+      well = reads_well was was.exec false true given at was.kept works.phase agrees.well.builds refl agrees.well;
+    })
+    (record {
+      command = record {
+        refused = agrees.command.refused;
+        way = λ none free command here. way-more old e was now agrees.rest later command same writes relations (agrees.command.way none free command here);
+        later = later-more old e was now agrees.rest later same writes agrees.command.later;
+        given_at = subst (λ p. PlaceFits (old ++ e ∷ []) was.id p true at) (sym next.at) (place_read-scan old e was.id (scans.RelName name) (eq-eqb was.id was.id refl) (same_scan-itself (scans.RelName name)) ∙ sym at_is);
+        given_seen = subst (λ p. GivenSeen (old ++ e ∷ []) was.id p true given.items) (sym next.at) (named_seen old e was.id name next.mode next.rest given.items may relations (sym rows_are));
+      };
+      kept = kept-more old e was.id was.kept may (λ i d within. no_build name (get_or was.kept i d).scan (agrees.facts.kept i d within).build) agrees.kept;
+      answer = no_answer scenario (old ++ e ∷ []) now later acting.unanswered;
+      judged = λ _ _. refl;
+    })
+    appends
+  where
+    count : ℕ
+    count = length (answer_of old was.id (scans.RelName name))
+
+    event : Event
+    event = events.Scan (scans.RelName name) count
+
+    plan : Plan
+    plan = Do (Lookup name next.mode) next.rest
+
+    now : Backend
+    now = record was { looked = false; read = true; given = given; given_at = at }
+
+    placed : Session
+    placed = placed_at (length old + 1) (was.finished + 1) event (session_at was agrees.rest)
+
+    acting : IsActing old was agrees.rest works.has.command
+    acting = is_acting scenario old was agrees works (ap acts next.at)
+
+    e : Entry
+    e = entry_of was.id (was.finished + 1) event
+
+    later : Rest
+    later = rest_after old was event agrees.rest
+
+    may : MayCome old e
+    may = may_come scenario old e played appends.comes tt
+
+    same : SameCommand was now agrees.rest later
+    same = record { id = refl; commands = refl; finished = refl; answer = refl; plan = refl; opened = refl; block = refl; refused = refl; found = refl }
+
+    writes : LeavesWrites old e was.id
+    writes = λ c. has_written-quiet old e was.id c refl
+
+    relations : LeavesRelations old e was.id
+    relations = leaves_relations old e was.id may refl
+
+-- the scan of a name
+pub looked_up_enters : (scenario : Scenario) (old new : List Entry) (had has : ℕ → ℕ) (was : Backend) (name : List ℕ) (scanned : Scanned) → Agrees scenario old was → IsPlayed scenario old → IsWorking was → NextLookUp was name → was.looked ≡ true
+    → GivesRows old new had has was.id (was.finished + 1) (scans.RelName name) scanned → Enters scenario old new was (record was { looked = false; read = true; given = scanned.rows; given_at = scanned.at })
+looked_up_enters scenario old new had has was name scanned agrees played works next looked gives = looked_up_to scenario old new had has was name scanned.rows scanned.at agrees played works next looked gives.rows gives.at gives.appends
+
+-- the first scan that is missing: it isn't kept, and is one of the relation's descriptor
+first_missing : (keep : Purpose → Bool) (P : Purpose → Type 0) (wanted : List Purpose) (scan : Purpose) (more : List Purpose) → AllByRecursion P wanted → filter keep wanted ≡ scan ∷ more → (keep scan ≡ true) × P scan
+first_missing keep P [] scan more holds first = absurd (cc)
+first_missing keep P (x ∷ wanted) scan more holds first = by_test (keep x) refl first (first_missing keep P wanted scan more holds.1)
+  where
+    by_test : (t : Bool) → keep x ≡ t → cond t (x ∷ filter keep wanted) (filter keep wanted) ≡ scan ∷ more → (filter keep wanted ≡ scan ∷ more → (keep scan ≡ true) × P scan) → (keep scan ≡ true) × P scan
+    by_test true is here rest = let same : x ≡ scan = cc in (subst (λ y. keep y ≡ true) same is, subst P same holds.0)
+    by_test false is here rest = rest here
+
+-- a scan for the descriptor of this relation
+abbrev IsBuildOf : Oid → Purpose → Type 0
+IsBuildOf rel scan = (is_build_scan scan ≡ true) × (relation_of scan ≡ Some rel)
+
+builds_of : (kind : Kind) (rel : Oid) → AllByRecursion (IsBuildOf rel) (build_scans kind rel)
+builds_of Table rel = ((refl, refl), ((refl, refl), ((refl, refl), ((refl, refl), ((refl, refl), ((refl, refl), tt))))))
+builds_of Index rel = ((refl, refl), ((refl, refl), tt))
+
+not_true : (t : Bool) → not t ≡ true → t ≡ false
+not_true true h = absurd (cc)
+not_true false h = refl
+
+-- a scan that isn't kept is none of those that are
+none_at : {X : Type 0} (p : X → Bool) (xs : List X) (i : ℕ) (d : X) → i < length xs → list_any p xs ≡ false → p (get_or xs i d) ≡ false
+none_at p xs i d within none = by_test (p (get_or xs i d)) refl
+  where
+    by_test : (t : Bool) → p (get_or xs i d) ≡ t → p (get_or xs i d) ≡ false
+    by_test true is = absurd (cc (list_any_at p xs i d within is, none))
+    by_test false is = is
+
+rows_fit : (old : List Entry) (b : ℕ) (made : Purpose) (count : ℕ) (given_of : Purpose → List Row) → is_build_scan made ≡ true → (p : Plan) (given : List Row) → RowsFit given_of p given → RowsFit (λ scan. rows_by old b scan (events.Scan made count) (given_of scan)) p given
+rows_fit old b made count given_of build (Do (Lookup name mode) rest) given fits = rows_by-others old b made (scans.RelName name) count (given_of (scans.RelName name)) (other_scan (scans.RelName name) made (no_build name made build)) ∙ fits
+rows_fit old b made count given_of build (Do act rest) given fits = tt
+rows_fit old b made count given_of build p given fits = tt
+
+kept_longer : (kept more : List KeptScan) (scan : Purpose) → is_kept kept scan ≡ true → is_kept (kept ++ more) scan ≡ true
+kept_longer kept more scan has = list_any-append (λ (k : KeptScan). same_scan k.scan scan) kept more ∙ ap (λ t. t || is_kept more scan) has
+
+missing_less : (kept more : List KeptScan) (wanted : List Purpose) → missing kept wanted ≡ [] → missing (kept ++ more) wanted ≡ []
+missing_less kept more [] none = refl
+missing_less kept more (scan ∷ wanted) none = by_test (is_kept kept scan) refl none (missing_less kept more wanted)
+  where
+    by_test : (t : Bool) → is_kept kept scan ≡ t → cond (not t) (scan ∷ missing kept wanted) (missing kept wanted) ≡ [] → (missing kept wanted ≡ [] → missing (kept ++ more) wanted ≡ []) → missing (kept ++ more) (scan ∷ wanted) ≡ []
+    by_test true is here rest = ap (λ t. cond (not t) (scan ∷ missing (kept ++ more) wanted) (missing (kept ++ more) wanted)) (kept_longer kept more scan is) ∙ rest here
+    by_test false is here rest = absurd (cc)
+
+-- with more scans kept the opened descriptors lack none still
+pub builds_less : (kept more : List KeptScan) (opened : List Opening) → builds_missing kept opened ≡ [] → builds_missing (kept ++ more) opened ≡ []
+builds_less kept more [] none = refl
+builds_less kept more (o ∷ opened) none =
+    let parts = both_none (missing kept (build_scans o.kind o.rel)) (builds_missing kept opened) none in
+    ap (λ l. l ++ builds_missing (kept ++ more) opened) (missing_less kept more (build_scans o.kind o.rel) parts.0) ∙ builds_less kept more opened parts.1
+
+built_to : (scenario : Scenario) (old new : List Entry) (had has : ℕ → ℕ) (was : Backend) (scan : Purpose) (given : List Row) (at : ℕ) → Agrees scenario old was → IsPlayed scenario old → IsWorking was → NextBuild was scan → was.looked ≡ true
+    → given ≡ answer_of old was.id scan → at ≡ length old + 1
+    → Appends old new had has (entry_of was.id (was.finished + 1) (events.Scan scan (length (answer_of old was.id scan))))
+    → Enters scenario old new was (record was { looked = false; kept = was.kept ++ record { scan = scan; rows = given; at = at } ∷ [] })
+built_to scenario old new had has was scan given at agrees played works next looked rows_are at_is appends =
+    own_enters scenario old new had has was now event agrees (waits_scan scenario old was agrees works.has (cons_not scan next.more (scans_missing was) (missing_at was plan agrees.well.builds next.at ∙ next.first)))
+    (record { session = λ _ _ _ _ _ _. refl; finished = λ _. refl; life = λ _. refl })
+    (record {
+      plays = may_scan scenario old was agrees works scan count looked (ap (λ p. is_settled (outcome_of p)) next.at)
+          (ap (act_next (facts_of old was.id) was.read) next.at
+          ∙ ap (λ p. take 1 (act_owed (facts_of old was.id) was.read p)) (sym next.at) ∙ ap (take 1) (act_same (facts_of old was.id) was agrees.facts ∙ ap (act_missing was.kept was.read) next.at ∙ next.first));
+      needed = λ build. agrees.facts.usable scan build ∙ unkept;
+      truly = tt;
+      tables = tt;
+    })
+    (record {
+      moves = record { id = refl; commands = refl; finished = refl; life = refl; lines = refl };
+      session = accepted-clear (facts_after old was event) (first_of (drop was.finished was.commands)) placed (clear_at was agrees.well (λ is. absurd (cc (is, works.phase))))
+          ∙ (λ i. record placed { read = ap (λ p. is_wanted scan p || was.read) next.at i });
+      facts = record {
+        running = runs_on (was.finished + 1) was (facts_of old was.id) agrees.facts acting.runs;
+        lists = agrees.facts.lists;
+        owed = sym (ap owed_at works.phase);
+        took = sym (ap is_taken_back works.phase);
+        taken = λ from is. absurd (cc (is, works.phase));
+        usable = λ other build. ap (λ t. same_scan scan other || t) (agrees.facts.usable other build) ∙ or_comm (same_scan scan other) (is_kept was.kept other)
+            ∙ sym (list_any-append (λ (k : KeptScan). same_scan k.scan other) was.kept (made ∷ []) ∙ ap (λ t. is_kept was.kept other || t) (or_comm (same_scan scan other) false));
+        kept = All-push (ReadRight (facts_after old was event).rows) was.kept made
+            (λ i d within. let k = agrees.facts.kept i d within in record { build = k.build; rows_are = k.rows_are ∙ sym (rows_by-others old was.id scan (get_or was.kept i d).scan count ((facts_of old was.id).rows (get_or was.kept i d).scan) (others i d within)) })
+            (record { build = first.1.0; rows_are = rows_are ∙ sym (rows_by-own old was.id scan count ((facts_of old was.id).rows scan)) });
+        given = λ read. rows_fit old was.id scan count (facts_of old was.id).rows first.1.0 (plan_at was.exec) was.given.items (agrees.facts.given read);
+      };
+      tally = omega (arith, agrees.tally, ap one_if looked);
+      well = reads_well was was.exec false was.read was.given was.given_at now.kept works.phase (builds_less was.kept (made ∷ []) was.opened agrees.well.builds) refl agrees.well;
+    })
+    (record {
+      command = command-more old e was now agrees.rest later (record { id = refl; commands = refl; finished = refl; answer = refl; plan = refl; opened = refl; block = refl; refused = refl; found = refl }) (record { read = refl; given = refl; given_at = refl })
+          leaves.writes leaves.places leaves.relations agrees.command;
+      kept = All-push (KeptFits (old ++ e ∷ []) was.id) was.kept made (kept-more old e was.id was.kept may others agrees.kept)
+          (record {
+            at = place_read-scan old e was.id scan (eq-eqb was.id was.id refl) (same_scan-itself scan) ∙ sym at_is;
+            stays = subst (StaysRead (old ++ e ∷ []) was.id scan) (sym rows_are) (read_stays-after old e was.id next.rel next.kind scan may.sound may.tables may.comes may.adds
+                (open_sees old was agrees.rest works.has.command next.rel next.kind next.rest acting.way next.at) first.1.1);
+          });
+      answer = no_answer scenario (old ++ e ∷ []) now later acting.unanswered;
+      judged = λ _ _. refl;
+    })
+    appends
+  where
+    count : ℕ
+    count = length (answer_of old was.id scan)
+
+    event : Event
+    event = events.Scan scan count
+
+    plan : Plan
+    plan = Do (Open next.rel next.kind) next.rest
+
+    made : KeptScan
+    made = record { scan = scan; rows = given; at = at }
+
+    now : Backend
+    now = record was { looked = false; kept = was.kept ++ made ∷ [] }
+
+    placed : Session
+    placed = placed_at (length old + 1) (was.finished + 1) event (session_at was agrees.rest)
+
+    acting : IsActing old was agrees.rest works.has.command
+    acting = is_acting scenario old was agrees works (ap acts next.at)
+
+    first : (not (is_kept was.kept scan) ≡ true) × IsBuildOf next.rel scan
+    first = first_missing (λ x. not (is_kept was.kept x)) (IsBuildOf next.rel) (build_scans next.kind next.rel) scan next.more (builds_of next.kind next.rel) next.first
+
+    unkept : is_kept was.kept scan ≡ false
+    unkept = not_true (is_kept was.kept scan) first.0
+
+    others : All (λ k. same_scan scan k.scan ≡ false) was.kept
+    others = λ i d within. other_scan (get_or was.kept i d).scan scan (none_at (λ (m : KeptScan). same_scan m.scan scan) was.kept i d within unkept)
+
+    e : Entry
+    e = entry_of was.id (was.finished + 1) event
+
+    later : Rest
+    later = rest_after old was event agrees.rest
+
+    may : MayCome old e
+    may = may_come scenario old e played appends.comes tt
+
+    leaves : Leaves old e was.id
+    leaves = own_leaves old e was.id may refl (λ name. other_scan (scans.RelName name) scan (no_build name scan first.1.0)) refl
+
+-- a scan for a descriptor
+pub built_enters : (scenario : Scenario) (old new : List Entry) (had has : ℕ → ℕ) (was : Backend) (scan : Purpose) (scanned : Scanned) (given : List Row) (kept : List KeptScan) → Agrees scenario old was → IsPlayed scenario old → IsWorking was → NextBuild was scan → was.looked ≡ true
+    → GivesRows old new had has was.id (was.finished + 1) scan scanned → given ≡ scanned.rows.items → kept ≡ was.kept ++ record { scan = scan; rows = given; at = scanned.at } ∷ [] → Enters scenario old new was (record was { looked = false; kept = kept })
+built_enters scenario old new had has was scan scanned given kept agrees played works next looked gives rows_are pushed =
+    subst (λ k. Enters scenario old new was (record was { looked = false; kept = k })) (sym pushed) (built_to scenario old new had has was scan given scanned.at agrees played works next looked (rows_are ∙ gives.rows) gives.at gives.appends)
