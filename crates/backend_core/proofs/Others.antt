@@ -13,7 +13,7 @@ use Rattle.backend_core.specs.Types.{Entry, Life, Backend}
 use Rattle.backend_core.specs.declared.phase.Life.TheVariants as lives
 use Rattle.backend_core.specs.NewTables.{AddsTables}
 use Rattle.backend_core.specs.State.{session_at}
-use Rattle.backend_core.specs.Agrees.{IsPlayed, FactsFit, Agrees, HasNotJoined, HasLeft, Stands}
+use Rattle.backend_core.specs.Agrees.{IsPlayed, FactsFit, Agrees, AwaitsEntry, HasNotJoined, HasLeft, Stands}
 use Rattle.backend_core.proofs.Stepping.{lines-more}
 use Rattle.backend_core.proofs.Carry.{MayCome, may_come, Leaves, other_leaves, has_written-other, kept-other, command-more, answer-more}
 
@@ -43,6 +43,14 @@ agrees-other scenario seen e s other may agrees = record {
     leaves : Leaves seen e s.id
     leaves = other_leaves seen e s.id may other
 
+-- a backend still waits for its own next entry
+awaits-other : (scenario : Scenario) (seen : List Entry) (e : Entry) (s : Backend) → (e.backend == s.id) ≡ false → MayCome seen e → AwaitsEntry scenario seen s → AwaitsEntry scenario (seen ++ e ∷ []) s
+unfolding agrees-other
+awaits-other scenario seen e s other may awaits = record {
+  agrees = agrees-other scenario seen e s other may awaits.agrees;
+  waits = subst (λ f. settled f (drop s.finished s.commands) (session_at s awaits.agrees.rest) ≡ session_at s awaits.agrees.rest) (sym (facts_of-other seen e s.id other)) awaits.waits;
+}
+
 -- a backend that hasn't joined still has no entry
 not_joined-other : (scenario : Scenario) (seen : List Entry) (e : Entry) (s : Backend) → (e.backend == s.id) ≡ false → HasNotJoined scenario seen s → HasNotJoined scenario (seen ++ e ∷ []) s
 not_joined-other scenario seen e s other before = record {
@@ -71,8 +79,8 @@ left-other scenario seen e s other left = record {
 pub Stands-other : (scenario : Scenario) (seen : List Entry) (e : Entry) (s : Backend) → (e.backend == s.id) ≡ false → IsPlayed scenario seen → MayComeNext seen e → AddsTables seen e.event → Stands scenario seen s → Stands scenario (seen ++ e ∷ []) s
 Stands-other scenario seen e s other played comes adds stands = by_life s.life stands
   where
-    by_life : (l : Life) → elim l as (λ x. Type 0) [ lives.Unstarted ↦ HasNotJoined scenario seen s | lives.Alive ↦ Agrees scenario seen s | lives.Stopped ↦ HasLeft scenario seen s ]
-        → elim l as (λ x. Type 0) [ lives.Unstarted ↦ HasNotJoined scenario (seen ++ e ∷ []) s | lives.Alive ↦ Agrees scenario (seen ++ e ∷ []) s | lives.Stopped ↦ HasLeft scenario (seen ++ e ∷ []) s ]
+    by_life : (l : Life) → elim l as (λ x. Type 0) [ lives.Unstarted ↦ HasNotJoined scenario seen s | lives.Alive ↦ AwaitsEntry scenario seen s | lives.Stopped ↦ HasLeft scenario seen s ]
+        → elim l as (λ x. Type 0) [ lives.Unstarted ↦ HasNotJoined scenario (seen ++ e ∷ []) s | lives.Alive ↦ AwaitsEntry scenario (seen ++ e ∷ []) s | lives.Stopped ↦ HasLeft scenario (seen ++ e ∷ []) s ]
     by_life lives.Unstarted before = not_joined-other scenario seen e s other before
-    by_life lives.Alive agrees = agrees-other scenario seen e s other (may_come scenario seen e played comes adds) agrees
+    by_life lives.Alive awaits = awaits-other scenario seen e s other (may_come scenario seen e played comes adds) awaits
     by_life lives.Stopped left = left-other scenario seen e s other left
