@@ -1,4 +1,3 @@
-pub mod Pending
 pub mod ScheduleSteps
 pub mod OneAfterAnother
 pub mod Sessions

@@ -22,9 +22,9 @@ use Rattle.backend_core.specs.declared.phase.Life.TheVariants as lives
 use Rattle.backend_core.specs.State.{has_left}
 use Rattle.backend_core.specs.Agrees.{IsPlayed, HasNotJoined, AwaitsEntry, HasLeft, Stands}
 use Rattle.backend_core.specs.Steps.{Steps}
+use Rattle.backend_core.proofs.Others.{Stands-other}
 use Rattle.backend_core.proofs.Tables.{HasTables-more}
 use Rattle.walk_run.specs.Walks.{AllStand, StandsAt, IsDue, Goes, HasSchedule, IsRunning, Makes}
-use Rattle.walk_run.proofs.Pending.{Stands-other}
 
 -- where a backend is, by its life
 abbrev pub StandsAs : Scenario → List Entry → Backend → Life → Type 0
