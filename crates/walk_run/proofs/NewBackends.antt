@@ -10,9 +10,7 @@ use Rattle.ddl_effect.specs.Plans.{is_built as is_built_plan}
 use Rattle.ddl_effect.specs.Commands.{plan_of, commands_of}
 use Rattle.cacheless.specs.Session.{none_open}
 use Rattle.backend_core.specs.declared.backend.Backend.{Backend}
-use Rattle.backend_core.specs.declared.phase.Life.{Life}
-use Rattle.backend_core.specs.declared.phase.Life.TheVariants as lives
-use Rattle.backend_core.specs.Agrees.{IsNew, HasNotJoined, Stands}
+use Rattle.backend_core.specs.Agrees.{IsNew, Stands}
 use Rattle.backend_core.proofs.Tables.{HasTables-start}
 use Rattle.walk_run.specs.Built.{is_built}
 use Rattle.walk_run.specs.Walks.{AllStand, StandsAt}

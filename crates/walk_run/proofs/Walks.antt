@@ -1,5 +1,5 @@
 -- A walk that has come to its end.
-use Rattle.std.proofs.Common.{◌≡◌, ◌<◌, ◌∙◌, ℕ, true, false, suc, List, [], ◌∷◌, ◌==◌, sym, ap, subst, length, arith}
+use Rattle.std.proofs.Common.{◌≡◌, ◌∙◌, ℕ, true, false, suc, List, [], ◌∷◌, ◌==◌, sym, ap, subst, length, arith}
 use Rattle.std.proofs.lemmas.Bool.{ne_eqb}
 use Rattle.base_types.specs.declared.command.Turns.{Turns}
 use Rattle.base_types.specs.Scenario.{Scenario, schedule_of}

@@ -1,5 +1,4 @@
-use Rattle.std.proofs.Common.{◌∙◌, sym, subst}
-use Rattle.base_types.specs.Scenario.{Scenario, IsBackend}
+use Rattle.std.proofs.Common.{◌∙◌, sym}
 use Rattle.walk_run.proofs.ScheduleSteps.{read_running}
 use Rattle.walk_run.proofs.OneAfterAnother.{goes_on_step, goes_on_stopped}
 use Rattle.walk_run.proofs.walking.Walker.to_its_stop.Goals as goal
