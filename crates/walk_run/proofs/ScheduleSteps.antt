@@ -220,9 +220,3 @@ flat_take_more f xs i x short is = ap (flat_map f) (ap (λ n. take n xs) (add-on
 pub items_go_on : {X : Type 0} (f : X → List ℕ) (s t : Scenario) (h h' h'' : List Entry) (bs' bs'' : List Backend) (xs : List X) (i : ℕ) (x : X) → i < length xs → x ≡ get_or xs i x → t ≡ s
     → Goes s h h' bs' (flat_map f (take i xs)) → Goes t h' h'' bs'' (f x) → Goes s h h'' bs'' (flat_map f (take (i + 1) xs))
 items_go_on f s t h h' h'' bs' bs'' xs i x short is same first second = subst (Goes s h h'' bs'') (sym (flat_take_more f xs i x short is)) (goes_then s t h h' h'' bs' bs'' (flat_map f (take i xs)) (f x) same first second)
-
--- what is read within a list doesn't depend on what stands for nothing
-pub read_with : {X : Type 0} (xs : List X) (i : ℕ) (d e : X) → i < length xs → get_or xs i d ≡ get_or xs i e
-read_with [] i d e short = absurd (omega arith)
-read_with (x ∷ xs) zero d e short = refl
-read_with (x ∷ xs) (suc i) d e short = read_with xs i d e (omega arith)
