@@ -1,8 +1,3 @@
 pub mod Built
-pub mod Entries
-pub mod Segment
-pub mod Left
-pub mod Stands
-pub mod Reads
-pub mod Ends
+pub mod Sessions
 pub mod Walks

@@ -1,34 +1,32 @@
 -- What a walk keeps with each step, and what it has made in the end.
-use Rattle.std.specs.Prelude.{◌≡◌, ◌≢◌, ◌-◌, slice_set, ◌≤◌, ◌<◌, ◌+◌, ◌-◌, ℕ, true, Some, List, [], ◌++◌, length, slice_get}
+use Rattle.std.specs.Prelude.{◌≡◌, ◌≤◌, ◌<◌, ◌+◌, ◌-◌, ℕ, true, false, Some, List, [], ◌++◌, length, slice_get, slice_set}
 use Rattle.base_types.specs.Scenario.{Scenario}
 use Rattle.event_kinds.specs.declared.entry.Entry.{Entry}
 use Rattle.event_kinds.specs.declared.entry.Line.{Line}
-use Rattle.first_model.specs.Schedule.{FollowsSchedule, IsComplete, has_stopped, pass_stopped, steps_behind}
-use Rattle.first_model.specs.Settled.{OneWriter}
-use Rattle.first_model.specs.Lines.{lines_of}
-use Rattle.first_model.specs.Output.{IsAllowed}
-use Rattle.walk_run.specs.declared.backend.Backend.{Backend}
-use Rattle.walk_run.specs.Stands.{BackendStands, Steps}
-use Rattle.walk_run.specs.Left.{still_to_make}
-use Rattle.walk_run.specs.declared.backend.Stage.TheVariants as stages
-use Rattle.std.specs.Option.{option_map_or}
+use Rattle.cacheless.specs.Output.{IsAllowed}
+use Rattle.cacheless.specs.Schedule.{FollowsSchedule, AreLooksTrue, IsComplete, has_stopped, pass_stopped, steps_after}
+use Rattle.cacheless.specs.Lines.{lines_of}
+use Rattle.backend_core.specs.declared.backend.Backend.{Backend}
+use Rattle.backend_core.specs.State.{has_left}
+use Rattle.backend_core.specs.Agrees.{IsPlayed, Stands}
+use Rattle.backend_core.specs.Steps.{Steps}
 
--- a walk's history is allowed, follows the schedule to its end, and has exactly the lines of the definition
+-- a walk's history is allowed, follows the schedule to its end, and its looks see all that was sent; the lines are those of the history
 pub record IsWalk (scenario : Scenario) (history : List Entry) (lines : List Line) : Type 0 where
   pub allowed : IsAllowed scenario history
   pub follows : FollowsSchedule scenario history
+  pub looks : AreLooksTrue history
   pub complete : IsComplete scenario history
   pub lines_are : lines ≡ lines_of scenario history
 
 -- a backend with its number stands in the history
 pub record StandsAt (scenario : Scenario) (history : List Entry) (b : ℕ) (backend : Backend) : Type 0 where
   pub id : backend.id ≡ b
-  pub stands : BackendStands scenario history backend
+  pub stands : Stands scenario history backend
 
--- the history is allowed, and each backend stands in it
-pub record Stands (scenario : Scenario) (history : List Entry) (backends : List Backend) : Type 0 where
-  pub allowed : IsAllowed scenario history
-  pub writer : OneWriter history
+-- the history was played so far, and each backend of the script stands in it
+pub record AllStand (scenario : Scenario) (history : List Entry) (backends : List Backend) : Type 0 where
+  pub played : IsPlayed scenario history
   pub count : length backends ≡ scenario.backends
   pub each : (i : ℕ) (backend : Backend) → slice_get backends i ≡ Some backend → StandsAt scenario history (i + 1) backend
 
@@ -39,11 +37,11 @@ HasSchedule scenario = 0 < length scenario.steps
 -- what is left of the schedule, at a history, is the same as these steps
 pub record IsDue (scenario : Scenario) (history : List Entry) (steps : List ℕ) : Type 0 where
   pub follows : FollowsSchedule scenario history
-  pub left : pass_stopped history (steps_behind scenario history) ≡ pass_stopped history steps
+  pub left : pass_stopped history (steps_after scenario history) ≡ pass_stopped history steps
 
--- a walk by these steps: whatever is due behind them is due then
-pub record Goes (scenario : Scenario) (old : List Entry) (new : List Entry) (are : List Backend) (steps : List ℕ) : Type 0 where
-  pub stands : Stands scenario new are
+-- a walk by these steps: whatever is due after them is due then
+pub record Goes (scenario : Scenario) (old new : List Entry) (are : List Backend) (steps : List ℕ) : Type 0 where
+  pub stand : AllStand scenario new are
   pub due : HasSchedule scenario → (rest : List ℕ) → IsDue scenario old (steps ++ rest) → IsDue scenario new rest
 
 -- the first backends have stopped, and each entry came when its backend was the first that hadn't
@@ -53,12 +51,12 @@ pub record InTurn (scenario : Scenario) (history : List Entry) (n : ℕ) : Type 
 
 -- a walk without a schedule that brings more backends to their stops, one after the other
 pub record GoesOn (scenario : Scenario) (old : List Entry) (n : ℕ) (new : List Entry) (are : List Backend) (m : ℕ) : Type 0 where
-  pub stands : Stands scenario new are
+  pub stand : AllStand scenario new are
   pub turn : scenario.steps ≡ [] → InTurn scenario old n → InTurn scenario new m
 
--- the backend of this number hasn't stopped
+-- the backend of this number hasn't left
 abbrev pub IsRunning : List Backend → ℕ → Type 0
-IsRunning backends b = (backend : Backend) → slice_get backends (b - 1) ≡ Some backend → backend.stage ≢ stages.Stopped
+IsRunning backends b = (backend : Backend) → slice_get backends (b - 1) ≡ Some backend → has_left backend.life ≡ false
 
 -- the backend of this number makes a step, and the others stay
 pub record Makes (scenario : Scenario) (old new : List Entry) (were are : List Backend) (b : ℕ) : Type 0 where
@@ -67,7 +65,3 @@ pub record Makes (scenario : Scenario) (old new : List Entry) (were are : List B
   pub now : Backend
   pub steps : Steps scenario old new was now
   pub set : are ≡ slice_set were (b - 1) now
-
--- how many entries the backend of this number can still make
-abbrev pub left_of : Scenario → List Backend → ℕ → ℕ
-left_of scenario backends b = option_map_or (still_to_make scenario) (slice_get backends (b - 1)) 0

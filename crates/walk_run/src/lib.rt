@@ -1,23 +1,30 @@
 //! The walk: all backends of a script on one thread, step by step.
 //!
-//! Each step of the schedule is one backend's, and makes one entry of the history. The rows, the
-//! locks and the history itself lie in one [`Segment`], as in the server's shared memory; a backend
-//! reaches them by the calls of the segment alone, and keeps for itself what it has read. A command
-//! is a transaction of its own. `create table` writes its rows, becomes visible and gives back its
-//! locks. `show` looks its name up, locks the relation, makes the scans of a descriptor that it
-//! hasn't made before, answers and gives back its lock.
+//! Each step of the schedule is one backend's, and makes one entry of the history; then the backend
+//! goes on as far as it can without another. A step of a backend that has stopped makes none. Without
+//! a schedule each backend runs to its stop, one after another. The backends share one [`Seg`]
+//! (`seg_calls`), and reach the rows, the locks and the history by its calls alone. [`walk_on`] takes
+//! a segment that is handed in, [`walk`] makes one in plain memory.
+//!
+//! Before a step the walk promises the backend two places in the history. So a step is out of memory
+//! before it makes its entry, or it makes it.
 //!
 //! The promise to the layer above: the history of a walk is legal, played by the commands of its
 //! backends, economical, and follows the schedule to its end; and its lines are exactly those of the
-//! definition, which reads them off the history alone.
+//! definition, which reads them off the history alone. They are the transcripts of the backends,
+//! which are handed back.
+//!
+//! ```text
+//! if is_built(&script) {
+//!     let world = walk(alloc, &script)?;
+//! }
+//! ```
 #![tactic(auto)]
 
-mod answers;
-mod backend;
 mod built;
-mod segment;
+mod lines;
+mod own_commands;
 mod walking;
 
 pub use built::is_built;
-pub use segment::{Locked, Segment};
-pub use walking::{World, walk};
+pub use walking::{World, walk, walk_on};

@@ -1,14 +1,19 @@
 ghost use Rattle.std.specs.Prelude.{◌≡◌, ◌-◌, [], ◌∷◌, true, replicate, OnOk, IfOk};
-ghost use Rattle.std.specs.List.{AllByRecursion, flat_map};
+ghost use Rattle.std.specs.List.{All, AllByRecursion};
 ghost use Rattle.base_types.specs.Scenario.{IsBackend, AreTurns, turns_of, schedule_of};
+ghost use Rattle.backend_core.specs.Agrees.{Stands};
 ghost use Rattle.walk_run.specs.Built.{is_built};
+ghost use Rattle.walk_run.specs.Sessions.{transcripts_of, AreSessions};
 ghost use Rattle.walk_run.specs.Walks.{IsWalk};
 
-use crate::backend::Backend;
-use crate::segment::Segment;
+use crate::lines::all_lines;
+use crate::own_commands::own_commands;
+use backend_core::Backend;
 use base_types::{Listed, NoMemory, Turns};
 use event_kinds::{Entry, Line};
 use script_text::Script;
+use seg_calls::Seg;
+use shared_seg::Shared;
 use std::alloc::Global;
 
 /// What a walk made.
@@ -18,162 +23,166 @@ pub struct World {
     pub entries: Listed<Entry>,
     /// The lines of all backends, in order of backend and command.
     pub lines: Listed<Line>,
+    /// The backends that were run, in order of their numbers.
+    pub backends: Listed<Backend>,
 }
 
-/// The walk of a script: its history and its lines.
+// How many places in the history are promised to a backend before its step.
+const PLACES: u32 = 2;
+
+/// The walk of a script in plain memory. Condition: its commands can be run.
 pub fn walk(alloc: Global, script: &Script) -> Result<World, NoMemory>
     requires { is_built script.now ≡ true }
-    ensures { IfOk result (λ world. IsWalk script.now world.entries world.lines) }
+    ensures walk { IfOk result (λ world. IsWalk script.now world.entries world.lines) }
+    ensures sessions { IfOk result (λ world. AreSessions script.now world.entries world.lines world.backends) }
+{
+    let mut seg = Shared::new(alloc, script)?;
+    let backends = walk_on(alloc, script, &mut seg)?;
+    let lines = all_lines(alloc, &backends)?;
+    Ok(World {
+        entries: Listed::from_vec(seg.into_history()),
+        lines: Listed::from_vec(lines),
+        backends: Listed::from_vec(backends),
+    })
+}
+
+/// The walk of a script on a segment: the backends that were run, in order of their numbers.
+/// Conditions: the commands of the script can be run, the segment was made for it, and its history is
+/// empty.
+pub fn walk_on<L: Seg>(
+    alloc: Global,
+    script: &Script,
+    seg: &mut L,
+) -> Result<Vec<Backend>, NoMemory>
+    requires built { is_built script.now ≡ true }
+    requires script { L.script seg.old ≡ script.now }
+    requires start { L.history seg.old ≡ [] }
+    ensures script { L.script seg.new ≡ L.script seg.old }
+    ensures walk { IfOk result (λ backends. IsWalk script.now (L.history seg.new) (transcripts_of backends.items)) }
+    ensures sessions { IfOk result (λ backends. AreSessions script.now (L.history seg.new) (transcripts_of backends.items) backends.items) }
+    ensures stand { IfOk result (λ backends. All (Stands script.now (L.history seg.new)) backends.items) }
 {
     let mut walker = Walker::new(alloc, script)?;
     if script.steps().is_empty() {
-        walker.to_the_stops(script)?;
-        return walker.into_world();
+        walker.to_the_stops(script, seg)?;
+        return Ok(walker.backends);
     }
-    walker.by_schedule(script)?;
-    walker.into_world()
+    walker.by_schedule(script, seg)?;
+    Ok(walker.backends)
 }
 
-// The backends and what they share.
+// The backends of a walk.
 #[derive(Drop)]
 struct Walker {
     alloc: Global,
-    segment: Segment,
     backends: Vec<Backend>,
 }
 
 impl Walker {
-    ghost use Rattle.walk_run.specs.Walks.{Stands, Goes, GoesOn, Makes, IsRunning};
+    ghost use Rattle.walk_run.specs.Walks.{AllStand, Goes, GoesOn, Makes, IsRunning};
 
     // All backends of the script, none of which has joined.
     fn new(alloc: Global, script: &Script) -> Result<Walker, NoMemory>
-        ensures { IfOk result (λ walker. (walker.segment ≡ []) × Stands script.now [] walker.backends.items) }
+        requires { is_built script.now ≡ true }
+        ensures { IfOk result (λ walker. AllStand script.now [] walker.backends.items) }
     {
         let mut backends = Vec::new(alloc);
         for number in 0..script.backends() {
-            backends.push(Backend::new(alloc, number + 1, script.commands()))?;
+            let commands = own_commands(alloc, script, number + 1)?;
+            backends.push(Backend::new(alloc, number + 1, commands)?)?;
         }
-        Ok(Walker {
-            alloc,
-            segment: Segment::new(alloc)?,
-            backends,
-        })
+        Ok(Walker { alloc, backends })
     }
 
     // A step of a backend: one entry, or none where it has stopped.
-    fn step(&mut self, script: &Script, b: u32) -> Result<(), NoMemory>
-        requires built { is_built script.now ≡ true }
-        requires backend { IsBackend script.now.backends b }
-        requires stands { Stands script.now self.old.segment self.old.backends.items }
-        ensures { OnOk result (Goes script.now self.old.segment self.new.segment self.new.backends.items (b ∷ [])) }
+    fn step<L: Seg>(&mut self, seg: &mut L, b: u32) -> Result<(), NoMemory>
+        requires backend { IsBackend (L.script seg.old).backends b }
+        requires stand { AllStand (L.script seg.old) (L.history seg.old) self.old.backends.items }
+        ensures script { L.script seg.new ≡ L.script seg.old }
+        ensures goes { OnOk result (Goes (L.script seg.old) (L.history seg.old) (L.history seg.new) self.new.backends.items (b ∷ [])) }
     {
         if self.backends[b as usize - 1].is_stopped() {
             return Ok(());
         }
-        self.make_step(script, b)
+        self.make_step(seg, b)
     }
 
     // A step of a backend that hasn't stopped.
-    fn make_step(&mut self, script: &Script, b: u32) -> Result<(), NoMemory>
-        requires built { is_built script.now ≡ true }
-        requires backend { IsBackend script.now.backends b }
-        requires stands { Stands script.now self.old.segment self.old.backends.items }
+    fn make_step<L: Seg>(&mut self, seg: &mut L, b: u32) -> Result<(), NoMemory>
+        requires backend { IsBackend (L.script seg.old).backends b }
+        requires stand { AllStand (L.script seg.old) (L.history seg.old) self.old.backends.items }
         requires running { IsRunning self.old.backends.items b }
-        ensures { OnOk result (Makes script.now self.old.segment self.new.segment self.old.backends.items self.new.backends.items b) }
+        ensures script { L.script seg.new ≡ L.script seg.old }
+        ensures makes { OnOk result (Makes (L.script seg.old) (L.history seg.old) (L.history seg.new) self.old.backends.items self.new.backends.items b) }
     {
+        seg.promise(b, PLACES)?;
         let backend = &mut self.backends[b as usize - 1];
-        backend.step(self.alloc, script, &mut self.segment)
+        backend.step(self.alloc, seg)
     }
 
     // The steps of one item of the schedule.
-    fn by_turns(&mut self, script: &Script, turns: Turns) -> Result<(), NoMemory>
-        requires built { is_built script.now ≡ true }
-        requires turns { AreTurns script.now.backends turns }
-        requires stands { Stands script.now self.old.segment self.old.backends.items }
-        ensures { OnOk result (Goes script.now self.old.segment self.new.segment self.new.backends.items (replicate turns.count turns.backend)) }
+    fn by_turns<L: Seg>(&mut self, seg: &mut L, turns: Turns) -> Result<(), NoMemory>
+        requires turns { AreTurns (L.script seg.old).backends turns }
+        requires stand { AllStand (L.script seg.old) (L.history seg.old) self.old.backends.items }
+        ensures script { L.script seg.new ≡ L.script seg.old }
+        ensures goes { OnOk result (Goes (L.script seg.old) (L.history seg.old) (L.history seg.new) self.new.backends.items (replicate turns.count turns.backend)) }
     {
         'steps: for _step in 0..turns.count {
-            self.step(script, turns.backend)?;
+            self.step(seg, turns.backend)?;
         }
         Ok(())
     }
 
     // The steps of one line of the schedule.
-    fn by_line(&mut self, script: &Script, line: &[Turns]) -> Result<(), NoMemory>
-        requires built { is_built script.now ≡ true }
-        requires turns { AllByRecursion (AreTurns script.now.backends) line.now }
-        requires stands { Stands script.now self.old.segment self.old.backends.items }
-        ensures { OnOk result (Goes script.now self.old.segment self.new.segment self.new.backends.items (turns_of line.now)) }
+    fn by_line<L: Seg>(&mut self, seg: &mut L, line: &[Turns]) -> Result<(), NoMemory>
+        requires turns { AllByRecursion (AreTurns (L.script seg.old).backends) line.now }
+        requires stand { AllStand (L.script seg.old) (L.history seg.old) self.old.backends.items }
+        ensures script { L.script seg.new ≡ L.script seg.old }
+        ensures goes { OnOk result (Goes (L.script seg.old) (L.history seg.old) (L.history seg.new) self.new.backends.items (turns_of line.now)) }
     {
         for turns in line {
-            self.by_turns(script, *turns)?;
+            self.by_turns(seg, *turns)?;
         }
         Ok(())
     }
 
     // All steps of the schedule.
-    fn by_schedule(&mut self, script: &Script) -> Result<(), NoMemory>
-        requires built { is_built script.now ≡ true }
-        requires stands { Stands script.now self.old.segment self.old.backends.items }
-        ensures { OnOk result (Goes script.now self.old.segment self.new.segment self.new.backends.items (schedule_of script.now)) }
+    fn by_schedule<L: Seg>(&mut self, script: &Script, seg: &mut L) -> Result<(), NoMemory>
+        requires script { L.script seg.old ≡ script.now }
+        requires stand { AllStand script.now (L.history seg.old) self.old.backends.items }
+        ensures script { L.script seg.new ≡ L.script seg.old }
+        ensures goes { OnOk result (Goes script.now (L.history seg.old) (L.history seg.new) self.new.backends.items (schedule_of script.now)) }
     {
         let lines = script.steps();
         for line in lines {
-            self.by_line(script, line.as_slice())?;
+            self.by_line(seg, line.as_slice())?;
         }
         Ok(())
     }
 
-    // Each backend to its stop, one after the other.
-    fn to_the_stops(&mut self, script: &Script) -> Result<(), NoMemory>
-        requires built { is_built script.now ≡ true }
-        requires stands { Stands script.now self.old.segment self.old.backends.items }
-        ensures { OnOk result (GoesOn script.now self.old.segment 0 self.new.segment self.new.backends.items script.now.backends) }
+    // Each backend to its stop, one after another.
+    fn to_the_stops<L: Seg>(&mut self, script: &Script, seg: &mut L) -> Result<(), NoMemory>
+        requires script { L.script seg.old ≡ script.now }
+        requires stand { AllStand script.now (L.history seg.old) self.old.backends.items }
+        ensures script { L.script seg.new ≡ L.script seg.old }
+        ensures goes { OnOk result (GoesOn script.now (L.history seg.old) 0 (L.history seg.new) self.new.backends.items script.now.backends) }
     {
         for number in 0..script.backends() {
-            self.to_its_stop(script, number + 1)?;
+            self.to_its_stop(seg, number + 1)?;
         }
         Ok(())
     }
 
     // One backend to its stop.
-    fn to_its_stop(&mut self, script: &Script, b: u32) -> Result<(), NoMemory>
-        requires built { is_built script.now ≡ true }
-        requires backend { IsBackend script.now.backends b }
-        requires stands { Stands script.now self.old.segment self.old.backends.items }
-        ensures { OnOk result (GoesOn script.now self.old.segment (b - 1) self.new.segment self.new.backends.items b) }
+    fn to_its_stop<L: Seg>(&mut self, seg: &mut L, b: u32) -> Result<(), NoMemory>
+        requires backend { IsBackend (L.script seg.old).backends b }
+        requires stand { AllStand (L.script seg.old) (L.history seg.old) self.old.backends.items }
+        ensures script { L.script seg.new ≡ L.script seg.old }
+        ensures goes { OnOk result (GoesOn (L.script seg.old) (L.history seg.old) (b - 1) (L.history seg.new) self.new.backends.items b) }
     {
         'running: while !self.backends[b as usize - 1].is_stopped() {
-            self.make_step(script, b)?;
+            self.make_step(seg, b)?;
         }
         Ok(())
     }
-
-    // The history and the lines.
-    fn into_world(self) -> Result<World, NoMemory>
-        ensures { IfOk result (λ world. (world.entries ≡ self.segment) × (world.lines ≡ flat_map (λ s. s.lines) self.backends.items)) }
-    {
-        let Walker {
-            alloc,
-            segment,
-            backends,
-        } = self;
-        Ok(World {
-            entries: Listed::from_vec(segment.into_history()),
-            lines: Listed::from_vec(all_lines(alloc, backends)?),
-        })
-    }
-}
-
-// The lines of backends, one after another.
-fn all_lines(alloc: Global, backends: Vec<Backend>) -> Result<Vec<Line>, NoMemory>
-    ensures { IfOk result (λ lines. lines.items ≡ flat_map (λ s. s.lines) backends.items) }
-{
-    let mut rest = backends;
-    let mut lines = Vec::new(alloc);
-    'rest: while !rest.is_empty() {
-        let mut own = rest.remove(0).into_lines();
-        lines.append(&mut own)?;
-    }
-    Ok(lines)
 }

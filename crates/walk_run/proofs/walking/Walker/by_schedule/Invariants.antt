@@ -1,8 +1,11 @@
+use Rattle.std.proofs.Common.{◌≡◌, take}
 use Rattle.std.specs.List.{flat_map}
 use Rattle.base_types.specs.Scenario.{turns_of}
 use Rattle.walk_run.specs.Walks.{Goes}
-use Rattle.std.proofs.Common.{take}
 use Rattle.walk_run.proofs.walking.Walker.by_schedule.Given as goal
 
 abbrev pub invariant-loop-line : goal.invariant-loop-line
-invariant-loop-line l = Goes l.script l.fn.self.segment l.self.segment l.self.backends.items (flat_map turns_of (take l.line-index l.lines))
+invariant-loop-line g l = record {
+  script : g.L.Seg.script l.seg ≡ l.script;
+  goes : Goes l.script (g.L.Seg.history l.fn.seg) (g.L.Seg.history l.seg) l.self.backends.items (flat_map turns_of (take l.line-index l.lines));
+}

@@ -1,12 +1,7 @@
-use Rattle.walk_run.proofs.Goings.{stands_kept, step_makes}
+use Rattle.walk_run.proofs.ScheduleSteps.{step_makes}
 use Rattle.walk_run.proofs.walking.Walker.make_step.Goals as goal
 
-pub returns : goal.returns
-returns c =
-    step_makes c.args.script.now c.args.self.now.segment c.step.new.segment c.args.self.now.backends.items c.args.b c.index_mut-backend.result.now c.step.new.self c.step.result
-    c.requires.backend c.requires.stands c.index_mut-backend.ensures.value c.step.ensures
-
-pub step-requires-clause-stands : goal.step-requires-clause-stands
-step-requires-clause-stands c =
-    stands_kept c.args.script.now c.args.self.now.segment c.args.self.now.backends.items c.args.b c.index_mut-backend.result.now
-    c.requires.backend c.requires.stands c.index_mut-backend.ensures.value
+pub returns-clause-makes : goal.returns-clause-makes
+returns-clause-makes g c =
+    step_makes (g.L.Seg.script c.args.seg.now) (g.L.Seg.script c.promise.new.self) (g.L.Seg.history c.args.seg.now) (g.L.Seg.history c.promise.new.self) (g.L.Seg.history c.step.new.seg) c.args.self.now.backends.items c.args.b
+    c.index_mut-backend.result.now c.step.new.self c.step.result c.promise.ensures.script c.promise.ensures.promises.entries c.requires.backend c.requires.stand c.index_mut-backend.ensures.value c.step.ensures.steps

@@ -1,4 +1,4 @@
-use Rattle.walk_run.proofs.Begins.{Begins}
+use Rattle.walk_run.proofs.NewBackends.{Begins}
 use Rattle.walk_run.proofs.walking.Walker.new.Given as goal
 
 abbrev pub invariant-loop-number : goal.invariant-loop-number

@@ -1,9 +1,12 @@
-use Rattle.walk_run.specs.Walks.{GoesOn, left_of}
-use Rattle.std.proofs.Common.{◌-◌}
+use Rattle.std.proofs.Common.{◌≡◌, ◌-◌, ◌^◌, length}
+use Rattle.walk_run.specs.Walks.{GoesOn}
 use Rattle.walk_run.proofs.walking.Walker.to_its_stop.Given as goal
 
 abbrev pub invariant-running : goal.invariant-running
-invariant-running l = GoesOn l.script l.fn.self.segment (l.b - 1) l.self.segment l.self.backends.items (l.b - 1)
+invariant-running g l = record {
+  script : g.L.Seg.script l.seg ≡ g.L.Seg.script l.fn.seg;
+  goes : GoesOn (g.L.Seg.script l.fn.seg) (g.L.Seg.history l.fn.seg) (l.b - 1) (g.L.Seg.history l.seg) l.self.backends.items (l.b - 1);
+}
 
 abbrev pub decreases-running : goal.decreases-running
-decreases-running l = left_of l.script l.self.backends.items l.b
+decreases-running g l = 2 ^ 56 - length (g.L.Seg.history l.seg)

@@ -1,5 +1,9 @@
+use Rattle.std.proofs.Common.{◌≡◌}
 use Rattle.walk_run.specs.Walks.{GoesOn}
 use Rattle.walk_run.proofs.walking.Walker.to_the_stops.Given as goal
 
 abbrev pub invariant-loop-number : goal.invariant-loop-number
-invariant-loop-number l = GoesOn l.script l.fn.self.segment 0 l.self.segment l.self.backends.items l.number
+invariant-loop-number g l = record {
+  script : g.L.Seg.script l.seg ≡ l.script;
+  goes : GoesOn l.script (g.L.Seg.history l.fn.seg) 0 (g.L.Seg.history l.seg) l.self.backends.items l.number;
+}

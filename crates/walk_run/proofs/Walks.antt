@@ -1,0 +1,47 @@
+-- A walk that has come to its end.
+use Rattle.std.proofs.Common.{◌≡◌, ◌∙◌, ℕ, true, false, suc, List, [], ◌∷◌, ◌==◌, sym, ap, subst, length, arith}
+use Rattle.std.proofs.lemmas.Bool.{ne_eqb}
+use Rattle.base_types.specs.declared.command.Turns.{Turns}
+use Rattle.base_types.specs.Scenario.{Scenario, schedule_of}
+use Rattle.event_kinds.specs.declared.entry.Entry.{Entry}
+use Rattle.history_model.proofs.Sound.{sound_is_legal}
+use Rattle.cacheless.specs.Schedule.{FollowsSchedule, IsComplete}
+use Rattle.backend_core.specs.declared.backend.Backend.{Backend}
+use Rattle.walk_run.specs.Sessions.{transcripts_of}
+use Rattle.walk_run.specs.Walks.{AllStand, Goes, GoesOn, HasSchedule, IsWalk}
+use Rattle.walk_run.proofs.ScheduleSteps.{scheduled_end}
+use Rattle.walk_run.proofs.OneAfterAnother.{unscheduled_end}
+use Rattle.walk_run.proofs.Sessions.{transcripts_are}
+
+not_true : false ≡ true → ⊥
+not_true e = cc
+
+no_steps : (s : Scenario) (steps : List (List Turns)) → steps ≡ s.steps → (length steps == 0) ≡ true → s.steps ≡ []
+no_steps s [] same none = sym same
+no_steps s (line ∷ lines) same none = absurd (not_true (sym (of (length lines)) ∙ none))
+  where
+    of : (n : ℕ) → (suc n == 0) ≡ false
+    of n = ne_eqb (suc n) 0 (λ same. absurd (omega arith))
+
+some_steps : (s : Scenario) (steps : List (List Turns)) → steps ≡ s.steps → (length steps == 0) ≡ false → HasSchedule s
+some_steps s [] same some = absurd (not_true (sym some))
+some_steps s (line ∷ lines) same some = omega (arith, ap length same)
+
+ended_walk : (s : Scenario) (h : List Entry) (bs : List Backend) → AllStand s h bs → FollowsSchedule s h × IsComplete s h → IsWalk s h (transcripts_of bs)
+ended_walk s h bs stand end = record {
+  allowed = record { legal = sound_is_legal h stand.played.sound; plays = stand.played.plays; economical = stand.played.economical };
+  follows = end.0;
+  looks = stand.played.looks;
+  complete = end.1;
+  lines_are = transcripts_are s h bs stand;
+}
+
+-- by the schedule
+pub scheduled_walk : (s : Scenario) (start h : List Entry) (bs : List Backend) (steps : List (List Turns)) → steps ≡ s.steps → (length steps == 0) ≡ false → start ≡ [] → Goes s start h bs (schedule_of s) → IsWalk s h (transcripts_of bs)
+scheduled_walk s start h bs steps same some first goes =
+    ended_walk s h bs goes.stand (scheduled_end s h bs (some_steps s steps same some) (subst (λ x. Goes s x h bs (schedule_of s)) first goes))
+
+-- and without one
+pub unscheduled_walk : (s : Scenario) (start h : List Entry) (bs : List Backend) (steps : List (List Turns)) → steps ≡ s.steps → (length steps == 0) ≡ true → start ≡ [] → GoesOn s start 0 h bs s.backends → IsWalk s h (transcripts_of bs)
+unscheduled_walk s start h bs steps same none first goes =
+    ended_walk s h bs goes.stand (unscheduled_end s h bs (no_steps s steps same none) (subst (λ x. GoesOn s x 0 h bs s.backends) first goes))

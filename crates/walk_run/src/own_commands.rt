@@ -1,0 +1,59 @@
+ghost use Rattle.std.specs.Prelude.{◌≡◌, ◌++◌, map, filter, true, IfOk, OnOk};
+ghost use Rattle.ddl_effect.specs.Plans.{is_built as is_built_plan};
+ghost use Rattle.ddl_effect.specs.Commands.{plan_of, commands_of};
+ghost use Rattle.cacheless.specs.Session.{none_open};
+ghost use Rattle.walk_run.specs.Built.{is_built as is_built_scenario};
+
+use base_types::{Command, Listed, NewColumn, NoMemory};
+use script_text::Script;
+use std::alloc::{AllocError, Global};
+
+/// The commands of a backend, in order. Condition: those of the script can be run.
+pub(crate) fn own_commands(
+    alloc: Global,
+    script: &Script,
+    b: u32,
+) -> Result<Listed<Command>, NoMemory>
+    requires { is_built_scenario script.now ≡ true }
+    ensures { IfOk result (λ commands. commands ≡ commands_of script.now b) }
+{
+    let mut own = Listed::new(alloc);
+    let commands = script.commands();
+    for placed in commands {
+        if placed.backend == b {
+            own.push(copied(alloc, &placed.command)?)?;
+        }
+    }
+    Ok(own)
+}
+
+// A copy of a command that can be run.
+fn copied(alloc: Global, command: &Command) -> Result<Command, NoMemory>
+    requires { is_built_plan (plan_of none_open command.now) ≡ true }
+    ensures { IfOk result (λ copy. copy ≡ command.now) }
+{
+    Ok(match command {
+        Command::Begin => Command::Begin,
+        Command::Commit => Command::Commit,
+        Command::Rollback => Command::Rollback,
+        Command::Show { name, field } => Command::Show {
+            name: *name,
+            field: *field,
+        },
+        Command::CreateTable { name, columns } => Command::CreateTable {
+            name: *name,
+            columns: copied_columns(alloc, columns)?,
+        },
+        _ => unreachable!(),
+    })
+}
+
+// A copy of a list of columns.
+fn copied_columns(
+    alloc: Global,
+    columns: &Listed<NewColumn>,
+) -> Result<Listed<NewColumn>, AllocError>
+    ensures { IfOk result (λ copy. copy ≡ columns.now) }
+{
+    Ok(Listed::from_vec(columns.as_slice().to_vec(alloc)?))
+}
