@@ -3,6 +3,7 @@ use Rattle.std.specs.Prelude.{◌≡◌, ◌≤◌, ◌<◌, ◌+◌, ⊤, ℕ, 
 use Rattle.std.specs.Io.KnownBytes.{Consumes, IsAtEnd}
 use Rattle.edge_io.specs.Causes.{Rose}
 use Rattle.edge_io.specs.declared.reading.TheConstants.{PIECE}
+use Rattle.out_text.specs.Typed.{SpellsOnly}
 use Rattle.walk_run.specs.Built.{is_built}
 use Rattle.script_text.specs.Grammar.{Reading, script_of}
 use Rattle.script_text.specs.declared.fault.Rest.TheVariants.{Refused}
@@ -37,7 +38,7 @@ pub record IsInput (left rest : Option (List ℕ)) (input : List ℕ) : Type 0 w
   pub ended : IsAtEnd rest
   pub short : length input ≤ MOST_INPUT
 
--- the input is a script that can be walked, and an output of the program for that script was written, or a front of one
+-- the input is a script that can be walked; an output of the program for that script was written, or a front of one; and that output spells its history alone
 pub record Ran (left rest : Option (List ℕ)) (taken now : Option (List ℕ)) (Writes : Option (List ℕ) → Option (List ℕ) → List ℕ → Type 0) : Type 0 where
   pub input : List ℕ
   pub whole : IsInput left rest input
@@ -46,6 +47,7 @@ pub record Ran (left rest : Option (List ℕ)) (taken now : Option (List ℕ)) (
   pub ready : is_ready reading ≡ true
   pub output : List ℕ
   pub is : IsOutput reading.script output
+  pub only : SpellsOnly output is.history
   pub written : Writes taken now output
 
 -- that line of the input is the first that breaks a rule, and that rule is the first that it breaks

@@ -1,8 +1,11 @@
-ghost use Rattle.std.specs.Prelude.{◌≡◌, ◌++◌, ℕ, codes};
+ghost use Rattle.std.specs.Prelude.{◌≡◌, ◌++◌, ℕ, codes, OnOk};
+ghost use Rattle.std.specs.List.{All};
 ghost use Rattle.edge_io.specs.Causes.{HasCause};
 ghost use Rattle.edge_io.specs.Gathered.{gathered, Gathers};
 ghost use Rattle.edge_io.specs.Taken.{Sends};
+ghost use Rattle.event_kinds.specs.Entries.{IsItem};
 ghost use Rattle.event_kinds.specs.Texts.{item_text, changes_text, entry_text, ended, entries_text};
+ghost use Rattle.out_text.specs.Typed.{IsTyped};
 
 use base_types::LineBuffer;
 use edge_io::{Failed, GatheringSink, Sink};
@@ -25,6 +28,7 @@ pub(crate) fn gather_entries<K: Sink>(
 ) -> Result<(), Failed>
     ensures bytes { Gathers (gathered K.taken out.old) (gathered K.taken out.new) result (entries_text history.now) }
     ensures cause { HasCause (K.faults out.old.sink.now) (K.faults out.new.sink.now) result }
+    ensures typed { OnOk result (All IsTyped history.now) }
 {
     for entry in history {
         gather_entry(out, entry)?;
@@ -36,6 +40,7 @@ pub(crate) fn gather_entries<K: Sink>(
 fn gather_entry<K: Sink>(out: &mut GatheringSink<'_, K>, entry: &Entry) -> Result<(), Failed>
     ensures bytes { Gathers (gathered K.taken out.old) (gathered K.taken out.new) result (ended (entry_text entry.now)) }
     ensures cause { HasCause (K.faults out.old.sink.now) (K.faults out.new.sink.now) result }
+    ensures typed { OnOk result (IsTyped entry.now) }
 {
     gather_entry_text(out, entry)?;
     out.send(b"\n")
@@ -45,6 +50,7 @@ fn gather_entry<K: Sink>(out: &mut GatheringSink<'_, K>, entry: &Entry) -> Resul
 fn gather_entry_text<K: Sink>(out: &mut GatheringSink<'_, K>, entry: &Entry) -> Result<(), Failed>
     ensures bytes { Gathers (gathered K.taken out.old) (gathered K.taken out.new) result (entry_text entry.now) }
     ensures cause { HasCause (K.faults out.old.sink.now) (K.faults out.new.sink.now) result }
+    ensures typed { OnOk result (IsTyped entry.now) }
 {
     let mut head = LineBuffer::new();
     push_entry_head(&mut head, entry);
@@ -56,6 +62,7 @@ fn gather_entry_text<K: Sink>(out: &mut GatheringSink<'_, K>, entry: &Entry) -> 
 fn gather_changes<K: Sink>(out: &mut GatheringSink<'_, K>, changes: &[Item]) -> Result<(), Failed>
     ensures bytes { Gathers (gathered K.taken out.old) (gathered K.taken out.new) result (changes_text changes.now) }
     ensures cause { HasCause (K.faults out.old.sink.now) (K.faults out.new.sink.now) result }
+    ensures typed { OnOk result (All IsItem changes.now) }
 {
     for change in changes {
         gather_change(out, change)?;
@@ -67,6 +74,7 @@ fn gather_changes<K: Sink>(out: &mut GatheringSink<'_, K>, changes: &[Item]) -> 
 fn gather_change<K: Sink>(out: &mut GatheringSink<'_, K>, change: &Item) -> Result<(), Failed>
     ensures bytes { Gathers (gathered K.taken out.old) (gathered K.taken out.new) result (codes " " ++ item_text change.now) }
     ensures cause { HasCause (K.faults out.old.sink.now) (K.faults out.new.sink.now) result }
+    ensures typed { IsItem change.now }
 {
     let mut line = LineBuffer::new();
     line.push(b" ");

@@ -8,7 +8,9 @@
 //! of the text, and nothing else.
 //!
 //! The promise to the layers above: the bytes are exactly those of the definitions `text_of`,
-//! `entry_text` and `line_text` of event_kinds.
+//! `entry_text` and `line_text` of event_kinds. The entries are what their types say, also where
+//! writing fails, and among such entries no others have the text (`SpellsOnly`,
+//! `proofs/OneHistory.antt`).
 //!
 //! ```text
 //! put_output(&mut sink, &history, &lines)?; // h 1 0 start .. l 1 1 ok .. end
@@ -21,6 +23,7 @@
 mod entries;
 mod lines;
 mod output;
+mod typed;
 
 pub use entries::put_entry;
 pub use lines::put_line;

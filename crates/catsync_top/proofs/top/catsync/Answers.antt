@@ -1,5 +1,9 @@
-use Rattle.std.proofs.Common.{◌∙◌, sym, arith}
+use Rattle.std.proofs.Common.{◌∙◌, refl, sym, subst, arith}
+use Rattle.std.specs.List.{All}
+use Rattle.edge_io.specs.Taken.{Grows, GrowsByFront}
+use Rattle.out_text.specs.Typed.{IsTyped}
 use Rattle.catsync_top.proofs.Ready.{ready_built, found_unready}
+use Rattle.catsync_top.proofs.Running.{has_run}
 use Rattle.catsync_top.proofs.top.catsync.Goals as goal
 
 pub walk-requires : goal.walk-requires
@@ -10,3 +14,17 @@ walk-requires g c =
 pub returns-in-Ok-false-clause-not_yet : goal.returns-in-Ok-false-clause-not_yet
 returns-in-Ok-false-clause-not_yet g c =
     λ _. found_unready _ _ _ _ _ _ c.in-Ok.ensures.bytes (grind arith) c.deref.ensures.value c.in-Ok-read_script.ensures c.in-Ok-false.ensures c.in-Ok-false.field-0-test
+
+pub returns-in-Ok-put_output-clause-done : goal.returns-in-Ok-put_output-clause-done
+returns-in-Ok-put_output-clause-done g c =
+    let walk = c.in-Ok-walk.ensures in
+    λ _. has_run _ _ _ _ Grows _ _ _ _ _ c.in-Ok.ensures.bytes (grind arith) c.deref.ensures.value c.in-Ok-read_script.ensures c.in-Ok-true.ensures c.in-Ok-true.field-0-test
+    (record { history = c.in-Ok-walk.world.entries; allowed = walk.allowed; follows = walk.follows; complete = walk.complete; text_is = rw (c.as_slice.ensures, c.as_slice-2.ensures, walk.lines_are) refl })
+    (subst (All IsTyped) c.as_slice.ensures c.put_output.ensures.typed) c.in-Ok-put_output.ensures.bytes
+
+pub returns-clause-write_front : goal.returns-clause-write_front
+returns-clause-write_front g c =
+    let walk = c.in-Ok-walk.ensures in
+    λ _. has_run _ _ _ _ GrowsByFront _ _ _ _ _ c.in-Ok.ensures.bytes (grind arith) c.deref.ensures.value c.in-Ok-read_script.ensures c.in-Ok-true.ensures c.in-Ok-true.field-0-test
+    (record { history = c.in-Ok-walk.world.entries; allowed = walk.allowed; follows = walk.follows; complete = walk.complete; text_is = rw (c.as_slice.ensures, c.as_slice-2.ensures, walk.lines_are) refl })
+    (subst (All IsTyped) c.as_slice.ensures c.put_output.ensures.typed) c.in-Err-put_output.ensures.bytes

@@ -1,11 +1,13 @@
-use Rattle.std.proofs.Common.{◌<◌, ◌++◌, codes, length, arith, refl, ◌∙◌}
+use Rattle.std.proofs.Common.{◌<◌, ◌++◌, codes, length, arith, refl, rules, subst, ◌∙◌}
 use Rattle.std.proofs.lemmas.Result.{err_from_is_err_and}
+use Rattle.std.proofs.lemmas.List.Elements.{All-more}
+use Rattle.event_kinds.specs.Entries.{IsItem}
 use Rattle.event_kinds.specs.Texts.{item_text}
 use Rattle.out_text.proofs.Gathered.{none_so_far, one_more, next_not_gathered}
 use Rattle.out_text.proofs.entries.gather_changes.Goals as goal
 
 pub loop-change-init : goal.loop-change-init
-loop-change-init g c = record { so_far = none_so_far _; steady = refl }
+loop-change-init g c = record { so_far = none_so_far _; steady = refl; typed = search rules }
 
 pub returns-in_err-gather_change-clause-bytes : goal.returns-in_err-gather_change-clause-bytes
 returns-in_err-gather_change-clause-bytes g c =
@@ -19,4 +21,5 @@ loop-change-preserved g c =
     record {
       so_far = one_more (λ item. codes " " ++ item_text item) c.args.changes.now c.loop-change.change-index _ _ _ _ _ _ within c.change-item.is c.loop-change.invariant.so_far c.in_ok-gather_change.was c.gather_change.ensures.bytes;
       steady = c.in_ok-gather_change.ensures.cause.steady ∙ c.loop-change.invariant.steady;
+      typed = All-more IsItem c.args.changes.now c.loop-change.change-index _ within c.loop-change.invariant.typed (subst IsItem c.change-item.is c.in_ok-gather_change.ensures.typed);
     }

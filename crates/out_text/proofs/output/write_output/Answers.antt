@@ -2,7 +2,7 @@ use Rattle.std.proofs.Common.{rules, refl}
 use Rattle.std.proofs.lemmas.Result.{err_from_is_err_and}
 use Rattle.edge_io.proofs.Gathering.{front_of_failed, sent_behind}
 use Rattle.event_kinds.specs.Texts.{text_of}
-use Rattle.out_text.proofs.output.put_output.Goals as goal
+use Rattle.out_text.proofs.output.write_output.Goals as goal
 
 pub returns-in_err-gather_output-clause-bytes : goal.returns-in_err-gather_output-clause-bytes
 returns-in_err-gather_output-clause-bytes g c =
