@@ -20,6 +20,7 @@ use base_types::{
 };
 use cacheless::{Opening, OwnLock};
 use ddl_effect::Want;
+use event_kinds::LineText;
 use rel_desc::{Answer, CommandError, Shown, Value, answer_text};
 use std::alloc::Global;
 
@@ -40,7 +41,7 @@ impl Backend {
     }
 
     // The text of what its command answers.
-    fn told_text(&self, alloc: Global, command: &Command) -> Result<Listed<u8>, NoMemory>
+    fn told_text(&self, alloc: Global, command: &Command) -> Result<LineText, NoMemory>
         requires at { slice_get self.now.commands self.now.finished ≡ Some command.now }
         requires out { is_out self.now ≡ true }
         ensures { IfOk result (IsToldText self.now) }
@@ -48,7 +49,7 @@ impl Backend {
         let told = self.told(alloc, command)?;
         let mut text = Vec::new(alloc);
         answer_text(&told, &mut text)?;
-        Ok(Listed::from_vec(text))
+        Ok(LineText::new(text))
     }
 
     // What its command answers.

@@ -3,7 +3,7 @@ use crate::{KeptScan, Life, OwnTransaction, Phase};
 use base_types::{Command, Listed, NoMemory, Row};
 use cacheless::{Opening, OwnLock};
 use ddl_effect::Exec;
-use event_kinds::Line;
+use event_kinds::{Line, LineText};
 use seg_calls::Seg;
 use std::alloc::Global;
 use txn_blocks::TxnBlocks;
@@ -20,7 +20,7 @@ pub struct Backend {
     pub(crate) exec: Exec,
     pub(crate) blocked: bool,
     pub(crate) phase: Phase,
-    pub(crate) answer: Option<Listed<u8>>,
+    pub(crate) answer: Option<LineText>,
     // the blocks before it, the transaction, and the commands of its writes that weren't taken back
     pub(crate) blocks: TxnBlocks,
     pub(crate) running: Option<OwnTransaction>,

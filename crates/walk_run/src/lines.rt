@@ -2,8 +2,8 @@ ghost use Rattle.std.specs.Prelude.{◌≡◌, ◌++◌, IfOk, OnOk};
 ghost use Rattle.walk_run.specs.Sessions.{transcripts_of};
 
 use backend_core::Backend;
-use base_types::{Listed, NoMemory};
-use event_kinds::Line;
+use base_types::NoMemory;
+use event_kinds::{Line, LineText};
 use std::alloc::{AllocError, Global};
 
 /// The lines of backends, one after another.
@@ -34,6 +34,6 @@ fn copied(alloc: Global, line: &Line) -> Result<Line, AllocError>
     Ok(Line {
         backend: line.backend,
         command: line.command,
-        text: Listed::from_vec(line.text.as_slice().to_vec(alloc)?),
+        text: LineText::new(line.text.as_bytes().to_vec(alloc)?),
     })
 }
