@@ -5,11 +5,13 @@ use Rattle.edge_io.specs.Causes.{Rose}
 use Rattle.edge_io.specs.declared.reading.TheConstants.{PIECE}
 use Rattle.out_text.specs.Typed.{SpellsOnly}
 use Rattle.walk_run.specs.Built.{is_built}
+use Rattle.walk_run.specs.Sessions.{AreSessions}
 use Rattle.script_text.specs.Grammar.{Reading, script_of}
 use Rattle.script_text.specs.declared.fault.Rest.TheVariants.{Refused}
 use Rattle.script_text.specs.declared.fault.ScriptCause.{ScriptCause}
-use Rattle.first_model.specs.Lines.{lines_of}
-use Rattle.first_model.specs.Output.{IsOutput}
+use Rattle.cacheless.specs.Lines.{lines_of}
+use Rattle.cacheless.specs.Output.{IsOutput}
+use Rattle.backend_core.specs.declared.backend.Backend.{Backend}
 use Rattle.catsync_top.specs.declared.top.TheConstants.{MOST_INPUT}
 use Rattle.catsync_top.specs.declared.status.Status.{Status}
 use Rattle.catsync_top.specs.declared.status.Status.TheVariants as statuses
@@ -39,8 +41,8 @@ pub record IsInput (left rest : Option (List ℕ)) (input : List ℕ) : Type 0 w
   pub ended : IsAtEnd rest
   pub short : length input ≤ MOST_INPUT
 
--- the input is a script that can be walked; an output of the program for that script was written, or a front of one; and that output spells its history alone
-pub record Ran (left rest : Option (List ℕ)) (taken now : Option (List ℕ)) (Writes : Option (List ℕ) → Option (List ℕ) → List ℕ → Type 0) : Type 0 where
+-- the input is a script that can be walked; an output of the program for that script was written, or a prefix of one; that output spells its history alone; and the sessions are the backends that were run, with their parts of the answers
+pub record Ran (left rest : Option (List ℕ)) (taken now : Option (List ℕ)) (Writes : Option (List ℕ) → Option (List ℕ) → List ℕ → Type 0) (sessions : List Backend) : Type 0 where
   pub input : List ℕ
   pub whole : IsInput left rest input
   pub reading : Reading
@@ -49,6 +51,7 @@ pub record Ran (left rest : Option (List ℕ)) (taken now : Option (List ℕ)) (
   pub output : List ℕ
   pub is : IsOutput reading.script output
   pub only : SpellsOnly output is.history (lines_of reading.script is.history)
+  pub are : AreSessions reading.script is.history (lines_of reading.script is.history) sessions
   pub written : Writes taken now output
 
 -- that line of the input is the first that breaks a rule, and that rule is the first that it breaks

@@ -1,23 +1,24 @@
-ghost use Rattle.std.specs.Prelude.{◌≡◌, ◌≢◌, ◌↔◌, ◌≤◌, map, length, IsTrue, IfOk};
+ghost use Rattle.std.specs.Prelude.{◌≡◌, ◌≢◌, ◌↔◌, ◌≤◌, [], map, length, IsTrue};
 ghost use Rattle.std.specs.String.{string_bytes};
 ghost use Rattle.edge_io.specs.Causes.{Rose};
 ghost use Rattle.edge_io.specs.Taken.{Grows, GrowsByFront};
 ghost use Rattle.catsync_top.specs.Top.{AreWalk, Ran, IsBad, IsTooLong, IsNotYet, CanRun, HadNoFault, IfBadScript, IsDoneOrNoMemory, is_ready as ready_reading};
 
 use crate::Status;
-use base_types::NoMemory;
+use backend_core::Backend;
 use edge_io::{Gate, ReadRefusal, Sink, Source, read_all};
 use out_text::put_output;
 use script_text::{MOST_BACKENDS, Rest, ScriptFault, ScriptRead, read_script};
 use std::alloc::Global;
-use walk_run::{is_built, walk};
+use walk_run::{World, is_built, walk};
 
 /// The most bytes of a script.
 pub const MOST_INPUT: usize = 1_048_576;
 
 /// Runs the program: its arguments, where it reads, where it writes, and a gate for each backend
 /// that a script can have, which `walk` doesn't ask. It takes memory from `alloc`, and none while
-/// it writes.
+/// it writes. `sessions` is empty before the call, and after `Done` and `WriteFault` it holds the
+/// backends that were run.
 ///
 /// The order is: arguments, reading, script, work, writing. What is said of the bytes holds as far
 /// as the source and the sink tell them.
@@ -36,17 +37,20 @@ pub fn catsync<S: Source, K: Sink, G: Gate>(
     source: &mut S,
     sink: &mut K,
     gates: &mut Vec<G>,
+    sessions: &mut Vec<Backend>,
 ) -> Status
-    requires { MOST_BACKENDS ≤ length gates.old.items }
+    requires gates { MOST_BACKENDS ≤ length gates.old.items }
+    requires sessions { sessions.old.items ≡ [] }
 
     // Which arguments are accepted.
     ensures usage { result ≡ Status.Usage → AreWalk (map string_bytes arguments.now) → ⊥ }
     ensures accepted { result ≢ Status.Usage → AreWalk (map string_bytes arguments.now) }
 
     // What was written, of what was read.
-    ensures done { result ≡ Status.Done → Ran (S.left source.old) (S.left source.new) (K.taken sink.old) (K.taken sink.new) Grows }
-    ensures write_front { result ≡ Status.WriteFault → Ran (S.left source.old) (S.left source.new) (K.taken sink.old) (K.taken sink.new) GrowsByFront }
+    ensures done { result ≡ Status.Done → Ran (S.left source.old) (S.left source.new) (K.taken sink.old) (K.taken sink.new) Grows sessions.new.items }
+    ensures write_front { result ≡ Status.WriteFault → Ran (S.left source.old) (S.left source.new) (K.taken sink.old) (K.taken sink.new) GrowsByFront sessions.new.items }
     ensures nothing { result ≢ Status.Done → result ≢ Status.WriteFault → K.taken sink.new ≡ K.taken sink.old }
+    ensures no_sessions { result ≢ Status.Done → result ≢ Status.WriteFault → sessions.new.items ≡ [] }
 
     // When each refusal comes.
     ensures bad_script { IfBadScript result (IsBad (S.left source.old) (S.left source.new)) }
@@ -81,25 +85,29 @@ pub fn catsync<S: Source, K: Sink, G: Gate>(
         Err(ScriptFault::Bad { line, cause }) => return Status::BadScript { line, cause },
         Err(ScriptFault::NoMemory) => return Status::NoMemory,
     };
-    match is_ready(alloc, &read) {
-        Ok(true) => {}
-        Ok(false) => return Status::NotYet,
-        Err(NoMemory) => return Status::NoMemory,
+    if !is_ready(&read) {
+        return Status::NotYet;
     }
     let Ok(world) = walk(alloc, &read.script) else {
         return Status::NoMemory;
     };
-    match put_output(sink, world.entries.as_slice(), world.lines.as_slice()) {
+    let World {
+        entries,
+        lines,
+        backends,
+    } = world;
+    *sessions = backends.into_vec();
+    match put_output(sink, entries.as_slice(), lines.as_slice()) {
         Ok(()) => Status::Done,
         Err(_) => Status::WriteFault,
     }
 }
 
 // Whether all of a script is built.
-fn is_ready(alloc: Global, read: &ScriptRead) -> Result<bool, NoMemory>
-    ensures { IfOk result (λ ready. ready ≡ ready_reading (record { script = read.now.script; has_ring = read.now.has_ring; rest_at = read.now.rest_at })) }
+fn is_ready(read: &ScriptRead) -> bool
+    ensures { result ≡ ready_reading (record { script = read.now.script; has_ring = read.now.has_ring; rest_at = read.now.rest_at }) }
 {
-    Ok(!read.has_ring && is_built(alloc, &read.script)?)
+    !read.has_ring && is_built(&read.script)
 }
 
 // Whether the arguments are `walk` alone.
