@@ -2,7 +2,7 @@ use crate::readers::CountingSink;
 use crate::values::name;
 use base_types::{ColType, Field, Kind, Listed, Mode, Name, Oid, Xid, field_text};
 use edge_io::{Failed, MEMORY_SINK_ROOM, MemorySink, SteadySink};
-use event_kinds::{Entry, Event, Line};
+use event_kinds::{Entry, Event, Line, LineText};
 use out_text::{answer_text, put_entry, put_line, put_output};
 use rel_desc::{Answer, Column, CommandError, Shown, Value};
 use std::alloc::Global;
@@ -197,7 +197,7 @@ fn ok_line(alloc: Global) -> Result<Line, Fail> {
     Ok(Line {
         backend: 2,
         command: 7,
-        text: Listed::from_vec(b"ok".to_vec(alloc)?),
+        text: LineText::new(b"ok".to_vec(alloc)?),
     })
 }
 

@@ -6,15 +6,15 @@ use Rattle.script_text.specs.Grammar.{Reading, script_of}
 use Rattle.script_text.specs.declared.fault.Rest.TheVariants.{Refused}
 use Rattle.first_model.specs.Lines.{lines_of}
 use Rattle.first_model.specs.Output.{IsOutput}
-use Rattle.out_text.specs.Typed.{IsTyped}
+use Rattle.out_text.specs.Typed.{IsTyped, IsLine}
 use Rattle.out_text.proofs.OneHistory.{spells_only}
 use Rattle.catsync_top.specs.Top.{Ran, is_ready}
 
--- a script that was read and can be walked, and an output for it that was written, whose entries are typed
+-- a script that was read and can be walked, and an output for it that was written, whose entries and lines are typed
 pub has_run : (left rest taken now : Option (List ℕ)) (Writes : Option (List ℕ) → Option (List ℕ) → List ℕ → Type 0) (items input output : List ℕ) (reading : Reading) (ready : Bool)
     → ReadsAll left rest 1048576 items → length items ≤ 1048576 → input ≡ items → script_of Refused input ≡ Ok reading → ready ≡ is_ready reading → ready ≡ true
-    → (is : IsOutput reading.script output) → All IsTyped is.history → Writes taken now output → Ran left rest taken now Writes
-has_run left rest taken now Writes items input output reading ready all short same spelled are test is each written = record {
+    → (is : IsOutput reading.script output) → All IsTyped is.history → All IsLine (lines_of reading.script is.history) → Writes taken now output → Ran left rest taken now Writes
+has_run left rest taken now Writes items input output reading ready all short same spelled are test is entries lines written = record {
   input = items;
   whole = record { read = all.consumed; ended = all.ended short; short = short };
   reading = reading;
@@ -22,6 +22,6 @@ has_run left rest taken now Writes items input output reading ready all short sa
   ready = sym are ∙ test;
   output = output;
   is = is;
-  only = spells_only output is.history (lines_of reading.script is.history) is.text_is each;
+  only = spells_only output is.history (lines_of reading.script is.history) is.text_is entries lines;
   written = written;
 }

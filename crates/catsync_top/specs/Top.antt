@@ -8,6 +8,7 @@ use Rattle.walk_run.specs.Built.{is_built}
 use Rattle.script_text.specs.Grammar.{Reading, script_of}
 use Rattle.script_text.specs.declared.fault.Rest.TheVariants.{Refused}
 use Rattle.script_text.specs.declared.fault.ScriptCause.{ScriptCause}
+use Rattle.first_model.specs.Lines.{lines_of}
 use Rattle.first_model.specs.Output.{IsOutput}
 use Rattle.catsync_top.specs.declared.top.TheConstants.{MOST_INPUT}
 use Rattle.catsync_top.specs.declared.status.Status.{Status}
@@ -47,7 +48,7 @@ pub record Ran (left rest : Option (List ℕ)) (taken now : Option (List ℕ)) (
   pub ready : is_ready reading ≡ true
   pub output : List ℕ
   pub is : IsOutput reading.script output
-  pub only : SpellsOnly output is.history
+  pub only : SpellsOnly output is.history (lines_of reading.script is.history)
   pub written : Writes taken now output
 
 -- that line of the input is the first that breaks a rule, and that rule is the first that it breaks

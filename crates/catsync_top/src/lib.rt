@@ -6,11 +6,11 @@
 //!
 //! The promise: after `Done` the sink took the text of one history that the script allows, complete
 //! and by its schedule, and then exactly the lines that backends without caches print on it. No other
-//! history has such a text, so who reads the bytes reads this one. Each other answer has its cause;
-//! only `NoMemory` may come at any time. All of this is said of the bytes that the source and the
-//! sink tell. Those over standard input and output tell none: there the clauses fix `Usage`, and
-//! that `ReadFault` and `WriteFault` come exactly where a count of faults rose; for the bytes one
-//! relies on its being the same generic code.
+//! history and lines have such a text, so who reads the bytes reads these. Each other answer has
+//! its cause; only `NoMemory` may come at any time. All of this is said of the bytes that the source
+//! and the sink tell. Those over standard input and output tell none: there the clauses fix `Usage`,
+//! and that `ReadFault` and `WriteFault` come exactly where a count of faults rose; for the bytes
+//! one relies on its being the same generic code.
 //!
 //! ```text
 //! let status = catsync(alloc, &arguments, &mut source, &mut sink, &mut gates);

@@ -1,3 +1,4 @@
+use crate::LineText;
 use base_types::{Listed, Mode, Name, Oid, Purpose, Row, RowKey, Xid};
 
 /// One change of a write.
@@ -108,6 +109,6 @@ pub struct Line {
     pub backend: u32,
     /// The command's number, from 1.
     pub command: u32,
-    /// The answer, ASCII without a line's end.
-    pub text: Listed<u8>,
+    /// The answer.
+    pub text: LineText,
 }

@@ -192,6 +192,7 @@ pub fn push_line_head(head: &mut LineBuffer, line: &Line)
     requires { length head.old + 24 ≤ LINE_ROOM }
     ensures text { head.new ≡ head.old ++ line_head line.now }
     ensures short { length head.new ≤ length head.old + 24 }
+    ensures numbers { IsNumber line.now.backend × IsNumber line.now.command }
 {
     head.push(b"l ");
     push_place(head, line.backend, line.command);

@@ -1,4 +1,4 @@
--- A text spells one history at most, whatever the lines after it.
+-- A text spells one history and one list of answer lines at most.
 use Rattle.std.proofs.Common.{◌≡◌, ℕ, List, [], ◌∷◌, ◌++◌, drop, Option, Some, None, refl, sym, ap, ◌∙◌, append_assoc, append-nil, arith, false, eqb, codes, decimal}
 use Rattle.std.specs.List.{All, AllByRecursion}
 use Rattle.std.proofs.lemmas.List.Elements.{recursion_from_All}
@@ -9,12 +9,13 @@ use Rattle.event_kinds.specs.declared.entry.Entry.{Entry}
 use Rattle.event_kinds.specs.declared.entry.Line.{Line}
 use Rattle.event_kinds.specs.declared.entry.Event.TheVariants as events
 use Rattle.event_kinds.specs.Texts.{changes_of, entry_text, entries_text, lines_text, text_of}
-use Rattle.event_kinds.specs.Entries.{IsNumber, IsItem, IsHead}
+use Rattle.event_kinds.specs.Entries.{IsNumber, IsItem, IsHead, IsLine}
 use Rattle.event_kinds.specs.Readers.{Reader, lit_at, then_at, as_at, choose_at}
 use Rattle.event_kinds.specs.Reading.{number_at, event_at, write_event_at, items_at, placed_at, entry_cases}
 use Rattle.event_kinds.proofs.Spelling.{Part, then_part, pair_part, again_part}
 use Rattle.event_kinds.proofs.Parts.{number_part, blank_part}
 use Rattle.event_kinds.proofs.EventLaws.{placed_again}
+use Rattle.event_kinds.proofs.Outputs.{texts_differ}
 use Rattle.out_text.specs.Typed.{IsTyped, SpellsOnly}
 
 -- ---- a write without a change, which the reader of entries doesn't read
@@ -112,7 +113,8 @@ one_history (entry ∷ history) (entry' ∷ other) lines others are are' same =
     let rest = one_history history other lines others are.1 are'.1 one.1 in
     (cc, rest.1)
 
--- the text of typed entries spells no others
-pub spells_only : (text : List ℕ) (history : List Entry) (lines : List Line) → text ≡ text_of history lines → All IsTyped history → SpellsOnly text history
-spells_only text history lines is each entries others each' same =
-    (one_history entries history others lines (recursion_from_All IsTyped entries each') (recursion_from_All IsTyped history each) (same ∙ is)).0
+-- the text of typed entries and lines spells no others
+pub spells_only : (text : List ℕ) (history : List Entry) (lines : List Line) → text ≡ text_of history lines → All IsTyped history → All IsLine lines → SpellsOnly text history lines
+spells_only text history lines is each each-line entries others each' each-line' same =
+    let rest = one_history entries history others lines (recursion_from_All IsTyped entries each') (recursion_from_All IsTyped history each) (same ∙ is) in
+    (rest.0, (texts_differ [] [] others lines tt tt (recursion_from_All IsLine others each-line') (recursion_from_All IsLine lines each-line) rest.1).1)

@@ -8,8 +8,8 @@
 //! of the text, and nothing else.
 //!
 //! The promise to the layers above: the bytes are exactly those of the definitions `text_of`,
-//! `entry_text` and `line_text` of event_kinds. The entries are what their types say, also where
-//! writing fails, and among such entries no others have the text (`SpellsOnly`,
+//! `entry_text` and `line_text` of event_kinds. Entries and lines are what their types say, also
+//! where writing fails, and among such entries and lines no others have the text (`SpellsOnly`,
 //! `proofs/OneHistory.antt`).
 //!
 //! ```text

@@ -1,7 +1,9 @@
-ghost use Rattle.std.specs.Prelude.{◌≡◌, ◌++◌, ℕ, codes};
+ghost use Rattle.std.specs.Prelude.{◌≡◌, ◌++◌, ℕ, codes, OnOk};
+ghost use Rattle.std.specs.List.{All};
 ghost use Rattle.edge_io.specs.Causes.{HasCause};
 ghost use Rattle.edge_io.specs.Gathered.{gathered, Gathers};
 ghost use Rattle.edge_io.specs.Taken.{Sends};
+ghost use Rattle.event_kinds.specs.Entries.{IsLine};
 ghost use Rattle.event_kinds.specs.Texts.{line_text, ended, lines_text};
 
 use base_types::LineBuffer;
@@ -25,6 +27,7 @@ pub(crate) fn gather_lines<K: Sink>(
 ) -> Result<(), Failed>
     ensures bytes { Gathers (gathered K.taken out.old) (gathered K.taken out.new) result (lines_text lines.now) }
     ensures cause { HasCause (K.faults out.old.sink.now) (K.faults out.new.sink.now) result }
+    ensures typed { OnOk result (All IsLine lines.now) }
 {
     for line in lines {
         gather_line(out, line)?;
@@ -36,6 +39,7 @@ pub(crate) fn gather_lines<K: Sink>(
 fn gather_line<K: Sink>(out: &mut GatheringSink<'_, K>, line: &Line) -> Result<(), Failed>
     ensures bytes { Gathers (gathered K.taken out.old) (gathered K.taken out.new) result (ended (line_text line.now)) }
     ensures cause { HasCause (K.faults out.old.sink.now) (K.faults out.new.sink.now) result }
+    ensures typed { OnOk result (IsLine line.now) }
 {
     gather_line_text(out, line)?;
     out.send(b"\n")
@@ -45,9 +49,10 @@ fn gather_line<K: Sink>(out: &mut GatheringSink<'_, K>, line: &Line) -> Result<(
 fn gather_line_text<K: Sink>(out: &mut GatheringSink<'_, K>, line: &Line) -> Result<(), Failed>
     ensures bytes { Gathers (gathered K.taken out.old) (gathered K.taken out.new) result (line_text line.now) }
     ensures cause { HasCause (K.faults out.old.sink.now) (K.faults out.new.sink.now) result }
+    ensures typed { OnOk result (IsLine line.now) }
 {
     let mut head = LineBuffer::new();
     push_line_head(&mut head, line);
     out.send(head.as_bytes())?;
-    out.send(line.text.as_slice())
+    out.send(line.text.as_bytes())
 }

@@ -10,7 +10,7 @@ use base_types::{
     Command, Kind, Listed, Mode, Name, NewColumn, NoMemory, Oid, Placed, Purpose, Row, Scanned,
     Xid, same_scan, table_scans,
 };
-use event_kinds::Line;
+use event_kinds::{Line, LineText};
 use rel_desc::{Answer, CommandError, answer_text};
 use script_text::Script;
 use std::alloc::Global;
@@ -347,7 +347,7 @@ impl Backend {
         self.lines.push(Line {
             backend: self.id,
             command,
-            text: Listed::from_vec(text),
+            text: LineText::new(text),
         })?;
         segment.release(self.id, command, command)?;
         self.finished = command;

@@ -17,5 +17,5 @@ returns-clause-bytes g c =
     let line = c.args.line.now in
     let is : c.as_bytes.result.now ≡ line_head line = cc in
     let sent = rw is at c.send.ensures.bytes in
-    let rest = rw c.as_slice.ensures at c.send-2.ensures.bytes in
+    let rest = rw c.as_bytes-2.ensures.text at c.send-2.ensures.bytes in
     second_gathered _ _ _ _ _ c.send-2.result (line_head line) line.text _ refl c.in_ok-send.was sent rest
