@@ -11,7 +11,7 @@ next_own-self-requires c =
 
 pub returns : goal.returns
 returns c =
-    let text : c.from_vec.result ≡ answer_text c.args.answer = c.from_vec.ensures ∙ c.in_ok-answer_text.ensures.ok ∙ ap (λ front. front ++ answer_text c.args.answer) c.new-text.ensures.items in
+    let text : c.new.result ≡ answer_text c.args.answer = c.new.ensures ∙ c.in_ok-answer_text.ensures.ok ∙ ap (λ front. front ++ answer_text c.args.answer) c.new-text.ensures.items in
     let lines : c.push.new.self ≡ c.args.self.now.lines ++ line_at c.args.self.now.id (c.args.self.now.finished + 1) c.args.answer ∷ [] =
     c.in_ok-push.ensures.ok ∙ ap (λ written. c.args.self.now.lines ++ record { backend = c.args.self.now.id; command = c.args.self.now.finished + 1; text = written } ∷ []) text
     in
