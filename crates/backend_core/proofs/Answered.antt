@@ -219,10 +219,10 @@ answer_keeps scenario seen was text now work out none says = record {
     kept = agrees.kept;
     places = agrees.places;
     answer = λ told c same here. let one : text ≡ told = cc in let it : says.has.command ≡ c = the_command was says.has c here in sym one ∙ says.is ∙ ap answer_text (
-      sym (answered_at scenario seen was agrees says.has.command says.has.at unanswered out)
-      ∙ ap (λ h. answer_judged scenario h was.id (was.finished + 1) (finished_at was agrees.rest) says.has.command agrees.rest.refused) (sym whole)
-      ∙ ap (λ x. answer_judged scenario (take agrees.rest.judged seen) was.id (was.finished + 1) (finished_at was agrees.rest) x agrees.rest.refused) it
-    );
+        sym (answered_at scenario seen was agrees says.has.command says.has.at unanswered out)
+        ∙ ap (λ h. answer_judged scenario h was.id (was.finished + 1) (finished_at was agrees.rest) says.has.command agrees.rest.refused) (sym whole)
+        ∙ ap (λ x. answer_judged scenario (take agrees.rest.judged seen) was.id (was.finished + 1) (finished_at was agrees.rest) x agrees.rest.refused) it
+        );
     lines = agrees.lines;
   };
   now = record { last = now.now.last; judged = λ has unanswered'. absurd (cc) };

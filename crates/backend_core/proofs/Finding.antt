@@ -115,12 +115,12 @@ act_keeps scenario seen was exec opened act plan gave now work at none gives_it 
     rest = rest_done act gave agrees.rest;
     count = agrees.count;
     is = agrees.is ∙ ap Some (
-      ap (λ l. settled facts l (session_at was agrees.rest)) left
-      ∙ settled-act facts work.has.command (drop (was.finished + 1) was.commands) (session_at was agrees.rest) act plan gave at (nothing_first scenario seen was agrees work)
+        ap (λ l. settled facts l (session_at was agrees.rest)) left
+        ∙ settled-act facts work.has.command (drop (was.finished + 1) was.commands) (session_at was agrees.rest) act plan gave at (nothing_first scenario seen was agrees work)
         (here facts was agrees.rest act plan agrees.facts agrees.well.builds at none ∙ gives_it)
-      ∙ ap (λ l. settled facts l (act_done act gave (plan gave) (session_at was agrees.rest))) (sym left)
-      ∙ ap (settled facts (drop was.finished was.commands)) (λ i. record (act_done act gave (plan gave) (session_at was agrees.rest)) { left = sym on i; opened = sym opens i })
-    );
+        ∙ ap (λ l. settled facts l (act_done act gave (plan gave) (session_at was agrees.rest))) (sym left)
+        ∙ ap (settled facts (drop was.finished was.commands)) (λ i. record (act_done act gave (plan gave) (session_at was agrees.rest)) { left = sym on i; opened = sym opens i })
+        );
     facts = record {
       running = agrees.facts.running;
       lists = agrees.facts.lists;
@@ -261,9 +261,9 @@ lookup_goes seen was exec rest command name mode plan at read on place sees' (in
     let show : IsShow command = show_alone command (ap begins_lookup (sym u.plan ∙ at)) in
     let first : plan_at was.exec ≡ looking_up show.name AccessShare (showing show.name show.field) = u.plan ∙ ap (plan_of none_open) show.is in
     subst (Goes seen was exec (rest_done (Lookup name mode) was.given.items rest)) (sym show.is)
-      (rows_go seen was exec (rest_done (Lookup name mode) was.given.items rest) show.name show.field was.given.items (on ∙ ap (after_act was.given.items) first) (ap (λ l. l ++ class_oid was.given.items ∷ []) u.found) u.opened
-      (subst (λ r. GivenSeen seen was.id (looking_up show.name AccessShare (showing show.name show.field)) r was.given.items) read (subst (λ p. GivenSeen seen was.id p was.read was.given.items) first sees'))
-      (subst (λ r. PlaceFits seen was.id (looking_up show.name AccessShare (showing show.name show.field)) r was.given_at) read (subst (λ p. PlaceFits seen was.id p was.read was.given_at) first place)) u.unwritten)
+    (rows_go seen was exec (rest_done (Lookup name mode) was.given.items rest) show.name show.field was.given.items (on ∙ ap (after_act was.given.items) first) (ap (λ l. l ++ class_oid was.given.items ∷ []) u.found) u.opened
+    (subst (λ r. GivenSeen seen was.id (looking_up show.name AccessShare (showing show.name show.field)) r was.given.items) read (subst (λ p. GivenSeen seen was.id p was.read was.given.items) first sees'))
+    (subst (λ r. PlaceFits seen was.id (looking_up show.name AccessShare (showing show.name show.field)) r was.given_at) read (subst (λ p. PlaceFits seen was.id p was.read was.given_at) first place)) u.unwritten)
 lookup_goes seen was exec rest command name mode plan at read on place sees' (inr (inl m)) = absurd (let both : Absent m.name ≡ Do (Lookup name mode) plan = sym m.plan ∙ at in cc)
 lookup_goes seen was exec rest command name mode plan at read on place sees' (inr (inr (inl f))) = by_stage f.stage
   where
@@ -276,14 +276,14 @@ lookup_goes seen was exec rest command name mode plan at read on place sees' (in
 pub found_keeps : (scenario : Scenario) (seen : List Entry) (was : Backend) (exec : Exec) → AgreesNow scenario seen was → IsWorking was → NextFind was → plan_at exec ≡ after_act was.given.items (plan_at was.exec) → AgreesNow scenario seen (silent was exec was.opened)
 found_keeps scenario seen was exec now work next on =
     act_keeps scenario seen was exec was.opened (Lookup next.name next.mode) next.rest was.given.items now work next.at (ap (λ r. if r then [] else scans.RelName next.name ∷ []) next.read)
-      (ap (looked_up was.locks.items next.mode) (subst (λ p. RowsFit (facts_of seen was.id).rows p was.given.items) next.at (now.agrees.facts.given next.read)) ∙ given_rows was.locks.items next.mode was.given.items next.locked)
-      (on ∙ ap (after_act was.given.items) next.at) (sym (append-nil was.opened)) now.agrees.well.builds (goes work.has.command work.has.at).unwritten (record {
-        refused = λ error is. absurd (let both : None ≡ Some error = sym free ∙ is in cc);
-        way = λ none refused command at. (goes command at).way;
-        later = fits.later;
-        given_at = (goes work.has.command work.has.at).place;
-        given_seen = (goes work.has.command work.has.at).given;
-      })
+    (ap (looked_up was.locks.items next.mode) (subst (λ p. RowsFit (facts_of seen was.id).rows p was.given.items) next.at (now.agrees.facts.given next.read)) ∙ given_rows was.locks.items next.mode was.given.items next.locked)
+    (on ∙ ap (after_act was.given.items) next.at) (sym (append-nil was.opened)) now.agrees.well.builds (goes work.has.command work.has.at).unwritten (record {
+      refused = λ error is. absurd (let both : None ≡ Some error = sym free ∙ is in cc);
+      way = λ none refused command at. (goes command at).way;
+      later = fits.later;
+      given_at = (goes work.has.command work.has.at).place;
+      given_seen = (goes work.has.command work.has.at).given;
+    })
   where
     fits : CommandFits seen was now.agrees.rest
     fits = now.agrees.command
@@ -330,18 +330,20 @@ open_goes seen was exec opened rest command rel kind plan at on pushed (inr (inr
         let same : wants.Open f.rel f.kind ≡ wants.Open rel kind = sym opens.want ∙ ap want_of (sym p.0 ∙ at) in
         let same_rel : rel ≡ f.rel = cc in
         let same_kind : kind ≡ f.kind = cc in
-        let done : plan_at exec ≡ Done = on ∙ ap (after_act []) p.0 ∙ opens.after in
-        (done, inr (inr (inl (record {
-          name = f.name;
-          field = f.field;
-          rel = f.rel;
-          kind = f.kind;
-          command_is = f.command_is;
-          found = append-nil rest.found ∙ f.found;
-          sees = f.sees;
-          stage = inr (record { plan = done; opened = pushed ∙ (λ i. p.1 i ++ record { rel = same_rel i; kind = same_kind i } ∷ []); passes = opens.passes });
-          unwritten = f.unwritten;
-        }))))
+        let done : plan_at exec ≡ Done = on ∙ ap (after_act []) p.0 ∙ opens.after in (
+          done,
+          inr (inr (inl (record {
+            name = f.name;
+            field = f.field;
+            rel = f.rel;
+            kind = f.kind;
+            command_is = f.command_is;
+            found = append-nil rest.found ∙ f.found;
+            sees = f.sees;
+            stage = inr (record { plan = done; opened = pushed ∙ (λ i. p.1 i ++ record { rel = same_rel i; kind = same_kind i } ∷ []); passes = opens.passes });
+            unwritten = f.unwritten;
+          }))),
+        )
 open_goes seen was exec opened rest command rel kind plan at on pushed (inr (inr (inr w))) = absurd (let both : Done ≡ Do (Open rel kind) plan = sym w.plan ∙ at in cc)
 
 -- it opens a descriptor
@@ -349,13 +351,13 @@ pub open_keeps : (scenario : Scenario) (seen : List Entry) (was : Backend) (exec
     → opened ≡ was.opened ++ record { rel = rel; kind = kind } ∷ [] → AgreesNow scenario seen (silent was exec opened)
 open_keeps scenario seen was exec opened rel kind now work next on pushed =
     act_keeps scenario seen was exec opened (Open rel kind) next.rest [] now work next.at next.none refl (on ∙ ap (after_act []) next.at) pushed
-      (ap (builds_missing was.kept) pushed ∙ builds_push was.kept was.opened (record { rel = rel; kind = kind }) now.agrees.well.builds next.none) (λ is. absurd (let both : wants.Done ≡ wants.Write = sym (ap want_of done) ∙ is in cc)) (record {
-        refused = λ error is. absurd (let both : None ≡ Some error = sym free ∙ is in cc);
-        way = λ none refused command at. (goes command at).1;
-        later = fits.later;
-        given_at = subst (λ p. PlaceFits seen was.id p false was.given_at) (sym done) tt;
-        given_seen = subst (λ p. GivenSeen seen was.id p false was.given.items) (sym done) tt;
-      })
+    (ap (builds_missing was.kept) pushed ∙ builds_push was.kept was.opened (record { rel = rel; kind = kind }) now.agrees.well.builds next.none) (λ is. absurd (let both : wants.Done ≡ wants.Write = sym (ap want_of done) ∙ is in cc)) (record {
+      refused = λ error is. absurd (let both : None ≡ Some error = sym free ∙ is in cc);
+      way = λ none refused command at. (goes command at).1;
+      later = fits.later;
+      given_at = subst (λ p. PlaceFits seen was.id p false was.given_at) (sym done) tt;
+      given_seen = subst (λ p. GivenSeen seen was.id p false was.given.items) (sym done) tt;
+    })
   where
     fits : CommandFits seen was now.agrees.rest
     fits = now.agrees.command

@@ -187,7 +187,5 @@ fn keeps_out(locks: &Vec<OwnLock>, rel: Oid, writer: Mode) -> bool
 fn is_any_against(locks: &Vec<OwnLock>, rel: Oid, writer: Mode) -> bool
     ensures { result ≡ list_any (λ lock. (lock.clear && same_oid lock.rel rel) && do_conflict writer lock.mode) locks.now.items }
 {
-    locks
-        .iter()
-        .any(|lock| lock.clear && lock.rel.0 == rel.0 && conflicts(writer, lock.mode))
+    locks.iter().any(|lock| lock.clear && lock.rel.0 == rel.0 && conflicts(writer, lock.mode))
 }

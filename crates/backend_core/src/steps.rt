@@ -32,7 +32,12 @@ impl Backend {
     }
 
     // Makes its next entry, if that isn't its last one.
-    pub(crate) fn enter<L: Seg>(&mut self, alloc: Global, seg: &mut L, next: &Next) -> Result<(), NoMemory>
+    pub(crate) fn enter<L: Seg>(
+        &mut self,
+        alloc: Global,
+        seg: &mut L,
+        next: &Next,
+    ) -> Result<(), NoMemory>
         requires agrees { Agrees (L.script seg.old) (L.history seg.old) self.old }
         requires played { IsPlayed (L.script seg.old) (L.history seg.old) }
         requires place { 0 < L.promised seg.old self.old.id }

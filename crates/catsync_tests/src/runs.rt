@@ -35,7 +35,8 @@ pub(crate) fn call<S: Source, K: Sink>(
         arguments.push(String::from_str(alloc, word)?)?;
     }
     let mut gates = vec![in alloc; OpenGate; MOST_BACKENDS as usize]?;
-    Ok(catsync(alloc, &arguments, source, sink, &mut gates))
+    let mut sessions = Vec::new(alloc);
+    Ok(catsync(alloc, &arguments, source, sink, &mut gates, &mut sessions))
 }
 
 #[test]

@@ -16,7 +16,7 @@ use Rattle.catsync_top.specs.Top.{Ran, is_ready}
 -- a script that was read and can be walked, and an output for it that was written, whose entries and lines are typed
 pub has_run : (left rest taken now : Option (List ℕ)) (Writes : Option (List ℕ) → Option (List ℕ) → List ℕ → Type 0) (items input output : List ℕ) (reading : Reading) (ready : Bool) (answers : List Line) (sessions backends : List Backend)
     → ReadsAll left rest 1048576 items → length items ≤ 1048576 → input ≡ items → script_of Refused input ≡ Ok reading → ready ≡ is_ready reading → ready ≡ true
-    → (is : IsOutput reading.script output) → All IsTyped is.history → All IsLine (lines_of reading.script is.history) 
+    → (is : IsOutput reading.script output) → All IsTyped is.history → All IsLine (lines_of reading.script is.history)
     → AreSessions reading.script is.history answers backends → answers ≡ lines_of reading.script is.history → sessions ≡ backends → Writes taken now output → Ran left rest taken now Writes sessions
 has_run left rest taken now Writes items input output reading ready answers sessions backends all short same spelled are test is entries lines have as_defined handed written = record {
   input = items;
