@@ -1,34 +1,29 @@
 -- The answer that a backend works out is what its command answers by the history.
-use Rattle.std.proofs.Common.{◌≡◌, ◌≢◌, ◌≤◌, ◌+◌, ◌⊎◌, inl, inr, ◌∙◌, ℕ, Bool, true, false, Option, Some, None, List, [], ◌∷◌, ◌++◌, refl, sym, ap, subst, drop, length, take, is_some, slice_get, arith}
-use Rattle.std.specs.List.{AllByRecursion}
+use Rattle.std.proofs.Common.{◌≡◌, ◌≢◌, ◌+◌, ◌⊎◌, inl, inr, ◌∙◌, ℕ, Bool, true, false, Option, Some, None, List, [], ◌∷◌, refl, sym, ap, subst, drop, take, is_some, slice_get, arith}
 use Rattle.std.proofs.lemmas.List.{append-nil, take_all}
 use Rattle.std.proofs.lemmas.List.Elements.{recursion_from_All}
 use Rattle.base_types.specs.Fields.{has_field}
 use Rattle.base_types.specs.Scans.{build_scans}
 use Rattle.base_types.specs.Scenario.{Scenario}
 use Rattle.base_types.specs.declared.command.Command.TheVariants as commands
-use Rattle.base_types.specs.declared.mode.Mode.TheVariants.{AccessShare}
-use Rattle.base_types.specs.declared.row.Row.TheVariants as rows
-use Rattle.base_types.specs.declared.scan.Purpose.TheVariants as scans
 use Rattle.rel_desc.specs.Answers.{answer_text}
 use Rattle.rel_desc.specs.declared.answer.Answer.TheVariants as answers
 use Rattle.rel_desc.specs.declared.error.CommandError.TheVariants as errors
 use Rattle.ddl_effect.specs.Blocks.{Block, Outside, Inside, Failed}
 use Rattle.ddl_effect.specs.Plans.{Plan, Done, Fails, Absent, NotBuilt, Do}
-use Rattle.ddl_effect.specs.Commands.{plan_of, looking_up, found, showing, opening, if_passes}
-use Rattle.ddl_effect.specs.Effects.{Effect, Nothing, effect_at, row_found}
+use Rattle.ddl_effect.specs.Commands.{plan_of, found, showing, opening, if_passes}
+use Rattle.ddl_effect.specs.Effects.{Nothing, effect_at, row_found}
 use Rattle.ddl_effect.specs.Stages.{plan_at}
-use Rattle.history_model.specs.Read.{place_read, rows_read}
+use Rattle.history_model.specs.Read.{rows_read}
 use Rattle.history_model.specs.Versions.{answer_of}
-use Rattle.history_model.specs.Writes.{has_written}
 use Rattle.cacheless.specs.Facts.{facts_of}
 use Rattle.cacheless.specs.Lines.{first_found, shown_row, answer_well, answer_by, effect_judged, answer_judged}
 use Rattle.cacheless.specs.Session.{Finished, none_open, outcome_of, is_settled}
 use Rattle.cacheless.specs.Settled.{settled, finished_as}
 use Rattle.cacheless.proofs.HeldLocks.{settled-locks}
-use Rattle.backend_core.specs.Types.{Oid, Kind, Field, Row, Purpose, Command, CommandError, Entry, Opening, KeptScan, Backend}
+use Rattle.backend_core.specs.Types.{Oid, Kind, Field, Row, Purpose, Command, CommandError, Entry, Backend}
 use Rattle.backend_core.specs.declared.phase.Phase.TheVariants as phases
-use Rattle.backend_core.specs.State.{missing, builds_missing, is_out, owed_first, Rest, session_at, HasCommand}
+use Rattle.backend_core.specs.State.{missing, builds_missing, is_out, owed_first, Rest, session_at}
 use Rattle.backend_core.specs.Agrees.{ReadRight, RunsBy, TransactionFits, EndFits, Well, IsUntouched, IsMissing, HasOpened, IsFound, IsWritten, Way, PlaceFits, CommandFits, KeptFits, Agrees}
 use Rattle.backend_core.specs.Steps.{AgreesNow, IsWorking}
 use Rattle.backend_core.specs.Answering.{shown_first, answer_done, answer_left, answer_at, IsToldText}

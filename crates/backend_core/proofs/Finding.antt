@@ -1,5 +1,5 @@
 -- What a backend does without an entry: it goes on by its lookup's rows, and it opens a descriptor.
-use Rattle.std.proofs.Common.{◌≡◌, ◌≢◌, ◌<◌, ◌+◌, ◌⊎◌, inl, inr, ◌∙◌, ℕ, Bool, true, false, Option, Some, None, List, [], ◌∷◌, ◌++◌, refl, sym, ap, subst, drop, length, is_none, is_some, slice_get, if◌then◌else◌, arith}
+use Rattle.std.proofs.Common.{◌≡◌, ◌≢◌, ◌+◌, ◌⊎◌, inl, inr, ◌∙◌, ℕ, Bool, true, false, Option, Some, None, List, [], ◌∷◌, ◌++◌, refl, sym, ap, subst, drop, is_some, slice_get, if◌then◌else◌}
 use Rattle.std.proofs.lemmas.List.{append-nil}
 use Rattle.std.proofs.lemmas.List.Concat.{flat_map-append}
 use Rattle.base_types.specs.Fields.{has_field}
@@ -11,7 +11,7 @@ use Rattle.base_types.specs.declared.row.Row.TheVariants as rows
 use Rattle.base_types.specs.declared.scan.Purpose.TheVariants as scans
 use Rattle.rel_desc.specs.declared.error.CommandError.TheVariants as errors
 use Rattle.ddl_effect.specs.Blocks.{Block, Outside, Inside, Failed, refused_by}
-use Rattle.ddl_effect.specs.Plans.{Plan, Act, Done, Fails, Absent, NotBuilt, Do, Lookup, Open, Write, after_act}
+use Rattle.ddl_effect.specs.Plans.{Plan, Act, Done, Fails, Absent, Do, Lookup, Open, after_act}
 use Rattle.ddl_effect.specs.Commands.{plan_of, looking_up, found, showing, opening, if_passes, if_no_column, writing}
 use Rattle.ddl_effect.specs.Stages.{plan_at, want_of}
 use Rattle.ddl_effect.specs.declared.want.Want.TheVariants as wants
@@ -20,16 +20,15 @@ use Rattle.history_model.specs.Read.{place_read}
 use Rattle.cacheless.specs.Facts.{Facts, facts_of}
 use Rattle.cacheless.specs.Locks.{has_lock}
 use Rattle.cacheless.specs.Session.{none_open, outcome_of, is_settled, refused_first, plan_first, plan_admitted}
-use Rattle.cacheless.specs.Owed.{builds_owed, act_owed}
+use Rattle.cacheless.specs.Owed.{act_owed}
 use Rattle.cacheless.specs.Settled.{class_oid, if_locked, looked_up, gives, opened_by, found_by, act_done, done_here, settled}
 use Rattle.cacheless.proofs.Settling.{settled-act}
-use Rattle.backend_core.specs.Types.{Oid, Mode, Kind, Field, Row, Command, CommandError, Draft, Entry, Opening, OwnLock, Exec, KeptScan, OwnTransaction, Backend}
+use Rattle.backend_core.specs.Types.{Oid, Mode, Kind, Field, Row, Command, CommandError, Draft, Entry, Opening, OwnLock, Exec, KeptScan, Backend}
 use Rattle.backend_core.specs.declared.phase.Phase.TheVariants as phases
-use Rattle.backend_core.specs.NewTables.{IsNewTable, SeesRelation}
-use Rattle.backend_core.specs.State.{missing, builds_missing, act_missing, unlocked_of, is_out, Rest, rest_of, session_at, HasCommand}
-use Rattle.backend_core.specs.Agrees.{RowsFit, FactsFit, RunsAlone, RunsBlock, RunsBy, TransactionFits, EndFits, Well, IsUntouched, IsMissing, HasOpened, IsFound, IsWritten, Way, PlaceFits, GivenSeen, CommandFits, PlacesFit, AnswerFits, Agrees}
-use Rattle.backend_core.specs.Steps.{IsNow, AgreesNow, IsWorking, NextFind, NextOpen}
-use Rattle.backend_core.specs.Measure.{acts_of, left_of}
+use Rattle.backend_core.specs.NewTables.{SeesRelation}
+use Rattle.backend_core.specs.State.{missing, builds_missing, act_missing, unlocked_of, is_out, Rest, session_at, HasCommand}
+use Rattle.backend_core.specs.Agrees.{RowsFit, FactsFit, RunsBy, TransactionFits, EndFits, Well, HasOpened, Way, PlaceFits, GivenSeen, CommandFits, Agrees}
+use Rattle.backend_core.specs.Steps.{AgreesNow, IsWorking, NextFind, NextOpen}
 use Rattle.backend_core.proofs.Carry.{no_answer, left_command, builds_same, act_same, nothing_first}
 
 -- the backend after a silent act

@@ -16,7 +16,7 @@ use Rattle.cacheless.specs.Ends.{Ends, Commits, TakesBack}
 use Rattle.cacheless.specs.Owed.{OwesLook}
 use Rattle.backend_core.specs.Types.{Oid, Mode, Kind, Row, Purpose, Command, Draft, Exec, Xid, OwnTransaction, Backend}
 use Rattle.backend_core.specs.declared.phase.Phase.TheVariants as phases
-use Rattle.backend_core.specs.State.{is_kept, is_out, begins_in, end_at, has_write_since, written_in, unlocked_of, HasCommand}
+use Rattle.backend_core.specs.State.{is_kept, begins_in, end_at, has_write_since, written_in, unlocked_of, HasCommand}
 use Rattle.backend_core.specs.Agrees.{Well, EndFits, CommitFits}
 use Rattle.backend_core.specs.Steps.{OwesLookNow, IsWorking, NextLookUp, NextBuild, NextLock, NextFind, NextOpen, NextWrite, NextCommit, NextRelease, WithoutWrite, NextFinish}
 

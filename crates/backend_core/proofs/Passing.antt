@@ -9,13 +9,13 @@ use Rattle.ddl_effect.specs.Stages.{plan_at}
 use Rattle.history_model.specs.Writes.{is_empty}
 use Rattle.cacheless.specs.Ends.{End, Ends, Commits, TakesBack}
 use Rattle.cacheless.specs.Owed.{Owes, OwesLook}
-use Rattle.cacheless.specs.Session.{Outcome, Well as CameWell, Badly, Unsettled, outcome_of, is_settled}
-use Rattle.backend_core.specs.Types.{Oid, Mode, Row, Purpose, Command, Phase, OwnTransaction, Next, KeptScan, Backend}
+use Rattle.cacheless.specs.Session.{Badly, outcome_of, is_settled}
+use Rattle.backend_core.specs.Types.{Oid, Mode, Row, Purpose, Command, Phase, Next, Backend}
 use Rattle.backend_core.specs.declared.next.Next.TheVariants as nexts
 use Rattle.backend_core.specs.declared.phase.Phase.TheVariants as phases
 use Rattle.backend_core.specs.State.{begins_in, owed_first, missing, builds_missing, act_missing, scans_missing, is_out, end_at, unlocked_of, HasCommand}
 use Rattle.backend_core.specs.Agrees.{Well}
-use Rattle.backend_core.specs.Steps.{OwesLookNow, IsWorking, NextLookUp, NextBuild, NextLock, NextFind, NextOpen, NextWrite, NextCommit, NextTakeBack, NextRelease, AfterCommit, AfterTakingBack, WithoutWrite, AtTheEnd, NextFinish, IsNextOf, makes_entry}
+use Rattle.backend_core.specs.Steps.{OwesLookNow, IsWorking, NextTakeBack, NextRelease, AfterCommit, AfterTakingBack, WithoutWrite, AtTheEnd, NextFinish, IsNextOf, makes_entry}
 use Rattle.backend_core.specs.Passing.{is_ends, is_done_here, passes_on, passes_in, is_silent}
 
 -- in a command

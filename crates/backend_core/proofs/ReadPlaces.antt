@@ -1,5 +1,5 @@
 -- The rows that a scan gave are its answer by the entries up to its own.
-use Rattle.std.proofs.Common.{◌≡◌, ◌≤◌, ◌+◌, ◌∙◌, ℕ, Bool, true, false, Option, Some, None, List, [], ◌∷◌, ◌++◌, ◌==◌, ◌||◌, refl, sym, ap, length, take, map, filter, arith}
+use Rattle.std.proofs.Common.{◌≡◌, ◌+◌, ◌∙◌, ℕ, Bool, true, false, Option, Some, None, List, [], ◌∷◌, ◌++◌, ◌==◌, ◌||◌, refl, sym, ap, length, take, map, filter, arith}
 use Rattle.std.proofs.Math.Bool.{or-false}
 use Rattle.std.proofs.lemmas.List.{take-append-le, take_all, length_push}
 use Rattle.base_types.specs.Scans.{scan_of}
@@ -11,7 +11,7 @@ use Rattle.history_model.proofs.Prefixes.{along-keeps}
 use Rattle.history_model.proofs.Reading.{versions_of-more, is_committed-more, running_transaction_of-own, running_transaction_of-other, rows_read-own, rows_read-other, place_read-short, place_read-other}
 use Rattle.row_visibility.specs.Seen.{seen_by}
 use Rattle.row_visibility.specs.declared.version.Stamp.{Stamp}
-use Rattle.backend_core.specs.Types.{Row, Purpose, Entry, Event, Version}
+use Rattle.backend_core.specs.Types.{Purpose, Entry, Event, Version}
 use Rattle.backend_core.proofs.Carry.{place_read-more, place_read-scan}
 
 scan_versions : (scan : Purpose) (before : List Entry) (b c : ℕ) (event : Event) (old : List Version) → is_scan_of scan event ≡ true → versions_by before b c event old ≡ old

@@ -1,9 +1,8 @@
 -- A step: an entry, and then what needs none.
 use Rattle.std.proofs.Common.{◌≡◌, ◌∙◌, Bool, true, false, not, List, sym, ap, subst}
-use Rattle.backend_core.specs.Types.{Scenario, Entry, Life, Next, Backend}
+use Rattle.backend_core.specs.Types.{Scenario, Entry, Next, Backend}
 use Rattle.backend_core.specs.declared.phase.Life.TheVariants as lives
-use Rattle.backend_core.specs.Passing.{is_silent}
-use Rattle.backend_core.specs.Agrees.{IsPlayed, Agrees, AwaitsEntry, HasNotJoined, HasLeft, Stands}
+use Rattle.backend_core.specs.Agrees.{IsPlayed, AwaitsEntry, HasNotJoined, HasLeft, Stands}
 use Rattle.backend_core.specs.Steps.{AgreesNow, Enters, Steps, IsNextOf, makes_entry}
 use Rattle.backend_core.proofs.Passing.{silent_is}
 use Rattle.backend_core.proofs.Played.{IsPlayed-more}

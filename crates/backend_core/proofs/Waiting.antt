@@ -1,21 +1,19 @@
 -- A backend for which an entry comes next waits for it.
-use Rattle.std.proofs.Common.{◌≡◌, ◌≢◌, ◌∙◌, ◌⊎◌, inl, inr, ℕ, Bool, true, false, Option, Some, None, List, [], ◌∷◌, ◌++◌, if◌then◌else◌, refl, sym, ap, subst, length, map, is_some, slice_get}
-use Rattle.std.specs.Option.{option_map_or}
-use Rattle.base_types.specs.Scans.{build_scans}
+use Rattle.std.proofs.Common.{◌≡◌, ◌≢◌, ◌∙◌, ◌⊎◌, inl, inr, ℕ, Bool, true, false, Option, None, List, [], ◌∷◌, ◌++◌, if◌then◌else◌, refl, sym, ap, subst, slice_get}
 use Rattle.base_types.specs.declared.scan.Purpose.TheVariants as scans
 use Rattle.ddl_effect.specs.Plans.{Plan, Do, Lookup, Open, Write}
 use Rattle.ddl_effect.specs.Stages.{plan_at}
 use Rattle.history_model.specs.Writes.{is_empty}
-use Rattle.cacheless.specs.Facts.{Facts, facts_of}
+use Rattle.cacheless.specs.Facts.{facts_of}
 use Rattle.cacheless.specs.Session.{Badly, outcome_of}
 use Rattle.cacheless.specs.Owed.{owed_at_start, owed_after, builds_owed}
 use Rattle.cacheless.specs.Ends.{End, Ends, Commits, TakesBack, next_of_end, end_left}
 use Rattle.cacheless.proofs.Settling.{waits-owed, waits-act}
-use Rattle.backend_core.specs.Types.{Row, Purpose, Command, Scenario, Entry, Event, Next, Backend}
+use Rattle.backend_core.specs.Types.{Row, Purpose, Scenario, Entry, Next, Backend}
 use Rattle.backend_core.specs.declared.next.Next.TheVariants as nexts
 use Rattle.backend_core.specs.declared.phase.Phase.TheVariants as phases
-use Rattle.backend_core.specs.State.{owed_at, is_ended, owed_first, missing, builds_missing, act_missing, scans_missing, is_out, end_at, session_at, HasCommand}
-use Rattle.backend_core.specs.Agrees.{Well, EndFits, CommitFits, TakeBackFits, Agrees}
+use Rattle.backend_core.specs.State.{owed_at, is_ended, owed_first, act_missing, scans_missing, is_out, end_at, session_at, HasCommand}
+use Rattle.backend_core.specs.Agrees.{EndFits, CommitFits, TakeBackFits, Agrees}
 use Rattle.backend_core.specs.Steps.{OwesLookNow, IsWorking, NextLookUp, NextBuild, NextTakeBack, NextRelease, AfterCommit, AfterTakingBack, WithoutWrite, AtTheEnd, IsNextOf, makes_entry}
 use Rattle.backend_core.specs.Passing.{is_ends}
 use Rattle.backend_core.proofs.Stepping.{Waits}

@@ -37,7 +37,7 @@ use Rattle.backend_core.specs.Types.{Oid, Xid, Kind, Field, Row, Command, Comman
 use Rattle.backend_core.specs.declared.phase.Phase.TheVariants as phases
 use Rattle.backend_core.specs.NewTables.{IsNewTable}
 use Rattle.backend_core.specs.State.{is_visible_at, is_taken_back, is_ended, is_out, running_in, written_in, builds_missing, begins_in, owed_first, owed_at, one_if, Rest, session_at, HasCommand}
-use Rattle.backend_core.specs.Agrees.{IsPlayed, FactsFit, RunsAlone, RunsBlock, RunsBy, TransactionFits, EndFits, Well, HasOpened, Way, CommandFits, Agrees}
+use Rattle.backend_core.specs.Agrees.{IsPlayed, FactsFit, RunsBy, TransactionFits, EndFits, Well, HasOpened, Way, CommandFits, Agrees}
 use Rattle.backend_core.specs.Steps.{IsWorking, NextWrite, Enters}
 use Rattle.backend_core.proofs.Stepping.{Waits, facts_after, session_after, rest_after, Keeps, Follows, Suits, GoesOn, own_enters}
 use Rattle.backend_core.proofs.Carry.{may_request, waits_at, missing_at, owed_scans, clear_at, accepted-clear, may_come, kept-more, no_answer}

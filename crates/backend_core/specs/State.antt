@@ -1,5 +1,5 @@
 -- What the state of a backend says, by itself.
-use Rattle.std.specs.Prelude.{◌≡◌, ℕ, Bool, true, false, not, Option, Some, None, List, [], ◌∷◌, ◌++◌, ◌+◌, ◌==◌, ◌&&◌, ◌||◌, map, filter, if◌then◌else◌, is_none, unwrap_or, slice_get}
+use Rattle.std.specs.Prelude.{◌≡◌, ℕ, Bool, true, false, not, Option, Some, None, List, [], ◌∷◌, ◌++◌, ◌+◌, ◌&&◌, map, filter, if◌then◌else◌, is_none, unwrap_or, slice_get}
 use Rattle.std.specs.Option.{option_map, option_map_or}
 use Rattle.std.specs.List.{list_any, flat_map}
 use Rattle.base_types.specs.Scans.{same_scan, build_scans}
@@ -15,7 +15,7 @@ use Rattle.cacheless.specs.Locks.{has_lock}
 use Rattle.cacheless.specs.Session.{Session, Finished, Tally, Badly, Well, Unsettled, outcome_of, is_settled}
 use Rattle.cacheless.specs.Owed.{Owes, OwesLook}
 use Rattle.cacheless.specs.Ends.{End, Ends, Commits, TakesBack}
-use Rattle.backend_core.specs.Types.{Oid, Xid, Mode, Row, Purpose, Command, CommandError, Opening, OwnLock, KeptScan, Life, Phase, OwnTransaction, Backend}
+use Rattle.backend_core.specs.Types.{Oid, Mode, Row, Purpose, Command, CommandError, Opening, OwnLock, KeptScan, Life, Phase, OwnTransaction, Backend}
 use Rattle.backend_core.specs.declared.phase.Life.TheVariants as lives
 use Rattle.backend_core.specs.declared.phase.Phase.TheVariants as phases
 

@@ -1,8 +1,7 @@
 -- What a step of a backend does, and what it does next.
-use Rattle.std.specs.Prelude.{◌≡◌, ◌≢◌, ◌⊎◌, ◌++◌, ◌∷◌, ℕ, Bool, true, false, Option, Some, None, List, [], slice_get, length, is_some}
+use Rattle.std.specs.Prelude.{◌≡◌, ◌≢◌, ◌⊎◌, ◌++◌, ◌∷◌, ℕ, Bool, true, false, Some, None, List, [], slice_get, length, is_some}
 use Rattle.std.specs.Option.{option_map_or}
-use Rattle.base_types.specs.Scans.{build_scans, is_build_scan}
-use Rattle.event_kinds.specs.declared.entry.Event.TheVariants as events
+use Rattle.base_types.specs.Scans.{build_scans}
 use Rattle.ddl_effect.specs.Plans.{Plan, Do, Lookup, Open, Write}
 use Rattle.ddl_effect.specs.Stages.{plan_at}
 use Rattle.history_model.specs.Orderly.{MayComeNext}
@@ -14,7 +13,7 @@ use Rattle.backend_core.specs.Types.{Oid, Mode, Kind, Row, Purpose, Scenario, En
 use Rattle.backend_core.specs.declared.next.Next.TheVariants as nexts
 use Rattle.backend_core.specs.declared.phase.Phase.TheVariants as phases
 use Rattle.backend_core.specs.NewTables.{AddsTables}
-use Rattle.backend_core.specs.State.{owed_first, owed_at, scans_missing, missing, is_kept, is_out, end_at, end_of_running, has_write_since, unlocked_of, Rest, HasCommand}
+use Rattle.backend_core.specs.State.{owed_first, scans_missing, missing, is_out, end_at, end_of_running, has_write_since, unlocked_of, Rest, HasCommand}
 use Rattle.backend_core.specs.Agrees.{Agrees, Stands}
 
 -- one entry of the backend is appended, which the history and the script allow, and the backend is right after it

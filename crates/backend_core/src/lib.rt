@@ -1,4 +1,36 @@
-//! One backend.
+//! One backend: how it does what its commands say, and which entries that leaves in the history.
+//!
+//! A command is a plan (`ddl_effect`): a lookup of a name with a lock, the opening of a descriptor, a
+//! write. A [`Backend`] takes its commands' plans act by act. Before an act comes what it rests on: a
+//! look whether messages wait (`AcceptInvalidationMessages` in `src/backend/utils/cache/inval.c`) at
+//! a transaction's start, after each grant and before each scan, and the scans that the act needs and
+//! that aren't kept from earlier ones. A command that has come out is answered, and then ended: a
+//! transaction of its own is committed or taken back, a block goes on, fails or ends
+//! (`src/backend/access/transam/xact.c`). One step makes exactly one entry; what needs no entry (to go
+//! on by the rows of a lookup, to open a descriptor whose scans are made, to answer, to pass to the
+//! next command) is done at once after it.
+//!
+//! The only way to rows, locks and the history is a segment ([`Seg`] of `seg_calls`), whichever it
+//! is, so no new body of these changes a proof here.
+//!
+//! The promise: a backend *stands* in the history of its segment (`specs/Agrees.antt`): what it holds
+//! is what the folds over its own entries say, its session is the definition's, its transcript is its
+//! part of the lines. A step keeps that, and its entry is one that the history allows and that the
+//! script's commands make next (`specs/Steps.antt`). An entry of another backend keeps it too: of all
+//! that a backend holds nothing depends on others' entries, but that what it has read stays true, and
+//! that is a law of histories (`specs/NewTables.antt`, which serves as long as tables are only
+//! created).
+//!
+//! ```text
+//! let mut backend = Backend::new(alloc, 1, commands)?;
+//! while !backend.is_stopped() {
+//!     seg.promise(1, 2)?;
+//!     backend.step(alloc, &mut seg)?;
+//! }
+//! ```
+//!
+//! Different from the server: a request for a lock never waits, and scans are kept one by one, not a
+//! descriptor as a whole.
 #![tactic(auto)]
 
 mod answers;
@@ -18,5 +50,5 @@ mod writes;
 
 pub use backend::Backend;
 pub use kept_scan::KeptScan;
-pub use next::Next;
+pub(crate) use next::Next;
 pub use phase::{Life, OwnTransaction, Phase};
