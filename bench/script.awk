@@ -15,9 +15,9 @@ BEGIN {
         reader = draw(backends)
         print maker ": create table t" i " (a int4)"
         print reader ": show t" i
-        # a table is made in 3 entries, and shown in at most 9
-        entries[maker] += 3
-        entries[reader] += 9
+        # a table is made in 4 entries, and shown in at most 18
+        entries[maker] += 4
+        entries[reader] += 18
     }
     if (schedule) {
         all = 0
