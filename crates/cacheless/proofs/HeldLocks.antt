@@ -193,7 +193,7 @@ cleared_grants b (lock ∷ locks) = ap (λ gs. grant_of b lock ∷ gs) (cleared_
 accepted-locks : (b : ℕ) (facts : Facts) (command : Option Command) (s : Session) → map (grant_of b) (accepted facts command s).locks ≡ map (grant_of b) s.locks
 accepted-locks b facts command s = by_owed (owes_accept facts command s)
   where
-    by_owed : (t : Bool) → map (grant_of b) (elim t as (λ x. Session) [ true ↦ s | false ↦ record s { locks = map cleared s.locks } ]).locks ≡ map (grant_of b) s.locks
+    by_owed : (t : Bool) → map (grant_of b) (elim t as (λ x. List OwnLock) [ true ↦ s.locks | false ↦ map cleared s.locks ]) ≡ map (grant_of b) s.locks
     by_owed true = refl
     by_owed false = cleared_grants b s.locks
 

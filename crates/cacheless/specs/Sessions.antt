@@ -67,7 +67,7 @@ placed_at at command event s = record (noted event s) {
 
 -- where no accept is left to end, all locks are clear
 abbrev pub accepted : Facts → Option Command → Session → Session
-accepted facts command s = elim (owes_accept facts command s) [ true ↦ s | false ↦ record s { locks = map cleared s.locks } ]
+accepted facts command s = record s { locks = elim (owes_accept facts command s) [ true ↦ s.locks | false ↦ map cleared s.locks ] }
 
 -- the commands from the running one on
 abbrev pub commands_left : Scenario → ℕ → Session → List Command

@@ -72,11 +72,21 @@ pub record Promises (old new : List Entry) (had has : ℕ → ℕ) (b n : ℕ) (
   pub err : OnErr result (has b ≡ had b)
   pub others : (a : ℕ) → a ≢ b → has a ≡ had a
 
--- one entry is appended, which the entries before it allow; it takes at most one place, of its own backend
+-- how many promised places an entry may take: none where a backend asks for something, which may be refused
+abbrev pub places_for : Event → ℕ
+places_for (Scan purpose rows) = 0
+places_for (LockOk rel mode) = 0
+places_for (LockHeld rel mode holder held) = 0
+places_for (Write xid items) = 0
+places_for (ClashRow name rel) = 0
+places_for (ClashRunning name xid) = 0
+places_for event = 1
+
+-- one entry is appended, which the entries before it allow; it takes no promised place of another backend, and of its own at most those that it may
 pub record Appends (old new : List Entry) (had has : ℕ → ℕ) (e : Entry) : Type 0 where
   pub entries : new ≡ old ++ e ∷ []
   pub comes : MayComeNext old e
-  pub own : had e.backend ≤ has e.backend + 1
+  pub own : had e.backend ≤ has e.backend + places_for e.event
   pub others : (b : ℕ) → b ≢ e.backend → has b ≡ had b
 
 -- a scan gives its answer, and its entry says how many rows that is

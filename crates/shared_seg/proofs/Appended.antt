@@ -6,7 +6,7 @@ use Rattle.std.proofs.lemmas.Option.{unwrap_or-slice_get}
 use Rattle.event_kinds.specs.declared.entry.Entry.{Entry}
 use Rattle.base_types.specs.declared.memory.NoMemory.{NoMemory}
 use Rattle.history_model.specs.Orderly.{MayComeNext}
-use Rattle.seg_calls.specs.Calls.{Appends, Promises}
+use Rattle.seg_calls.specs.Calls.{places_for, Appends, Promises}
 use Rattle.shared_seg.specs.Places.{promised_in}
 
 promised-own : (promised : List ℕ) (b n : ℕ) → b < length promised → promised_in (slice_set promised b n) b ≡ n
@@ -16,12 +16,12 @@ promised-other : (promised : List ℕ) (b n a : ℕ) → a ≢ b → promised_in
 promised-other promised b n a other = unwrap_or-slice_get (slice_set promised b n) a 0 ∙ get_or-set_other promised b a n 0 other ∙ sym (unwrap_or-slice_get promised a 0)
 
 -- an entry that takes a place of its backend
-pub appends_placed : (old new : List Entry) (had has : List ℕ) (e : Entry) → new ≡ old ++ e ∷ [] → MayComeNext old e → has ≡ slice_set had e.backend (promised_in had e.backend - 1) → e.backend < length had
+pub appends_placed : (old new : List Entry) (had has : List ℕ) (e : Entry) → places_for e.event ≡ 1 → new ≡ old ++ e ∷ [] → MayComeNext old e → has ≡ slice_set had e.backend (promised_in had e.backend - 1) → e.backend < length had
     → Appends old new (promised_in had) (promised_in has) e
-appends_placed old new had has e entries comes taken within = record {
+appends_placed old new had has e one entries comes taken within = record {
   entries = entries;
   comes = comes;
-  own = omega (arith, ap (λ l. promised_in l e.backend) taken, promised-own had e.backend (promised_in had e.backend - 1) within);
+  own = omega (arith, one, ap (λ l. promised_in l e.backend) taken, promised-own had e.backend (promised_in had e.backend - 1) within);
   others = λ a other. ap (λ l. promised_in l a) taken ∙ promised-other had e.backend (promised_in had e.backend - 1) a other;
 }
 

@@ -12,7 +12,7 @@ use Rattle.history_model.specs.Transactions.{last_xid_by, makes_visible}
 use Rattle.history_model.specs.Versions.{versions_by}
 use Rattle.history_model.proofs.Runs.{writes_as}
 use Rattle.history_model.specs.Held.{held_by}
-use Rattle.seg_calls.specs.Calls.{entry_of, MayCall, Appends}
+use Rattle.seg_calls.specs.Calls.{places_for, entry_of, MayCall, Appends}
 use Rattle.shared_seg.specs.declared.transaction.Transaction.{Transaction}
 use Rattle.shared_seg.specs.Kept.{Kept, places_in}
 use Rattle.shared_seg.specs.KeepsFolds.{KeepsFolds}
@@ -31,12 +31,12 @@ pub call_inside : (k now : Kept) (e : Entry) → k ≡ now → MayCall now.scrip
 call_inside k now e is call = subst (λ (x : Kept). MayCall x.script x.history e) (sym is) call
 
 -- what an entry with a promised place does, as callers see it
-pub placed_appends : (k now : Kept) (after : List Entry) (has : List ℕ) (e : Entry) → k ≡ now → MayCall now.script now.history e → IsOrderly k.history e → length k.promised ≡ k.script.backends + 1
+pub placed_appends : (k now : Kept) (after : List Entry) (has : List ℕ) (e : Entry) → places_for e.event ≡ 1 → k ≡ now → MayCall now.script now.history e → IsOrderly k.history e → length k.promised ≡ k.script.backends + 1
     → after ≡ k.history ++ e ∷ [] → has ≡ slice_set k.promised e.backend (promised_in k.promised e.backend - 1) → Appends now.history after (places_in now) (promised_in has) e
-placed_appends k now after has e is call orderly backends entries taken =
+placed_appends k now after has e one is call orderly backends entries taken =
     let inside : MayCall k.script k.history e = call_inside k now e is call in
     subst (λ (x : Kept). Appends x.history after (places_in x) (promised_in has) e) is
-    (appends_placed k.history after k.promised has e entries (record { follows = inside.follows; orderly = orderly }) taken (within k.script e.backend (length k.promised) inside.backend backends))
+    (appends_placed k.history after k.promised has e one entries (record { follows = inside.follows; orderly = orderly }) taken (within k.script e.backend (length k.promised) inside.backend backends))
 
 -- with what is kept beside it
 pub placed_keeps : (k now : Kept) (after : List Entry) (has : List ℕ) (e : Entry) (store stored : Store) (grants held : List Grant) (transactions own : List (Option Transaction)) (next oid last xid : ℕ)

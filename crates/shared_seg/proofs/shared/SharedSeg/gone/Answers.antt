@@ -1,4 +1,4 @@
-use Rattle.std.proofs.Common.{rules}
+use Rattle.std.proofs.Common.{refl, rules}
 use Rattle.event_kinds.specs.declared.entry.Event.TheVariants.{Gone}
 use Rattle.seg_calls.specs.Calls.{entry_of}
 use Rattle.shared_seg.proofs.Entered.{call_inside, within, placed_appends, placed_keeps}
@@ -12,4 +12,4 @@ invariant_of-self c =
     (gone_steps _ c.args.b c.args.c c.args.from _ _ _ _ _ _ _ (c.self.invariant.own c.args.b) (search rules) (within c.self.inside.script.value c.args.b _ call.backend c.self.invariant.slots) c.begin.ensures)
 
 pub returns-clause-appends : goal.returns-clause-appends
-returns-clause-appends c = placed_appends _ _ _ _ (entry_of c.args.b c.args.c (Gone c.args.from)) c.self.view_is c.requires.call tt c.self.invariant.backends c.append.ensures.entries c.append.ensures.promised
+returns-clause-appends c = placed_appends _ _ _ _ (entry_of c.args.b c.args.c (Gone c.args.from)) refl c.self.view_is c.requires.call tt c.self.invariant.backends c.append.ensures.entries c.append.ensures.promised

@@ -12,4 +12,4 @@ invariant_of-self c =
     (quiet_steps _ c.args.b c.args.c Stop _ _ _ _ _ _ _ refl refl refl (λ x. refl) (λ x. refl) refl refl (kept_same c.args.b c.args.c _))
 
 pub returns-clause-appends : goal.returns-clause-appends
-returns-clause-appends c = placed_appends _ _ _ _ (entry_of c.args.b c.args.c Stop) c.self.view_is c.requires.call tt c.self.invariant.backends c.append.ensures.entries c.append.ensures.promised
+returns-clause-appends c = placed_appends _ _ _ _ (entry_of c.args.b c.args.c Stop) refl c.self.view_is c.requires.call tt c.self.invariant.backends c.append.ensures.entries c.append.ensures.promised

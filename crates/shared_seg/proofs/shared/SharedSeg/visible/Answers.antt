@@ -1,3 +1,4 @@
+use Rattle.std.proofs.Common.{refl}
 use Rattle.event_kinds.specs.declared.entry.Event.TheVariants.{Visible}
 use Rattle.seg_calls.specs.Calls.{entry_of}
 use Rattle.shared_seg.proofs.Entered.{call_inside, within, placed_appends, placed_keeps}
@@ -11,4 +12,4 @@ invariant_of-self c =
     (visible_steps _ c.args.b c.args.c c.args.xid _ _ _ _ _ _ _ c.commit.ensures (c.self.invariant.places c.args.b c.args.xid.0 call.follows.event.0) (within c.self.inside.script.value c.args.b _ call.backend c.self.invariant.slots) c.begin.ensures)
 
 pub returns-clause-appends : goal.returns-clause-appends
-returns-clause-appends c = placed_appends _ _ _ _ (entry_of c.args.b c.args.c (Visible c.args.xid)) c.self.view_is c.requires.call tt c.self.invariant.backends c.append.ensures.entries c.append.ensures.promised
+returns-clause-appends c = placed_appends _ _ _ _ (entry_of c.args.b c.args.c (Visible c.args.xid)) refl c.self.view_is c.requires.call tt c.self.invariant.backends c.append.ensures.entries c.append.ensures.promised

@@ -1,0 +1,272 @@
+-- How a backend agrees with a history.
+use Rattle.std.specs.Prelude.{◌≡◌, ◌≢◌, ◌≤◌, ◌<◌, ◌+◌, ◌⊎◌, ℕ, Bool, true, false, Option, Some, None, List, [], ◌∷◌, ◌==◌, map, drop, take, length, All, slice_get, is_some, ⊤}
+use Rattle.std.specs.Option.{option_map_or}
+use Rattle.base_types.specs.Scans.{is_build_scan}
+use Rattle.base_types.specs.Scenario.{IsBackend}
+use Rattle.base_types.specs.declared.row.Row.TheVariants as rows
+use Rattle.base_types.specs.declared.scan.Purpose.TheVariants as scans
+use Rattle.base_types.specs.declared.command.Command.TheVariants as commands
+use Rattle.event_kinds.specs.declared.entry.Event.TheVariants as events
+use Rattle.rel_desc.specs.Answers.{answer_text}
+use Rattle.ddl_effect.specs.Plans.{Plan, Done, Fails, Absent, Do, Lookup, Write, is_built}
+use Rattle.ddl_effect.specs.Commands.{plan_of, commands_of, looking_up, showing}
+use Rattle.ddl_effect.specs.Blocks.{Outside, Inside, Failed, Blocks, no_block, refused_by, innermost, ends_block, needs_block}
+use Rattle.ddl_effect.specs.Stages.{plan_at}
+use Rattle.history_model.specs.Lives.{Life, Unstarted, Alive, Stopped, life_of}
+use Rattle.history_model.specs.Orderly.{IsSound}
+use Rattle.history_model.specs.Read.{IsEconomical, place_read}
+use Rattle.history_model.specs.Writes.{has_written}
+use Rattle.seg_calls.specs.Calls.{took_back}
+use Rattle.cacheless.specs.Facts.{Facts, facts_of}
+use Rattle.cacheless.specs.Session.{Finished, Tally, none_open, plan_first, refused_first, is_settled, outcome_of}
+use Rattle.cacheless.specs.Owed.{owed_after}
+use Rattle.cacheless.specs.Ends.{Ends, Commits, TakesBack}
+use Rattle.cacheless.specs.Settled.{settled, finished_as}
+use Rattle.cacheless.specs.Sessions.{session_of}
+use Rattle.cacheless.specs.Plays.{Plays, started_in}
+use Rattle.cacheless.specs.Schedule.{AreLooksTrue}
+use Rattle.cacheless.specs.Lines.{answer_judged, lines_from, lines_of_backend}
+use Rattle.backend_core.specs.Types.{Oid, Mode, Kind, Field, Row, Purpose, Command, NewColumn, CommandError, Scenario, Entry, Event, Draft, Opening, KeptScan, Backend}
+use Rattle.backend_core.specs.declared.phase.Life.TheVariants as lives
+use Rattle.backend_core.specs.declared.phase.Phase.TheVariants as phases
+use Rattle.backend_core.specs.NewTables.{IsNewTable, AddsTables, HasTables, StaysRead, SeesRelation}
+use Rattle.backend_core.specs.State.{owed_at, granted, is_taken_back, one_if, running_at, lists_at, is_kept, builds_missing, is_out, begins_in, end_at, has_write_since, end_of_running, Rest, session_at, HasCommand}
+
+-- a history that the script's commands played so far
+pub record IsPlayed (scenario : Scenario) (history : List Entry) : Type 0 where
+  pub sound : IsSound history
+  pub plays : Plays scenario history
+  pub economical : IsEconomical history
+  pub looks : AreLooksTrue history
+  pub tables : HasTables history
+
+-- what a lookup's scan gave is what the backend holds of it
+abbrev pub RowsFit : (Purpose → List Row) → Plan → List Row → Type 0
+RowsFit rows (Do (Lookup name mode) rest) given = rows (scans.RelName name) ≡ given
+RowsFit rows plan given = ⊤
+
+-- what is kept of a scan is what the last such scan gave
+pub record ReadRight (rows : Purpose → List Row) (k : KeptScan) : Type 0 where
+  pub build : is_build_scan k.scan ≡ true
+  pub rows_are : k.rows ≡ rows k.scan
+
+-- the facts of a backend's entries are what it holds
+pub record FactsFit (facts : Facts) (s : Backend) : Type 0 where
+  pub running : facts.running ≡ running_at s
+  pub lists : facts.lists ≡ lists_at s
+  pub owed : owed_after facts.last ≡ owed_at s.phase
+  pub took : took_back facts.last ≡ is_taken_back s.phase
+  pub taken : (from : ℕ) → s.phase ≡ phases.TakenBack from → facts.last ≡ Some (events.Gone from)
+  pub usable : (scan : Purpose) → is_build_scan scan ≡ true → facts.usable scan ≡ is_kept s.kept scan
+  pub kept : All (ReadRight facts.rows) s.kept
+  pub given : s.read ≡ true → RowsFit facts.rows (plan_at s.exec) s.given.items
+
+-- the looks of the command are as many as its scans, its grants and its transaction's start, and one more where one was made for the next scan
+abbrev pub TallyFits : Tally → Backend → Type 0
+TallyFits tally s = tally.looks + granted s.phase ≡ tally.scans + tally.grants + option_map_or (λ t. one_if (t.first == s.finished + 1)) s.running 0 + one_if s.looked
+
+-- the life of a backend that has joined and hasn't left
+pub record IsAlive (life : Life) (s : Backend) : Type 0 where
+  pub last : ℕ
+  pub alive : life ≡ Alive last
+  pub most : last ≤ s.finished + 1
+
+-- the place of the scan by name on which the plan rests, or on which its error rests
+abbrev pub PlaceFits : List Entry → ℕ → Plan → Bool → ℕ → Type 0
+PlaceFits seen b (Do (Lookup name mode) rest) true at = place_read seen b (scans.RelName name) ≡ at
+PlaceFits seen b (Absent name) read at = place_read seen b (scans.RelName name) ≡ at
+PlaceFits seen b plan read at = ⊤
+
+-- the relation that the rows of a lookup name is seen
+abbrev pub GivenSeen : List Entry → ℕ → Plan → Bool → List Row → Type 0
+GivenSeen seen b (Do (Lookup name mode) rest) true (rows.Class rel own kind fill ∷ more) = SeesRelation seen b rel kind
+GivenSeen seen b plan read given = ⊤
+
+-- the transaction of a command that begins one
+pub record RunsAlone (s : Backend) : Type 0 where
+  pub has : HasCommand s
+  pub begins : begins_in s.blocks s.phase has.command ≡ true
+  pub first : option_map_or (λ t. t.first) s.running 0 ≡ s.finished + 1
+
+-- the transaction of a block
+pub record RunsBlock (s : Backend) : Type 0 where
+  pub runs : is_some s.running ≡ true
+  pub first : option_map_or (λ t. t.first) s.running 0 ≡ innermost (s.finished + 1) s.blocks.levels
+
+-- the transaction of a backend, by its blocks: outside blocks that of the running command, in a block that of the block's first command
+abbrev pub TransactionFits : Backend → Type 0
+TransactionFits s = elim s.phase [ phases.Ended ↦ s.running ≡ None | phase ↦ elim s.blocks.block [ Outside ↦ (s.running ≡ None) ⊎ RunsAlone s | Inside ↦ RunsBlock s | Failed ↦ s.running ≡ None ] ]
+
+-- a commit on its way: it is that of the running transaction
+pub record CommitFits (s : Backend) : Type 0 where
+  pub has : HasCommand s
+  pub out : is_out s ≡ true
+  pub first : ℕ
+  pub end : end_at s has.command ≡ Commits first
+  pub runs : option_map_or (λ t. Some t.first) s.running None ≡ Some first
+  pub written : has_write_since first s ≡ true
+
+-- taking back on its way
+pub record TakeBackFits (s : Backend) (from : ℕ) : Type 0 where
+  pub end : ((has : HasCommand s) → (is_out s ≡ true) × (end_at s has.command ≡ TakesBack from)) × (slice_get s.commands s.finished ≡ None → end_of_running s.running ≡ TakesBack from)
+  pub none : has_write_since from s ≡ false
+
+-- the end of a command, once it is on its way
+abbrev pub EndFits : Backend → Type 0
+EndFits s = elim s.phase [
+  | phases.Visible ↦ CommitFits s
+  | phases.TakenBack from ↦ TakeBackFits s from
+  | phases.Ended ↦ is_out s ≡ true
+  | phase ↦ ⊤
+]
+
+-- what the code keeps by itself
+pub record Well (s : Backend) : Type 0 where
+  pub built : All (λ command. is_built (plan_of none_open command) ≡ true) s.commands
+  pub few : length s.commands ≤ 20000
+  pub most : s.finished ≤ length s.commands
+  pub builds : builds_missing s.kept s.opened ≡ []
+  pub blocked : s.blocked ≡ is_some (refused_first s.blocks (slice_get s.commands s.finished))
+  pub refused : s.blocked ≡ true → plan_at s.exec ≡ plan_first s.blocks (slice_get s.commands s.finished)
+  pub levels : innermost (s.finished + 1) s.blocks.levels ≤ s.finished + 1
+  pub first : option_map_or (λ t. t.first) s.running 0 ≤ s.finished + 1
+  pub transaction : TransactionFits s
+  pub written : has_write_since 0 s ≡ true → option_map_or (λ t. is_some t.xid) s.running false ≡ true
+  pub end : EndFits s
+  pub answered : is_some s.answer ≡ false → (s.phase ≡ phases.Working) ⊎ (s.phase ≡ phases.Granted)
+  pub come_out : is_some s.answer ≡ true → is_out s ≡ true
+  pub table : (rest : List Row → Plan) (draft : Draft) → plan_at s.exec ≡ Do (Write draft) rest → IsNewTable draft
+
+-- a command that has done nothing yet, or none of what it does needs more than its own words
+pub record IsUntouched (seen : List Entry) (s : Backend) (rest : Rest) (command : Command) : Type 0 where
+  pub found : rest.found ≡ []
+  pub plan : plan_at s.exec ≡ plan_of none_open command
+  pub opened : s.opened ≡ []
+  pub unwritten : has_written seen s.id (s.finished + 1) ≡ false
+
+-- a command whose lookup found no relation
+pub record IsMissing (seen : List Entry) (s : Backend) (rest : Rest) (command : Command) : Type 0 where
+  pub name : List ℕ
+  pub mode : Mode
+  pub further : Oid → Kind → Plan
+  pub found : rest.found ≡ None ∷ []
+  pub command_is : plan_of none_open command ≡ looking_up name mode further
+  pub plan : plan_at s.exec ≡ Absent name
+  pub unwritten : has_written seen s.id (s.finished + 1) ≡ false
+
+-- a `show` whose descriptor is open
+pub record HasOpened (s : Backend) (name : List ℕ) (field : Option Field) (rel : Oid) (kind : Kind) : Type 0 where
+  pub plan : plan_at s.exec ≡ Done
+  pub opened : s.opened ≡ record { rel = rel; kind = kind } ∷ []
+  pub passes : (error : CommandError) → showing name field rel kind ≢ Fails error
+
+-- a `show` whose lookup found a relation
+pub record IsFound (seen : List Entry) (s : Backend) (rest : Rest) (command : Command) : Type 0 where
+  pub name : List ℕ
+  pub field : Option Field
+  pub rel : Oid
+  pub kind : Kind
+  pub command_is : command ≡ commands.Show name field
+  pub found : rest.found ≡ Some rel ∷ []
+  pub sees : SeesRelation seen s.id rel kind
+  pub stage : ((plan_at s.exec ≡ showing name field rel kind) × (s.opened ≡ [])) ⊎ HasOpened s name field rel kind
+  pub unwritten : has_written seen s.id (s.finished + 1) ≡ false
+
+-- a command that has written
+pub record IsWritten (seen : List Entry) (s : Backend) (command : Command) : Type 0 where
+  pub name : List ℕ
+  pub columns : List NewColumn
+  pub command_is : command ≡ commands.CreateTable name columns
+  pub plan : plan_at s.exec ≡ Done
+  pub written : has_written seen s.id (s.finished + 1) ≡ true
+
+-- how far a command is that no error has ended
+abbrev pub Way : List Entry → Backend → Rest → Command → Type 0
+Way seen s rest command = IsUntouched seen s rest command ⊎ (IsMissing seen s rest command ⊎ (IsFound seen s rest command ⊎ IsWritten seen s command))
+
+-- what the running command answers, where that is worked out
+abbrev pub AnswerFits : Scenario → List Entry → Backend → Rest → Type 0
+AnswerFits scenario seen s rest = (text : List ℕ) (command : Command) → s.answer ≡ Some text → slice_get s.commands s.finished ≡ Some command
+    → text ≡ answer_text (answer_judged scenario (take rest.judged seen) s.id (s.finished + 1) (finished_as (session_at s rest)) command rest.refused)
+
+-- what the running command is on its way to, where its answer isn't worked out
+pub record CommandFits (seen : List Entry) (s : Backend) (rest : Rest) : Type 0 where
+  pub refused : (error : CommandError) → rest.refused ≡ Some error → plan_at s.exec ≡ Fails error
+  pub way : is_some s.answer ≡ false → rest.refused ≡ None → (command : Command) → slice_get s.commands s.finished ≡ Some command → Way seen s rest command
+  pub later : (c : ℕ) → s.finished + 1 < c → has_written seen s.id c ≡ false
+  pub given_at : PlaceFits seen s.id (plan_at s.exec) s.read s.given_at
+  pub given_seen : GivenSeen seen s.id (plan_at s.exec) s.read s.given.items
+
+-- the scans that are kept: where they stand, and that they are still right
+pub record KeptFits (seen : List Entry) (b : ℕ) (k : KeptScan) : Type 0 where
+  pub at : place_read seen b k.scan ≡ k.at
+  pub stays : StaysRead seen b k.scan k.rows
+
+-- the places where commands are judged are of the history
+pub record PlacesFit (seen : List Entry) (rest : Rest) : Type 0 where
+  pub finished : All (λ f. f.judged ≤ length seen) rest.finished
+  pub judged : rest.judged ≤ length seen
+  pub last : rest.last ≤ length seen
+
+-- a backend that has joined and hasn't left agrees with a history
+pub record Agrees (scenario : Scenario) (seen : List Entry) (s : Backend) : Type 0 where
+  pub number : IsBackend scenario.backends s.id
+  pub commands : s.commands ≡ commands_of scenario s.id
+  pub alive : s.life ≡ lives.Alive
+  pub rest : Rest
+  pub count : length rest.finished ≡ s.finished
+  pub is : session_of scenario seen s.id ≡ Some (settled (facts_of seen s.id) (drop s.finished s.commands) (session_at s rest))
+  pub facts : FactsFit (facts_of seen s.id) s
+  pub tally : TallyFits rest.tally s
+  pub life : IsAlive (life_of seen s.id) s
+  pub well : Well s
+  pub command : CommandFits seen s rest
+  pub kept : All (KeptFits seen s.id) s.kept
+  pub places : PlacesFit seen rest
+  pub answer : AnswerFits scenario seen s rest
+  pub lines : s.lines ≡ lines_from scenario seen s.id 1 rest.finished s.commands
+
+-- a new backend, which hasn't joined
+pub record IsNew (s : Backend) (id : ℕ) (commands : List Command) : Type 0 where
+  pub id_is : s.id ≡ id
+  pub commands_are : s.commands ≡ commands
+  pub life : s.life ≡ lives.Unstarted
+  pub finished : s.finished ≡ 0
+  pub blocked : s.blocked ≡ is_some (refused_first no_block (slice_get commands 0))
+  pub exec : plan_at s.exec ≡ plan_first no_block (slice_get commands 0)
+  pub phase : s.phase ≡ phases.Working
+  pub answer : s.answer ≡ None
+  pub blocks : s.blocks ≡ no_block
+  pub running : s.running ≡ None
+  pub writes : s.writes.items ≡ []
+  pub looked : s.looked ≡ false
+  pub read : s.read ≡ false
+  pub opened : s.opened ≡ []
+  pub locks : s.locks.items ≡ []
+  pub kept : s.kept ≡ []
+  pub lines : s.lines ≡ []
+
+-- a backend that hasn't joined has no entry
+pub record HasNotJoined (scenario : Scenario) (seen : List Entry) (s : Backend) : Type 0 where
+  pub number : IsBackend scenario.backends s.id
+  pub commands : s.commands ≡ commands_of scenario s.id
+  pub built : All (λ command. is_built (plan_of none_open command) ≡ true) s.commands
+  pub few : length s.commands ≤ 20000
+  pub new : IsNew s s.id s.commands
+  pub session : session_of scenario seen s.id ≡ None
+  pub facts : facts_of seen s.id ≡ facts_of [] s.id
+  pub life : life_of seen s.id ≡ Unstarted
+  pub unwritten : (c : ℕ) → has_written seen s.id c ≡ false
+
+-- a backend that has left has answered all its commands
+pub record HasLeft (scenario : Scenario) (seen : List Entry) (s : Backend) : Type 0 where
+  pub number : IsBackend scenario.backends s.id
+  pub life : life_of seen s.id ≡ Stopped
+  pub finished : List Finished
+  pub are : option_map_or (λ now. now.finished) (session_of scenario seen s.id) [] ≡ finished
+  pub places : All (λ f. f.judged ≤ length seen) finished
+  pub lines : s.lines ≡ lines_from scenario seen s.id 1 finished (commands_of scenario s.id)
+
+-- where a backend is in a history
+abbrev pub Stands : Scenario → List Entry → Backend → Type 0
+Stands scenario seen s = elim s.life [ lives.Unstarted ↦ HasNotJoined scenario seen s | lives.Alive ↦ Agrees scenario seen s | lives.Stopped ↦ HasLeft scenario seen s ]

@@ -1,0 +1,177 @@
+-- What the state of a backend says, by itself.
+use Rattle.std.specs.Prelude.{◌≡◌, ℕ, Bool, true, false, not, Option, Some, None, List, [], ◌∷◌, ◌++◌, ◌+◌, ◌==◌, ◌&&◌, ◌||◌, map, filter, if◌then◌else◌, is_none, unwrap_or, slice_get}
+use Rattle.std.specs.Option.{option_map, option_map_or}
+use Rattle.std.specs.List.{list_any, flat_map}
+use Rattle.base_types.specs.Scans.{same_scan, build_scans}
+use Rattle.base_types.specs.declared.row.Row.TheVariants as rows
+use Rattle.base_types.specs.declared.scan.Purpose.TheVariants as scans
+use Rattle.base_types.specs.declared.command.Command.TheVariants as commands
+use Rattle.ddl_effect.specs.Plans.{Plan, Do, Lookup, Column, rests_on}
+use Rattle.ddl_effect.specs.Blocks.{Block, Outside, Inside, Failed, Blocks, no_block, ends_block, refused_by, innermost}
+use Rattle.ddl_effect.specs.Stages.{plan_at}
+use Rattle.history_model.specs.Transactions.{Running}
+use Rattle.history_model.specs.Sent.{Written, has_write_from}
+use Rattle.cacheless.specs.Locks.{has_lock}
+use Rattle.cacheless.specs.Session.{Session, Finished, Tally, Badly, Well, Unsettled, outcome_of, is_settled}
+use Rattle.cacheless.specs.Owed.{Owes, OwesLook}
+use Rattle.cacheless.specs.Ends.{End, Ends, Commits, TakesBack}
+use Rattle.backend_core.specs.Types.{Oid, Xid, Mode, Row, Purpose, Command, CommandError, Opening, OwnLock, KeptScan, Life, Phase, OwnTransaction, Backend}
+use Rattle.backend_core.specs.declared.phase.Life.TheVariants as lives
+use Rattle.backend_core.specs.declared.phase.Phase.TheVariants as phases
+
+-- a look is owed after a grant
+abbrev pub owed_at : Phase → List Owes
+owed_at phases.Granted = OwesLook ∷ []
+owed_at phase = []
+
+-- 1 if the last entry granted a lock
+abbrev pub granted : Phase → ℕ
+granted phases.Granted = 1
+granted phase = 0
+
+-- the transaction is committed, and its locks are still held
+abbrev pub is_visible_at : Phase → Bool
+is_visible_at phases.Visible = true
+is_visible_at phase = false
+
+-- the last entry took writes back
+abbrev pub is_taken_back : Phase → Bool
+is_taken_back (phases.TakenBack from) = true
+is_taken_back phase = false
+
+-- the command's release is made
+abbrev pub is_ended : Phase → Bool
+is_ended phases.Ended = true
+is_ended phase = false
+
+-- the backend has left
+abbrev pub has_left : Life → Bool
+has_left lives.Stopped = true
+has_left life = false
+
+-- 1 where a test holds
+abbrev pub one_if : Bool → ℕ
+one_if true = 1
+one_if false = 0
+
+-- the running transaction in a phase
+abbrev pub running_in : Phase → Option OwnTransaction → Option Running
+running_in phase own = option_map (λ t. record { first = t.first; xid = option_map (λ x. x.0) t.xid; published = 0; visible = is_visible_at phase }) own
+
+-- the running transaction
+abbrev pub running_at : Backend → Option Running
+running_at s = running_in s.phase s.running
+
+-- a write of a command, which has no messages
+abbrev pub written_in : ℕ → Written
+written_in command = record { command = command; cats = []; rels = [] }
+
+-- the writes that weren't taken back
+abbrev pub lists_at : Backend → List Written
+lists_at s = map written_in s.writes.items
+
+-- the scan is kept
+abbrev pub is_kept : List KeptScan → Purpose → Bool
+is_kept kept scan = list_any (λ k. same_scan k.scan scan) kept
+
+-- those of these scans that aren't kept
+abbrev pub missing : List KeptScan → List Purpose → List Purpose
+missing kept wanted = filter (λ scan. not (is_kept kept scan)) wanted
+
+-- the scans that the opened descriptors lack
+abbrev pub builds_missing : List KeptScan → List Opening → List Purpose
+builds_missing kept opened = flat_map (λ o. missing kept (build_scans o.kind o.rel)) opened
+
+-- the scans that the next act lacks
+abbrev pub act_missing : List KeptScan → Bool → Plan → List Purpose
+act_missing kept read (Do (Lookup name mode) rest) = if read then [] else scans.RelName name ∷ []
+act_missing kept read (Do (Column rel name) rest) = if read then [] else scans.AttName rel name ∷ []
+act_missing kept read (Do act rest) = missing kept (rests_on act)
+act_missing kept read plan = []
+
+-- the scans that come before the next act: none once the command has failed
+abbrev pub scans_missing : Backend → List Purpose
+scans_missing s = elim (outcome_of (plan_at s.exec)) [ Badly ↦ [] | other ↦ builds_missing s.kept s.opened ++ act_missing s.kept s.read (plan_at s.exec) ]
+
+-- the running command has come out
+abbrev pub is_out : Backend → Bool
+is_out s = is_settled (outcome_of (plan_at s.exec))
+
+-- the command begins a transaction: outside blocks, where it doesn't end blocks and needs none
+abbrev pub begins_in : Blocks → Phase → Command → Bool
+begins_in blocks phase command = elim blocks.block [ Outside ↦ not (ends_block command) && not (is_ended phase) && is_none (refused_by no_block command) | block ↦ false ]
+
+-- a look is owed at the start of a transaction
+abbrev pub owed_first : Backend → Command → List Owes
+owed_first s command = elim (begins_in s.blocks s.phase command && is_none s.running) [ true ↦ OwesLook ∷ [] | false ↦ [] ]
+
+-- the running transaction as a whole is taken back
+abbrev pub end_of_running : Option OwnTransaction → End
+end_of_running own = option_map_or (λ t. TakesBack t.first) own Ends
+
+-- the end of a block
+abbrev pub end_in_block : Option OwnTransaction → Block → Bool → End
+end_in_block own Outside commits = Ends
+end_in_block own Inside true = option_map_or (λ t. Commits t.first) own Ends
+end_in_block own Inside false = end_of_running own
+end_in_block own Failed commits = end_of_running own
+
+-- the end of a command that came out well
+abbrev pub end_in_well : Backend → Command → End
+end_in_well s commands.Begin = Ends
+end_in_well s commands.Commit = end_in_block s.running s.blocks.block true
+end_in_well s commands.Rollback = end_in_block s.running s.blocks.block false
+end_in_well s command = elim s.blocks.block [ Outside ↦ Commits (s.finished + 1) | block ↦ Ends ]
+
+-- the end of a command that failed
+abbrev pub end_in_badly : Backend → End
+end_in_badly s = elim s.blocked [ true ↦ Ends | false ↦ TakesBack (innermost (s.finished + 1) s.blocks.levels) ]
+
+-- the end of the running command
+abbrev pub end_at : Backend → Command → End
+end_at s command = elim (outcome_of (plan_at s.exec)) [ Well ↦ end_in_well s command | Badly ↦ end_in_badly s | Unsettled ↦ Ends ]
+
+-- a write of this command or a later one wasn't taken back
+abbrev pub has_write_since : ℕ → Backend → Bool
+has_write_since from s = has_write_from from (lists_at s)
+
+-- the relation that a lookup's rows name, if it isn't locked in the mode
+abbrev pub unlocked_of : List OwnLock → Mode → List Row → Option Oid
+unlocked_of locks mode (rows.Class oid name kind fill ∷ more) = elim (has_lock locks oid mode) [ true ↦ None | false ↦ Some oid ]
+unlocked_of locks mode given = None
+
+-- what the code doesn't hold of its session
+pub record Rest : Type 0 where
+  pub finished : List Finished
+  pub refused : Option CommandError
+  pub found : List (Option Oid)
+  pub tally : Tally
+  pub judged : ℕ
+  pub last : ℕ
+
+-- that of a session
+abbrev pub rest_of : Session → Rest
+rest_of s = record { finished = s.finished; refused = s.refused; found = s.found; tally = s.tally; judged = s.judged; last = s.last }
+
+-- the session of a backend: what it holds, and the rest
+abbrev pub session_at : Backend → Rest → Session
+session_at s rest = record {
+  blocks = s.blocks;
+  finished = rest.finished;
+  left = plan_at s.exec;
+  refused = rest.refused;
+  blocked = s.blocked;
+  opened = s.opened;
+  read = s.read;
+  found = rest.found;
+  ended = is_ended s.phase;
+  tally = rest.tally;
+  locks = s.locks.items;
+  judged = rest.judged;
+  last = rest.last;
+}
+
+-- a command is running
+pub record HasCommand (s : Backend) : Type 0 where
+  pub command : Command
+  pub at : slice_get s.commands s.finished ≡ Some command

@@ -1,0 +1,162 @@
+-- What a step of a backend does, and what it does next.
+use Rattle.std.specs.Prelude.{◌≡◌, ◌≢◌, ◌⊎◌, ◌++◌, ◌∷◌, ℕ, Bool, true, false, Option, Some, None, List, [], slice_get, length, is_some}
+use Rattle.std.specs.Option.{option_map_or}
+use Rattle.base_types.specs.Scans.{build_scans, is_build_scan}
+use Rattle.event_kinds.specs.declared.entry.Event.TheVariants as events
+use Rattle.ddl_effect.specs.Plans.{Plan, Do, Lookup, Open, Write}
+use Rattle.ddl_effect.specs.Stages.{plan_at}
+use Rattle.history_model.specs.Orderly.{MayComeNext}
+use Rattle.history_model.specs.Read.{ScansOnlyIfNeeded}
+use Rattle.cacheless.specs.Ends.{Ends, Commits, TakesBack}
+use Rattle.cacheless.specs.Plays.{IsNext}
+use Rattle.cacheless.specs.Schedule.{LooksTruly}
+use Rattle.backend_core.specs.Types.{Oid, Mode, Kind, Row, Purpose, Scenario, Entry, Draft, Next, Backend}
+use Rattle.backend_core.specs.declared.next.Next.TheVariants as nexts
+use Rattle.backend_core.specs.declared.phase.Phase.TheVariants as phases
+use Rattle.backend_core.specs.NewTables.{AddsTables}
+use Rattle.backend_core.specs.State.{owed_first, owed_at, scans_missing, missing, is_kept, is_out, end_at, end_of_running, has_write_since, unlocked_of, Rest, HasCommand}
+use Rattle.backend_core.specs.Agrees.{Agrees, Stands}
+
+-- one entry of the backend is appended, which the history and the script allow, and the backend is right after it
+pub record Steps (scenario : Scenario) (old new : List Entry) (was now : Backend) : Type 0 where
+  pub entry : Entry
+  pub is : new ≡ old ++ entry ∷ []
+  pub own : entry.backend ≡ was.id
+  pub id : now.id ≡ was.id
+  pub comes : MayComeNext old entry
+  pub next : IsNext scenario old entry
+  pub needed : ScansOnlyIfNeeded old entry.backend entry.event
+  pub truly : LooksTruly old entry.backend entry.event
+  pub tables : AddsTables old entry.event
+  pub stands : Stands scenario new now
+
+-- the places of a backend that has just made an entry, or passed on from there: its last entry is the history's last, and so its command is judged there, if it is not yet answered
+pub record IsNow (seen : List Entry) (s : Backend) (rest : Rest) : Type 0 where
+  pub last : rest.last ≡ length seen
+  pub judged : is_some s.answer ≡ false → rest.judged ≡ length seen
+
+-- a backend that agrees with a history that ends with its own entry
+pub record AgreesNow (scenario : Scenario) (seen : List Entry) (s : Backend) : Type 0 where
+  pub agrees : Agrees scenario seen s
+  pub now : IsNow seen s agrees.rest
+
+-- one entry of the backend is appended, after which it agrees, before it goes on without entries
+pub record Enters (scenario : Scenario) (old new : List Entry) (was now : Backend) : Type 0 where
+  pub entry : Entry
+  pub is : new ≡ old ++ entry ∷ []
+  pub own : entry.backend ≡ was.id
+  pub id : now.id ≡ was.id
+  pub comes : MayComeNext old entry
+  pub next : IsNext scenario old entry
+  pub needed : ScansOnlyIfNeeded old entry.backend entry.event
+  pub truly : LooksTruly old entry.backend entry.event
+  pub tables : AddsTables old entry.event
+  pub agrees : AgreesNow scenario new now
+
+-- a look is owed: at the start of a transaction, or after a grant
+abbrev pub OwesLookNow : Backend → Type 0
+OwesLookNow s = (has : HasCommand s) × ((owed_first s has.command ≢ []) ⊎ (s.phase ≡ phases.Granted))
+
+-- the running command does what its plan says, and no look is owed
+pub record IsWorking (s : Backend) : Type 0 where
+  pub has : HasCommand s
+  pub phase : s.phase ≡ phases.Working
+  pub free : owed_first s has.command ≡ []
+
+-- a scan of a name comes next
+pub record NextLookUp (s : Backend) (name : List ℕ) : Type 0 where
+  pub mode : Mode
+  pub rest : List Row → Plan
+  pub at : plan_at s.exec ≡ Do (Lookup name mode) rest
+  pub unread : s.read ≡ false
+
+-- a scan for a descriptor comes next
+pub record NextBuild (s : Backend) (scan : Purpose) : Type 0 where
+  pub rel : Oid
+  pub kind : Kind
+  pub rest : List Row → Plan
+  pub at : plan_at s.exec ≡ Do (Open rel kind) rest
+  pub more : List Purpose
+  pub first : missing s.kept (build_scans kind rel) ≡ scan ∷ more
+
+-- a lock of the relation that a lookup found comes next
+pub record NextLock (s : Backend) (rel : Oid) (mode : Mode) : Type 0 where
+  pub name : List ℕ
+  pub rest : List Row → Plan
+  pub at : plan_at s.exec ≡ Do (Lookup name mode) rest
+  pub read : s.read ≡ true
+  pub unlocked : unlocked_of s.locks.items mode s.given.items ≡ Some rel
+
+-- the lookup is done: nothing was found, or its relation is locked
+pub record NextFind (s : Backend) : Type 0 where
+  pub name : List ℕ
+  pub mode : Mode
+  pub rest : List Row → Plan
+  pub at : plan_at s.exec ≡ Do (Lookup name mode) rest
+  pub read : s.read ≡ true
+  pub locked : unlocked_of s.locks.items mode s.given.items ≡ None
+
+-- the scans of a descriptor are made, and it is opened
+pub record NextOpen (s : Backend) (rel : Oid) (kind : Kind) : Type 0 where
+  pub rest : List Row → Plan
+  pub at : plan_at s.exec ≡ Do (Open rel kind) rest
+  pub none : missing s.kept (build_scans kind rel) ≡ []
+
+-- a write comes next
+pub record NextWrite (s : Backend) : Type 0 where
+  pub draft : Draft
+  pub rest : List Row → Plan
+  pub at : plan_at s.exec ≡ Do (Write draft) rest
+
+-- the commit of the running command comes next
+pub record NextCommit (s : Backend) (xid : ℕ) : Type 0 where
+  pub working : IsWorking s
+  pub out : is_out s ≡ true
+  pub first : ℕ
+  pub end : end_at s working.has.command ≡ Commits first
+  pub written : has_write_since first s ≡ true
+  pub xid_is : option_map_or (λ t. option_map_or (λ x. Some x.0) t.xid None) s.running None ≡ Some xid
+
+-- taking back of what the running command or, after the last command, its transaction wrote comes next
+pub record NextTakeBack (s : Backend) (from : ℕ) : Type 0 where
+  pub phase : s.phase ≡ phases.Working
+  pub end : ((has : HasCommand s) → (owed_first s has.command ≡ []) × (is_out s ≡ true) × (end_at s has.command ≡ TakesBack from)) × (slice_get s.commands s.finished ≡ None → end_of_running s.running ≡ TakesBack from)
+  pub written : has_write_since from s ≡ true
+
+-- the release of the end of the running command comes next, or after the last command that of its transaction
+pub data NextRelease (s : Backend) (from : ℕ) : Type 0 where
+  AfterCommit : s.phase ≡ phases.Visible → option_map_or (λ t. Some t.first) s.running None ≡ Some from → NextRelease s from
+  AfterTakingBack : s.phase ≡ phases.TakenBack from → NextRelease s from
+  WithoutWrite : (working : IsWorking s) → is_out s ≡ true → (end_at s working.has.command ≡ Commits from) ⊎ (end_at s working.has.command ≡ TakesBack from) → has_write_since from s ≡ false → NextRelease s from
+  AtTheEnd : s.phase ≡ phases.Working → slice_get s.commands s.finished ≡ None → end_of_running s.running ≡ TakesBack from → has_write_since from s ≡ false → NextRelease s from
+
+-- nothing is left of the running command but to pass over it
+pub record NextFinish (s : Backend) : Type 0 where
+  pub has : HasCommand s
+  pub answered : s.answer ≢ None
+  pub ended : (s.phase ≡ phases.Ended) ⊎ ((s.phase ≡ phases.Working) × (owed_first s has.command ≡ []) × (end_at s has.command ≡ Ends))
+
+-- what comes next, with all that it needs
+abbrev pub IsNextOf : Backend → Next → Type 0
+IsNextOf s nexts.Look = OwesLookNow s
+IsNextOf s nexts.LookBeforeScan = IsWorking s × (scans_missing s ≢ []) × (s.looked ≡ false)
+IsNextOf s (nexts.LookUp name) = IsWorking s × NextLookUp s name × (s.looked ≡ true)
+IsNextOf s (nexts.Build scan) = IsWorking s × NextBuild s scan × (s.looked ≡ true)
+IsNextOf s (nexts.Lock rel mode) = IsWorking s × NextLock s rel mode
+IsNextOf s nexts.Write = IsWorking s × NextWrite s
+IsNextOf s (nexts.Commit xid) = NextCommit s xid.0
+IsNextOf s (nexts.TakeBack from) = NextTakeBack s from
+IsNextOf s (nexts.Release from) = NextRelease s from
+IsNextOf s nexts.Leave = (slice_get s.commands s.finished ≡ None) × (s.running ≡ None) × (s.phase ≡ phases.Working)
+IsNextOf s nexts.Find = IsWorking s × NextFind s
+IsNextOf s (nexts.Open rel kind) = IsWorking s × NextOpen s rel kind
+IsNextOf s nexts.Answer = IsWorking s × (is_out s ≡ true) × (s.answer ≡ None)
+IsNextOf s nexts.Finish = NextFinish s
+
+-- it makes an entry
+abbrev pub makes_entry : Next → Bool
+makes_entry nexts.Find = false
+makes_entry (nexts.Open rel kind) = false
+makes_entry nexts.Answer = false
+makes_entry nexts.Finish = false
+makes_entry next = true

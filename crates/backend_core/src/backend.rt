@@ -1,0 +1,91 @@
+use crate::{KeptScan, Life, OwnTransaction, Phase};
+use base_types::{Command, Listed, NoMemory, Row};
+use cacheless::{Opening, OwnLock};
+use ddl_effect::Exec;
+use event_kinds::Line;
+use seg_calls::Seg;
+use std::alloc::Global;
+use txn_blocks::TxnBlocks;
+
+/// One backend: its commands, how far it is in them, its transaction and locks, what it has read, and
+/// the answers of its finished commands.
+#[derive(Drop)]
+pub struct Backend {
+    pub(crate) id: u32,
+    pub(crate) commands: Listed<Command>,
+    pub(crate) life: Life,
+    pub(crate) finished: u32,
+    // the running command: what is left of it, whether the blocks refused it, and how far it is
+    pub(crate) exec: Exec,
+    pub(crate) blocked: bool,
+    pub(crate) phase: Phase,
+    pub(crate) answer: Option<Listed<u8>>,
+    // the blocks before it, the transaction, and the commands of its writes that weren't taken back
+    pub(crate) blocks: TxnBlocks,
+    pub(crate) running: Option<OwnTransaction>,
+    pub(crate) writes: Vec<u32>,
+    // a look was made for the next scan
+    pub(crate) looked: bool,
+    // the scan of the name that it looks up is made, and what it gave, in the entry of this number
+    pub(crate) read: bool,
+    pub(crate) given: Vec<Row>,
+    pub(crate) given_at: u64,
+    // the descriptors that it has opened
+    pub(crate) opened: Listed<Opening>,
+    pub(crate) locks: Vec<OwnLock>,
+    pub(crate) kept: Listed<KeptScan>,
+    pub(crate) lines: Listed<Line>,
+}
+
+impl Backend {
+    ghost use Rattle.std.specs.Prelude.{◌≡◌, ◌≢◌, ◌≤◌, ◌<◌, true, false, length, All, OnOk, IfOk};
+    ghost use Rattle.ddl_effect.specs.Plans.{is_built};
+    ghost use Rattle.ddl_effect.specs.Commands.{plan_of};
+    ghost use Rattle.cacheless.specs.Session.{none_open};
+    ghost use Rattle.backend_core.specs.State.{has_left};
+    ghost use Rattle.backend_core.specs.Agrees.{IsNew, IsPlayed, Stands};
+    ghost use Rattle.backend_core.specs.Steps.{Steps};
+
+    /// The backend of this number with its commands in order, which hasn't joined.
+    pub fn new(alloc: Global, id: u32, commands: Listed<Command>) -> Result<Backend, NoMemory>
+        requires built { All (λ command. is_built (plan_of none_open command) ≡ true) commands }
+        ensures { IfOk result (λ s. IsNew s id commands) }
+    {
+        Err(NoMemory)
+    }
+
+    /// Its number, from 1.
+    pub fn id(&self) -> u32
+        ensures { result ≡ self.now.id }
+    {
+        self.id
+    }
+
+    /// Whether it has left.
+    pub fn is_stopped(&self) -> bool
+        ensures { result ≡ has_left self.now.life }
+    {
+        matches!(self.life, Life::Stopped)
+    }
+
+    /// Makes its next entry, and goes on as far as it can without another. Conditions: a place in the
+    /// history is promised to it, and it hasn't left. Out of memory, it may not be used any more.
+    pub fn step<L: Seg>(&mut self, alloc: Global, seg: &mut L) -> Result<(), NoMemory>
+        requires stands { Stands (L.script seg.old) (L.history seg.old) self.old }
+        requires played { IsPlayed (L.script seg.old) (L.history seg.old) }
+        requires place { 0 < L.promised seg.old self.old.id }
+        requires alive { has_left self.old.life ≡ false }
+        ensures script { L.script seg.new ≡ L.script seg.old }
+        ensures steps { OnOk result (Steps (L.script seg.old) (L.history seg.old) (L.history seg.new) self.old self.new) }
+    {
+        Err(NoMemory)
+    }
+
+    /// The answer lines of its finished commands, in order; the backend is given up.
+    pub fn into_lines(self) -> Vec<Line>
+        ensures { result.items ≡ self.lines }
+    {
+        let Backend { lines, .. } = self;
+        lines.into_vec()
+    }
+}
