@@ -3,7 +3,7 @@ use Rattle.std.proofs.lemmas.Iterator.{YieldsList-from_slice}
 use Rattle.std.proofs.lemmas.Iterator.Search.{find_from_yields_List}
 use Rattle.base_types.specs.Modes.{conflicts}
 use Rattle.base_types.specs.Scans.{same_oid}
-use Rattle.shared_seg.proofs.grants.conflicting.Goals as goal
+use Rattle.shared_seg.proofs.lock_table.first_in_the_way.Goals as goal
 
 pub returns : goal.returns
 returns c =
