@@ -1,2 +1,7 @@
+mod Added
+mod Found
 mod Given
-mod Mapped
+mod Listed
+mod Slots
+mod Steps
+mod Touched

@@ -1,2 +1,4 @@
 pub mod Types
 pub mod Store
+pub mod Index
+pub mod Given

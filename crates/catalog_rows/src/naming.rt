@@ -1,55 +1,59 @@
 ghost use Rattle.std.specs.Prelude.{◌≡◌, ◌&&◌};
-ghost use Rattle.std.specs.List.{find};
+ghost use Rattle.std.specs.List.{find, filter_map};
 ghost use Rattle.row_visibility.specs.Seen.{seen_by};
 ghost use Rattle.catalog_rows.specs.Store.{counts, is_named as has_name, is_claimed as does_claim, is_running_other as runs_elsewhere, claimant_of, relation_of as relation_in, row_clash as clash_with, clash_of};
+ghost use Rattle.catalog_rows.specs.Index.{slot_at, versions_in, IsIndexed};
 
+use crate::lists::{Lists, name_place};
+use crate::store::version_at;
 use crate::writing::{does_count, is_standing};
 use base_types::{Name, Oid, Row, Xid};
 use row_visibility::{Clash, Stamp, Version};
 
-// Why a new relation may not have the name, by these versions.
+// Why a new relation may not have the name, by the versions in these slots.
 pub(crate) fn clash_among(
-    versions: &[Version],
+    slots: &[Option<Version>],
+    lists: &Lists,
     committed: &[bool],
     name: &Name,
     own: Option<Xid>,
 ) -> Option<Clash>
-    ensures { result ≡ clash_of (record { versions = versions.now; committed = committed.now }) own name.now }
+    requires { IsIndexed slots.now lists.now }
+    ensures { result ≡ clash_of (record { versions = versions_in slots.now; committed = committed.now }) own name.now }
 {
-    match first_claimed(versions, committed, name, own) {
+    let list = lists.slots(name_place(name));
+    match first_claimed(slots, list, committed, name, own) {
         Some(version) => Some(Clash::Running(claimant(&version, committed, own))),
-        None => row_clash(first_standing(versions, committed, name, own)),
+        None => row_clash(first_standing(slots, list, committed, name, own)),
     }
 }
 
-// The first version of a relation of this name that a running transaction of another claims.
+// The first listed version of a relation of this name that a running transaction of another claims.
 fn first_claimed(
-    versions: &[Version],
+    slots: &[Option<Version>],
+    list: &[usize],
     committed: &[bool],
     name: &Name,
     own: Option<Xid>,
 ) -> Option<Version>
-    ensures { result ≡ find (λ v. has_name name.now v.row && does_claim committed.now own v) versions.now }
+    ensures { result ≡ find (λ v. has_name name.now v.row && does_claim committed.now own v) (filter_map (slot_at slots.now) list.now) }
 {
-    versions
-        .iter()
-        .find(|version| is_named(version, name) && is_claimed(version, committed, own))
-        .copied()
+    list.iter().filter_map(|slot| version_at(slots, *slot)).find(|version| is_named(version, name)
+        && is_claimed(version, committed, own))
 }
 
-// The first version of a relation of this name that counts for the writer.
+// The first listed version of a relation of this name that counts for the writer.
 fn first_standing(
-    versions: &[Version],
+    slots: &[Option<Version>],
+    list: &[usize],
     committed: &[bool],
     name: &Name,
     own: Option<Xid>,
 ) -> Option<Version>
-    ensures { result ≡ find (λ v. has_name name.now v.row && seen_by (counts committed.now own) v) versions.now }
+    ensures { result ≡ find (λ v. has_name name.now v.row && seen_by (counts committed.now own) v) (filter_map (slot_at slots.now) list.now) }
 {
-    versions
-        .iter()
-        .find(|version| is_named(version, name) && is_standing(version, committed, own))
-        .copied()
+    list.iter().filter_map(|slot| version_at(slots, *slot)).find(|version| is_named(version, name)
+        && is_standing(version, committed, own))
 }
 
 // The clash with the row of this version.

@@ -1,9 +1,12 @@
-ghost use Rattle.std.specs.Prelude.{◌≡◌, ◌≤◌, ◌+◌, ◌++◌, false, not, fold, map, filter, length, replicate, vec_len, vec_capacity};
+ghost use Rattle.std.specs.Prelude.{◌≡◌, ◌<◌, ◌≤◌, ◌+◌, ◌++◌, false, fold, map, length, replicate, slice_set, vec_len, vec_capacity, OnOk};
+ghost use Rattle.std.specs.List.{AllByRecursion};
 ghost use Rattle.row_visibility.specs.Seen.{seen_by};
-ghost use Rattle.catalog_rows.specs.Store.{counts, is_ended as does_end, ended_key as key_ended, end_if, after_change, is_back as goes_back, restored as restored_by, taken_back};
+ghost use Rattle.catalog_rows.specs.Store.{counts, is_ended as does_end, ended_key as key_ended, new_version as version_added, end_if, after_change, is_back as goes_back, taken_back};
+ghost use Rattle.catalog_rows.specs.Index.{versions_in, IsIndexed, IsPrepared, IsReady, Settles, slot_changed, slot_back};
 
+use crate::lists::{Lists, key_place};
 use crate::store::has_committed;
-use base_types::{Change, RowKey, Xid};
+use base_types::{Change, NoMemory, RowKey, Xid};
 use row_visibility::{Stamp, Version, is_own, visible};
 
 // Whether what has the stamp counts for a writer: it is committed, or its own.
@@ -25,55 +28,129 @@ pub(crate) fn is_standing(version: &Version, committed: &[bool], own: Option<Xid
     visible(by_counts, ended_counts)
 }
 
-// Makes all changes of a write; there is room for as many versions as it has changes.
-pub(crate) fn add_changes(
-    versions: &mut Vec<Version>,
+// Adds an empty slot for each change, and makes the lists ready for it.
+pub(crate) fn prepare(
+    slots: &mut Vec<Option<Version>>,
+    lists: &mut Lists,
+    stamp: Stamp,
+    changes: &[Change],
+) -> Result<(), NoMemory>
+    requires { IsIndexed slots.old.items lists.old }
+    ensures indexed { IsIndexed slots.new.items lists.new }
+    ensures versions { versions_in slots.new.items ≡ versions_in slots.old.items }
+    ensures ok { OnOk result (IsPrepared lists.new stamp changes.now slots.new.items (vec_len slots.old) (length changes.now)) }
+{
+    for change in changes {
+        slots.push(None)?;
+        lists.note(stamp, change, slots.len() - 1)?;
+    }
+    Ok(())
+}
+
+// Makes all changes of a write in the slots from this one on, which are ready for them.
+pub(crate) fn make_changes(
+    slots: &mut [Option<Version>],
+    lists: &Lists,
     committed: &[bool],
     stamp: Stamp,
     changes: &[Change],
+    first: usize,
 )
-    requires { vec_len versions.old + length changes.now ≤ vec_capacity versions.old }
-    ensures { versions.new.items ≡ fold (after_change committed.now stamp) versions.old.items changes.now }
+    requires indexed { IsIndexed slots.old lists.now }
+    requires prepared { IsPrepared lists.now stamp changes.now slots.old first (length changes.now) }
+    ensures indexed { IsIndexed slots.new lists.now }
+    ensures versions { versions_in slots.new ≡ fold (after_change committed.now stamp) (versions_in slots.old) changes.now }
 {
-    for change in changes {
-        end_versions(versions, committed, stamp, change);
-        if let Change::Insert(row) | Change::Replace(row) = change {
-            versions.push_reserved(Version {
-                row: *row,
-                by: stamp,
-                ended: None,
-            });
-        }
+    for (i, change) in changes.iter().enumerate() {
+        make_change(slots, lists, committed, stamp, change, first + i);
+    }
+}
+
+// Makes a change in a slot that is ready for it.
+fn make_change(
+    slots: &mut [Option<Version>],
+    lists: &Lists,
+    committed: &[bool],
+    stamp: Stamp,
+    change: &Change,
+    slot: usize,
+)
+    requires indexed { IsIndexed slots.old lists.now }
+    requires ready { IsReady lists.now stamp slot change.now }
+    requires within { slot < length slots.old }
+    ensures indexed { IsIndexed slots.new lists.now }
+    ensures slots { slots.new ≡ slice_set (map (slot_changed (end_if (does_end committed.now stamp change.now) stamp)) slots.old) slot (version_added stamp change.now) }
+{
+    end_versions(slots, lists, committed, stamp, change);
+    slots[slot] = new_version(stamp, change);
+}
+
+// The version of the row that a change adds, if it adds one.
+fn new_version(stamp: Stamp, change: &Change) -> Option<Version>
+    ensures { result ≡ version_added stamp change.now }
+{
+    match change {
+        Change::Insert(row) | Change::Replace(row) => Some(Version {
+            row: *row,
+            by: stamp,
+            ended: None,
+        }),
+        Change::Delete(_) => None,
     }
 }
 
 // Ends what a change replaces or deletes.
-fn end_versions(versions: &mut Vec<Version>, committed: &[bool], stamp: Stamp, change: &Change)
-    ensures items { versions.new.items ≡ map (end_if (does_end committed.now stamp change.now) stamp) versions.old.items }
-    ensures room { vec_capacity versions.new ≡ vec_capacity versions.old }
+fn end_versions(
+    slots: &mut [Option<Version>],
+    lists: &Lists,
+    committed: &[bool],
+    stamp: Stamp,
+    change: &Change,
+)
+    requires { IsIndexed slots.old lists.now }
+    ensures { slots.new ≡ map (slot_changed (end_if (does_end committed.now stamp change.now) stamp)) slots.old }
 {
-    if let Change::Insert(_) = change {
-        return;
-    }
-    for version in versions.iter_mut() {
-        *version = ended(version, committed, stamp, change);
+    if let Some(key) = ended_key(change) {
+        end_listed(
+            slots,
+            lists.slots(key_place(&key)),
+            committed,
+            stamp,
+            change,
+        );
     }
 }
 
-// The version, ended if the change ends it.
-fn ended(version: &Version, committed: &[bool], stamp: Stamp, change: &Change) -> Version
-    ensures { result ≡ end_if (does_end committed.now stamp change.now) stamp version.now }
+// The same for the slots of a list.
+fn end_listed(
+    slots: &mut [Option<Version>],
+    list: &[usize],
+    committed: &[bool],
+    stamp: Stamp,
+    change: &Change,
+)
+    requires { AllByRecursion (λ j. j < length slots.old) list.now }
+    ensures { Settles (slot_changed (end_if (does_end committed.now stamp change.now) stamp)) list.now slots.old slots.new }
 {
-    let ended = if is_ended(version, committed, stamp, change) {
-        Some(stamp)
-    } else {
-        version.ended
-    };
-    Version {
-        row: version.row,
-        by: version.by,
-        ended,
+    for slot in list {
+        slots[*slot] = ended(slots[*slot], committed, stamp, change);
     }
+}
+
+// The version in a slot, ended if the change ends it.
+fn ended(
+    version: Option<Version>,
+    committed: &[bool],
+    stamp: Stamp,
+    change: &Change,
+) -> Option<Version>
+    ensures { result ≡ slot_changed (end_if (does_end committed.now stamp change.now) stamp) version }
+{
+    let mut version = version?;
+    if is_ended(&version, committed, stamp, change) {
+        version.ended = Some(stamp);
+    }
+    Some(version)
 }
 
 // Whether the change ends the version.
@@ -110,26 +187,23 @@ pub(crate) fn add_places(committed: &mut Vec<bool>, count: usize)
 }
 
 // Takes back what the transaction did in its commands of this number and above.
-pub(crate) fn take_back(versions: &mut Vec<Version>, xid: Xid, from: u32)
-    ensures { versions.new.items ≡ taken_back (goes_back xid from) versions.old.items }
+pub(crate) fn take_back(slots: &mut [Option<Version>], lists: &Lists, xid: Xid, from: u32)
+    requires { IsIndexed slots.old lists.now }
+    ensures indexed { IsIndexed slots.new lists.now }
+    ensures versions { versions_in slots.new ≡ taken_back (goes_back xid from) (versions_in slots.old) }
 {
-    drop_added(versions, xid, from);
-    restore_ended(versions, xid, from);
+    for place in lists.places(xid) {
+        take_back_listed(slots, lists.slots(*place), xid, from);
+    }
 }
 
-// Drops what the transaction added in such commands.
-fn drop_added(versions: &mut Vec<Version>, xid: Xid, from: u32)
-    ensures { versions.new.items ≡ filter (λ v. not (goes_back xid from v.by)) versions.old.items }
+// The same for the slots of a list.
+fn take_back_listed(slots: &mut [Option<Version>], list: &[usize], xid: Xid, from: u32)
+    requires { AllByRecursion (λ j. j < length slots.old) list.now }
+    ensures { Settles (slot_back (goes_back xid from)) list.now slots.old slots.new }
 {
-    versions.retain(|version| !is_back(version.by, xid, from));
-}
-
-// Restores what the transaction ended in such commands.
-fn restore_ended(versions: &mut [Version], xid: Xid, from: u32)
-    ensures { versions.new ≡ map (restored_by (goes_back xid from)) versions.old }
-{
-    for version in versions.iter_mut() {
-        *version = restored(version, xid, from);
+    for slot in list {
+        slots[*slot] = restored(slots[*slot], xid, from);
     }
 }
 
@@ -140,17 +214,19 @@ fn is_back(stamp: Stamp, xid: Xid, from: u32) -> bool
     stamp.xid.0 == xid.0 && from <= stamp.command
 }
 
-// The version, not ended any more if the transaction ended it in such a command.
-fn restored(version: &Version, xid: Xid, from: u32) -> Version
-    ensures { result ≡ restored_by (goes_back xid from) version.now }
+// What is left in a slot: no version if the transaction added it in such a command, else one that isn't
+// ended any more if the transaction ended it in such a command.
+fn restored(version: Option<Version>, xid: Xid, from: u32) -> Option<Version>
+    ensures { result ≡ slot_back (goes_back xid from) version }
 {
-    let ended = match version.ended {
-        Some(ended) if is_back(ended, xid, from) => None,
-        ended => ended,
-    };
-    Version {
-        row: version.row,
-        by: version.by,
-        ended,
+    let mut version = version?;
+    if is_back(version.by, xid, from) {
+        return None;
     }
+    if let Some(ended) = version.ended {
+        if is_back(ended, xid, from) {
+            version.ended = None;
+        }
+    }
+    Some(version)
 }

@@ -13,6 +13,8 @@ use Rattle.history_model.specs.Versions.{versions_by}
 use Rattle.history_model.proofs.Runs.{writes_as}
 use Rattle.history_model.specs.Held.{held_by}
 use Rattle.seg_calls.specs.Calls.{places_for, entry_of, MayCall, Appends}
+use Rattle.shared_seg.specs.LockTable.{Holds}
+use Rattle.shared_seg.specs.declared.lock_table.LockTable.{LockTable}
 use Rattle.shared_seg.specs.declared.transaction.Transaction.{Transaction}
 use Rattle.shared_seg.specs.Kept.{Kept, places_in}
 use Rattle.shared_seg.specs.KeepsFolds.{KeepsFolds}
@@ -39,24 +41,24 @@ placed_appends k now after has e one is call orderly backends entries taken =
     (appends_placed k.history after k.promised has e one entries (record { follows = inside.follows; orderly = orderly }) taken (within k.script e.backend (length k.promised) inside.backend backends))
 
 -- with what is kept beside it
-pub placed_keeps : (k now : Kept) (after : List Entry) (has : List ℕ) (e : Entry) (store stored : Store) (grants held : List Grant) (transactions own : List (Option Transaction)) (next oid last xid : ℕ)
-    → k ≡ now → KeepsFolds k.script k.history k.promised store grants transactions next last → MayCall now.script now.history e → IsOrderly k.history e
+pub placed_keeps : (k now : Kept) (after : List Entry) (has : List ℕ) (e : Entry) (store stored : Store) (locks locked : LockTable) (transactions own : List (Option Transaction)) (next oid last xid : ℕ)
+    → k ≡ now → KeepsFolds k.script k.history k.promised store locks transactions next last → MayCall now.script now.history e → IsOrderly k.history e
     → after ≡ k.history ++ e ∷ [] → has ≡ slice_set k.promised e.backend (promised_in k.promised e.backend - 1)
-    → Steps k.history e store stored grants held transactions own next oid last xid → KeepsFolds k.script after has stored held own oid xid
-placed_keeps k now after has e store stored grants held transactions own next oid last xid is keeps call orderly entries taken steps =
+    → Steps k.history e store stored locks locked transactions own next oid last xid → KeepsFolds k.script after has stored locked own oid xid
+placed_keeps k now after has e store stored locks locked transactions own next oid last xid is keeps call orderly entries taken steps =
     let inside : MayCall k.script k.history e = call_inside k now e is call in
-    subst (λ h. KeepsFolds k.script h has stored held own oid xid) (sym entries)
-    (keeps_more k.script k.history e k.promised has store stored grants held transactions own next oid last xid keeps (record { follows = inside.follows; orderly = orderly })
+    subst (λ h. KeepsFolds k.script h has stored locked own oid xid) (sym entries)
+    (keeps_more k.script k.history e k.promised has store stored locks locked transactions own next oid last xid keeps (record { follows = inside.follows; orderly = orderly })
     (ap length taken ∙ length-set k.promised e.backend (promised_in k.promised e.backend - 1)) steps)
 
 -- the same of an entry that only begins or ends a transaction, and gives or takes grants
-pub quiet_keeps : (k now : Kept) (after : List Entry) (has : List ℕ) (b c : ℕ) (event : Event) (store : Store) (grants held : List Grant) (transactions own : List (Option Transaction)) (next last : ℕ)
-    → k ≡ now → KeepsFolds k.script k.history k.promised store grants transactions next last → MayCall now.script now.history (entry_of b c event) → IsOrderly k.history (entry_of b c event)
+pub quiet_keeps : (k now : Kept) (after : List Entry) (has : List ℕ) (b c : ℕ) (event : Event) (store : Store) (locks locked : LockTable) (transactions own : List (Option Transaction)) (next last : ℕ)
+    → k ≡ now → KeepsFolds k.script k.history k.promised store locks transactions next last → MayCall now.script now.history (entry_of b c event) → IsOrderly k.history (entry_of b c event)
     → after ≡ k.history ++ entry_of b c event ∷ [] → has ≡ slice_set k.promised b (promised_in k.promised b - 1)
     → versions_by k.history b c event store.versions ≡ store.versions → next_oid_by event next ≡ next → last_xid_by event last ≡ last → ((x : ℕ) → makes_visible x event ≡ false) → ((x : ℕ) → writes_as x event ≡ false)
-    → held ≡ held_by b c event grants → own ≡ slice_set transactions b (transaction_by c event (transaction_at transactions b)) → KeepsFolds k.script after has store held own next last
-quiet_keeps k now after has b c event store grants held transactions own next last is keeps call orderly entries taken no_version no_oid no_xid no_commit no_write held_is own_is =
+    → ((all : List Grant) → Holds locks all → Holds locked (held_by b c event all)) → own ≡ slice_set transactions b (transaction_by c event (transaction_at transactions b)) → KeepsFolds k.script after has store locked own next last
+quiet_keeps k now after has b c event store locks locked transactions own next last is keeps call orderly entries taken no_version no_oid no_xid no_commit no_write held_is own_is =
     let inside : MayCall k.script k.history (entry_of b c event) = call_inside k now (entry_of b c event) is call in
-    placed_keeps k now after has (entry_of b c event) store store grants held transactions own next next last last is keeps call orderly entries taken
-    (quiet_steps k.history b c event store grants held transactions own next last no_version no_oid no_xid no_commit no_write held_is
+    placed_keeps k now after has (entry_of b c event) store store locks locked transactions own next next last last is keeps call orderly entries taken
+    (quiet_steps k.history b c event store locks locked transactions own next last no_version no_oid no_xid no_commit no_write held_is
     (ap length own_is ∙ length-set transactions b _) (kept_set (entry_of b c event) transactions own (within k.script b (length transactions) inside.backend keeps.slots) own_is))

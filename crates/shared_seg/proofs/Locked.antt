@@ -8,6 +8,8 @@ use Rattle.history_model.specs.declared.grant.Grant.{Grant}
 use Rattle.history_model.specs.Drawn.{next_oid}
 use Rattle.history_model.specs.Held.{held_of, holds, first_conflict}
 use Rattle.history_model.specs.Legal.{AllowsEvent}
+use Rattle.shared_seg.specs.LockTable.{Holds}
+use Rattle.shared_seg.specs.declared.lock_table.LockTable.{LockTable}
 use Rattle.shared_seg.specs.Kept.{Kept}
 
 -- what a request for a lock needs, of the parts
@@ -18,12 +20,12 @@ pub drawn_inside : (k now : Kept) (rel : Oid) → k ≡ now → rel.0 < next_oid
 drawn_inside k now rel is drawn = subst (λ (x : Kept). rel.0 < next_oid x.history) (sym is) drawn
 
 -- a lock is granted where nobody is in the way
-pub allows_lock : (k now : Kept) (b c : ℕ) (rel : Oid) (mode : Mode) (grants : List Grant) (found : Option Grant) → k ≡ now → holds (held_of now.history) b rel mode ≡ false → grants ≡ held_of k.history
-    → found ≡ first_conflict grants b rel mode → found ≡ None → AllowsEvent k.history b c (LockOk rel mode)
-allows_lock k now b c rel mode grants found is new same first none = (new_inside k now b rel mode is new, ap (λ gs. first_conflict gs b rel mode) (sym same) ∙ sym first ∙ none)
+pub allows_lock : (k now : Kept) (b c : ℕ) (rel : Oid) (mode : Mode) (locks : LockTable) (found : Option Grant) → k ≡ now → holds (held_of now.history) b rel mode ≡ false → Holds locks (held_of k.history)
+    → ((held : List Grant) → Holds locks held → found ≡ first_conflict held b rel mode) → found ≡ None → AllowsEvent k.history b c (LockOk rel mode)
+allows_lock k now b c rel mode locks found is new same first none = (new_inside k now b rel mode is new, sym (first (held_of k.history) same) ∙ none)
 
 -- and refused where somebody is
-pub allows_refusal : (k now : Kept) (b c : ℕ) (rel : Oid) (mode : Mode) (grants : List Grant) (found : Option Grant) (grant : Grant) → k ≡ now → holds (held_of now.history) b rel mode ≡ false → grants ≡ held_of k.history
-    → found ≡ first_conflict grants b rel mode → found ≡ Some grant → AllowsEvent k.history b c (LockHeld rel mode grant.backend grant.mode)
-allows_refusal k now b c rel mode grants found grant is new same first some =
-    (new_inside k now b rel mode is new, ap (option_map {U = ℕ × Mode} (λ g. (g.backend, g.mode))) (ap (λ gs. first_conflict gs b rel mode) (sym same) ∙ sym first ∙ some))
+pub allows_refusal : (k now : Kept) (b c : ℕ) (rel : Oid) (mode : Mode) (locks : LockTable) (found : Option Grant) (grant : Grant) → k ≡ now → holds (held_of now.history) b rel mode ≡ false → Holds locks (held_of k.history)
+    → ((held : List Grant) → Holds locks held → found ≡ first_conflict held b rel mode) → found ≡ Some grant → AllowsEvent k.history b c (LockHeld rel mode grant.backend grant.mode)
+allows_refusal k now b c rel mode locks found grant is new same first some =
+    (new_inside k now b rel mode is new, ap (option_map {U = ℕ × Mode} (λ g. (g.backend, g.mode))) (sym (first (held_of k.history) same) ∙ some))

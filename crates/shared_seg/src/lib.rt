@@ -3,7 +3,9 @@
 //! It keeps the history, the versions of all rows, the locks that are held, the running transaction of
 //! each backend, and the next numbers to be drawn. The history alone says what all of these are: each is
 //! what the definitions read off it, so that is the invariant, with one law of one more entry for each
-//! (`specs/KeepsFolds.antt`, `proofs/Keeps.antt`). And the history is sound: each of its entries may
+//! (`specs/KeepsFolds.antt`, `proofs/Keeps.antt`). The locks are kept by relation and by backend
+//! (`src/lock_table.rt`), so that a request passes over the grants of its relation, and a release over
+//! those of its backend and of their relations. And the history is sound: each of its entries may
 //! follow those before it.
 //!
 //! The promise to the layers above is the contract of `Seg`: a call appends its one entry, which the
@@ -19,13 +21,14 @@
 //! ```
 //!
 //! Different from the server: a lock is never waited for, and the first holder in the way is named; a new
-//! name that a running transaction has in use is refused where the server would wait; grants are one list
-//! (`src/backend/storage/lmgr/lock.c` hashes them by relation); Xids and oids that would pass 32 bits are
-//! answered as out of memory. No message is sent yet, so none ever waits.
+//! name that a running transaction has in use is refused where the server would wait; Xids and oids that
+//! would pass 32 bits are answered as out of memory. No message is sent yet, so none ever waits.
 #![tactic(auto)]
 
 mod drawing;
+mod grant_lists;
 mod grants;
+mod lock_table;
 mod naming;
 mod places;
 mod shared;

@@ -3,7 +3,8 @@ ghost use Rattle.shared_seg.specs.Undone.{undone};
 ghost use Rattle.shared_seg.specs.Naming.{clash_with, refuses};
 
 use crate::drawing::{Drawn, draw};
-use crate::grants::{add_new, conflicting, release_from};
+use crate::grants::new_grants;
+use crate::lock_table::LockTable;
 use crate::naming::{Taken, first_taken};
 use crate::places::Places;
 use crate::transaction::{Transaction, begin, begin_writing, clear, end_from, own_xid};
@@ -26,7 +27,7 @@ pub struct Shared {
     script: Snapshot<Script>,
     places: Places,
     store: RowStore,
-    grants: Vec<Grant>,
+    locks: LockTable,
     // by backend
     transactions: Vec<Option<Transaction>>,
     next_oid: u32,
@@ -43,7 +44,7 @@ impl Model for Shared {
 
     ghost view = { λ s. record { history = s.places.entries; script = s.script.value; promised = s.places.promised; short = s.short } };
 
-    ghost invariant = { λ s. KeepsFolds s.script.value s.places.entries s.places.promised s.store s.grants.items s.transactions.items s.next_oid s.last_xid };
+    ghost invariant = { λ s. KeepsFolds s.script.value s.places.entries s.places.promised s.store s.locks s.transactions.items s.next_oid s.last_xid };
 }
 
 impl Shared {
@@ -62,7 +63,7 @@ impl Shared {
             script: Snapshot::of(script),
             places,
             store: RowStore::new(alloc),
-            grants: Vec::new(alloc),
+            locks: LockTable::new(alloc),
             transactions,
             next_oid: FIRST_OID,
             last_xid: 0,
@@ -85,7 +86,7 @@ impl Shared {
             script: _,
             places,
             store: _,
-            grants: _,
+            locks: _,
             transactions: _,
             next_oid: _,
             last_xid: _,
@@ -158,7 +159,7 @@ impl Seg for Shared {
     }
 
     fn lock(&mut self, b: u32, c: u32, rel: Oid, mode: Mode) -> Result<(), LockRefusal> {
-        match conflicting(&self.grants, b, rel, mode) {
+        match self.locks.conflicting(b, rel, mode) {
             Some(grant) => {
                 let Grant {
                     backend: holder,
@@ -183,7 +184,13 @@ impl Seg for Shared {
                 Err(LockRefusal::Conflict { holder, mode: held })
             }
             None => {
-                let Ok(()) = self.grants.reserve(1) else {
+                let grants = [Grant {
+                    backend: b,
+                    command: c,
+                    rel,
+                    mode,
+                }];
+                let Ok(()) = self.locks.reserve(&grants) else {
                     return Err(LockRefusal::NoMemory);
                 };
                 let event = Event::LockOk { rel, mode };
@@ -195,12 +202,7 @@ impl Seg for Shared {
                 else {
                     return Err(LockRefusal::NoMemory);
                 };
-                self.grants.push_reserved(Grant {
-                    backend: b,
-                    command: c,
-                    rel,
-                    mode,
-                });
+                self.locks.grant(&grants);
                 begin(&mut self.transactions, b, c);
                 Ok(())
             }
@@ -234,7 +236,10 @@ impl Seg for Shared {
             begin(&mut self.transactions, b, c);
             return Err(refusal_of(&taken));
         }
-        let Ok(()) = self.grants.reserve(items.len()) else {
+        let Ok(grants) = new_grants(self.alloc, b, c, &items) else {
+            return Err(WriteRefusal::NoMemory);
+        };
+        let Ok(()) = self.locks.reserve(&grants) else {
             return Err(WriteRefusal::NoMemory);
         };
         let Ok(()) = self.places.make_room() else {
@@ -243,7 +248,7 @@ impl Seg for Shared {
         let Ok(()) = self.store.apply(xid, c, &changes) else {
             return Err(WriteRefusal::NoMemory);
         };
-        add_new(&mut self.grants, b, c, &items);
+        self.locks.grant(&grants);
         self.places.push(Entry {
             backend: b,
             command: c,
@@ -275,7 +280,7 @@ impl Seg for Shared {
             command: c,
             event: Event::Release { from },
         });
-        release_from(&mut self.grants, b, from);
+        self.locks.release_from(b, from);
         end_from(&mut self.transactions, b, c, from);
     }
 

@@ -1,10 +1,11 @@
-use Rattle.std.proofs.Common.{sym, ap, ◌∙◌, map, rules}
-use Rattle.catalog_rows.specs.Store.{end_if, is_ended}
-use Rattle.catalog_rows.proofs.Mapped.{none_ended, mapped_more}
+use Rattle.std.proofs.Common.{◌∙◌, sym}
+use Rattle.catalog_rows.proofs.Steps.{ended_all, ended_none}
 use Rattle.catalog_rows.proofs.writing.end_versions.Goals as goal
 
-pub returns-in-Insert-clause-items : goal.returns-in-Insert-clause-items
-returns-in-Insert-clause-items c = sym (ap (λ change. map (end_if (is_ended c.args.committed.now c.args.stamp change) c.args.stamp) c.args.versions.now.items) c.in-Insert.is ∙ none_ended c.args.committed.now c.args.stamp c.in-Insert.field-0 c.args.versions.now.items)
+pub returns-in-Some : goal.returns-in-Some
+returns-in-Some c =
+    ended_all c.args.committed.now c.args.stamp c.args.change.now c.in-Some.key c.key_place.result c.args.lists.now c.slots.result.now c.args.slots.now c.end_listed.new.slots c.in-Some.ensures c.key_place.ensures c.slots.ensures
+    c.requires c.end_listed.ensures
 
-pub loop-version-preserved : goal.loop-version-preserved
-loop-version-preserved c = mapped_more _ _ _ _ _ _ (search rules) c.loop-version.invariant c.ended.ensures
+pub returns-in_default : goal.returns-in_default
+returns-in_default c = ended_none c.args.committed.now c.args.stamp c.args.change.now c.args.slots.now (sym c.ended_key.ensures ∙ c.in_default.is)
