@@ -1,15 +1,16 @@
 -- What the lists must have stays so, and a search through a list finds what a search through all versions does.
 use Rattle.std.proofs.Common.{Result, Ok, Err, OnOk, OnErr, ◌≡◌, ◌≢◌, ◌≤◌, ◌<◌, ◌+◌, ◌∙◌, ◌⊎◌, inl, inr, ℕ, zero, suc, Bool, true, false, cond, Option, Some, None, IfSome, List, [], ◌∷◌, ◌++◌, length, map, find, filter_map, get_or, set, sym, ap, refl, subst, arith}
+use Rattle.std.specs.Option.{option_map_or}
 use Rattle.std.specs.List.{AllByRecursion, cons_option}
 use Rattle.std.proofs.lemmas.Bool.{cases_eq}
 use Rattle.std.proofs.lemmas.List.{length-set, length-map, length_push, get_or_default}
 use Rattle.base_types.specs.declared.memory.NoMemory.{NoMemory}
 use Rattle.catalog_rows.specs.Types.{Row, Insert, Replace, Delete, Stamp, Version, Change}
-use Rattle.catalog_rows.specs.Store.{added_row, new_version, ended_key}
+use Rattle.catalog_rows.specs.Store.{added_row, new_version, is_ended}
 use Rattle.catalog_rows.specs.declared.index.Place.{Place}
 use Rattle.catalog_rows.specs.declared.index.Index.{Index}
 use Rattle.catalog_rows.specs.declared.lists.Lists.{Lists}
-use Rattle.catalog_rows.specs.Index.{slot_at, versions_in, slots_at, places_of, key_place, row_place, named_place, change_place, IsFound, IsIn, IsAscending, IsAdded, IsListed, IsIndexed, IsReady, IsPrepared, Keeps}
+use Rattle.catalog_rows.specs.Index.{slot_at, versions_in, slots_at, own_at, ends_at, row_place, named_place, IsFound, IsIn, IsAscending, IsAdded, IsListed, IsIndexed, IsReady, IsPrepared, Keeps}
 use Rattle.catalog_rows.proofs.Slots.{in_front, in_behind, slot_at-set, slot_at-push, slot_at-map}
 
 some_more : {X : Type 0} (P Q : X → Type 0) (o : Option X) → ((x : X) → P x → Q x) → IfSome o P → IfSome o Q
@@ -40,32 +41,39 @@ all_in P (x ∷ xs) j all (inr rest) = all_in P xs j all.1 rest
 
 -- lists that have all that others have
 listed_more : (old new : Lists) (slot : ℕ) (j : ℕ) (v : Version) → ((place : Place) (i : ℕ) → IsIn i (slots_at old.index place) → IsIn i (slots_at new.index place))
-    → ((x : ℕ) (place : Place) → IsIn place (places_of old.touched.items x) → IsIn place (places_of new.touched.items x)) → IsListed old j v → IsListed new j v
-listed_more old new slot j v slots places is = record {
+    → ((x i : ℕ) → IsIn i (own_at old.touched.items x) → IsIn i (own_at new.touched.items x)) → IsListed old j v → IsListed new j v
+listed_more old new slot j v slots own is = record {
   row = slots (row_place v.row) j is.row;
   name = some_more (λ place. IsIn j (slots_at old.index place)) (λ place. IsIn j (slots_at new.index place)) (named_place v.row) (λ place. slots place j) is.name;
-  writer = places v.by.xid.0 (row_place v.row) is.writer;
-  ender = some_more (λ stamp. IsIn (row_place v.row) (places_of old.touched.items stamp.xid.0)) (λ stamp. IsIn (row_place v.row) (places_of new.touched.items stamp.xid.0)) v.ended (λ stamp. places stamp.xid.0 (row_place v.row)) is.ender;
+  writer = own v.by.xid.0 j is.writer;
+  ender = some_more (λ stamp. IsIn j (own_at old.touched.items stamp.xid.0)) (λ stamp. IsIn j (own_at new.touched.items stamp.xid.0)) v.ended (λ stamp. own stamp.xid.0 j) is.ender;
 }
 
-pub ready_more : (old new : Lists) (stamp : Stamp) (j : ℕ) (change : Change) (slot : ℕ) → Keeps slot old new → IsReady old stamp j change → IsReady new stamp j change
-ready_more old new stamp j change slot k is = record {
-  added = some_more (IsListed old j) (IsListed new j) (new_version stamp change) (λ v. listed_more old new slot j v k.slots k.places) is.added;
-  ended = some_more (λ key. IsIn (key_place key) (places_of old.touched.items stamp.xid.0)) (λ key. IsIn (key_place key) (places_of new.touched.items stamp.xid.0)) (ended_key change) (λ key. k.places stamp.xid.0 (key_place key)) is.ended;
+pub ready_more : (old new : Lists) (committed : List Bool) (stamp : Stamp) (slots : List (Option Version)) (j : ℕ) (change : Change) (slot : ℕ) → Keeps slot old new → IsReady old committed stamp slots j change → IsReady new committed stamp slots j change
+ready_more old new committed stamp slots j change slot k is = record {
+  added = some_more (IsListed old j) (IsListed new j) (new_version stamp change) (λ v. listed_more old new slot j v k.slots k.own) is.added;
+  ended = λ i ends. k.own stamp.xid.0 i (is.ended i ends);
+}
+
+-- one more empty slot
+pub ready_push : (lists : Lists) (committed : List Bool) (stamp : Stamp) (slots : List (Option Version)) (j : ℕ) (change : Change) → IsReady lists committed stamp slots j change → IsReady lists committed stamp (slots ++ None ∷ []) j change
+ready_push lists committed stamp slots j change is = record {
+  added = is.added;
+  ended = λ i ends. is.ended i (ap (λ o. option_map_or (is_ended committed stamp change) o false) (sym (slot_at-push slots i)) ∙ ends);
 }
 
 -- nothing is taken out of lists
 pub keeps_then : (slot : ℕ) (a b d : Lists) → Keeps slot a b → Keeps slot b d → Keeps slot a d
 keeps_then slot a b d s t = record {
   slots = λ place j is. t.slots place j (s.slots place j is);
-  places = λ x place is. t.places x place (s.places x place is);
+  own = λ x j is. t.own x j (s.own x j is);
   indexed = λ slots last is. t.indexed slots last (s.indexed slots last is);
 }
 
-pub keeps_places : (slot : ℕ) (old new : Lists) → new.index ≡ old.index → ((x : ℕ) (place : Place) → IsIn place (places_of old.touched.items x) → IsIn place (places_of new.touched.items x)) → Keeps slot old new
-keeps_places slot old new same grows = record {
+pub keeps_own : (slot : ℕ) (old new : Lists) → new.index ≡ old.index → ((x j : ℕ) → IsIn j (own_at old.touched.items x) → IsIn j (own_at new.touched.items x)) → Keeps slot old new
+keeps_own slot old new same grows = record {
   slots = slots;
-  places = grows;
+  own = grows;
   indexed = λ all last is. record {
     listed = λ j. some_more (IsListed old j) (IsListed new j) (slot_at all j) (λ v. listed_more old new slot j v slots grows) (is.listed j);
     ascending = λ place. subst (λ (x : Index). IsAscending (slots_at x place)) (sym same) (is.ascending place);
@@ -81,9 +89,9 @@ pub keeps_slots : (slot : ℕ) (old new : Lists) → new.touched ≡ old.touched
     → ((place : Place) → (slots_at new.index place ≡ slots_at old.index place) ⊎ (slots_at new.index place ≡ slots_at old.index place ++ slot ∷ [])) → Keeps slot old new
 keeps_slots slot old new same grows = record {
   slots = slots;
-  places = places;
+  own = own;
   indexed = λ all last is. record {
-    listed = λ j. some_more (IsListed old j) (IsListed new j) (slot_at all j) (λ v. listed_more old new slot j v slots places) (is.listed j);
+    listed = λ j. some_more (IsListed old j) (IsListed new j) (slot_at all j) (λ v. listed_more old new slot j v slots own) (is.listed j);
     ascending = λ place. ascending place all last (is.ascending place) (is.below place) (grows place);
     below = λ place. below place all last (is.below place) (grows place);
   };
@@ -93,8 +101,8 @@ keeps_slots slot old new same grows = record {
     slots place j is =
         elim (grows place) [ inl as_was ↦ subst (IsIn j) (sym as_was) is | inr more ↦ subst (IsIn j) (sym more) (in_front j (slots_at old.index place) (slot ∷ []) is) ]
 
-    places : (x : ℕ) (place : Place) → IsIn place (places_of old.touched.items x) → IsIn place (places_of new.touched.items x)
-    places x place is = subst (λ t. IsIn place (places_of t.items x)) (sym same) is
+    own : (x j : ℕ) → IsIn j (own_at old.touched.items x) → IsIn j (own_at new.touched.items x)
+    own x j is = subst (λ t. IsIn j (own_at t.items x)) (sym same) is
 
     ascending : (place : Place) (all : List (Option Version)) → length all ≡ slot + 1 → IsAscending (slots_at old.index place) → AllByRecursion (λ j. j < length all) (slots_at old.index place)
         → (slots_at new.index place ≡ slots_at old.index place) ⊎ (slots_at new.index place ≡ slots_at old.index place ++ slot ∷ []) → IsAscending (slots_at new.index place)
@@ -128,10 +136,10 @@ indexed_set slots lists i o within is new = record {
     by j (inr other) = along (IsListed lists j) (slot_at slots j) (slot_at (set slots i o) j) (sym other) (is.listed j)
 
 -- a step is made at each slot
-pub indexed_map : (step : Option Version → Option Version) (slots : List (Option Version)) (lists : Lists) → step None ≡ None → ((j : ℕ) (o : Option Version) → IfSome o (IsListed lists j) → IfSome (step o) (IsListed lists j))
+pub indexed_map : (step : Option Version → Option Version) (slots : List (Option Version)) (lists : Lists) → step None ≡ None → ((j : ℕ) → IfSome (slot_at slots j) (IsListed lists j) → IfSome (step (slot_at slots j)) (IsListed lists j))
     → IsIndexed slots lists → IsIndexed (map step slots) lists
 indexed_map step slots lists none stays is = record {
-  listed = λ j. along (IsListed lists j) (step (slot_at slots j)) (slot_at (map step slots) j) (sym (slot_at-map step none slots j)) (stays j (slot_at slots j) (is.listed j));
+  listed = λ j. along (IsListed lists j) (step (slot_at slots j)) (slot_at (map step slots) j) (sym (slot_at-map step none slots j)) (stays j (is.listed j));
   ascending = is.ascending;
   below = λ place. subst (λ n. AllByRecursion (λ j. j < n) (slots_at lists.index place)) (sym (length-map slots step)) (is.below place);
 }
@@ -216,10 +224,11 @@ found_unnamed slot row old new key is_key unnamed first = record {
 }
 
 -- what makes a slot ready for a change
-pub is_ready : (lists : Lists) (stamp : Stamp) (slot : ℕ) (change : Change) → IsIn (change_place change) (places_of lists.touched.items stamp.xid.0) → IfSome (added_row change) (IsFound lists.index slot) → IsReady lists stamp slot change
-is_ready lists stamp slot (Insert row) wrote found = record { added = record { row = found.by_key; name = found.by_name; writer = wrote; ender = tt }; ended = tt }
-is_ready lists stamp slot (Replace row) wrote found = record { added = record { row = found.by_key; name = found.by_name; writer = wrote; ender = tt }; ended = wrote }
-is_ready lists stamp slot (Delete key) wrote found = record { added = tt; ended = wrote }
+pub is_ready : (lists : Lists) (committed : List Bool) (stamp : Stamp) (slots : List (Option Version)) (slot : ℕ) (change : Change) → IsIn slot (own_at lists.touched.items stamp.xid.0)
+    → ((i : ℕ) → ends_at committed stamp change slots i ≡ true → IsIn i (own_at lists.touched.items stamp.xid.0)) → IfSome (added_row change) (IsFound lists.index slot) → IsReady lists committed stamp slots slot change
+is_ready lists committed stamp slots slot (Insert row) wrote ends found = record { added = record { row = found.by_key; name = found.by_name; writer = wrote; ender = tt }; ended = ends }
+is_ready lists committed stamp slots slot (Replace row) wrote ends found = record { added = record { row = found.by_key; name = found.by_name; writer = wrote; ender = tt }; ended = ends }
+is_ready lists committed stamp slots slot (Delete key) wrote ends found = record { added = tt; ended = ends }
 
 -- the element at a place of a list
 pub all_at : (P : ℕ → Type 0) (xs : List ℕ) (k d : ℕ) → AllByRecursion P xs → k < length xs → P (get_or xs k d)
@@ -235,17 +244,26 @@ found_at test slots lists place list is_list is has =
     ∙ listed_find test slots (slots_at lists.index place) (is.ascending place) (λ j v here pass. has v pass j (subst (λ o. IfSome o (IsListed lists j)) here (is.listed j)))
 
 -- one more empty slot that is ready for the next change
-pub prepared_more : (old new : Lists) (stamp : Stamp) (changes : List Change) (change : Change) (slots : List (Option Version)) (first i slot : ℕ) → i < length changes → change ≡ get_or changes i change → slot ≡ first + i → Keeps slot old new
-    → IsReady new stamp slot change → IsPrepared old stamp changes slots first i → IsPrepared new stamp changes (slots ++ None ∷ []) first (i + 1)
-prepared_more old new stamp changes change slots first i slot within is at keeps ready p = record {
+pub prepared_more : (old new : Lists) (committed : List Bool) (stamp : Stamp) (changes : List Change) (change : Change) (slots : List (Option Version)) (first i slot : ℕ) → i < length changes → change ≡ get_or changes i change → slot ≡ first + i
+    → Keeps slot old new → IsReady new committed stamp (slots ++ None ∷ []) slot change → IsPrepared old committed stamp changes slots first i → IsPrepared new committed stamp changes (slots ++ None ∷ []) first (i + 1)
+prepared_more old new committed stamp changes change slots first i slot within is at keeps ready p = record {
   room = length_push slots None ∙ omega (arith, p.room);
   empty = λ j le. slot_at-push slots j ∙ p.empty j le;
   ready = λ m other lt same. by m other lt same (cases_eq m i);
 }
   where
-    by : (m : ℕ) (other : Change) → m < i + 1 → other ≡ get_or changes m other → (m ≡ i) ⊎ (m ≢ i) → IsReady new stamp (first + m) other
+    by : (m : ℕ) (other : Change) → m < i + 1 → other ≡ get_or changes m other → (m ≡ i) ⊎ (m ≢ i) → IsReady new committed stamp (slots ++ None ∷ []) (first + m) other
     by m other lt same (inl here) =
         let one : change ≡ other = is ∙ get_or_default changes i change other within ∙ ap (λ k. get_or changes k other) (sym here) ∙ sym same in
         let place : slot ≡ first + m = omega (arith, at, here) in
-        subst (λ x. IsReady new stamp (first + m) x) one (subst (λ n. IsReady new stamp n change) place ready)
-    by m other lt same (inr before) = ready_more old new stamp (first + m) other slot keeps (p.ready m other (omega (arith, before)) same)
+        subst (λ x. IsReady new committed stamp (slots ++ None ∷ []) (first + m) x) one (subst (λ n. IsReady new committed stamp (slots ++ None ∷ []) n change) place ready)
+    by m other lt same (inr before) =
+        ready_push new committed stamp slots (first + m) other (ready_more old new committed stamp slots (first + m) other slot keeps (p.ready m other (omega (arith, before)) same))
+
+-- the same where its row was to be listed
+pub ready_found : (old new : Lists) (committed : List Bool) (stamp : Stamp) (slots : List (Option Version)) (slot : ℕ) (change : Change) (row : Row) (result : Result (Unit {0}) NoMemory) → new.touched ≡ old.touched → IsIn slot (own_at old.touched.items stamp.xid.0)
+    → ((i : ℕ) → ends_at committed stamp change slots i ≡ true → IsIn i (own_at old.touched.items stamp.xid.0)) → Some row ≡ added_row change → OnOk result (IsFound new.index slot row) → OnOk result (IsReady new committed stamp slots slot change)
+ready_found old new committed stamp slots slot change row (Err error) same wrote ends adds found = tt
+ready_found old new committed stamp slots slot change row (Ok done) same wrote ends adds found =
+    is_ready new committed stamp slots slot change (subst (λ t. IsIn slot (own_at t.items stamp.xid.0)) (sym same) wrote) (λ i e. subst (λ t. IsIn i (own_at t.items stamp.xid.0)) (sym same) (ends i e))
+    (subst (λ o. IfSome o (IsFound new.index slot)) adds found)

@@ -1,7 +1,8 @@
 -- Slots of versions: steps at them, the versions in them, and the search through a list of them.
-use Rattle.std.proofs.Common.{◌≡◌, ◌≢◌, ◌≤◌, ◌<◌, ◌∙◌, ◌⊎◌, inl, inr, ℕ, zero, suc, Bool, true, false, not, cond, if◌then◌else◌, Option, Some, None, List, [], ◌∷◌, ◌++◌, length, map, filter, flat_map, set, sym, ap, refl, subst, get_or-set_same, get_or-set_other, arith}
+use Rattle.std.proofs.Common.{◌≡◌, ◌≢◌, ◌≤◌, ◌<◌, ◌∙◌, ◌⊎◌, inl, inr, ℕ, zero, suc, Bool, true, false, not, cond, if◌then◌else◌, Option, Some, None, List, [], ◌∷◌, ◌++◌, length, map, filter, set, sym, ap, refl, get_or-set_same, get_or-set_other, arith}
 use Rattle.std.proofs.Math.Seq.{map-set_same}
 use Rattle.std.proofs.lemmas.Bool.{cases_eq}
+use Rattle.std.proofs.lemmas.List.{get_or_past}
 use Rattle.catalog_rows.specs.Types.{Stamp, Version}
 use Rattle.catalog_rows.specs.Store.{restored, taken_back, option_items}
 use Rattle.catalog_rows.specs.Index.{slot_at, versions_in, IsIn, Settles, slot_changed, slot_back}
@@ -20,11 +21,6 @@ in_front x (y ∷ xs) ys (inr rest) = inr (in_front x xs ys rest)
 pub in_behind : {X : Type 0} (x : X) (xs ys : List X) → IsIn x ys → IsIn x (xs ++ ys)
 in_behind x [] ys is = is
 in_behind x (y ∷ xs) ys is = inr (in_behind x xs ys is)
-
-pub in_flat : {X : Type 0} (f : X → List ℕ) (j : ℕ) (x : X) (xs : List X) → IsIn x xs → IsIn j (f x) → IsIn j (flat_map f xs)
-in_flat f j x [] none is = absurd none
-in_flat f j x (y ∷ xs) (inl same) is = in_front j (f y) (flat_map f xs) (subst (λ z. IsIn j (f z)) same is)
-in_flat f j x (y ∷ xs) (inr rest) is = in_behind j (f y) (flat_map f xs) (in_flat f j x xs rest is)
 
 -- a slot after another is written, or it itself
 pub slot_at-set : (slots : List (Option Version)) (i j : ℕ) (o : Option Version) → i < length slots → ((j ≡ i) × (slot_at (set slots i o) j ≡ o)) ⊎ (slot_at (set slots i o) j ≡ slot_at slots j)
@@ -56,7 +52,7 @@ settles_both step xs ys a b d s t = record {
   stays = λ j is. t.stays j (s.stays j is);
 }
 
-settles_one : (step : Option Version → Option Version) → ((o : Option Version) → step (step o) ≡ step o) → (i : ℕ) (slots : List (Option Version)) → i < length slots → Settles step (i ∷ []) slots (set slots i (step (slot_at slots i)))
+pub settles_one : (step : Option Version → Option Version) → ((o : Option Version) → step (step o) ≡ step o) → (i : ℕ) (slots : List (Option Version)) → i < length slots → Settles step (i ∷ []) slots (set slots i (step (slot_at slots i)))
 settles_one step twice i slots within = record {
   same = map-set_same step slots i (step (slot_at slots i)) None (twice (slot_at slots i));
   listed = λ j is. here j is;
@@ -78,6 +74,18 @@ settles_one step twice i slots within = record {
 pub settles_more : (step : Option Version → Option Version) → ((o : Option Version) → step (step o) ≡ step o) → (list : List ℕ) (i : ℕ) (old slots : List (Option Version)) → i < length slots → Settles step list old slots
     → Settles step (list ++ i ∷ []) old (set slots i (step (slot_at slots i)))
 settles_more step twice list i old slots within s = settles_both step list (i ∷ []) old slots (set slots i (step (slot_at slots i))) s (settles_one step twice i slots within)
+
+-- a slot that there isn't
+pub settles_past : (step : Option Version → Option Version) → step None ≡ None → (list : List ℕ) (i : ℕ) (old slots : List (Option Version)) → length slots ≤ i → Settles step list old slots → Settles step (list ++ i ∷ []) old slots
+settles_past step none list i old slots past s = record {
+  same = s.same;
+  listed = λ j is. elim (in_append j list (i ∷ []) is) [ inl front ↦ s.listed j front | inr behind ↦ here j behind ];
+  stays = s.stays;
+}
+  where
+    here : (j : ℕ) → IsIn j (i ∷ []) → step (slot_at slots j) ≡ slot_at slots j
+    here j (inl same) = let no : slot_at slots j ≡ None = ap (slot_at slots) same ∙ get_or_past slots i None past in ap step no ∙ none ∙ sym no
+    here j (inr never) = absurd never
 
 fixed : (step : Option Version → Option Version) (slots : List (Option Version)) → ((j : ℕ) → step (slot_at slots j) ≡ slot_at slots j) → map step slots ≡ slots
 fixed step [] each = refl

@@ -1,19 +1,18 @@
 -- The two steps at a slot: a change ends its version, and what a transaction did there is taken back.
-use Rattle.std.proofs.Common.{◌≡◌, ◌≢◌, ◌<◌, ◌≤◌, ◌+◌, ◌∙◌, ◌&&◌, ◌||◌, ◌==◌, ◌⊎◌, inl, inr, ℕ, Bool, true, false, not, if◌then◌else◌, Option, Some, None, IfSome, List, [], ◌∷◌, ◌++◌, nat_le, length, map, set, take, get_or, get_or-set_other, flat_map, sym, ap, refl, subst, arith}
+use Rattle.std.proofs.Common.{◌≡◌, ◌≢◌, ◌<◌, ◌≤◌, ◌+◌, ◌∙◌, ◌&&◌, ◌||◌, ◌==◌, ◌⊎◌, inl, inr, ℕ, Bool, true, false, not, if◌then◌else◌, Option, Some, None, IfSome, List, [], ◌∷◌, ◌++◌, nat_le, length, map, set, take, get_or, get_or-set_other, sym, ap, refl, subst, arith}
 use Rattle.std.specs.Option.{option_map_or}
 use Rattle.std.proofs.lemmas.Bool.{eqb-true, eq-eqb, and_parts}
-use Rattle.std.proofs.lemmas.List.{take_more, length-map, append-nil}
-use Rattle.std.proofs.lemmas.Grind.{flat_map-append}
+use Rattle.std.proofs.lemmas.List.{take_more, length-map}
 use Rattle.std.proofs.Math.Bool.{or-true}
 use Rattle.base_types.specs.declared.row_key.RowKey.TheVariants as keys
 use Rattle.base_types.specs.RowKeys.{key_of, same_key}
 use Rattle.row_visibility.specs.Seen.{seen_by}
-use Rattle.catalog_rows.specs.Types.{RowKey, Change, Xid, Stamp, Version}
+use Rattle.catalog_rows.specs.Types.{RowKey, Insert, Replace, Delete, Change, Xid, Stamp, Version}
 use Rattle.catalog_rows.specs.Store.{has_committed, counts, is_ended, ended_key, end_if, new_version, option_items, after_change, is_back, restored}
 use Rattle.catalog_rows.specs.declared.index.Place.{Place}
 use Rattle.catalog_rows.specs.declared.lists.Lists.{Lists}
-use Rattle.catalog_rows.specs.Index.{slot_at, versions_in, slots_at, places_of, key_place, row_place, IsIn, IsListed, IsIndexed, IsReady, Settles, slot_changed, slot_back}
-use Rattle.catalog_rows.proofs.Slots.{in_flat, slot_at-map, settles_none, settles_both, settles_more, settled, versions_in-changed, versions_in-last}
+use Rattle.catalog_rows.specs.Index.{slot_at, versions_in, slots_at, own_at, ends_at, key_place, IsIn, IsListed, IsIndexed, IsReady, Settles, slot_changed, slot_back}
+use Rattle.catalog_rows.proofs.Slots.{slot_at-set, slot_at-map, settles_none, settles_both, settles_more, settled, versions_in-changed, versions_in-last}
 use Rattle.catalog_rows.proofs.Listed.{indexed_map, indexed_set}
 
 -- one key has one place
@@ -52,6 +51,11 @@ never_both true true = refl
 own_counts : (committed : List Bool) (stamp : Stamp) → counts committed (Some stamp.xid) stamp ≡ true
 own_counts committed stamp = ap (λ t. has_committed committed stamp.xid.0 || t) (eq-eqb stamp.xid.0 stamp.xid.0 refl) ∙ or-true (has_committed committed stamp.xid.0)
 
+own_end : (committed : List Bool) (stamp : Stamp) (change : Change) (v : Version) → is_ended committed stamp change (record { row = v.row; by = v.by; ended = Some stamp }) ≡ false
+own_end committed stamp change v =
+    ap (λ t. option_map_or (same_key (key_of v.row)) (ended_key change) false && (counts committed (Some stamp.xid) v.by && not t)) (own_counts committed stamp)
+    ∙ never_both (option_map_or (same_key (key_of v.row)) (ended_key change) false) (counts committed (Some stamp.xid) v.by)
+
 -- what a change has ended it doesn't end again
 pub ended_twice : (committed : List Bool) (stamp : Stamp) (change : Change) (o : Option Version)
     → slot_changed (end_if (is_ended committed stamp change) stamp) (slot_changed (end_if (is_ended committed stamp change) stamp) o) ≡ slot_changed (end_if (is_ended committed stamp change) stamp) o
@@ -61,10 +65,7 @@ ended_twice committed stamp change (Some v) = ap Some (by (is_ended committed st
     by : (t : Bool) → is_ended committed stamp change v ≡ t → end_if (is_ended committed stamp change) stamp (end_if (is_ended committed stamp change) stamp v) ≡ end_if (is_ended committed stamp change) stamp v
     by true is =
         let yes : end_if (is_ended committed stamp change) stamp v ≡ record { row = v.row; by = v.by; ended = Some stamp } = end_if_yes (is_ended committed stamp change) stamp v is in
-        let no : is_ended committed stamp change (record { row = v.row; by = v.by; ended = Some stamp }) ≡ false =
-        ap (λ t. option_map_or (same_key (key_of v.row)) (ended_key change) false && (counts committed (Some stamp.xid) v.by && not t)) (own_counts committed stamp)
-        ∙ never_both (option_map_or (same_key (key_of v.row)) (ended_key change) false) (counts committed (Some stamp.xid) v.by) in
-        ap (end_if (is_ended committed stamp change) stamp) yes ∙ end_if_no (is_ended committed stamp change) stamp (record { row = v.row; by = v.by; ended = Some stamp }) no ∙ sym yes
+        ap (end_if (is_ended committed stamp change) stamp) yes ∙ end_if_no (is_ended committed stamp change) stamp (record { row = v.row; by = v.by; ended = Some stamp }) (own_end committed stamp change v) ∙ sym yes
     by false is = ap (end_if (is_ended committed stamp change) stamp) (end_if_no (is_ended committed stamp change) stamp v is)
 
 -- a change without a key ends no version
@@ -74,10 +75,6 @@ unended committed stamp change none (Some v) =
     ap Some (end_if_no (is_ended committed stamp change) stamp v (ap (λ o. option_map_or (same_key (key_of v.row)) o false && seen_by (counts committed (Some stamp.xid)) v) none))
 
 -- a version that a change ends is listed with the key of the change
-has_key : (k : RowKey) (o : Option RowKey) (P : Place → Type 0) → option_map_or (same_key k) o false ≡ true → IfSome o (λ key. P (key_place key)) → P (key_place k)
-has_key k None P is found = let never : false ≡ true = is in absurd (cc)
-has_key k (Some key) P is found = subst P (sym (same_key_place k key is)) found
-
 covers_end : (committed : List Bool) (stamp : Stamp) (change : Change) (key : RowKey) (lists : Lists) (j : ℕ) (o : Option Version) → Some key ≡ ended_key change → IfSome o (IsListed lists j)
     → (slot_changed (end_if (is_ended committed stamp change) stamp) o ≡ o) ⊎ IsIn j (slots_at lists.index (key_place key))
 covers_end committed stamp change key lists j None ends listed = inl refl
@@ -100,30 +97,75 @@ pub ended_none : (committed : List Bool) (stamp : Stamp) (change : Change) (old 
 ended_none committed stamp change old none =
     settled (slot_changed (end_if (is_ended committed stamp change) stamp)) [] old old (λ j. inl (unended committed stamp change none (slot_at old j))) (settles_none (slot_changed (end_if (is_ended committed stamp change) stamp)) old)
 
-ended_listed : (committed : List Bool) (stamp : Stamp) (change : Change) (lists : Lists) (j : ℕ) (o : Option Version) → IfSome (ended_key change) (λ key. IsIn (key_place key) (places_of lists.touched.items stamp.xid.0))
+ended_listed : (committed : List Bool) (stamp : Stamp) (change : Change) (lists : Lists) (j : ℕ) (o : Option Version) → (option_map_or (is_ended committed stamp change) o false ≡ true → IsIn j (own_at lists.touched.items stamp.xid.0))
     → IfSome o (IsListed lists j) → IfSome (slot_changed (end_if (is_ended committed stamp change) stamp) o) (IsListed lists j)
-ended_listed committed stamp change lists j None wrote listed = tt
-ended_listed committed stamp change lists j (Some v) wrote listed = by (is_ended committed stamp change v) refl
+ended_listed committed stamp change lists j None own listed = tt
+ended_listed committed stamp change lists j (Some v) own listed = by (is_ended committed stamp change v) refl
   where
     by : (t : Bool) → is_ended committed stamp change v ≡ t → IsListed lists j (end_if (is_ended committed stamp change) stamp v)
     by true is =
-        let parts = and_parts (option_map_or (same_key (key_of v.row)) (ended_key change) false) (seen_by (counts committed (Some stamp.xid)) v) is in
-        subst (IsListed lists j) (sym (end_if_yes (is_ended committed stamp change) stamp v is))
-        (record {
-          row = listed.row;
-          name = listed.name;
-          writer = listed.writer;
-          ender = has_key (key_of v.row) (ended_key change) (λ p. IsIn p (places_of lists.touched.items stamp.xid.0)) parts.0 wrote;
-        })
+        subst (IsListed lists j) (sym (end_if_yes (is_ended committed stamp change) stamp v is)) (record { row = listed.row; name = listed.name; writer = listed.writer; ender = own is })
     by false is = subst (IsListed lists j) (sym (end_if_no (is_ended committed stamp change) stamp v is)) listed
 
+-- a slot whose version a change ends is in the list of the change's key
+pub ends_listed : (committed : List Bool) (stamp : Stamp) (change : Change) (key : RowKey) (place : Place) (slots : List (Option Version)) (lists : Lists) (list : List ℕ) → Some key ≡ ended_key change → place ≡ key_place key
+    → list ≡ slots_at lists.index place → IsIndexed slots lists → (i : ℕ) → ends_at committed stamp change slots i ≡ true → IsIn i list
+ends_listed committed stamp change key place slots lists list ends is_place is_list is i at_slot =
+    subst (IsIn i) (sym (is_list ∙ ap (slots_at lists.index) is_place)) (of (slot_at slots i) (is.listed i) at_slot)
+  where
+    of : (o : Option Version) → IfSome o (IsListed lists i) → option_map_or (is_ended committed stamp change) o false ≡ true → IsIn i (slots_at lists.index (key_place key))
+    of None listed ended = let never : false ≡ true = ended in absurd (cc)
+    of (Some v) listed ended =
+        let parts = and_parts (option_map_or (same_key (key_of v.row)) (ended_key change) false) (seen_by (counts committed (Some stamp.xid)) v) ended in
+        let same : same_key (key_of v.row) key ≡ true = ap (λ o. option_map_or (same_key (key_of v.row)) o false) ends ∙ parts.0 in
+        subst (λ p. IsIn i (slots_at lists.index p)) (same_key_place (key_of v.row) key same) listed.row
+
+pub ends_none : (committed : List Bool) (stamp : Stamp) (change : Change) (slots : List (Option Version)) (P : ℕ → Type 0) → ended_key change ≡ None → (i : ℕ) → ends_at committed stamp change slots i ≡ true → P i
+ends_none committed stamp change slots P none i at_slot = of (slot_at slots i) at_slot
+  where
+    of : (o : Option Version) → option_map_or (is_ended committed stamp change) o false ≡ true → P i
+    of None ended = let never : false ≡ true = ended in absurd (cc)
+    of (Some v) ended = let never : false ≡ true = sym (ap (λ o. option_map_or (same_key (key_of v.row)) o false && seen_by (counts committed (Some stamp.xid)) v) none) ∙ ended in absurd (cc)
+
+-- what a change leaves to be ended by another of its transaction was there, or is its own
+pub ready_stays : (lists : Lists) (committed : List Bool) (stamp : Stamp) (change other : Change) (slot j : ℕ) (old new : List (Option Version)) → slot < length old → IfSome (new_version stamp change) (IsListed lists slot)
+    → new ≡ set (map (slot_changed (end_if (is_ended committed stamp change) stamp)) old) slot (new_version stamp change) → IsReady lists committed stamp old j other → IsReady lists committed stamp new j other
+ready_stays lists committed stamp change other slot j old new within added is ready = record {
+  added = ready.added;
+  ended = λ i ends. at_slot i (ap (λ (xs : List (Option Version)). ends_at committed stamp other xs i) (sym is) ∙ ends) (slot_at-set (map (slot_changed step) old) slot i (new_version stamp change) (omega (arith, length-map old (slot_changed step), within)));
+}
+  where
+    step : Version → Version
+    step = end_if (is_ended committed stamp change) stamp
+
+    made : (c : Change) → IfSome (new_version stamp c) (IsListed lists slot) → option_map_or (is_ended committed stamp other) (new_version stamp c) false ≡ true → IsIn slot (own_at lists.touched.items stamp.xid.0)
+    made (Insert row) listed ended = listed.writer
+    made (Replace row) listed ended = listed.writer
+    made (Delete key) listed ended = let never : false ≡ true = ended in absurd (cc)
+
+    kept : (o : Option Version) → option_map_or (is_ended committed stamp other) (slot_changed step o) false ≡ true → option_map_or (is_ended committed stamp other) o false ≡ true
+    kept None ended = ended
+    kept (Some v) ended = by (is_ended committed stamp change v) refl
+      where
+        by : (t : Bool) → is_ended committed stamp change v ≡ t → is_ended committed stamp other v ≡ true
+        by false not_ended = sym (ap (is_ended committed stamp other) (end_if_no (is_ended committed stamp change) stamp v not_ended)) ∙ ended
+        by true is_now =
+            let never : false ≡ true = sym (own_end committed stamp other v) ∙ sym (ap (is_ended committed stamp other) (end_if_yes (is_ended committed stamp change) stamp v is_now)) ∙ ended in absurd (cc)
+
+    at_slot : (i : ℕ) → ends_at committed stamp other (set (map (slot_changed step) old) slot (new_version stamp change)) i ≡ true
+        → ((i ≡ slot) × (slot_at (set (map (slot_changed step) old) slot (new_version stamp change)) i ≡ new_version stamp change)) ⊎ (slot_at (set (map (slot_changed step) old) slot (new_version stamp change)) i ≡ slot_at (map (slot_changed step) old) i)
+        → IsIn i (own_at lists.touched.items stamp.xid.0)
+    at_slot i ends (inl here) =
+        subst (λ n. IsIn n (own_at lists.touched.items stamp.xid.0)) (sym here.0) (made change added (sym (ap (λ o. option_map_or (is_ended committed stamp other) o false) here.1) ∙ ends))
+    at_slot i ends (inr there) = ready.ended i (kept (slot_at old i) (sym (ap (λ o. option_map_or (is_ended committed stamp other) o false) (there ∙ slot_at-map (slot_changed step) refl old i)) ∙ ends))
+
 -- the slots after a change is made in one
-pub changed_indexed : (committed : List Bool) (stamp : Stamp) (change : Change) (lists : Lists) (slot : ℕ) (old ended : List (Option Version)) (o : Option Version) → IsIndexed old lists → IsReady lists stamp slot change → slot < length old
+pub changed_indexed : (committed : List Bool) (stamp : Stamp) (change : Change) (lists : Lists) (slot : ℕ) (old ended : List (Option Version)) (o : Option Version) → IsIndexed old lists → IsReady lists committed stamp old slot change → slot < length old
     → ended ≡ map (slot_changed (end_if (is_ended committed stamp change) stamp)) old → o ≡ new_version stamp change → IsIndexed (set ended slot o) lists
 changed_indexed committed stamp change lists slot old ended o is ready within by_step new =
     let step = slot_changed (end_if (is_ended committed stamp change) stamp) in
     let all : IsIndexed (map (slot_changed (end_if (is_ended committed stamp change) stamp)) old) lists =
-    indexed_map (slot_changed (end_if (is_ended committed stamp change) stamp)) old lists refl (λ j v. ended_listed committed stamp change lists j v ready.ended) is in
+    indexed_map (slot_changed (end_if (is_ended committed stamp change) stamp)) old lists refl (λ j. ended_listed committed stamp change lists j (slot_at old j) (ready.ended j)) is in
     let lt : slot < length (map (slot_changed (end_if (is_ended committed stamp change) stamp)) old) = omega (arith, length-map old (slot_changed (end_if (is_ended committed stamp change) stamp)), within) in
     subst (λ (xs : List (Option Version)). IsIndexed (set xs slot o) lists) (sym by_step) (indexed_set (map (slot_changed (end_if (is_ended committed stamp change) stamp)) old) lists slot o lt all (subst (λ x. IfSome x (IsListed lists slot)) (sym new) ready.added))
 
@@ -179,38 +221,30 @@ back_listed back lists j (Some v) listed = by (back v.by) refl (option_map_or ba
         subst (λ o. IfSome o (IsListed lists j)) (sym (back_no back v is ∙ ap Some (restored_yes back v ended))) (record { row = listed.row; name = listed.name; writer = listed.writer; ender = tt })
     by false is false ended = subst (λ o. IfSome o (IsListed lists j)) (sym (back_no back v is ∙ ap Some (restored_no back v ended))) listed
 
--- the lists of the transaction's rows have all slots where something is taken back
-its_place : (xid : Xid) (from : ℕ) (stamp : Stamp) (P : ℕ → Type 0) → is_back xid from stamp ≡ true → P stamp.xid.0 → P xid.0
-its_place xid from stamp P is found = subst P (eqb-true stamp.xid.0 xid.0 (and_parts (stamp.xid.0 == xid.0) (nat_le from stamp.command) is).0) found
+-- the list of the transaction has all slots where something is taken back
+its_own : (xid : Xid) (from : ℕ) (stamp : Stamp) (P : ℕ → Type 0) → is_back xid from stamp ≡ true → P stamp.xid.0 → P xid.0
+its_own xid from stamp P is found = subst P (eqb-true stamp.xid.0 xid.0 (and_parts (stamp.xid.0 == xid.0) (nat_le from stamp.command) is).0) found
 
-ended_place : (xid : Xid) (from : ℕ) (e : Option Stamp) (P : ℕ → Type 0) → option_map_or (is_back xid from) e false ≡ true → IfSome e (λ stamp. P stamp.xid.0) → P xid.0
-ended_place xid from None P is found = let never : false ≡ true = is in absurd (cc)
-ended_place xid from (Some stamp) P is found = its_place xid from stamp P is found
+ended_own : (xid : Xid) (from : ℕ) (e : Option Stamp) (P : ℕ → Type 0) → option_map_or (is_back xid from) e false ≡ true → IfSome e (λ stamp. P stamp.xid.0) → P xid.0
+ended_own xid from None P is found = let never : false ≡ true = is in absurd (cc)
+ended_own xid from (Some stamp) P is found = its_own xid from stamp P is found
 
-covers_back : (xid : Xid) (from : ℕ) (lists : Lists) (j : ℕ) (o : Option Version) → IfSome o (IsListed lists j)
-    → (slot_back (is_back xid from) o ≡ o) ⊎ IsIn j (flat_map (slots_at lists.index) (places_of lists.touched.items xid.0))
+covers_back : (xid : Xid) (from : ℕ) (lists : Lists) (j : ℕ) (o : Option Version) → IfSome o (IsListed lists j) → (slot_back (is_back xid from) o ≡ o) ⊎ IsIn j (own_at lists.touched.items xid.0)
 covers_back xid from lists j None listed = inl refl
 covers_back xid from lists j (Some v) listed = by (is_back xid from v.by) refl (option_map_or (is_back xid from) v.ended false) refl
   where
-    found : IsIn (row_place v.row) (places_of lists.touched.items xid.0) → IsIn j (flat_map (slots_at lists.index) (places_of lists.touched.items xid.0))
-    found wrote = in_flat (slots_at lists.index) j (row_place v.row) (places_of lists.touched.items xid.0) wrote listed.row
-
-    by : (t : Bool) → is_back xid from v.by ≡ t → (s : Bool) → option_map_or (is_back xid from) v.ended false ≡ s → (slot_back (is_back xid from) (Some v) ≡ Some v) ⊎ IsIn j (flat_map (slots_at lists.index) (places_of lists.touched.items xid.0))
-    by true is s ended = inr (found (its_place xid from v.by (λ x. IsIn (row_place v.row) (places_of lists.touched.items x)) is listed.writer))
-    by false is true ended = inr (found (ended_place xid from v.ended (λ x. IsIn (row_place v.row) (places_of lists.touched.items x)) ended listed.ender))
+    by : (t : Bool) → is_back xid from v.by ≡ t → (s : Bool) → option_map_or (is_back xid from) v.ended false ≡ s → (slot_back (is_back xid from) (Some v) ≡ Some v) ⊎ IsIn j (own_at lists.touched.items xid.0)
+    by true is s ended = inr (its_own xid from v.by (λ x. IsIn j (own_at lists.touched.items x)) is listed.writer)
+    by false is true ended = inr (ended_own xid from v.ended (λ x. IsIn j (own_at lists.touched.items x)) ended listed.ender)
     by false is false ended = inl (back_no (is_back xid from) v is ∙ ap Some (restored_no (is_back xid from) v ended))
 
-pub back_all : (xid : Xid) (from : ℕ) (lists : Lists) (places : List Place) (old new : List (Option Version)) → places ≡ places_of lists.touched.items xid.0 → IsIndexed old lists
-    → Settles (slot_back (is_back xid from)) (flat_map (slots_at lists.index) places) old new → new ≡ map (slot_back (is_back xid from)) old
-back_all xid from lists places old new are is settles =
-    settled (slot_back (is_back xid from)) (flat_map (slots_at lists.index) (places_of lists.touched.items xid.0)) old new (λ j. covers_back xid from lists j (slot_at old j) (is.listed j))
-    (subst (λ (ps : List Place). Settles (slot_back (is_back xid from)) (flat_map (slots_at lists.index) ps) old new) are settles)
+pub back_all : (xid : Xid) (from : ℕ) (lists : Lists) (list : List ℕ) (old new : List (Option Version)) → list ≡ own_at lists.touched.items xid.0 → IsIndexed old lists → Settles (slot_back (is_back xid from)) list old new
+    → new ≡ map (slot_back (is_back xid from)) old
+back_all xid from lists list old new is_own is settles =
+    settled (slot_back (is_back xid from)) (own_at lists.touched.items xid.0) old new (λ j. covers_back xid from lists j (slot_at old j) (is.listed j)) (subst (λ l. Settles (slot_back (is_back xid from)) l old new) is_own settles)
 
--- one more place
-pub places_next : (step : Option Version → Option Version) (lists : Lists) (places : List Place) (k : ℕ) (place d : Place) (list : List ℕ) (old mid new : List (Option Version)) → k < length places → place ≡ get_or places k d
-    → list ≡ slots_at lists.index place → Settles step (flat_map (slots_at lists.index) (take k places)) old mid → Settles step list mid new → Settles step (flat_map (slots_at lists.index) (take (k + 1) places)) old new
-places_next step lists places k place d list old mid new more is is_list s t =
-    let longer : flat_map (slots_at lists.index) (take (k + 1) places) ≡ flat_map (slots_at lists.index) (take k places) ++ slots_at lists.index place =
-    ap (flat_map (slots_at lists.index)) (take_more places k d more ∙ ap (λ p. take k places ++ p ∷ []) (sym is)) ∙ flat_map-append (slots_at lists.index) (take k places) (place ∷ [])
-    ∙ ap (λ l. flat_map (slots_at lists.index) (take k places) ++ l) (append-nil (slots_at lists.index place)) in
-    subst (λ l. Settles step l old new) (sym longer) (settles_both step (flat_map (slots_at lists.index) (take k places)) (slots_at lists.index place) old mid new s (subst (λ l. Settles step l mid new) is_list t))
+-- one more slot of a list
+pub list_next : (step : Option Version → Option Version) (list : List ℕ) (k slot d : ℕ) (old mid new : List (Option Version)) → k < length list → slot ≡ get_or list k d → Settles step (take k list) old mid → Settles step (slot ∷ []) mid new
+    → Settles step (take (k + 1) list) old new
+list_next step list k slot d old mid new more is s t =
+    subst (λ l. Settles step l old new) (sym (take_more list k d more ∙ ap (λ x. take k list ++ x ∷ []) (sym is))) (settles_both step (take k list) (slot ∷ []) old mid new s t)

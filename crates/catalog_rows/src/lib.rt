@@ -17,9 +17,9 @@
 //! ```
 //!
 //! Only a scan passes over all versions. A look-up, a name's test and a change pass over the versions
-//! of the one row or name, and a rollback over those of the rows that its transaction wrote: lists of
-//! slots say where these are (`src/lists.rt`), as the server's indexes do. The hash of a name stands for
-//! the name there.
+//! of the one row or name, and a rollback over those that its transaction wrote or ended: lists of slots
+//! say where these are (`src/lists.rt`), as the server's indexes do. The hash of a name stands for the
+//! name there.
 //!
 //! Different from the server: all catalogs are one list that a scan passes over, without pages; versions
 //! that nobody can see any more stay; a unique name is tested by [`RowStore::name_clash`], which answers

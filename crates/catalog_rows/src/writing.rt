@@ -1,4 +1,4 @@
-ghost use Rattle.std.specs.Prelude.{◌≡◌, ◌<◌, ◌≤◌, ◌+◌, ◌++◌, false, fold, map, length, replicate, slice_set, vec_len, vec_capacity, OnOk};
+ghost use Rattle.std.specs.Prelude.{◌≡◌, ◌<◌, ◌≤◌, ◌+◌, ◌++◌, ◌∷◌, [], false, fold, map, length, replicate, slice_set, vec_len, vec_capacity, OnOk};
 ghost use Rattle.std.specs.List.{AllByRecursion};
 ghost use Rattle.row_visibility.specs.Seen.{seen_by};
 ghost use Rattle.catalog_rows.specs.Store.{counts, is_ended as does_end, ended_key as key_ended, new_version as version_added, end_if, after_change, is_back as goes_back, taken_back};
@@ -32,17 +32,18 @@ pub(crate) fn is_standing(version: &Version, committed: &[bool], own: Option<Xid
 pub(crate) fn prepare(
     slots: &mut Vec<Option<Version>>,
     lists: &mut Lists,
+    committed: &[bool],
     stamp: Stamp,
     changes: &[Change],
 ) -> Result<(), NoMemory>
     requires { IsIndexed slots.old.items lists.old }
     ensures indexed { IsIndexed slots.new.items lists.new }
     ensures versions { versions_in slots.new.items ≡ versions_in slots.old.items }
-    ensures ok { OnOk result (IsPrepared lists.new stamp changes.now slots.new.items (vec_len slots.old) (length changes.now)) }
+    ensures ok { OnOk result (IsPrepared lists.new committed.now stamp changes.now slots.new.items (vec_len slots.old) (length changes.now)) }
 {
     for change in changes {
         slots.push(None)?;
-        lists.note(stamp, change, slots.len() - 1)?;
+        lists.note(slots, committed, stamp, change, slots.len() - 1)?;
     }
     Ok(())
 }
@@ -57,7 +58,7 @@ pub(crate) fn make_changes(
     first: usize,
 )
     requires indexed { IsIndexed slots.old lists.now }
-    requires prepared { IsPrepared lists.now stamp changes.now slots.old first (length changes.now) }
+    requires prepared { IsPrepared lists.now committed.now stamp changes.now slots.old first (length changes.now) }
     ensures indexed { IsIndexed slots.new lists.now }
     ensures versions { versions_in slots.new ≡ fold (after_change committed.now stamp) (versions_in slots.old) changes.now }
 {
@@ -76,7 +77,7 @@ fn make_change(
     slot: usize,
 )
     requires indexed { IsIndexed slots.old lists.now }
-    requires ready { IsReady lists.now stamp slot change.now }
+    requires ready { IsReady lists.now committed.now stamp slots.old slot change.now }
     requires within { slot < length slots.old }
     ensures indexed { IsIndexed slots.new lists.now }
     ensures slots { slots.new ≡ slice_set (map (slot_changed (end_if (does_end committed.now stamp change.now) stamp)) slots.old) slot (version_added stamp change.now) }
@@ -154,7 +155,7 @@ fn ended(
 }
 
 // Whether the change ends the version.
-fn is_ended(version: &Version, committed: &[bool], stamp: Stamp, change: &Change) -> bool
+pub(crate) fn is_ended(version: &Version, committed: &[bool], stamp: Stamp, change: &Change) -> bool
     ensures { result ≡ does_end committed.now stamp change.now version.now }
 {
     match ended_key(change) {
@@ -166,7 +167,7 @@ fn is_ended(version: &Version, committed: &[bool], stamp: Stamp, change: &Change
 }
 
 // The key of the row that a change ends.
-fn ended_key(change: &Change) -> Option<RowKey>
+pub(crate) fn ended_key(change: &Change) -> Option<RowKey>
     ensures { result ≡ key_ended change.now }
 {
     match change {
@@ -192,18 +193,17 @@ pub(crate) fn take_back(slots: &mut [Option<Version>], lists: &Lists, xid: Xid, 
     ensures indexed { IsIndexed slots.new lists.now }
     ensures versions { versions_in slots.new ≡ taken_back (goes_back xid from) (versions_in slots.old) }
 {
-    for place in lists.places(xid) {
-        take_back_listed(slots, lists.slots(*place), xid, from);
+    for slot in lists.own(xid) {
+        restore(slots, *slot, xid, from);
     }
 }
 
-// The same for the slots of a list.
-fn take_back_listed(slots: &mut [Option<Version>], list: &[usize], xid: Xid, from: u32)
-    requires { AllByRecursion (λ j. j < length slots.old) list.now }
-    ensures { Settles (slot_back (goes_back xid from)) list.now slots.old slots.new }
+// The same for one slot, if there is one of this number.
+fn restore(slots: &mut [Option<Version>], slot: usize, xid: Xid, from: u32)
+    ensures { Settles (slot_back (goes_back xid from)) (slot ∷ []) slots.old slots.new }
 {
-    for slot in list {
-        slots[*slot] = restored(slots[*slot], xid, from);
+    if slot < slots.len() {
+        slots[slot] = restored(slots[slot], xid, from);
     }
 }
 

@@ -6,5 +6,5 @@ abbrev pub invariant-loop-change : goal.invariant-loop-change
 invariant-loop-change l = record {
   indexed : IsIndexed l.slots.items l.lists;
   same : versions_in l.slots.items ≡ versions_in l.fn.slots.items;
-  prepared : IsPrepared l.lists l.stamp l.changes l.slots.items (vec_len l.fn.slots) l.change-index;
+  prepared : IsPrepared l.lists l.committed l.stamp l.changes l.slots.items (vec_len l.fn.slots) l.change-index;
 }
