@@ -1,28 +1,23 @@
 -- A backend that is about to do an act of its command's plan.
-use Rattle.std.proofs.Common.{◌≡◌, ◌≢◌, ◌⊎◌, inl, inr, ◌∙◌, ℕ, Bool, true, false, not, Option, Some, None, List, [], ◌∷◌, ◌&&◌, refl, sym, ap, subst, is_none, is_some, slice_get, length, map, unwrap_or}
-use Rattle.std.specs.Prelude.{nat_le}
+use Rattle.std.proofs.Common.{◌≡◌, ◌≢◌, inl, inr, ◌∙◌, Bool, true, false, not, Option, Some, None, List, [], ◌∷◌, ◌&&◌, refl, sym, ap, subst, is_none, is_some, slice_get}
 use Rattle.base_types.specs.Scenario.{Scenario}
 use Rattle.base_types.specs.declared.command.Command.TheVariants as commands
-use Rattle.base_types.specs.Fields.{has_field}
-use Rattle.base_types.specs.declared.dropped.TheConstants.{MOST_COLUMNS}
-use Rattle.rel_desc.specs.declared.error.CommandError.TheVariants as errors
-use Rattle.ddl_effect.specs.Plans.{Plan, Done, Fails, Absent, NotBuilt, Do, Open}
-use Rattle.ddl_effect.specs.Commands.{plan_of, if_passes, if_no_column, first_twice, opening, showing, writing, new_table}
+use Rattle.ddl_effect.specs.Plans.{Plan, Done, Fails, Absent, NotBuilt, Do, is_built}
+use Rattle.ddl_effect.specs.Commands.{plan_of}
 use Rattle.ddl_effect.specs.Blocks.{Block, Outside, Inside, Failed, no_block, ends_block, ends_failure, refused_in, refused_by}
 use Rattle.ddl_effect.specs.Stages.{plan_at}
 use Rattle.cacheless.specs.Owed.{Owes, OwesLook}
 use Rattle.cacheless.specs.Session.{Badly, outcome_of, is_settled, none_open, refused_first, plan_admitted, plan_first}
-use Rattle.backend_core.specs.Types.{Oid, Kind, Field, Command, CommandError, Row, Purpose, Entry, Backend}
+use Rattle.backend_core.specs.Types.{Oid, Kind, Command, CommandError, Purpose, Entry, Backend}
 use Rattle.backend_core.specs.NewTables.{SeesRelation}
 use Rattle.backend_core.specs.State.{is_ended, begins_in, act_missing, scans_missing, Rest, HasCommand}
-use Rattle.backend_core.specs.Agrees.{Well, RunsBy, TransactionFits, HasOpened, Way, Agrees}
+use Rattle.backend_core.specs.Agrees.{Well, RunsBy, TransactionFits, Agrees}
 use Rattle.backend_core.specs.Steps.{IsWorking}
+use Rattle.backend_core.specs.Way.{OnItsWay, Way}
+use Rattle.backend_core.proofs.CanFollow.{CanGoOn, can_go_on, can_follow, can_reach}
 use Rattle.backend_core.proofs.Carry.{missing_at}
-
--- an act is left
-abbrev pub acts : Plan → Bool
-acts (Do act rest) = true
-acts plan = false
+use Rattle.backend_core.proofs.Ending.{built_at}
+use Rattle.backend_core.proofs.Ways.{acts, acts_before}
 
 -- the command of a backend that is about to do an act: nothing has ended it, and its transaction runs
 pub record IsActing (seen : List Entry) (s : Backend) (rest : Rest) (command : Command) : Type 0 where
@@ -30,7 +25,8 @@ pub record IsActing (seen : List Entry) (s : Backend) (rest : Rest) (command : C
   pub unrefused : rest.refused ≡ None
   pub unblocked : s.blocked ≡ false
   pub goes : ends_block command ≡ false
-  pub way : Way seen s rest command
+  pub way : OnItsWay seen s rest command
+  pub can : CanGoOn (SeesRelation seen s.id) (plan_at s.exec)
   pub runs : is_some s.running ≡ true
 
 -- a command that only ends blocks has no act
@@ -39,12 +35,6 @@ acts_command commands.Commit acting = absurd (cc)
 acts_command commands.Rollback acting = absurd (cc)
 acts_command (commands.RollbackTo name) acting = absurd (cc)
 acts_command command acting = refl
-
-acts_way : (seen : List Entry) (s : Backend) (rest : Rest) (command : Command) → acts (plan_at s.exec) ≡ true → Way seen s rest command → ends_failure command ≡ false
-acts_way seen s rest command acting (inl u) = acts_command command (ap acts (sym u.plan) ∙ acting)
-acts_way seen s rest command acting (inr (inl m)) = absurd (cc (ap acts m.plan, acting))
-acts_way seen s rest command acting (inr (inr (inl f))) = ap ends_failure f.command_is
-acts_way seen s rest command acting (inr (inr (inr w))) = absurd (cc (ap acts w.plan, acting))
 
 -- an error leaves no act
 acts_admitted : (refused : Option CommandError) (command : Command) → is_some refused ≡ true → acts (plan_admitted refused command) ≡ false
@@ -107,15 +97,23 @@ runs_at s works well unblocked other = by_block s.blocks.block refl
     by_block Inside is fits = fits.runs
     by_block Failed is fits = failed is (ap (λ b. is_some (refused_in b command)) (sym is) ∙ unrefused)
 
+-- what is left of its plan it can go on with
+pub way_can : (seen : List Entry) (s : Backend) (rest : Rest) (command : Command) → OnItsWay seen s rest command → is_built (plan_of none_open command) ≡ true → CanGoOn (SeesRelation seen s.id) (plan_at s.exec)
+way_can seen s rest command way built = subst (CanGoOn P) (sym way.plan) (can_reach P way.gave (plan_of none_open command) (can_go_on P (plan_of none_open command) (can_follow P command built)) way.sees)
+  where
+    P : Oid → Kind → Type 0
+    P = SeesRelation seen s.id
+
 -- so it is about to act
 pub is_acting : (scenario : Scenario) (seen : List Entry) (s : Backend) (agrees : Agrees scenario seen s) (works : IsWorking s) → acts (plan_at s.exec) ≡ true → IsActing seen s agrees.rest works.has.command
 is_acting scenario seen s agrees works acting = record {
   unanswered = unanswered;
   unrefused = unrefused;
   unblocked = unblocked;
-  goes = ends_less works.has.command (acts_way seen s agrees.rest works.has.command acting way);
+  goes = ends_less works.has.command other;
   way = way;
-  runs = runs_at s works agrees.well unblocked (acts_way seen s agrees.rest works.has.command acting way);
+  can = way_can seen s agrees.rest works.has.command way (built_at s.commands s.finished works.has.command agrees.well.built works.has.at);
+  runs = runs_at s works agrees.well unblocked other;
 }
   where
     unblocked : s.blocked ≡ false
@@ -139,8 +137,15 @@ is_acting scenario seen s agrees works acting = record {
     unrefused : agrees.rest.refused ≡ None
     unrefused = by_error agrees.rest.refused refl
 
-    way : Way seen s agrees.rest works.has.command
-    way = agrees.command.way unanswered unrefused works.has.command works.has.at
+    by_way : Way seen s agrees.rest works.has.command → OnItsWay seen s agrees.rest works.has.command
+    by_way (inl on) = on
+    by_way (inr wrote) = absurd (cc (ap acts wrote.plan, acting))
+
+    way : OnItsWay seen s agrees.rest works.has.command
+    way = by_way (agrees.command.way unanswered unrefused works.has.command works.has.at)
+
+    other : ends_failure works.has.command ≡ false
+    other = acts_command works.has.command (acts_before way.gave (plan_of none_open works.has.command) (ap acts (sym way.plan) ∙ acting))
 
 -- an act is left where a scan is missing
 pub missing_acts : (s : Backend) → Well s → scans_missing s ≢ [] → acts (plan_at s.exec) ≡ true
@@ -152,38 +157,3 @@ missing_acts s well some = by_plan (plan_at s.exec) (subst (λ l. l ≢ []) (mis
     by_plan (Absent name) some' = absurd (some' refl)
     by_plan NotBuilt some' = absurd (some' refl)
     by_plan (Do act more) some' = refl
-
--- the relation whose descriptor it opens
-abbrev pub opens : Plan → Option (Oid × Kind)
-opens (Do (Open rel kind) more) = Some (rel, kind)
-opens p = None
-
-opens_command : (command : Command) → opens (plan_of none_open command) ≡ None
-opens_command (commands.Show name field) = refl
-opens_command (commands.CreateTable name columns) = by_passes (nat_le (length columns) MOST_COLUMNS) (first_twice [] (map (λ c. c.name) columns))
-  where
-    by_passes : (t : Bool) (o : Option (List ℕ)) → opens (if_passes t errors.TooManyColumns (if_no_column o (writing (new_table name columns)))) ≡ None
-    by_passes true None = refl
-    by_passes true (Some twice) = refl
-    by_passes false o = refl
-opens_command command = refl
-
-opens_showing : (name : List ℕ) (field : Option Field) (rel of : Oid) (kind what : Kind) → opens (showing name field of what) ≡ Some (rel, kind) → (of ≡ rel) × (what ≡ kind)
-opens_showing name None rel of kind what is = (ap (λ (o : Option (Oid × Kind)). (unwrap_or o (rel, kind)).0) is, ap (λ (o : Option (Oid × Kind)). (unwrap_or o (rel, kind)).1) is)
-opens_showing name (Some field) rel of kind what is = by_passes (has_field what field) is
-  where
-    by_passes : (t : Bool) → opens (if_passes t (errors.NoField name field) (opening of what Done)) ≡ Some (rel, kind) → (of ≡ rel) × (what ≡ kind)
-    by_passes true h = (ap (λ (o : Option (Oid × Kind)). (unwrap_or o (rel, kind)).0) h, ap (λ (o : Option (Oid × Kind)). (unwrap_or o (rel, kind)).1) h)
-    by_passes false h = absurd (cc)
-
--- it sees that relation
-pub open_sees : (seen : List Entry) (s : Backend) (rest : Rest) (command : Command) (rel : Oid) (kind : Kind) (more : List Row → Plan) → Way seen s rest command → plan_at s.exec ≡ Do (Open rel kind) more → SeesRelation seen s.id rel kind
-open_sees seen s rest command rel kind more (inl u) at = absurd (cc (ap opens (sym u.plan ∙ at), opens_command command))
-open_sees seen s rest command rel kind more (inr (inl m)) at = absurd (cc (m.plan, at))
-open_sees seen s rest command rel kind more (inr (inr (inl f))) at = by_stage f.stage
-  where
-    by_stage : ((plan_at s.exec ≡ showing f.name f.field f.rel f.kind) × (s.opened ≡ [])) ⊎ HasOpened s f.name f.field f.rel f.kind → SeesRelation seen s.id rel kind
-    by_stage (inl p) = let same : (f.rel ≡ rel) × (f.kind ≡ kind) = opens_showing f.name f.field rel f.rel kind f.kind (ap opens (sym p.0 ∙ at)) in
-        subst (λ k. SeesRelation seen s.id rel k) same.1 (subst (λ r. SeesRelation seen s.id r f.kind) same.0 f.sees)
-    by_stage (inr o) = absurd (cc (o.plan, at))
-open_sees seen s rest command rel kind more (inr (inr (inr w))) at = absurd (cc (w.plan, at))

@@ -1,38 +1,32 @@
 -- The answer that a backend works out is what its command answers by the history.
-use Rattle.std.proofs.Common.{◌≡◌, ◌≢◌, ◌+◌, ◌⊎◌, inl, inr, ◌∙◌, ℕ, Bool, true, false, Option, Some, None, List, [], ◌∷◌, refl, sym, ap, subst, drop, take, is_some, slice_get, arith}
+use Rattle.std.proofs.Common.{◌≡◌, ◌+◌, inl, inr, ◌∙◌, ℕ, Bool, true, false, Option, Some, None, List, [], refl, sym, ap, subst, take, is_some, slice_get, arith}
 use Rattle.std.proofs.lemmas.List.{append-nil, take_all}
-use Rattle.std.proofs.lemmas.List.Elements.{recursion_from_All}
-use Rattle.base_types.specs.Fields.{has_field}
-use Rattle.base_types.specs.Scans.{build_scans}
 use Rattle.base_types.specs.Scenario.{Scenario}
 use Rattle.base_types.specs.declared.command.Command.TheVariants as commands
 use Rattle.rel_desc.specs.Answers.{answer_text}
 use Rattle.rel_desc.specs.declared.answer.Answer.TheVariants as answers
 use Rattle.rel_desc.specs.declared.error.CommandError.TheVariants as errors
 use Rattle.ddl_effect.specs.Blocks.{Block, Outside, Inside, Failed}
-use Rattle.ddl_effect.specs.Plans.{Plan, Done, Fails, Absent, NotBuilt, Do}
-use Rattle.ddl_effect.specs.Commands.{plan_of, found, showing, opening, if_passes}
-use Rattle.ddl_effect.specs.Effects.{Nothing, effect_at, row_found}
+use Rattle.ddl_effect.specs.Plans.{Plan, Done, Fails, Absent, NotBuilt, Do, is_built}
+use Rattle.ddl_effect.specs.Commands.{plan_of}
+use Rattle.ddl_effect.specs.Effects.{effect_at}
 use Rattle.ddl_effect.specs.Stages.{plan_at}
-use Rattle.history_model.specs.Read.{rows_read}
 use Rattle.history_model.specs.Versions.{answer_of}
-use Rattle.cacheless.specs.Facts.{facts_of}
-use Rattle.cacheless.specs.Lines.{first_found, shown_row, answer_well, answer_by, effect_judged, answer_judged}
-use Rattle.cacheless.specs.Session.{Finished, none_open, outcome_of, is_settled}
-use Rattle.cacheless.specs.Settled.{settled, finished_as}
-use Rattle.cacheless.proofs.HeldLocks.{settled-locks}
-use Rattle.backend_core.specs.Types.{Oid, Kind, Field, Row, Purpose, Command, CommandError, Entry, Backend}
+use Rattle.cacheless.specs.Lines.{answer_well, answer_by, effect_judged, answer_judged}
+use Rattle.cacheless.specs.Session.{none_open, outcome_of, is_settled}
+use Rattle.cacheless.specs.Settled.{found_by}
+use Rattle.backend_core.specs.Types.{Row, Purpose, Command, CommandError, Entry, Backend}
 use Rattle.backend_core.specs.declared.phase.Phase.TheVariants as phases
-use Rattle.backend_core.specs.State.{missing, builds_missing, is_out, owed_first, Rest, session_at}
-use Rattle.backend_core.specs.Agrees.{ReadRight, RunsBy, TransactionFits, EndFits, Well, IsUntouched, IsMissing, HasOpened, IsFound, IsWritten, Way, PlaceFits, CommandFits, KeptFits, Agrees}
+use Rattle.backend_core.specs.State.{is_out, owed_first, Rest}
+use Rattle.backend_core.specs.Agrees.{RunsBy, TransactionFits, EndFits, Well, PlaceFits, CommandFits, Agrees}
 use Rattle.backend_core.specs.Steps.{AgreesNow, IsWorking}
-use Rattle.backend_core.specs.Answering.{shown_first, answer_done, answer_left, answer_at, IsToldText}
+use Rattle.backend_core.specs.NewTables.{SeesRelation}
+use Rattle.backend_core.specs.Way.{made_in, OnItsWay, HasWritten, Way}
+use Rattle.backend_core.specs.Answering.{answer_done, answer_left, answer_at, IsToldText}
+use Rattle.backend_core.proofs.CanFollow.{can_go_on, can_follow, effect_on}
+use Rattle.backend_core.proofs.Ending.{built_at}
 use Rattle.backend_core.proofs.Nexting.{the_command}
-use Rattle.backend_core.proofs.Shown.{CanShow, HasAsked, fields_shown}
-
--- the running command as it will be kept
-abbrev pub finished_at : Backend → Rest → Finished
-finished_at s rest = finished_as (session_at s rest)
+use Rattle.backend_core.proofs.Showing.{finished_at, show_answers}
 
 -- a command that has come out of itself
 out_answers : (scenario : Scenario) (seen : List Entry) (s : Backend) (rest : Rest) (command : Command) (p : Plan) (read : Bool) → is_settled (outcome_of p) ≡ true → PlaceFits seen s.id p read s.given_at
@@ -44,89 +38,36 @@ out_answers scenario seen s rest command (Absent name) read out place well = ap 
 out_answers scenario seen s rest command NotBuilt read out place well = absurd (cc)
 out_answers scenario seen s rest command (Do act plan) read out place well = absurd (cc)
 
--- a command that does nothing and looks nothing up
-plain_answers : (scenario : Scenario) (seen : List Entry) (s : Backend) (rest : Rest) (command : Command) → plan_of none_open command ≡ Done → answer_well scenario seen s.id (finished_at s rest) command ≡ answer_done s command
-plain_answers scenario seen s rest (commands.Show name field) is = absurd (cc)
-plain_answers scenario seen s rest command is = refl
+-- what a command answers that came out well: only `show` rests on its way
+well_answers : (scenario : Scenario) (seen : List Entry) (s : Backend) (agrees : Agrees scenario seen s) (command : Command) → Way seen s agrees.rest command → plan_at s.exec ≡ Done
+    → answer_well scenario seen s.id (finished_at s agrees.rest) command ≡ answer_done s command
+well_answers scenario seen s agrees (commands.Show name field) way done = show_answers scenario seen s agrees name field way done
+well_answers scenario seen s agrees command way done = refl
 
-untouched_answers : (scenario : Scenario) (seen : List Entry) (s : Backend) (rest : Rest) (command : Command) → IsUntouched seen s rest command → is_out s ≡ true → PlaceFits seen s.id (plan_at s.exec) s.read s.given_at
-    → answer_judged scenario seen s.id (s.finished + 1) (finished_at s rest) command None ≡ answer_at s command
-untouched_answers scenario seen s rest command u out place =
-    ap (λ t. answer_by scenario seen s.id (finished_at s rest) command (effect_judged seen s.id (finished_at s rest) t command)) u.unwritten
-    ∙ ap (λ l. answer_by scenario seen s.id (finished_at s rest) command (effect_at (answer_of seen s.id) l (plan_of none_open command))) u.found
-    ∙ ap (λ p. answer_by scenario seen s.id (finished_at s rest) command (effect_at (answer_of seen s.id) [] p)) (sym u.plan)
-    ∙ out_answers scenario seen s rest command (plan_at s.exec) s.read out place (λ done. plain_answers scenario seen s rest command (sym u.plan ∙ done))
+-- a command that has written
+written_answers : (scenario : Scenario) (seen : List Entry) (s : Backend) (agrees : Agrees scenario seen s) (command : Command) → HasWritten seen s command
+    → answer_judged scenario seen s.id (s.finished + 1) (finished_at s agrees.rest) command None ≡ answer_at s command
+written_answers scenario seen s agrees command wrote =
+    ap (λ t. answer_by scenario seen s.id (finished_at s agrees.rest) command (effect_judged seen s.id (finished_at s agrees.rest) t command)) wrote.written
+    ∙ well_answers scenario seen s agrees command (inr wrote) wrote.plan ∙ sym (ap (answer_left s command) wrote.plan)
 
-missing_answers : (scenario : Scenario) (seen : List Entry) (s : Backend) (rest : Rest) (command : Command) → IsMissing seen s rest command → PlaceFits seen s.id (plan_at s.exec) s.read s.given_at
-    → answer_judged scenario seen s.id (s.finished + 1) (finished_at s rest) command None ≡ answer_at s command
-missing_answers scenario seen s rest command m place =
-    ap (λ t. answer_by scenario seen s.id (finished_at s rest) command (effect_judged seen s.id (finished_at s rest) t command)) m.unwritten
-    ∙ ap (λ l. answer_by scenario seen s.id (finished_at s rest) command (effect_at (answer_of seen s.id) l (plan_of none_open command))) m.found
-    ∙ ap (λ p. answer_by scenario seen s.id (finished_at s rest) command (effect_at (answer_of seen s.id) (None ∷ []) p)) m.command_is
-    ∙ ap (λ at. answers.Error (errors.NoRelation m.name at)) (subst (λ p. PlaceFits seen s.id p s.read s.given_at) m.plan place)
-    ∙ sym (ap (answer_left s command) m.plan)
-
-written_answers : (scenario : Scenario) (seen : List Entry) (s : Backend) (rest : Rest) (command : Command) → IsWritten seen s command → answer_judged scenario seen s.id (s.finished + 1) (finished_at s rest) command None ≡ answer_at s command
-written_answers scenario seen s rest command w =
-    ap (λ t. answer_by scenario seen s.id (finished_at s rest) command (effect_judged seen s.id (finished_at s rest) t command)) w.written
-    ∙ ap (answer_well scenario seen s.id (finished_at s rest)) w.command_is ∙ sym (ap (answer_left s command) w.plan ∙ ap (answer_done s) w.command_is)
-
-showing_not_done : (name : List ℕ) (field : Option Field) (rel : Oid) (kind : Kind) → showing name field rel kind ≢ Done
-showing_not_done name None rel kind is = absurd (cc)
-showing_not_done name (Some field) rel kind is = by_test (has_field kind field) is
+-- one that hasn't
+way_answers : (scenario : Scenario) (seen : List Entry) (s : Backend) (agrees : Agrees scenario seen s) (command : Command) → OnItsWay seen s agrees.rest command → is_built (plan_of none_open command) ≡ true → is_out s ≡ true
+    → answer_judged scenario seen s.id (s.finished + 1) (finished_at s agrees.rest) command None ≡ answer_at s command
+way_answers scenario seen s agrees command way built out =
+    ap (λ t. answer_by scenario seen s.id (finished_at s agrees.rest) command (effect_judged seen s.id (finished_at s agrees.rest) t command)) way.unwritten
+    ∙ ap (answer_by scenario seen s.id (finished_at s agrees.rest) command) (
+    ap (λ l. effect_at given l plan) (way.found ∙ sym (append-nil (made_in found_by way.gave plan)))
+    ∙ effect_on seen s.id way.gave plan [] (can_go_on (SeesRelation seen s.id) plan (can_follow (SeesRelation seen s.id) command built)) way.sees
+    ∙ ap (effect_at given []) (sym way.plan)
+    )
+    ∙ out_answers scenario seen s agrees.rest command (plan_at s.exec) s.read out agrees.command.given_at (well_answers scenario seen s agrees command (inl way))
   where
-    by_test : (t : Bool) → if_passes t (errors.NoField name field) (opening rel kind Done) ≡ Done → ⊥
-    by_test true is' = absurd (cc)
-    by_test false is' = absurd (cc)
-
--- what `show` does after its lookup, where the kind has the field
-showing_nothing : (given : Purpose → List Row) (name : List ℕ) (field : Option Field) (rel : Oid) (kind : Kind) → ((error : CommandError) → showing name field rel kind ≢ Fails error) → (effect_at given [] (showing name field rel kind) ≡ Nothing) × HasAsked kind field
-showing_nothing given name None rel kind passes = (refl, tt)
-showing_nothing given name (Some field) rel kind passes = by_test (has_field kind field) refl
-  where
-    by_test : (t : Bool) → has_field kind field ≡ t → (effect_at given [] (showing name (Some field) rel kind) ≡ Nothing) × (has_field kind field ≡ true)
-    by_test true is = (ap (λ t. effect_at given [] (if_passes t (errors.NoField name field) (opening rel kind Done))) is, is)
-    by_test false is = absurd (passes (errors.NoField name field) (ap (λ t. if_passes t (errors.NoField name field) (opening rel kind Done)) is))
-
-found_answers : (scenario : Scenario) (seen : List Entry) (s : Backend) (rest : Rest) (command : Command) → (f : IsFound seen s rest command) → is_out s ≡ true → PlaceFits seen s.id (plan_at s.exec) s.read s.given_at
-    → (HasOpened s f.name f.field f.rel f.kind → CanShow scenario seen s.id s.kept s.locks.items f.rel f.kind) → answer_judged scenario seen s.id (s.finished + 1) (finished_at s rest) command None ≡ answer_at s command
-found_answers scenario seen s rest command f out place can =
-    ap (λ c. answer_judged scenario seen s.id (s.finished + 1) (finished_at s rest) c None) f.command_is
-    ∙ ap (λ t. answer_by scenario seen s.id (finished_at s rest) show (effect_judged seen s.id (finished_at s rest) t show)) f.unwritten
-    ∙ ap (λ l. answer_by scenario seen s.id (finished_at s rest) show (effect_at given l (plan_of none_open show))) f.found
-    ∙ ap (λ l. answer_by scenario seen s.id (finished_at s rest) show (effect_at given [] (found f.name (showing f.name f.field) l))) f.sees.row
-    ∙ by_stage f.stage ∙ ap (answer_at s) (sym f.command_is)
-  where
-    show : Command
-    show = commands.Show f.name f.field
-
     given : Purpose → List Row
     given = answer_of seen s.id
 
-    by_stage : ((plan_at s.exec ≡ showing f.name f.field f.rel f.kind) × (s.opened ≡ [])) ⊎ HasOpened s f.name f.field f.rel f.kind
-        → answer_by scenario seen s.id (finished_at s rest) show (effect_at given [] (showing f.name f.field f.rel f.kind)) ≡ answer_at s show
-    by_stage (inl p) =
-        ap (λ q. answer_by scenario seen s.id (finished_at s rest) show (effect_at given [] q)) (sym p.0)
-        ∙ out_answers scenario seen s rest show (plan_at s.exec) s.read out place (λ done. absurd (showing_not_done f.name f.field f.rel f.kind (sym p.0 ∙ done)))
-    by_stage (inr o) =
-        let nothing = showing_nothing given f.name f.field f.rel f.kind o.passes in
-        ap (λ e. answer_by scenario seen s.id (finished_at s rest) show e) nothing.0
-        ∙ ap (λ l. shown_row scenario seen s.id f.field (row_found given (first_found l))) f.found
-        ∙ ap (shown_row scenario seen s.id f.field) f.sees.row
-        ∙ fields_shown scenario seen s.id s.kept s.locks.items f.rel f.kind f.field (can o) nothing.1
-        ∙ ap (λ l. shown_first s.kept s.locks.items l f.field) (sym o.opened) ∙ sym (ap (answer_left s show) o.plan)
-
--- the descriptor that is open can be shown
-can_show : (scenario : Scenario) (seen : List Entry) (s : Backend) (agrees : Agrees scenario seen s) (command : Command) (f : IsFound seen s agrees.rest command) → HasOpened s f.name f.field f.rel f.kind → CanShow scenario seen s.id s.kept s.locks.items f.rel f.kind
-can_show scenario seen s agrees command f o = record {
-  session = settled (facts_of seen s.id) (drop s.finished s.commands) (session_at s agrees.rest);
-  is = agrees.is;
-  holds = settled-locks (facts_of seen s.id) (drop s.finished s.commands) (session_at s agrees.rest);
-  sees = f.sees;
-  fits = recursion_from_All (KeptFits seen s.id) s.kept agrees.kept;
-  right = recursion_from_All (ReadRight (rows_read seen s.id)) s.kept agrees.facts.kept;
-  none = sym (append-nil (missing s.kept (build_scans f.kind f.rel))) ∙ sym (ap (builds_missing s.kept) o.opened) ∙ agrees.well.builds;
-}
+    plan : Plan
+    plan = plan_of none_open command
 
 -- the answer of a command that has come out
 pub answered_at : (scenario : Scenario) (seen : List Entry) (s : Backend) (agrees : Agrees scenario seen s) (command : Command) → slice_get s.commands s.finished ≡ Some command → is_some s.answer ≡ false → is_out s ≡ true
@@ -137,10 +78,8 @@ answered_at scenario seen s agrees command at unanswered out = by_refused agrees
     fits = agrees.command
 
     by_way : Way seen s agrees.rest command → answer_judged scenario seen s.id (s.finished + 1) (finished_at s agrees.rest) command None ≡ answer_at s command
-    by_way (inl u) = untouched_answers scenario seen s agrees.rest command u out fits.given_at
-    by_way (inr (inl m)) = missing_answers scenario seen s agrees.rest command m fits.given_at
-    by_way (inr (inr (inl f))) = found_answers scenario seen s agrees.rest command f out fits.given_at (can_show scenario seen s agrees command f)
-    by_way (inr (inr (inr w))) = written_answers scenario seen s agrees.rest command w
+    by_way (inl way) = way_answers scenario seen s agrees command way (built_at s.commands s.finished command agrees.well.built at) out
+    by_way (inr wrote) = written_answers scenario seen s agrees command wrote
 
     by_refused : (o : Option CommandError) → agrees.rest.refused ≡ o → answer_judged scenario seen s.id (s.finished + 1) (finished_at s agrees.rest) command agrees.rest.refused ≡ answer_at s command
     by_refused (Some error) is = ap (answer_judged scenario seen s.id (s.finished + 1) (finished_at s agrees.rest) command) is ∙ sym (ap (answer_left s command) (fits.refused error is))
@@ -178,7 +117,6 @@ answered_well was text well work out = record {
   free = λ is has. subst (λ c. owed_first was c ≡ []) (the_command was work.has has.command has.at) work.free;
   granted = λ is. absurd (let both : phases.Working ≡ phases.Granted = sym work.phase ∙ is in cc);
   clear = well.clear;
-  table = well.table;
 }
 
 -- it works out what its command answers

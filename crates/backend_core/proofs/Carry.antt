@@ -1,5 +1,5 @@
 -- What stays with one more entry, and what each entry of a backend needs.
-use Rattle.std.proofs.Common.{◌≡◌, ◌≢◌, ◌≤◌, ◌<◌, ◌+◌, ◌⊎◌, inl, inr, ◌∙◌, ℕ, Bool, true, false, Option, Some, None, List, [], ◌∷◌, ◌++◌, ◌==◌, ◌&&◌, ◌||◌, refl, sym, ap, subst, length, drop, take, map, All, get_or, is_none, is_some, slice_get, unwrap_or, arith, Fits, w32}
+use Rattle.std.proofs.Common.{cond, not, ◌≡◌, ◌≢◌, ◌≤◌, ◌<◌, ◌+◌, ◌⊎◌, inl, inr, ◌∙◌, ℕ, Bool, true, false, Option, Some, None, List, [], ◌∷◌, ◌++◌, ◌==◌, ◌&&◌, ◌||◌, refl, sym, ap, subst, length, drop, take, map, All, get_or, is_none, is_some, slice_get, unwrap_or, arith, Fits, w32}
 use Rattle.std.proofs.Math.Bool.{and-false, or-false}
 use Rattle.std.proofs.lemmas.List.{drop_more, take-append-le}
 use Rattle.std.proofs.lemmas.Option.{slice_get_within, get_or_from_slice_get}
@@ -10,15 +10,15 @@ use Rattle.base_types.specs.declared.row.Row.TheVariants as rows
 use Rattle.base_types.specs.declared.scan.Purpose.TheVariants as scans
 use Rattle.event_kinds.specs.declared.entry.Event.TheVariants as events
 use Rattle.rel_desc.specs.Answers.{answer_text}
-use Rattle.ddl_effect.specs.Plans.{Plan, Absent, Do, Lookup}
-use Rattle.ddl_effect.specs.Commands.{commands_of, showing}
+use Rattle.ddl_effect.specs.Plans.{Plan, Absent, Do, Lookup, Open, Column, Read, Lock, Write}
+use Rattle.ddl_effect.specs.Commands.{plan_of, commands_of}
 use Rattle.ddl_effect.specs.Stages.{plan_at}
-use Rattle.ddl_effect.specs.declared.exec.Exec.TheVariants as stages
 use Rattle.history_model.specs.Legal.{AllowsEvent}
 use Rattle.history_model.specs.Orderly.{MayComeNext, IsSound}
 use Rattle.history_model.specs.Read.{is_scan_of, read_at, place_read}
 use Rattle.history_model.specs.Transactions.{is_visible}
 use Rattle.history_model.specs.Writes.{has_written, is_write, is_empty}
+use Rattle.history_model.proofs.Every.{every-weaker}
 use Rattle.history_model.proofs.Reading.{read_at-own, place_read-other, has_written-more}
 use Rattle.history_model.proofs.Sound.{sound_is_legal}
 use Rattle.seg_calls.specs.Calls.{entry_of, MayCall, MayRequest}
@@ -26,20 +26,22 @@ use Rattle.seg_calls.proofs.Allowed.{is_start, request_follows}
 use Rattle.seg_calls.proofs.Quiet.{log_of-none, none_waits, none_waited}
 use Rattle.cacheless.specs.Facts.{Facts, facts_of}
 use Rattle.cacheless.specs.Locks.{cleared}
-use Rattle.cacheless.specs.Session.{Session, Badly, outcome_of}
+use Rattle.cacheless.specs.Session.{Session, Badly, none_open, outcome_of}
 use Rattle.cacheless.specs.Owed.{OwesLook, OwesScan, owed_at_start, owed_after, unusable, builds_owed, act_owed, scans_owed, owed_of, owes_accept}
 use Rattle.cacheless.specs.Settled.{settled, finished_as}
 use Rattle.cacheless.specs.Sessions.{accepted}
 use Rattle.cacheless.specs.Lines.{answer_judged}
 use Rattle.cacheless.specs.Schedule.{LooksTruly}
-use Rattle.backend_core.specs.Types.{Oid, Kind, Field, Command, Row, Purpose, Entry, Event, Opening, OwnLock, KeptScan, Exec, Phase, OwnTransaction, Backend}
+use Rattle.backend_core.specs.Types.{Oid, Kind, Command, Row, Purpose, Entry, Event, Opening, OwnLock, KeptScan, Phase, OwnTransaction, Backend}
 use Rattle.backend_core.specs.declared.phase.Phase.TheVariants as phases
 use Rattle.backend_core.specs.NewTables.{AddsTables, HasTables, SeesRelation, is_own_gone}
 use Rattle.backend_core.specs.State.{owed_at, is_visible_at, is_taken_back, running_in, is_kept, missing, builds_missing, act_missing, scans_missing, begins_in, owed_first, Rest, session_at, HasCommand}
-use Rattle.backend_core.specs.Agrees.{IsPlayed, FactsFit, Well, HasOpened, Way, PlaceFits, GivenSeen, CommandFits, KeptFits, AnswerFits, Agrees}
+use Rattle.backend_core.specs.Agrees.{IsPlayed, FactsFit, Well, PlaceFits, GivenSeen, CommandFits, KeptFits, AnswerFits, Agrees}
 use Rattle.backend_core.specs.Steps.{IsWorking}
+use Rattle.backend_core.specs.Way.{made_in, relation_by, SeesAll, Way}
 use Rattle.backend_core.proofs.SeesRelation.{other_not_gone, SeesRelation-more}
 use Rattle.backend_core.proofs.StaysRead.{StaysRead-more}
+use Rattle.backend_core.proofs.Stages.{ReadsBuilds, stage_reads}
 use Rattle.backend_core.proofs.Stepping.{Waits}
 
 -- an entry that may come next, and adds tables alone
@@ -127,33 +129,17 @@ written_same history e was now rest later same writes =
 -- how far a command is, with one more entry
 pub way-more : (history : List Entry) (e : Entry) (was now : Backend) (rest later : Rest) (command : Command) → SameCommand was now rest later → LeavesWrites history e was.id → LeavesRelations history e was.id
     → Way history was rest command → Way (history ++ e ∷ []) now later command
-way-more history e was now rest later command same writes relations way = by_way way
-  where
-    written : has_written (history ++ e ∷ []) now.id (now.finished + 1) ≡ has_written history was.id (was.finished + 1)
-    written = written_same history e was now rest later same writes
-
-    opened_more : (name : List ℕ) (field : Option Field) (rel : Oid) (kind : Kind) → HasOpened was name field rel kind → HasOpened now name field rel kind
-    opened_more name field rel kind o = record { plan = same.plan ∙ o.plan; opened = same.opened ∙ o.opened; passes = o.passes }
-
-    by_way : Way history was rest command → Way (history ++ e ∷ []) now later command
-    by_way (inl u) = inl (record { found = same.found ∙ u.found; plan = same.plan ∙ u.plan; opened = same.opened ∙ u.opened; unwritten = written ∙ u.unwritten })
-    by_way (inr (inl m)) = inr (inl (record { name = m.name; mode = m.mode; further = m.further; found = same.found ∙ m.found; command_is = m.command_is; plan = same.plan ∙ m.plan; unwritten = written ∙ m.unwritten }))
-    by_way (inr (inr (inl f))) = inr (inr (inl (record {
-      name = f.name;
-      field = f.field;
-      rel = f.rel;
-      kind = f.kind;
-      command_is = f.command_is;
-      found = same.found ∙ f.found;
-      sees = subst (λ b. SeesRelation (history ++ e ∷ []) b f.rel f.kind) (sym same.id) (relations f.rel f.kind f.sees);
-      stage = by_stage f.stage;
-      unwritten = written ∙ f.unwritten;
-    })))
-      where
-        by_stage : ((plan_at was.exec ≡ showing f.name f.field f.rel f.kind) × (was.opened ≡ [])) ⊎ HasOpened was f.name f.field f.rel f.kind → ((plan_at now.exec ≡ showing f.name f.field f.rel f.kind) × (now.opened ≡ [])) ⊎ HasOpened now f.name f.field f.rel f.kind
-        by_stage (inl p) = inl (same.plan ∙ p.0, same.opened ∙ p.1)
-        by_stage (inr o) = inr (opened_more f.name f.field f.rel f.kind o)
-    by_way (inr (inr (inr w))) = inr (inr (inr (record { name = w.name; columns = w.columns; command_is = w.command_is; plan = same.plan ∙ w.plan; written = written ∙ w.written })))
+way-more history e was now rest later command same writes relations (inl way) = inl (record {
+  gave = way.gave;
+  plan = same.plan ∙ way.plan;
+  found = same.found ∙ way.found;
+  opened = same.opened ∙ way.opened;
+  sees = subst (λ b. SeesAll (history ++ e ∷ []) b (made_in relation_by way.gave (plan_of none_open command))) (sym same.id)
+      (every-weaker (λ o. SeesRelation history was.id o.rel o.kind) (λ o. SeesRelation (history ++ e ∷ []) was.id o.rel o.kind) (λ o sees. relations o.rel o.kind sees) (made_in relation_by way.gave (plan_of none_open command)) way.sees);
+  unwritten = written_same history e was now rest later same writes ∙ way.unwritten;
+})
+way-more history e was now rest later command same writes relations (inr way) =
+    inr (record { gave = way.gave; draft = way.draft; further = way.further; came = way.came; plan = same.plan ∙ way.plan; written = written_same history e was now rest later same writes ∙ way.written })
 
 -- the commands in which it hasn't written
 pub later-more : (history : List Entry) (e : Entry) (was now : Backend) (rest later : Rest) → SameCommand was now rest later → LeavesWrites history e was.id → ((c : ℕ) → was.finished + 1 < c → has_written history was.id c ≡ false)
@@ -295,20 +281,21 @@ builds-missing : (facts : Facts) (kept : List KeptScan) → ((scan : Purpose) �
 builds-missing facts kept usable [] = refl
 builds-missing facts kept usable (o ∷ opened) = ap (λ l. l ++ builds_owed facts opened) (unusable-missing facts kept usable o.kind o.rel) ∙ ap (λ l. missing kept (build_scans o.kind o.rel) ++ l) (builds-missing facts kept usable opened)
 
--- no stage reads single rows of a descriptor
-act-missing : (facts : Facts) (kept : List KeptScan) → ((scan : Purpose) → is_build_scan scan ≡ true → facts.usable scan ≡ is_kept kept scan) → (read : Bool) (exec : Exec) → act_owed facts read (plan_at exec) ≡ act_missing kept read (plan_at exec)
-act-missing facts kept usable read stages.Done = refl
-act-missing facts kept usable read (stages.Failing error) = refl
-act-missing facts kept usable read (stages.Missing name) = refl
-act-missing facts kept usable read (stages.Finding name mode field) = refl
-act-missing facts kept usable read (stages.Opening rel kind) = unusable-missing facts kept usable kind rel
-act-missing facts kept usable read (stages.Writing draft) = refl
+-- the same of the next act
+act-missing : (facts : Facts) (kept : List KeptScan) → ((scan : Purpose) → is_build_scan scan ≡ true → facts.usable scan ≡ is_kept kept scan) → (read : Bool) (p : Plan) → ReadsBuilds p → act_owed facts read p ≡ act_missing kept read p
+act-missing facts kept usable read (Do (Lookup name mode) rest) reads = refl
+act-missing facts kept usable read (Do (Open rel kind) rest) reads = unusable-missing facts kept usable kind rel
+act-missing facts kept usable read (Do (Column rel name) rest) reads = refl
+act-missing facts kept usable read (Do (Read scan) rest) reads = ap (λ t. cond (not t) (scan ∷ []) []) (usable scan reads)
+act-missing facts kept usable read (Do (Lock rel mode) rest) reads = refl
+act-missing facts kept usable read (Do (Write draft) rest) reads = refl
+act-missing facts kept usable read p reads = refl
 
 pub builds_same : (facts : Facts) (s : Backend) → FactsFit facts s → builds_owed facts s.opened ≡ builds_missing s.kept s.opened
 builds_same facts s fits = builds-missing facts s.kept fits.usable s.opened
 
 pub act_same : (facts : Facts) (s : Backend) → FactsFit facts s → act_owed facts s.read (plan_at s.exec) ≡ act_missing s.kept s.read (plan_at s.exec)
-act_same facts s fits = act-missing facts s.kept fits.usable s.read s.exec
+act_same facts s fits = act-missing facts s.kept fits.usable s.read (plan_at s.exec) (stage_reads s.exec)
 
 pub scans_same : (facts : Facts) (s : Backend) (rest : Rest) → FactsFit facts s → scans_owed facts (session_at s rest) ≡ scans_missing s
 scans_same facts s rest fits = ap (λ l. elim (outcome_of (plan_at s.exec)) as (λ x. List Purpose) [ Badly ↦ [] | other ↦ l ])

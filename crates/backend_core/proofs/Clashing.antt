@@ -38,7 +38,7 @@ use Rattle.backend_core.specs.Steps.{IsWorking, Enters}
 use Rattle.backend_core.proofs.Stepping.{facts_after, session_after, rest_after, Keeps, Follows, Suits, GoesOn, own_enters}
 use Rattle.backend_core.proofs.Carry.{accepted-clear, has_written-quiet, may_come, kept-more, no_answer}
 use Rattle.backend_core.proofs.NewTable.{new_table_names}
-use Rattle.backend_core.proofs.Writing.{after_asking, asked_well, is_unanswered, is_admitted, runs, makes_table, locks_clear, waits, nothing_owed}
+use Rattle.backend_core.proofs.Writing.{after_asking, asked_well, is_unanswered, is_unblocked, runs, makes_table, locks_clear, waits, nothing_owed}
 
 -- the entry that shows what has the name
 abbrev pub clash_event : List ℕ → Clash → Event
@@ -139,7 +139,7 @@ module _ (scenario : Scenario) (old : List Entry) (was : Backend) (agrees : Agre
     session = session_is ∙ (λ i. record (failed_at was agrees.rest (length old + 1) error) { locks = sym locked i }) ∙ ap (λ s. session_at failed (rest_of s)) (sym session_is);
     facts = subst (λ f. FactsFit f failed) (sym with.facts) facts_still;
     tally = λ _. subst (λ t. TallyFits t failed) (sym with.tally) (agrees.tally (ap is_ended works.phase));
-    well = asked_well was (stages.Failing error) was.opened was.read was.running writes locks works.phase runs_still (is_admitted scenario old was agrees works draft at).0 (is_unanswered scenario old was agrees works draft at) (ap (λ p. is_settled (outcome_of p)) at)
+    well = asked_well was (stages.Failing error) was.opened was.read was.running writes locks works.phase runs_still (is_unblocked scenario old was agrees works draft at) (is_unanswered scenario old was agrees works draft at) (ap (λ p. is_settled (outcome_of p)) at)
         (record {
           out = refl;
           builds = agrees.well.builds;

@@ -121,7 +121,6 @@ commit_enters scenario old new had has was xid agrees played next appends =
         free = λ _ command. free_running now command.command hidden;
         granted = λ is. absurd (cc);
         clear = inr clear;
-        table = agrees.well.table;
       };
     })
     (end_follows scenario old was phases.Visible was.running was.writes was.locks (events.Visible xid) agrees played appends.comes tt

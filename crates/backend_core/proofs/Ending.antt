@@ -197,7 +197,8 @@ pub level_outside : (levels : List Level) (n : ℕ) → false ≡ not (is_empty 
 level_outside [] n is = refl
 level_outside (level ∷ levels) n is = absurd (cc)
 
-built_at : (commands : List Command) (n : ℕ) (command : Command) → All (λ c. is_built (plan_of none_open c) ≡ true) commands → slice_get commands n ≡ Some command → is_built (plan_of none_open command) ≡ true
+-- the running command is built
+pub built_at : (commands : List Command) (n : ℕ) (command : Command) → All (λ c. is_built (plan_of none_open c) ≡ true) commands → slice_get commands n ≡ Some command → is_built (plan_of none_open command) ≡ true
 built_at commands n command built at =
     subst (λ c. is_built (plan_of none_open c) ≡ true) (get_or_from_slice_get commands n command command at) (All-get_or (λ c. is_built (plan_of none_open c) ≡ true) commands n command (slice_get_within commands n command at) built)
 

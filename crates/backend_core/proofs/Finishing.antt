@@ -26,7 +26,7 @@ use Rattle.backend_core.specs.Steps.{NextFinish, AgreesNow}
 use Rattle.backend_core.proofs.Carry.{left_command, clear_at, no_answer}
 use Rattle.backend_core.proofs.Ending.{left_same, owed_none, runs_unless}
 use Rattle.backend_core.proofs.EndEntries.{free_ended}
-use Rattle.backend_core.proofs.Beginning.{Begins, table_at, past_at, plain_at, command_at}
+use Rattle.backend_core.proofs.Beginning.{Begins, past_at, plain_at, command_at}
 
 -- the transaction before the next command: that of a block, or none
 abbrev pub NextBy : Option OwnTransaction → List Level → Block → Type 0
@@ -306,9 +306,8 @@ finish_keeps scenario seen was exec blocked blocks opened lines text agrees_now 
       free = λ some. absurd (cc);
       granted = λ is. absurd (cc);
       clear = inr (clear_at was agrees.well fin.outside);
-      table = table_at now begins;
     };
-    command = command_at seen now (rest_of begun_session) begins refused_is refl nothing refl agrees.command.later;
+    command = command_at seen now (rest_of begun_session) begins agrees.well.built refused_is refl nothing refl agrees.command.later;
     kept = agrees.kept;
     places = record { finished = All-push (λ f. f.judged ≤ length seen) agrees.rest.finished (finished_as session) agrees.places.finished agrees.places.judged; judged = agrees.places.last; last = agrees.places.last };
     answer = no_answer scenario seen now (rest_of begun_session) refl;

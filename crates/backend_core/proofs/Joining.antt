@@ -28,7 +28,7 @@ use Rattle.backend_core.specs.Agrees.{ReadRight, FactsFit, RunsBy, EndFits, Well
 use Rattle.backend_core.specs.Steps.{AgreesNow, Enters}
 use Rattle.backend_core.proofs.Carry.{has_written-quiet, no_answer}
 use Rattle.backend_core.proofs.Ending.{fits_unless}
-use Rattle.backend_core.proofs.Beginning.{Begins, table_at, past_at, plain_at, command_at}
+use Rattle.backend_core.proofs.Beginning.{Begins, past_at, plain_at, command_at}
 
 -- it may be entered
 pub join_call : (scenario : Scenario) (seen : List Entry) (s : Backend) → HasNotJoined scenario seen s → MayCall scenario seen (entry_of s.id 0 events.Start)
@@ -80,7 +80,6 @@ new_well s built few new = record {
   free = λ some. absurd (both_ways _ (ap (λ o. is_some o) new.answer) some);
   granted = λ is. absurd (cc (is, new.phase));
   clear = inr (ap (map cleared) new.locks ∙ sym new.locks);
-  table = table_at (joined s) begins;
 }
   where
     begins : Begins (joined s)
@@ -134,7 +133,7 @@ join_enters scenario old new had has was before appends = record {
       tally = λ _. omega (arith, ap granted before.new.phase, ap (λ o. option_map_or (λ t. one_if (t.first == was.finished + 1)) o 0) before.new.running, ap one_if before.new.looked);
       life = record { last = 0; alive = life_of-own old e was.id own; most = omega arith };
       well = new_well was before.built before.few before.new;
-      command = command_at (old ++ e ∷ []) now (rest_of first) (new_begins was before.new) refused refl before.new.opened before.new.read (λ c _. has_written-quiet old e was.id c refl ∙ before.unwritten c);
+      command = command_at (old ++ e ∷ []) now (rest_of first) (new_begins was before.new) before.built refused refl before.new.opened before.new.read (λ c _. has_written-quiet old e was.id c refl ∙ before.unwritten c);
       kept = subst (λ (l : List KeptScan). All (KeptFits (old ++ e ∷ []) was.id) l) (sym before.new.kept) (All-nil (KeptFits (old ++ e ∷ []) was.id));
       places = record { finished = All-nil _; judged = omega (arith, length_push old e); last = omega (arith, length_push old e) };
       answer = no_answer scenario (old ++ e ∷ []) now (rest_of first) (ap (λ o. is_some o) before.new.answer);

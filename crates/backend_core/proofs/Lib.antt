@@ -2,6 +2,9 @@ pub mod Tables
 pub mod CountsFor
 pub mod StaysRead
 pub mod SeesRelation
+pub mod Ways
+pub mod CanFollow
+pub mod Stages
 pub mod Stepping
 pub mod Carry
 pub mod Ending
@@ -28,5 +31,6 @@ pub mod Waiting
 pub mod Shown
 pub mod Finishing
 pub mod ReadPlaces
+pub mod Showing
 pub mod Answered
 pub mod Stepped

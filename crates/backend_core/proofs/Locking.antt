@@ -37,7 +37,8 @@ use Rattle.backend_core.specs.Steps.{IsWorking, NextLock, Enters}
 use Rattle.backend_core.proofs.Stepping.{Waits, facts_after, session_after, rest_after, own_enters}
 use Rattle.backend_core.proofs.Carry.{MayCome, may_come, Leaves, own_leaves, has_written-quiet, kept-more, command-more, no_answer, waits_at, scans_same, missing_at, owed_scans, clear_at, accepted-clear}
 use Rattle.backend_core.proofs.Looks.{not_empty-after}
-use Rattle.backend_core.proofs.Acting.{acts, IsActing, is_acting}
+use Rattle.backend_core.proofs.Acting.{IsActing, is_acting}
+use Rattle.backend_core.proofs.Ways.{acts}
 use Rattle.backend_core.proofs.Scanning.{transaction-more, end_free, runs_on}
 
 -- no scan is missing: what the act gives decides
@@ -155,7 +156,6 @@ granted_enters scenario old new had has was rel mode locks agrees played works n
         free = λ some. absurd (cc (some, acting.unanswered));
         granted = λ _. record { runs = acting.runs; unanswered = acting.unanswered };
         clear = inl refl;
-        table = agrees.well.table;
       };
     })
     (record {
@@ -237,7 +237,6 @@ refused_enters scenario old new had has was rel mode holder held agrees played w
         free = λ some. absurd (cc (some, acting.unanswered));
         granted = λ is. absurd (cc (is, works.phase));
         clear = inr (clear_at was agrees.well (λ is. absurd (cc (is, works.phase))));
-        table = λ rest draft at. absurd (cc);
       };
     })
     (record {

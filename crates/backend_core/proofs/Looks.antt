@@ -120,7 +120,6 @@ owed_look scenario old new had has was locks agrees played owes appends =
         free = λ some. absurd (cc (some, owes.unanswered));
         granted = λ is. absurd (cc);
         clear = inr owes.clear;
-        table = agrees.well.table;
       };
     })
     (record {

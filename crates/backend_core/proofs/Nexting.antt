@@ -7,55 +7,15 @@ use Rattle.std.specs.Option.{option_map_or}
 use Rattle.base_types.specs.Scans.{build_scans}
 use Rattle.ddl_effect.specs.Plans.{Plan, Do, Lookup, Open, Write}
 use Rattle.ddl_effect.specs.Stages.{plan_at, want_of}
-use Rattle.ddl_effect.specs.declared.want.Want.{Want}
 use Rattle.ddl_effect.specs.declared.want.Want.TheVariants as wants
-use Rattle.ddl_effect.specs.declared.exec.Exec.TheVariants as stages
 use Rattle.history_model.specs.Sent.{has_write_from}
-use Rattle.cacheless.specs.Session.{Outcome, Unsettled, Well as CameWell, Badly, outcome_of}
 use Rattle.cacheless.specs.Ends.{Ends, Commits, TakesBack}
 use Rattle.cacheless.specs.Owed.{OwesLook}
-use Rattle.backend_core.specs.Types.{Oid, Mode, Kind, Row, Purpose, Command, Draft, Exec, Xid, OwnTransaction, Backend}
+use Rattle.backend_core.specs.Types.{Oid, Mode, Kind, Row, Purpose, Command, Draft, Xid, OwnTransaction, Backend}
 use Rattle.backend_core.specs.declared.phase.Phase.TheVariants as phases
 use Rattle.backend_core.specs.State.{is_kept, begins_in, end_at, has_write_since, written_in, unlocked_of, HasCommand}
 use Rattle.backend_core.specs.Agrees.{Well, EndFits, CommitFits}
 use Rattle.backend_core.specs.Steps.{OwesLookNow, IsWorking, NextLookUp, NextBuild, NextLock, NextFind, NextOpen, NextWrite, NextCommit, NextRelease, WithoutWrite, NextFinish}
-
--- how a plan comes out, by what it wants
-abbrev pub outcome_by : Want → Outcome
-outcome_by wants.Done = CameWell
-outcome_by (wants.Fails error) = Badly
-outcome_by (wants.Absent name) = Badly
-outcome_by want = Unsettled
-
-pub outcome-want : (exec : Exec) → outcome_of (plan_at exec) ≡ outcome_by (want_of (plan_at exec))
-outcome-want stages.Done = refl
-outcome-want (stages.Failing error) = refl
-outcome-want (stages.Missing name) = refl
-outcome-want (stages.Finding name mode field) = refl
-outcome-want (stages.Opening rel kind) = refl
-outcome-want (stages.Writing draft) = refl
-
--- the command has come out well, or badly
-pub out_well : (exec : Exec) → want_of (plan_at exec) ≡ wants.Done → outcome_of (plan_at exec) ≡ CameWell
-out_well exec is = outcome-want exec ∙ ap outcome_by is
-
-pub out_badly : (exec : Exec) (w : Want) → want_of (plan_at exec) ≡ w → outcome_by w ≡ Badly → outcome_of (plan_at exec) ≡ Badly
-out_badly exec w is badly = outcome-want exec ∙ ap outcome_by is ∙ badly
-
--- no command reads a column or rows, or locks a further relation
-abbrev pub is_wanted_yet : Want → Bool
-is_wanted_yet (wants.Column rel name) = false
-is_wanted_yet (wants.Read scan) = false
-is_wanted_yet (wants.Lock rel mode) = false
-is_wanted_yet want = true
-
-pub wanted_yet : (exec : Exec) → is_wanted_yet (want_of (plan_at exec)) ≡ true
-wanted_yet stages.Done = refl
-wanted_yet (stages.Failing error) = refl
-wanted_yet (stages.Missing name) = refl
-wanted_yet (stages.Finding name mode field) = refl
-wanted_yet (stages.Opening rel kind) = refl
-wanted_yet (stages.Writing draft) = refl
 
 -- the plan that wants a lookup
 wants_lookup : (p : Plan) (name : List ℕ) (mode : Mode) → want_of p ≡ wants.Lookup name mode → (rest : List Row → Plan) × (p ≡ Do (Lookup name mode) rest)

@@ -292,7 +292,6 @@ release_enters scenario old new had has was from writes locks agrees played next
         free = λ _ command. free_ended now command.command refl;
         granted = λ is. absurd (cc);
         clear = inr (ap (map cleared) kept ∙ filter-cleared from was.locks.items ∙ ap (filter (λ lock. nat_lt lock.command from)) clear ∙ sym kept);
-        table = agrees.well.table;
       };
     })
     (end_follows scenario old was phases.Ended None writes locks (events.Release from) agrees played appends.comes tt

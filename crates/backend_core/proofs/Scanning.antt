@@ -33,7 +33,7 @@ use Rattle.cacheless.specs.Plays.{MayPlayIn, started_in, has_looked}
 use Rattle.cacheless.proofs.Settling.{waits-scans}
 use Rattle.backend_core.specs.Types.{Oid, Kind, Command, Row, Purpose, Mode, Entry, Event, Opening, KeptScan, Exec, Phase, OwnTransaction, Backend}
 use Rattle.backend_core.specs.declared.phase.Phase.TheVariants as phases
-use Rattle.backend_core.specs.NewTables.{StaysRead, relation_of}
+use Rattle.backend_core.specs.NewTables.{StaysRead, SeesRelation, relation_of}
 use Rattle.backend_core.specs.State.{owed_at, granted, is_taken_back, is_ended, one_if, running_in, running_at, begins_in, is_kept, missing, builds_missing, act_missing, scans_missing, Rest, session_at, HasCommand}
 use Rattle.backend_core.specs.Agrees.{IsPlayed, FactsFit, TallyFits, RowsFit, ReadRight, Well, RunsBy, TransactionFits, EndFits, PlaceFits, KeptFits, GivenSeen, Agrees}
 use Rattle.backend_core.specs.Steps.{IsWorking, NextLookUp, NextBuild, Enters}
@@ -41,7 +41,9 @@ use Rattle.backend_core.proofs.SeesRelation.{found_seen, read_stays-after}
 use Rattle.backend_core.proofs.Stepping.{Waits, facts_after, rest_after, own_enters}
 use Rattle.backend_core.proofs.Carry.{MayCome, may_come, Leaves, own_leaves, LeavesWrites, LeavesRelations, leaves_relations, has_written-quiet, place_read-scan, kept-more, SameCommand, way-more, later-more, command-more, no_answer, look_true, waits_at, scans_same, builds_same, act_same, missing_at, owed_free, clear_at, accepted-clear}
 use Rattle.backend_core.proofs.Looks.{may_look_at}
-use Rattle.backend_core.proofs.Acting.{acts, IsActing, is_acting, missing_acts, open_sees}
+use Rattle.backend_core.proofs.Acting.{IsActing, is_acting, missing_acts}
+use Rattle.backend_core.proofs.CanFollow.{CanGoOn}
+use Rattle.backend_core.proofs.Ways.{acts}
 
 -- a transaction fits in another state, if its release isn't made in either
 pub transaction-more : (was now : Backend) → is_ended was.phase ≡ false → is_ended now.phase ≡ false → now.blocks ≡ was.blocks → now.running ≡ was.running → now.finished ≡ was.finished → now.commands ≡ was.commands
@@ -105,7 +107,6 @@ reads_well was exec looked read given given_at kept phase builds plan well = rec
   free = λ some has. well.free some (record { command = has.command; at = has.at });
   granted = λ is. absurd (cc (is, phase));
   clear = inr (clear_at was well (λ is. absurd (cc (is, phase))));
-  table = λ rest draft at. well.table rest draft (sym plan ∙ at);
 }
 
 -- a scan is missing: the backend waits for it
@@ -435,7 +436,7 @@ built_to scenario old new had has was scan given at agrees played works next loo
           (record {
             at = place_read-scan old e was.id scan (eq-eqb was.id was.id refl) (same_scan-itself scan) ∙ sym at_is;
             stays = subst (StaysRead (old ++ e ∷ []) was.id scan) (sym rows_are) (read_stays-after old e was.id next.rel next.kind scan may.sound may.tables may.comes may.adds
-                (open_sees old was agrees.rest works.has.command next.rel next.kind next.rest acting.way next.at) first.1.1);
+                (subst (CanGoOn (SeesRelation old was.id)) next.at acting.can).0 first.1.1);
           });
       answer = no_answer scenario (old ++ e ∷ []) now later acting.unanswered;
       judged = λ _ _. refl;

@@ -108,7 +108,6 @@ take_back_enters scenario old new had has was from writes agrees played next kep
         free = λ _ command. free_running now command.command (ap (λ t. not t) runs);
         granted = λ is. absurd (cc);
         clear = inr clear;
-        table = agrees.well.table;
       };
     })
     (end_follows scenario old was (phases.TakenBack from) was.running writes was.locks (events.Gone from) agrees played appends.comes tt

@@ -1,5 +1,5 @@
--- A backend's write: its command is one that makes a table, and it has a transaction.
-use Rattle.std.proofs.Common.{◌≡◌, ◌≢◌, ◌<◌, ◌+◌, ◌∙◌, ◌⊎◌, inl, inr, ℕ, Bool, true, false, Option, Some, None, List, [], ◌∷◌, ◌++◌, ◌==◌, ◌&&◌, ◌||◌, refl, sym, ap, subst, length, drop, fold, map, is_none, is_some, arith}
+-- A backend's write of a new table.
+use Rattle.std.proofs.Common.{◌≡◌, ◌<◌, ◌+◌, ◌∙◌, inl, inr, ℕ, Bool, true, false, Option, Some, None, List, [], ◌∷◌, ◌++◌, ◌==◌, ◌&&◌, ◌||◌, refl, sym, ap, subst, length, drop, fold, map, is_some, arith}
 use Rattle.std.specs.Option.{option_map_or}
 use Rattle.std.specs.List.{flat_map}
 use Rattle.std.specs.declared.alloc.Global.{Global}
@@ -7,15 +7,12 @@ use Rattle.std.specs.declared.vec.Vec.{Vec}
 use Rattle.std.proofs.Math.Bool.{and-false, or-true}
 use Rattle.std.proofs.lemmas.Bool.{ne_eqb, eq-eqb}
 use Rattle.std.proofs.lemmas.List.{map-append}
-use Rattle.base_types.specs.Fields.{has_field}
-use Rattle.base_types.specs.declared.command.Command.TheVariants as commands
 use Rattle.base_types.specs.declared.mode.Mode.TheVariants.{AccessExclusive}
 use Rattle.event_kinds.specs.declared.entry.Event.TheVariants as events
-use Rattle.rel_desc.specs.declared.error.CommandError.TheVariants as errors
 use Rattle.ddl_effect.specs.declared.exec.Exec.TheVariants as stages
-use Rattle.ddl_effect.specs.Plans.{Plan, Done, Fails, Absent, Do, Act, Write}
-use Rattle.ddl_effect.specs.Commands.{plan_of, writing, showing, opening, if_passes}
-use Rattle.ddl_effect.specs.Blocks.{Block, Outside, Inside, Failed, refused_by, refused_in}
+use Rattle.ddl_effect.specs.Plans.{Plan, Done, Do, Write}
+use Rattle.ddl_effect.specs.Commands.{plan_of, writing}
+use Rattle.ddl_effect.specs.Blocks.{Block, Outside, Inside, Failed}
 use Rattle.ddl_effect.specs.Stages.{plan_at}
 use Rattle.history_model.specs.Drawn.{next_oid}
 use Rattle.history_model.specs.Orderly.{MayComeNext}
@@ -28,110 +25,29 @@ use Rattle.seg_calls.specs.declared.refusal.Written.{Written as Made}
 use Rattle.seg_calls.specs.Calls.{MakesWrite, MayRequest, MayWrite, Appends, items_drawn, entry_of}
 use Rattle.cacheless.specs.Facts.{facts_of}
 use Rattle.cacheless.specs.Locks.{cleared}
-use Rattle.cacheless.specs.Session.{Session, none_open, plan_first, plan_admitted, refused_first, outcome_of, is_settled, first_of}
-use Rattle.cacheless.specs.Owed.{Owes, OwesLook, OwesScan, builds_owed, owed_of}
+use Rattle.cacheless.specs.Session.{Session, none_open, outcome_of, is_settled, first_of}
+use Rattle.cacheless.specs.Owed.{OwesScan, builds_owed, owed_of}
 use Rattle.cacheless.specs.Sessions.{written, placed_at}
 use Rattle.cacheless.specs.Plays.{IsWrite, MayPlayIn}
 use Rattle.cacheless.proofs.Settling.{waits-act}
-use Rattle.backend_core.specs.Types.{Oid, Xid, Kind, Field, Row, Command, CommandError, Scenario, Entry, Event, Item, Phase, NewColumn, Draft, Exec, Opening, OwnLock, OwnTransaction, Backend}
+use Rattle.backend_core.specs.Types.{Oid, Xid, Row, Scenario, Entry, Event, Item, Phase, Draft, Exec, Opening, OwnLock, OwnTransaction, Backend}
 use Rattle.backend_core.specs.declared.phase.Phase.TheVariants as phases
-use Rattle.backend_core.specs.NewTables.{IsNewTable}
-use Rattle.backend_core.specs.State.{is_visible_at, is_taken_back, is_ended, is_out, running_in, written_in, builds_missing, begins_in, owed_first, owed_at, one_if, Rest, session_at, HasCommand}
-use Rattle.backend_core.specs.Agrees.{IsPlayed, FactsFit, RunsBy, TransactionFits, EndFits, Well, HasOpened, Way, CommandFits, Agrees}
-use Rattle.backend_core.specs.Steps.{IsWorking, NextWrite, Enters}
+use Rattle.backend_core.specs.NewTables.{IsNewTable, SeesRelation}
+use Rattle.backend_core.specs.State.{is_visible_at, is_taken_back, is_ended, is_out, running_in, written_in, builds_missing, owed_at, one_if, session_at}
+use Rattle.backend_core.specs.Agrees.{IsPlayed, FactsFit, RunsBy, TransactionFits, EndFits, Well, Agrees}
+use Rattle.backend_core.specs.Steps.{IsWorking, Enters}
+use Rattle.backend_core.specs.Way.{reached, OnItsWay}
+use Rattle.backend_core.proofs.Acting.{IsActing, is_acting}
+use Rattle.backend_core.proofs.CanFollow.{CanGoOn}
 use Rattle.backend_core.proofs.Stepping.{Waits, facts_after, session_after, rest_after, Keeps, Follows, Suits, GoesOn, own_enters}
 use Rattle.backend_core.proofs.Carry.{may_request, waits_at, missing_at, owed_scans, clear_at, accepted-clear, may_come, kept-more, no_answer}
 use Rattle.backend_core.proofs.NewTable.{new_table_may_write, new_table_locks}
-
--- the command makes a table
-pub record Creates (command : Command) : Type 0 where
-  pub name : List ℕ
-  pub columns : List NewColumn
-  pub is : command ≡ commands.CreateTable name columns
-
--- only such a command's plan begins with a write
-creates : (command : Command) (draft : Draft) (rest : List Row → Plan) → plan_of none_open command ≡ Do (Write draft) rest → Creates command
-creates (commands.CreateTable name columns) draft rest at = record { name = name; columns = columns; is = refl }
-creates commands.Begin draft rest at = absurd (cc)
-creates commands.Commit draft rest at = absurd (cc)
-creates commands.Rollback draft rest at = absurd (cc)
-creates (commands.Show name field) draft rest at = absurd (cc)
-creates command draft rest at = absurd (cc)
-
-showing_reads : (name : List ℕ) (field : Option Field) (rel : Oid) (kind : Kind) (draft : Draft) (rest : List Row → Plan) → showing name field rel kind ≢ Do (Write draft) rest
-showing_reads name None rel kind draft rest at = absurd (cc)
-showing_reads name (Some field) rel kind draft rest at = by_test (has_field kind field) (errors.NoField name field) at
-  where
-    by_test : (t : Bool) (error : CommandError) → if_passes t error (opening rel kind Done) ≢ Do (Write draft) rest
-    by_test true error is = absurd (cc)
-    by_test false error is = absurd (cc)
-
--- a command whose next act writes
-pub record Writes (seen : List Entry) (s : Backend) (rest : Rest) (command : Command) : Type 0 where
-  pub creates : Creates command
-  pub unwritten : has_written seen s.id (s.finished + 1) ≡ false
-
-way_writes : (seen : List Entry) (s : Backend) (rest : Rest) (command : Command) (draft : Draft) (further : List Row → Plan) → plan_at s.exec ≡ Do (Write draft) further → Way seen s rest command → Writes seen s rest command
-way_writes seen s rest command draft further at (inl untouched) = record { creates = creates command draft further (sym untouched.plan ∙ at); unwritten = untouched.unwritten }
-way_writes seen s rest command draft further at (inr (inl missing)) = let none : Absent missing.name ≡ Do (Write draft) further = sym missing.plan ∙ at in absurd (cc none)
-way_writes seen s rest command draft further at (inr (inr (inl found))) = by_stage found.stage
-  where
-    by_stage : ((plan_at s.exec ≡ showing found.name found.field found.rel found.kind) × (s.opened ≡ [])) ⊎ HasOpened s found.name found.field found.rel found.kind → Writes seen s rest command
-    by_stage (inl shows) = absurd (showing_reads found.name found.field found.rel found.kind draft further (sym shows.0 ∙ at))
-    by_stage (inr opened) = let none : Done ≡ Do (Write draft) further = sym opened.plan ∙ at in absurd (cc none)
-way_writes seen s rest command draft further at (inr (inr (inr wrote))) = let none : Done ≡ Do (Write draft) further = sym wrote.plan ∙ at in absurd (cc none)
-
--- with an act to do a command isn't answered
-pub unanswered : (s : Backend) (act : Act) (further : List Row → Plan) → Well s → plan_at s.exec ≡ Do act further → is_some s.answer ≡ false
-unanswered s act further well at = by_test (is_some s.answer) refl
-  where
-    by_test : (t : Bool) → is_some s.answer ≡ t → t ≡ false
-    by_test true is = let out : false ≡ true = ap (λ p. is_settled (outcome_of p)) (sym at) ∙ well.come_out is in absurd (cc out)
-    by_test false is = refl
-
--- no error has ended it
-pub unrefused : (seen : List Entry) (s : Backend) (rest : Rest) (act : Act) (further : List Row → Plan) → CommandFits seen s rest → plan_at s.exec ≡ Do act further → rest.refused ≡ None
-unrefused seen s rest act further fits at = by_error rest.refused refl
-  where
-    by_error : (o : Option CommandError) → rest.refused ≡ o → o ≡ None
-    by_error None is = refl
-    by_error (Some error) is = let fails : Do act further ≡ Fails error = sym at ∙ fits.refused error is in absurd (cc fails)
-
--- and the blocks admitted it
-pub admitted : (s : Backend) (act : Act) (further : List Row → Plan) (has : HasCommand s) → Well s → plan_at s.exec ≡ Do act further → (s.blocked ≡ false) × (refused_by s.blocks has.command ≡ None)
-admitted s act further has well at = by_refused (refused_by s.blocks has.command) refl
-  where
-    blocked : s.blocked ≡ is_some (refused_by s.blocks has.command)
-    blocked = well.blocked ∙ ap (λ o. is_some (refused_first s.blocks o)) has.at
-
-    by_refused : (o : Option CommandError) → refused_by s.blocks has.command ≡ o → (s.blocked ≡ false) × (o ≡ None)
-    by_refused None is = (blocked ∙ ap is_some is, refl)
-    by_refused (Some error) is =
-        let fails : Do act further ≡ Fails error = sym at ∙ well.refused (blocked ∙ ap is_some is) ∙ ap (plan_first s.blocks) has.at ∙ ap (λ o. plan_admitted o has.command) is in
-        absurd (cc fails)
-
--- the command that writes is one that makes a table, and has not written
-pub writes_now : (seen : List Entry) (s : Backend) (rest : Rest) (has : HasCommand s) (next : NextWrite s) → Well s → CommandFits seen s rest → Writes seen s rest has.command
-writes_now seen s rest has next well fits = way_writes seen s rest has.command next.draft next.rest next.at
-    (fits.way (unanswered s (Write next.draft) next.rest well next.at) (unrefused seen s rest (Write next.draft) next.rest fits next.at) has.command has.at)
+use Rattle.backend_core.proofs.Nexting.{the_command}
+use Rattle.backend_core.proofs.Ways.{acts}
 
 -- while a command works its transaction runs as the blocks say
 working_fits : (s : Backend) → s.phase ≡ phases.Working → TransactionFits s s.phase → RunsBy s s.blocks.block
 working_fits s phase fits = subst (TransactionFits s) phase fits
-
--- a command that writes has a transaction
-pub has_transaction : (s : Backend) (command : Command) → Creates command → s.phase ≡ phases.Working → owed_first s command ≡ [] → refused_by s.blocks command ≡ None → TransactionFits s s.phase → is_some s.running ≡ true
-has_transaction s command creating phase free admits fits = by_block s.blocks.block refl (working_fits s phase fits)
-  where
-    by_running : (o : Option OwnTransaction) → elim (is_none o) as (λ _. List Owes) [ true ↦ OwesLook ∷ [] | false ↦ [] ] ≡ [] → is_some o ≡ true
-    by_running (Some own) owed = refl
-    by_running None owed = absurd (cc)
-
-    by_block : (block : Block) → s.blocks.block ≡ block → RunsBy s block → is_some s.running ≡ true
-    by_block Outside is runs = by_running s.running
-        (sym (λ i. elim (begins_in (record { block = is i; levels = s.blocks.levels }) (phase i) (creating.is i) && is_none s.running) as (λ _. List Owes) [ true ↦ OwesLook ∷ [] | false ↦ [] ]) ∙ free)
-    by_block Inside is runs = runs.runs
-    by_block Failed is runs = let fails : Some errors.BlockFailed ≡ None = ap (λ c. refused_in Failed c) (sym creating.is) ∙ ap (λ b. refused_in b command) (sym is) ∙ admits in absurd (cc fails)
 
 -- the backend after it asked for a write
 abbrev pub after_asking : Backend → Exec → List Opening → Bool → Option OwnTransaction → Vec ℕ Global → Vec OwnLock Global → Backend
@@ -185,7 +101,6 @@ asked_well was exec opened read running writes locks phase ran unblocked none bu
   free = λ is has. let no : true ≡ false = sym is ∙ none in absurd (cc no);
   granted = λ is. let no : phases.Granted ≡ phases.Working = sym is ∙ phase in absurd (cc no);
   clear = inr settles.clear;
-  table = λ rest draft at. let no : true ≡ false = sym settles.out ∙ ap (λ p. is_settled (outcome_of p)) at in absurd (cc no);
 }
   where
     now : Backend
@@ -226,31 +141,34 @@ starts_kept None c xid runs = absurd (cc)
 starts_kept (Some t) c xid runs = refl
 
 module _ (scenario : Scenario) (old : List Entry) (was : Backend) (agrees : Agrees scenario old was) (works : IsWorking was) (draft : Draft) (at : plan_at was.exec ≡ writing draft) where
-  next : NextWrite was
-  next = record { draft = draft; rest = λ given. Done; at = at }
-
   -- what is known of it
-  pub command_writes : Writes old was agrees.rest works.has.command
-  command_writes = writes_now old was agrees.rest works.has next agrees.well agrees.command
+  acting : IsActing old was agrees.rest works.has.command
+  acting = is_acting scenario old was agrees works (ap acts at)
 
   pub is_unanswered : is_some was.answer ≡ false
-  is_unanswered = unanswered was (Write draft) (λ given. Done) agrees.well at
+  is_unanswered = acting.unanswered
 
-  pub is_admitted : (was.blocked ≡ false) × (refused_by was.blocks works.has.command ≡ None)
-  is_admitted = admitted was (Write draft) (λ given. Done) works.has agrees.well at
+  pub is_unrefused : agrees.rest.refused ≡ None
+  is_unrefused = acting.unrefused
+
+  pub is_unblocked : was.blocked ≡ false
+  is_unblocked = acting.unblocked
 
   pub runs : is_some was.running ≡ true
-  runs = has_transaction was works.has.command command_writes.creates works.phase works.free is_admitted.1 agrees.well.transaction
+  runs = acting.runs
+
+  pub way_here : OnItsWay old was agrees.rest works.has.command
+  way_here = acting.way
 
   pub makes_table : IsNewTable draft
-  makes_table = agrees.well.table (λ given. Done) draft at
+  makes_table = (subst (CanGoOn (SeesRelation old was.id)) at acting.can).0
 
   pub locks_clear : map cleared was.locks.items ≡ was.locks.items
   locks_clear = clear_at was agrees.well (λ is. let no : phases.Granted ≡ phases.Working = sym is ∙ works.phase in absurd (cc no))
 
   -- so it may write
   pub may_write : IsPlayed scenario old → MayWrite old was.id (was.finished + 1) draft
-  may_write played = new_table_may_write old was.id (was.finished + 1) draft played.tables makes_table command_writes.unwritten
+  may_write played = new_table_may_write old was.id (was.finished + 1) draft played.tables makes_table way_here.unwritten
 
   pub may_ask : MayRequest scenario old was.id (was.finished + 1)
   may_ask = may_request scenario old was agrees (ap is_visible_at works.phase) (ap is_taken_back works.phase)
@@ -368,7 +286,7 @@ module _ (scenario : Scenario) (old : List Entry) (was : Backend) (agrees : Agre
     session = session_now;
     facts = facts_now;
     tally = λ _. agrees.tally (ap is_ended works.phase) ∙ ap (λ n. agrees.rest.tally.scans + agrees.rest.tally.grants + n + one_if was.looked) (sym (starts_kept was.running (was.finished + 1) (Some xid) running_now));
-    well = asked_well was stages.Done [] false (Some own) writes locks works.phase running_now (is_admitted scenario old was agrees works draft at).0 (is_unanswered scenario old was agrees works draft at) (ap (λ p. is_settled (outcome_of p)) at) settles agrees.well;
+    well = asked_well was stages.Done [] false (Some own) writes locks works.phase running_now (is_unblocked scenario old was agrees works draft at) (is_unanswered scenario old was agrees works draft at) (ap (λ p. is_settled (outcome_of p)) at) settles agrees.well;
   }
 
   suits : Suits scenario old was event agrees.rest
@@ -383,14 +301,15 @@ module _ (scenario : Scenario) (old : List Entry) (was : Backend) (agrees : Agre
   follows : IsPlayed scenario old → MayComeNext old (entry_of was.id (was.finished + 1) event) → Follows scenario old was now event agrees.rest
   follows played comes = record {
     command = record {
-      refused = λ error is. let no : None ≡ Some error = sym (ap (λ s. s.refused) left ∙ unrefused old was agrees.rest (Write draft) (λ given. Done) agrees.command at) ∙ is in absurd (cc no);
-      way = λ none no command running. inr (inr (inr (record {
-        name = creating.name;
-        columns = creating.columns;
-        command_is = (let same : Some command ≡ Some works.has.command = sym running ∙ works.has.at in cc same) ∙ creating.is;
+      refused = λ error is. let no : None ≡ Some error = sym (ap (λ s. s.refused) left ∙ is_unrefused scenario old was agrees works draft at) ∙ is in absurd (cc no);
+      way = λ none no command running. inr (record {
+        gave = way.gave;
+        draft = draft;
+        further = λ given. Done;
+        came = ap (λ c. reached way.gave (plan_of none_open c)) (sym (the_command was works.has command running)) ∙ sym way.plan ∙ at;
         plan = refl;
         written = written_at old was.id (was.finished + 1) xid (items_drawn old draft);
-      })));
+      });
       later = λ c after. unwritten_later old was.id (was.finished + 1) c xid (items_drawn old draft) after (agrees.command.later c after);
       given_at = tt;
       given_seen = tt;
@@ -400,8 +319,8 @@ module _ (scenario : Scenario) (old : List Entry) (was : Backend) (agrees : Agre
     judged = λ has none. refl;
   }
     where
-      creating : Creates works.has.command
-      creating = (command_writes scenario old was agrees works draft at).creates
+      way : OnItsWay old was agrees.rest works.has.command
+      way = way_here scenario old was agrees works draft at
 
   -- so the write of a new table is entered
   write_enters : (new : List Entry) (had has : ℕ → ℕ) → IsPlayed scenario old → Appends old new had has (entry_of was.id (was.finished + 1) event) → Enters scenario old new was now

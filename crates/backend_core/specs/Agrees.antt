@@ -1,15 +1,14 @@
 -- How a backend agrees with a history.
-use Rattle.std.specs.Prelude.{◌≡◌, ◌≢◌, ◌≤◌, ◌<◌, ◌+◌, ◌⊎◌, ℕ, Bool, true, false, not, Option, Some, None, List, [], ◌∷◌, ◌==◌, map, drop, take, length, All, slice_get, is_some, ⊤}
+use Rattle.std.specs.Prelude.{◌≡◌, ◌≤◌, ◌<◌, ◌+◌, ◌⊎◌, ℕ, Bool, true, false, not, Some, None, List, [], ◌∷◌, ◌==◌, map, drop, take, length, All, slice_get, is_some, ⊤}
 use Rattle.std.specs.Option.{option_map_or}
 use Rattle.base_types.specs.Scans.{is_build_scan}
 use Rattle.base_types.specs.Scenario.{IsBackend}
 use Rattle.base_types.specs.declared.row.Row.TheVariants as rows
 use Rattle.base_types.specs.declared.scan.Purpose.TheVariants as scans
-use Rattle.base_types.specs.declared.command.Command.TheVariants as commands
 use Rattle.event_kinds.specs.declared.entry.Event.TheVariants as events
 use Rattle.rel_desc.specs.Answers.{answer_text}
-use Rattle.ddl_effect.specs.Plans.{Plan, Done, Fails, Absent, Do, Lookup, Write, is_built}
-use Rattle.ddl_effect.specs.Commands.{plan_of, commands_of, looking_up, showing}
+use Rattle.ddl_effect.specs.Plans.{Plan, Done, Fails, Absent, Do, Lookup, is_built}
+use Rattle.ddl_effect.specs.Commands.{plan_of, commands_of}
 use Rattle.ddl_effect.specs.Blocks.{Block, Outside, Inside, Failed, no_block, is_open, innermost, ends_block}
 use Rattle.ddl_effect.specs.Stages.{plan_at}
 use Rattle.history_model.specs.Lives.{Life, Unstarted, Alive, Stopped, life_of}
@@ -27,11 +26,12 @@ use Rattle.cacheless.specs.Sessions.{session_of}
 use Rattle.cacheless.specs.Plays.{Plays}
 use Rattle.cacheless.specs.Schedule.{AreLooksTrue}
 use Rattle.cacheless.specs.Lines.{answer_judged, lines_from}
-use Rattle.backend_core.specs.Types.{Oid, Mode, Kind, Field, Row, Purpose, Command, NewColumn, CommandError, Scenario, Entry, Draft, KeptScan, Phase, Backend}
+use Rattle.backend_core.specs.Types.{Row, Purpose, Command, CommandError, Scenario, Entry, KeptScan, Phase, Backend}
 use Rattle.backend_core.specs.declared.phase.Life.TheVariants as lives
 use Rattle.backend_core.specs.declared.phase.Phase.TheVariants as phases
-use Rattle.backend_core.specs.NewTables.{IsNewTable, HasTables, StaysRead, SeesRelation}
+use Rattle.backend_core.specs.NewTables.{HasTables, StaysRead, SeesRelation}
 use Rattle.backend_core.specs.Passing.{is_silent}
+use Rattle.backend_core.specs.Way.{Way}
 use Rattle.backend_core.specs.State.{owed_at, granted, is_taken_back, is_ended, one_if, running_at, lists_at, is_kept, builds_missing, is_out, begins_in, owed_first, end_at, is_inside, blocks_next, has_write_since, end_of_running, Rest, session_at, HasCommand}
 
 -- a history that the script's commands played so far
@@ -162,54 +162,6 @@ pub record Well (s : Backend) : Type 0 where
   pub free : is_some s.answer ≡ true → (has : HasCommand s) → owed_first s has.command ≡ []
   pub granted : s.phase ≡ phases.Granted → IsGranted s
   pub clear : (s.phase ≡ phases.Granted) ⊎ (map cleared s.locks.items ≡ s.locks.items)
-  pub table : (rest : List Row → Plan) (draft : Draft) → plan_at s.exec ≡ Do (Write draft) rest → IsNewTable draft
-
--- a command that has done nothing yet, or none of what it does needs more than its own words
-pub record IsUntouched (seen : List Entry) (s : Backend) (rest : Rest) (command : Command) : Type 0 where
-  pub found : rest.found ≡ []
-  pub plan : plan_at s.exec ≡ plan_of none_open command
-  pub opened : s.opened ≡ []
-  pub unwritten : has_written seen s.id (s.finished + 1) ≡ false
-
--- a command whose lookup found no relation
-pub record IsMissing (seen : List Entry) (s : Backend) (rest : Rest) (command : Command) : Type 0 where
-  pub name : List ℕ
-  pub mode : Mode
-  pub further : Oid → Kind → Plan
-  pub found : rest.found ≡ None ∷ []
-  pub command_is : plan_of none_open command ≡ looking_up name mode further
-  pub plan : plan_at s.exec ≡ Absent name
-  pub unwritten : has_written seen s.id (s.finished + 1) ≡ false
-
--- a `show` whose descriptor is open
-pub record HasOpened (s : Backend) (name : List ℕ) (field : Option Field) (rel : Oid) (kind : Kind) : Type 0 where
-  pub plan : plan_at s.exec ≡ Done
-  pub opened : s.opened ≡ record { rel = rel; kind = kind } ∷ []
-  pub passes : (error : CommandError) → showing name field rel kind ≢ Fails error
-
--- a `show` whose lookup found a relation
-pub record IsFound (seen : List Entry) (s : Backend) (rest : Rest) (command : Command) : Type 0 where
-  pub name : List ℕ
-  pub field : Option Field
-  pub rel : Oid
-  pub kind : Kind
-  pub command_is : command ≡ commands.Show name field
-  pub found : rest.found ≡ Some rel ∷ []
-  pub sees : SeesRelation seen s.id rel kind
-  pub stage : ((plan_at s.exec ≡ showing name field rel kind) × (s.opened ≡ [])) ⊎ HasOpened s name field rel kind
-  pub unwritten : has_written seen s.id (s.finished + 1) ≡ false
-
--- a command that has written
-pub record IsWritten (seen : List Entry) (s : Backend) (command : Command) : Type 0 where
-  pub name : List ℕ
-  pub columns : List NewColumn
-  pub command_is : command ≡ commands.CreateTable name columns
-  pub plan : plan_at s.exec ≡ Done
-  pub written : has_written seen s.id (s.finished + 1) ≡ true
-
--- how far a command is that no error has ended
-abbrev pub Way : List Entry → Backend → Rest → Command → Type 0
-Way seen s rest command = IsUntouched seen s rest command ⊎ (IsMissing seen s rest command ⊎ (IsFound seen s rest command ⊎ IsWritten seen s command))
 
 -- what the running command answers, where that is worked out
 abbrev pub AnswerFits : Scenario → List Entry → Backend → Rest → Type 0

@@ -2,6 +2,7 @@ pub mod Types
 pub mod NewTables
 pub mod State
 pub mod Passing
+pub mod Way
 pub mod Agrees
 pub mod Steps
 pub mod Endings

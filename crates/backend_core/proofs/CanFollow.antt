@@ -1,0 +1,158 @@
+-- Plans that a backend can follow so far, and that each command's plan is one.
+use Rattle.std.proofs.Common.{◌≡◌, ◌∙◌, ℕ, Bool, true, false, Option, Some, None, List, [], ◌∷◌, ◌++◌, refl, sym, ap, subst, map, length, nat_le}
+use Rattle.std.specs.Prelude.{⊤}
+use Rattle.std.specs.List.{AllByRecursion}
+use Rattle.base_types.specs.Fields.{has_field}
+use Rattle.base_types.specs.declared.dropped.TheConstants.{MOST_COLUMNS}
+use Rattle.base_types.specs.declared.mode.Mode.TheVariants.{AccessShare}
+use Rattle.base_types.specs.declared.row.Row.TheVariants as rows
+use Rattle.base_types.specs.declared.command.Command.TheVariants as commands
+use Rattle.rel_desc.specs.declared.error.CommandError.TheVariants as errors
+use Rattle.ddl_effect.specs.Plans.{Plan, Done, Fails, Absent, NotBuilt, Do, Lookup, Open, Column, Read, Lock, Write, is_built}
+use Rattle.ddl_effect.specs.Commands.{plan_of, found, looking_up, if_passes, if_no_column, first_twice, writing, opening, showing, creating, new_table}
+use Rattle.ddl_effect.specs.Effects.{effect_at, row_found}
+use Rattle.history_model.specs.Versions.{answer_of}
+use Rattle.cacheless.specs.Session.{none_open}
+use Rattle.cacheless.specs.Settled.{class_oid, found_by}
+use Rattle.backend_core.specs.Types.{Oid, Mode, Kind, Field, NewColumn, Row, Command, CommandError, Draft, Entry}
+use Rattle.backend_core.specs.NewTables.{IsNewTable, SeesRelation}
+use Rattle.backend_core.specs.Agrees.{PlaceFits}
+use Rattle.backend_core.specs.Way.{after_given, reached, made_first, made_in, relation_by, SeesAll}
+
+-- a relation's row, as far as its oid and its kind say
+abbrev pub plain_row : Oid → Kind → List Row
+plain_row rel kind = rows.Class rel [] kind None ∷ []
+
+-- a plan that a backend can follow so far, where P holds of each relation that a lookup finds:
+-- a lookup's rows decide by their relation alone, or that there is none; the descriptors are of such relations; and at most the last act writes, a new table
+abbrev pub CanFollow : (Oid → Kind → Type 0) → Plan → Type 0
+CanFollow P Done = ⊤
+CanFollow P (Fails error) = ⊤
+CanFollow P (Do (Lookup name mode) rest) = ((given : List Row) → rest given ≡ found name (λ rel kind. rest (plain_row rel kind)) given) × ((rel : Oid) (kind : Kind) → P rel kind → CanFollow P (rest (plain_row rel kind)))
+CanFollow P (Do (Open rel kind) rest) = P rel kind × ((given : List Row) → rest given ≡ rest []) × CanFollow P (rest [])
+CanFollow P (Do (Write draft) rest) = IsNewTable draft × ((given : List Row) → rest given ≡ Done)
+CanFollow P plan = ⊥
+
+-- the same once it is begun: a lookup may have found no relation
+abbrev pub CanGoOn : (Oid → Kind → Type 0) → Plan → Type 0
+CanGoOn P (Absent name) = ⊤
+CanGoOn P plan = CanFollow P plan
+
+-- each former of plans makes such a plan of such plans
+can_if_passes : (P : Oid → Kind → Type 0) (passes : Bool) (error : CommandError) (plan : Plan) → CanFollow P plan → CanFollow P (if_passes passes error plan)
+can_if_passes P true error plan can = can
+can_if_passes P false error plan can = tt
+
+can_if_no_column : (P : Oid → Kind → Type 0) (twice : Option (List ℕ)) (plan : Plan) → CanFollow P plan → CanFollow P (if_no_column twice plan)
+can_if_no_column P None plan can = can
+can_if_no_column P (Some name) plan can = tt
+
+can_opening : (P : Oid → Kind → Type 0) (rel : Oid) (kind : Kind) (plan : Plan) → P rel kind → CanFollow P plan → CanFollow P (opening rel kind plan)
+can_opening P rel kind plan holds can = (holds, λ given. refl, can)
+
+can_looking_up : (P : Oid → Kind → Type 0) (name : List ℕ) (mode : Mode) (further : Oid → Kind → Plan) → ((rel : Oid) (kind : Kind) → P rel kind → CanFollow P (further rel kind)) → CanFollow P (looking_up name mode further)
+can_looking_up P name mode further can = (λ given. refl, can)
+
+can_writing : (P : Oid → Kind → Type 0) (draft : Draft) → IsNewTable draft → CanFollow P (writing draft)
+can_writing P draft table = (table, λ given. refl)
+
+can_showing : (P : Oid → Kind → Type 0) (name : List ℕ) (field : Option Field) (rel : Oid) (kind : Kind) → P rel kind → CanFollow P (showing name field rel kind)
+can_showing P name None rel kind holds = can_opening P rel kind Done holds tt
+can_showing P name (Some field) rel kind holds = can_if_passes P (has_field kind field) (errors.NoField name field) (opening rel kind Done) (can_opening P rel kind Done holds tt)
+
+can_creating : (P : Oid → Kind → Type 0) (name : List ℕ) (columns : List NewColumn) → CanFollow P (creating name columns)
+can_creating P name columns =
+    can_if_passes P (nat_le (length columns) MOST_COLUMNS) errors.TooManyColumns (if_no_column twice (writing (new_table name columns)))
+    (can_if_no_column P twice (writing (new_table name columns)) (can_writing P (new_table name columns) (record { name = name; columns = columns; is = refl })))
+  where
+    twice : Option (List ℕ)
+    twice = first_twice [] (map (λ c. c.name) columns)
+
+-- the plan of each command that is built is one: a line a command
+pub can_follow : (P : Oid → Kind → Type 0) (command : Command) → is_built (plan_of none_open command) ≡ true → CanFollow P (plan_of none_open command)
+can_follow P commands.Begin built = tt
+can_follow P commands.Commit built = tt
+can_follow P commands.Rollback built = tt
+can_follow P (commands.Show name field) built = can_looking_up P name AccessShare (showing name field) (can_showing P name field)
+can_follow P (commands.CreateTable name columns) built = can_creating P name columns
+can_follow P command built = absurd (cc)
+
+-- one that can be followed can go on
+pub can_go_on : (P : Oid → Kind → Type 0) (plan : Plan) → CanFollow P plan → CanGoOn P plan
+can_go_on P (Absent name) can = absurd can
+can_go_on P plan can = can
+
+-- and so it can after an act
+can_after : (P : Oid → Kind → Type 0) (given : List Row) (plan : Plan) → CanGoOn P plan → AllByRecursion (λ o. P o.rel o.kind) (made_first relation_by given plan) → CanGoOn P (after_given given plan)
+can_after P given Done can all = tt
+can_after P given (Fails error) can all = tt
+can_after P given (Absent name) can all = tt
+can_after P given NotBuilt can all = absurd can
+can_after P given (Do (Lookup name mode) rest) can all = by_rows given (can.0 given) all
+  where
+    by_rows : (l : List Row) → rest l ≡ found name (λ rel kind. rest (plain_row rel kind)) l → AllByRecursion (λ o. P o.rel o.kind) (relation_by (Lookup name mode) l) → CanGoOn P (rest l)
+    by_rows [] is holds = subst (CanGoOn P) (sym is) tt
+    by_rows (rows.Class rel own kind fill ∷ more) is holds = subst (CanGoOn P) (sym is) (can_go_on P (rest (plain_row rel kind)) (can.1 rel kind holds.0))
+    by_rows (row ∷ more) is holds = subst (CanGoOn P) (sym is) tt
+can_after P given (Do (Open rel kind) rest) can all = subst (CanGoOn P) (sym (can.1 given)) (can_go_on P (rest []) can.2)
+can_after P given (Do (Write draft) rest) can all = can
+can_after P given (Do (Column rel name) rest) can all = absurd can
+can_after P given (Do (Read scan) rest) can all = absurd can
+can_after P given (Do (Lock rel mode) rest) can all = absurd can
+
+-- what holds of two lists together, holds of each
+all_first : {X : Type 0} (P : X → Type 0) (xs ys : List X) → AllByRecursion P (xs ++ ys) → AllByRecursion P xs × AllByRecursion P ys
+all_first P [] ys all = (tt, all)
+all_first P (x ∷ xs) ys all = let more = all_first P xs ys all.1 in ((all.0, more.0), more.1)
+
+-- and after any acts
+pub can_reach : (P : Oid → Kind → Type 0) (gave : List (List Row)) (plan : Plan) → CanGoOn P plan → AllByRecursion (λ o. P o.rel o.kind) (made_in relation_by gave plan) → CanGoOn P (reached gave plan)
+can_reach P [] plan can all = can
+can_reach P (given ∷ gave) plan can all =
+    let both = all_first (λ o. P o.rel o.kind) (made_first relation_by given plan) (made_in relation_by gave (after_given given plan)) all in
+    can_reach P gave (after_given given plan) (can_after P given plan can both.0) both.1
+
+-- a lookup's rows come to what the row of their relation comes to, while the relation is seen
+row_again : (seen : List Entry) (b : ℕ) (name : List ℕ) (mode : Mode) (rest : List Row → Plan) (given : List Row) → CanFollow (SeesRelation seen b) (Do (Lookup name mode) rest) → SeesAll seen b (relation_by (Lookup name mode) given)
+    → rest (row_found (answer_of seen b) (class_oid given)) ≡ rest given
+row_again seen b name mode rest [] can sees = refl
+row_again seen b name mode rest (rows.Class rel own kind fill ∷ more) can sees = ap rest sees.0.row ∙ can.0 (rows.Class rel sees.0.name kind sees.0.fill ∷ []) ∙ sym (can.0 (rows.Class rel own kind fill ∷ more))
+row_again seen b name mode rest (row ∷ more) can sees = can.0 [] ∙ sym (can.0 (row ∷ more))
+
+-- what a command comes to is what its plan on the way comes to
+pub effect_on : (seen : List Entry) (b : ℕ) (gave : List (List Row)) (plan : Plan) (later : List (Option Oid)) → CanGoOn (SeesRelation seen b) plan → SeesAll seen b (made_in relation_by gave plan)
+    → effect_at (answer_of seen b) (made_in found_by gave plan ++ later) plan ≡ effect_at (answer_of seen b) later (reached gave plan)
+effect_on seen b [] plan later can sees = refl
+effect_on seen b (given ∷ gave) plan later can sees =
+    let both = all_first (λ o. SeesRelation seen b o.rel o.kind) (made_first relation_by given plan) (made_in relation_by gave (after_given given plan)) sees in
+    by_plan plan can both.0 (effect_on seen b gave (after_given given plan) later (can_after (SeesRelation seen b) given plan can both.0) both.1)
+  where
+    by_plan : (p : Plan) → CanGoOn (SeesRelation seen b) p → SeesAll seen b (made_first relation_by given p)
+        → effect_at (answer_of seen b) (made_in found_by gave (after_given given p) ++ later) (after_given given p) ≡ effect_at (answer_of seen b) later (reached gave (after_given given p))
+        → effect_at (answer_of seen b) ((made_first found_by given p ++ made_in found_by gave (after_given given p)) ++ later) p ≡ effect_at (answer_of seen b) later (reached gave (after_given given p))
+    by_plan Done can' all same = same
+    by_plan (Fails error) can' all same = same
+    by_plan (Absent name) can' all same = same
+    by_plan NotBuilt can' all same = same
+    by_plan (Do (Lookup name mode) rest) can' all same = ap (effect_at (answer_of seen b) (made_in found_by gave (rest given) ++ later)) (row_again seen b name mode rest given can' all) ∙ same
+    by_plan (Do (Open rel kind) rest) can' all same = ap (effect_at (answer_of seen b) (made_in found_by gave (rest given) ++ later)) (sym (can'.1 given)) ∙ same
+    by_plan (Do (Write draft) rest) can' all same = same
+    by_plan (Do (Column rel name) rest) can' all same = absurd can'
+    by_plan (Do (Read scan) rest) can' all same = absurd can'
+    by_plan (Do (Lock rel mode) rest) can' all same = absurd can'
+
+-- the place of a scan by name, where none is made yet
+pub place_unread : (P : Oid → Kind → Type 0) (seen : List Entry) (b : ℕ) (plan : Plan) (at : ℕ) → CanFollow P plan → PlaceFits seen b plan false at
+place_unread P seen b (Absent name) at can = absurd can
+place_unread P seen b (Do (Lookup name mode) rest) at can = tt
+place_unread P seen b plan at can = tt
+
+-- and after a lookup
+pub place_found : (P : Oid → Kind → Type 0) (seen : List Entry) (b : ℕ) (name : List ℕ) (mode : Mode) (rest : List Row → Plan) (given : List Row) (at : ℕ) → CanFollow P (Do (Lookup name mode) rest)
+    → AllByRecursion (λ o. P o.rel o.kind) (relation_by (Lookup name mode) given) → PlaceFits seen b (Do (Lookup name mode) rest) true at → PlaceFits seen b (rest given) false at
+place_found P seen b name mode rest given at can all fits = by_rows given (can.0 given) all
+  where
+    by_rows : (l : List Row) → rest l ≡ found name (λ rel kind. rest (plain_row rel kind)) l → AllByRecursion (λ o. P o.rel o.kind) (relation_by (Lookup name mode) l) → PlaceFits seen b (rest l) false at
+    by_rows [] is holds = subst (λ p. PlaceFits seen b p false at) (sym is) fits
+    by_rows (rows.Class rel own kind fill ∷ more) is holds = subst (λ p. PlaceFits seen b p false at) (sym is) (place_unread P seen b (rest (plain_row rel kind)) at (can.1 rel kind holds.0))
+    by_rows (row ∷ more) is holds = subst (λ p. PlaceFits seen b p false at) (sym is) fits

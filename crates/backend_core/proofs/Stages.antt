@@ -1,0 +1,22 @@
+-- What each stage of a command keeps to.
+use Rattle.std.proofs.Common.{◌≡◌, true}
+use Rattle.std.specs.Prelude.{⊤}
+use Rattle.base_types.specs.Scans.{is_build_scan}
+use Rattle.ddl_effect.specs.Plans.{Plan, Do, Read}
+use Rattle.ddl_effect.specs.Stages.{plan_at}
+use Rattle.ddl_effect.specs.declared.exec.Exec.TheVariants as stages
+use Rattle.backend_core.specs.Types.{Exec}
+
+-- an act that only reads rows reads them of a descriptor
+abbrev pub ReadsBuilds : Plan → Type 0
+ReadsBuilds (Do (Read scan) rest) = is_build_scan scan ≡ true
+ReadsBuilds plan = ⊤
+
+-- no stage reads single rows so far: a line a stage
+pub stage_reads : (exec : Exec) → ReadsBuilds (plan_at exec)
+stage_reads stages.Done = tt
+stage_reads (stages.Failing error) = tt
+stage_reads (stages.Missing name) = tt
+stage_reads (stages.Finding name mode field) = tt
+stage_reads (stages.Opening rel kind) = tt
+stage_reads (stages.Writing draft) = tt

@@ -1,0 +1,68 @@
+-- How far a command is in what its plan says.
+use Rattle.std.specs.Prelude.{◌≡◌, ◌+◌, ◌++◌, ◌⊎◌, ℕ, true, false, List, [], ◌∷◌}
+use Rattle.std.specs.List.{AllByRecursion}
+use Rattle.base_types.specs.declared.row.Row.TheVariants as rows
+use Rattle.ddl_effect.specs.Plans.{Act, Lookup, Write, Plan, Done, Do, after_act}
+use Rattle.ddl_effect.specs.Commands.{plan_of}
+use Rattle.ddl_effect.specs.Stages.{plan_at}
+use Rattle.history_model.specs.Writes.{has_written}
+use Rattle.cacheless.specs.Session.{none_open}
+use Rattle.cacheless.specs.Settled.{found_by, opened_by}
+use Rattle.backend_core.specs.Types.{Row, Command, Draft, Entry, Opening, Backend}
+use Rattle.backend_core.specs.NewTables.{SeesRelation}
+use Rattle.backend_core.specs.State.{Rest}
+
+-- the plan after its first act, which gave these rows; a write isn't passed
+abbrev pub after_given : List Row → Plan → Plan
+after_given given (Do (Write draft) rest) = Do (Write draft) rest
+after_given given plan = after_act given plan
+
+-- the plan after acts that gave these rows, one list an act
+abbrev pub reached : List (List Row) → Plan → Plan
+reached [] plan = plan
+reached (given ∷ gave) plan = reached gave (after_given given plan)
+
+-- what the first act of a plan makes, by the rows that it gave
+abbrev pub made_first : {X : Type 0} → (Act → List Row → List X) → List Row → Plan → List X
+made_first makes given (Do act rest) = makes act given
+made_first makes given plan = []
+
+-- what the acts on the way make
+abbrev pub made_in : {X : Type 0} → (Act → List Row → List X) → List (List Row) → Plan → List X
+made_in makes [] plan = []
+made_in makes (given ∷ gave) plan = made_first makes given plan ++ made_in makes gave (after_given given plan)
+
+-- the descriptor that an act opens, whatever it gave
+abbrev pub opening_by : Act → List Row → List Opening
+opening_by act given = opened_by act
+
+-- the relation that a lookup found, with its kind
+abbrev pub relation_by : Act → List Row → List Opening
+relation_by (Lookup name mode) (rows.Class rel own kind fill ∷ more) = record { rel = rel; kind = kind } ∷ []
+relation_by act given = []
+
+-- the backend sees these relations
+abbrev pub SeesAll : List Entry → ℕ → List Opening → Type 0
+SeesAll seen b relations = AllByRecursion (λ o. SeesRelation seen b o.rel o.kind) relations
+
+-- a command that hasn't written, by what its acts gave so far
+pub record OnItsWay (seen : List Entry) (s : Backend) (rest : Rest) (command : Command) : Type 0 where
+  pub gave : List (List Row)
+  pub plan : plan_at s.exec ≡ reached gave (plan_of none_open command)
+  pub found : rest.found ≡ made_in found_by gave (plan_of none_open command)
+  pub opened : s.opened ≡ made_in opening_by gave (plan_of none_open command)
+  pub sees : SeesAll seen s.id (made_in relation_by gave (plan_of none_open command))
+  pub unwritten : has_written seen s.id (s.finished + 1) ≡ false
+
+-- a command that has written, by what its acts before gave
+pub record HasWritten (seen : List Entry) (s : Backend) (command : Command) : Type 0 where
+  pub gave : List (List Row)
+  pub draft : Draft
+  pub further : List Row → Plan
+  pub came : reached gave (plan_of none_open command) ≡ Do (Write draft) further
+  pub plan : plan_at s.exec ≡ Done
+  pub written : has_written seen s.id (s.finished + 1) ≡ true
+
+-- how far a command is that no error of an entry has ended
+abbrev pub Way : List Entry → Backend → Rest → Command → Type 0
+Way seen s rest command = OnItsWay seen s rest command ⊎ HasWritten seen s command
