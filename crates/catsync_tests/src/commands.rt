@@ -21,13 +21,11 @@ fn script_of(alloc: Global, command: &str) -> Result<ScriptRead, Fail> {
 }
 
 // Commands, and what the blocks say of each outside a block, inside one, and in a failed one.
-const ADMITTED: [(&str, [&str; 3]); 12] = [
+const ADMITTED: [(&str, [&str; 3]); 10] = [
     ("begin", ["ok", "ok", "25P02"]),
     ("commit", ["ok", "ok", "ok"]),
     ("rollback", ["ok", "ok", "ok"]),
     ("savepoint s", ["25P01", "ok", "25P02"]),
-    ("release s", ["25P01", "ok", "25P02"]),
-    ("rollback to s", ["25P01", "ok", "ok"]),
     ("lock table t in share mode", ["25P01", "ok", "25P02"]),
     ("open t", ["25P01", "ok", "25P02"]),
     ("peek t", ["25P01", "ok", "25P02"]),
