@@ -91,7 +91,7 @@ const OTHERS: [&[u8]; 24] = [
 ];
 
 // The text of an entry.
-fn text_of(alloc: Global, entry: &Entry) -> Result<Vec<u8>, NoMemory> {
+pub(crate) fn text_of(alloc: Global, entry: &Entry) -> Result<Vec<u8>, NoMemory> {
     let mut out = Vec::new(alloc);
     write_entry(entry, &mut out)?;
     Ok(out)

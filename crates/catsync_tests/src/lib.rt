@@ -10,14 +10,22 @@ mod answers;
 #[cfg(test)]
 mod blocks;
 #[cfg(test)]
+mod commands;
+#[cfg(test)]
 mod edge;
 #[cfg(test)]
 mod events;
 #[cfg(test)]
 mod readers;
 #[cfg(test)]
+mod rows;
+#[cfg(test)]
 mod runs;
 #[cfg(test)]
 mod scripts;
+#[cfg(test)]
+mod segments;
+#[cfg(test)]
+mod sessions;
 #[cfg(test)]
 mod values;

@@ -3,7 +3,7 @@ use std::alloc::Global;
 use std::test::Fail;
 
 // What is read of a short text.
-fn read(alloc: Global, text: &[u8], rest: Rest) -> Result<ScriptRead, ScriptFault> {
+pub(crate) fn read(alloc: Global, text: &[u8], rest: Rest) -> Result<ScriptRead, ScriptFault> {
     if text.len() > 2_000_000 {
         return Err(ScriptFault::NoMemory);
     }

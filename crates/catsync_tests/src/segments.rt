@@ -1,0 +1,97 @@
+use crate::scripts::read;
+use edge_io::SteadySink;
+use out_text::put_output;
+use script_text::Rest;
+use seg_calls::Seg;
+use shared_seg::Shared;
+use std::test::Fail;
+use walk_run::{is_built, walk_on};
+
+// The calls of a segment that make an entry have conditions on the whole history before them, which
+// `backend_core` is proved to meet. So the backends make these calls here: two creators of one name, of whom
+// the first rolls back and creates it again, and a reader whose lock is refused and then granted. Each step
+// is promised its place, by turns.
+const SCRIPT: &[u8] = b"\
+backends 2
+1: begin
+1: create table x (a int4)
+1: rollback
+1: begin
+1: create table x (a int4)
+1: commit
+2: create table x (b int4)
+2: create table x (b int4)
+2: show x of
+2: show x of
+steps 1*3 2*3 1*4 2*1 1*1 2*7 1*2 2*40
+end
+";
+
+const HISTORY: &[u8] = b"\
+h 1 0 start
+h 1 1 look no
+h 1 2 write 1 +class(16384,x,r,-) +att(16384,1,a,int4,-1,l)
+h 2 0 start
+h 2 1 look no
+h 2 1 clash x running 1
+h 1 3 gone 1
+h 1 3 release 1
+h 1 4 look no
+h 1 5 write 2 +class(16385,x,r,-) +att(16385,1,a,int4,-1,l)
+h 2 1 release 1
+h 1 6 visible 2
+h 2 2 look no
+h 2 2 clash x row 16385
+h 2 2 release 2
+h 2 3 look no
+h 2 3 look no
+h 2 3 scan relname x rows 1
+h 2 3 lock 16385 as held 1 ax
+h 1 6 release 4
+h 1 7 stop
+h 2 3 release 3
+h 2 4 look no
+h 2 4 look no
+h 2 4 scan relname x rows 1
+h 2 4 lock 16385 as ok
+h 2 4 look no
+h 2 4 release 4
+h 2 5 stop
+end
+";
+
+#[test]
+fn a_segment_has_its_history(rt: HostRuntime) -> Result<(), Fail> {
+    let alloc = rt.alloc();
+    let found = read(alloc, SCRIPT, Rest::Refused).ok().ok_or("no script")?;
+    assert!(rt; is_built(&found.script));
+    let mut seg = Shared::new(alloc, &found.script)?;
+    assert!(rt; seg.history().is_empty());
+    let backends = walk_on(alloc, &found.script, &mut seg)?;
+    assert_eq!(rt; backends.len(), 2);
+    let mut sink = SteadySink::with_room(alloc, 4000)?;
+    assert!(rt; put_output(&mut sink, seg.history(), &[]).is_ok());
+    assert_eq!(rt; sink.sent(), HISTORY);
+    assert!(rt; !seg.waits(1) && !seg.waits(2));
+    assert_eq!(rt; seg.into_history().len(), 29);
+    Ok(())
+}
+
+#[test]
+fn places_are_promised_by_turns(rt: HostRuntime) -> Result<(), Fail> {
+    let alloc = rt.alloc();
+    let found = read(alloc, b"backends 2\nend\n", Rest::Refused)
+        .ok()
+        .ok_or("no script")?;
+    assert_eq!(rt; found.script.backends(), 2);
+    let mut seg = Shared::new(alloc, &found.script)?;
+    assert_eq!(rt; (seg.promised(1), seg.promised(2)), (0, 0));
+    seg.promise(1, 3)?;
+    seg.promise(2, 70)?;
+    assert!(rt; seg.promised(1) >= 3 && seg.promised(2) >= 70);
+    seg.promise(1, 5)?;
+    seg.promise(2, 1)?;
+    assert!(rt; seg.promised(1) >= 5 && seg.promised(2) >= 70);
+    assert!(rt; seg.history().is_empty());
+    Ok(())
+}
