@@ -32,7 +32,7 @@ use Rattle.backend_core.specs.declared.phase.Phase.TheVariants as phases
 use Rattle.backend_core.specs.NewTables.{HasTables, StaysRead, SeesRelation}
 use Rattle.backend_core.specs.Passing.{is_silent}
 use Rattle.backend_core.specs.Way.{Way}
-use Rattle.backend_core.specs.State.{owed_at, granted, is_taken_back, is_ended, one_if, running_at, lists_at, is_kept, builds_missing, is_out, begins_in, owed_first, end_at, is_inside, blocks_next, has_write_since, end_of_running, Rest, session_at, HasCommand}
+use Rattle.backend_core.specs.State.{owed_at, published_at, is_accepting, looks_due, is_taken_back, is_ended, one_if, running_at, is_kept, builds_missing, is_out, begins_in, owed_first, end_at, is_inside, blocks_next, has_write_since, end_of_running, Rest, session_at, HasCommand}
 
 -- a history that the script's commands played so far
 pub record IsPlayed (scenario : Scenario) (history : List Entry) : Type 0 where
@@ -55,7 +55,7 @@ pub record ReadRight (rows : Purpose → List Row) (k : KeptScan) : Type 0 where
 -- the facts of a backend's entries are what it holds
 pub record FactsFit (facts : Facts) (s : Backend) : Type 0 where
   pub running : facts.running ≡ running_at s
-  pub lists : facts.lists ≡ lists_at s
+  pub lists : facts.lists ≡ s.lists
   pub owed : owed_after facts.last ≡ owed_at s.phase
   pub took : took_back facts.last ≡ is_taken_back s.phase
   pub taken : (from : ℕ) → s.phase ≡ phases.TakenBack from → facts.last ≡ Some (events.Gone from)
@@ -63,9 +63,9 @@ pub record FactsFit (facts : Facts) (s : Backend) : Type 0 where
   pub kept : All (ReadRight facts.rows) s.kept
   pub given : s.read ≡ true → RowsFit facts.rows (plan_at s.exec) s.given.items
 
--- the looks of the command are as many as its scans, its grants and its transaction's start, and one more where one was made for the next scan
+-- the looks of the command are as many as its scans, its grants, its transaction's start and its fetches of the most messages, and one more where one was made for the next scan
 abbrev pub TallyFits : Tally → Backend → Type 0
-TallyFits tally s = tally.looks + granted s.phase ≡ tally.scans + tally.grants + option_map_or (λ t. one_if (t.first == s.finished + 1)) s.running 0 + one_if s.looked
+TallyFits tally s = tally.looks + looks_due s.phase ≡ tally.full + tally.scans + tally.grants + option_map_or (λ t. one_if (t.first == s.finished + 1)) s.running 0 + one_if s.looked
 
 -- the life of a backend that has joined and hasn't left
 pub record IsAlive (life : Life) (s : Backend) : Type 0 where
@@ -114,6 +114,7 @@ pub record CommitFits (s : Backend) : Type 0 where
   pub end : end_at s has.command ≡ Commits first
   pub runs : option_map_or (λ t. Some t.first) s.running None ≡ Some first
   pub written : has_write_since first s ≡ true
+  pub published : published_at s.phase ≤ length (sent_in s.lists)
 
 -- taking back on its way
 pub record TakeBackFits (s : Backend) (from : ℕ) : Type 0 where
@@ -124,11 +125,12 @@ pub record TakeBackFits (s : Backend) (from : ℕ) : Type 0 where
 abbrev pub IsOver : Backend → Type 0
 IsOver s = (has : HasCommand s) → (is_out s ≡ true) × (is_inside (blocks_next s has.command) ≡ false)
 
--- what belongs to a phase: a grant to a command, and the end of a command, once it is on its way
+-- what belongs to a phase: an accept of messages to a command, and the end of a command, once it is on its way
 abbrev pub EndFits : Backend → Phase → Type 0
 EndFits s phases.Working = ⊤
-EndFits s phases.Granted = HasCommand s
-EndFits s phases.Visible = CommitFits s
+EndFits s phases.Looking = HasCommand s
+EndFits s phases.Fetching = HasCommand s
+EndFits s (phases.Visible published) = CommitFits s
 EndFits s (phases.TakenBack from) = TakeBackFits s from
 EndFits s phases.Ended = IsOver s
 
@@ -136,8 +138,8 @@ EndFits s phases.Ended = IsOver s
 abbrev pub EndsAlone : Backend → Type 0
 EndsAlone s = (command : Command) → slice_get s.commands s.finished ≡ Some command → ends_block command ≡ true → s.blocked ≡ false → plan_at s.exec ≡ Done
 
--- a lock was granted right before
-pub record IsGranted (s : Backend) : Type 0 where
+-- messages are accepted in the running transaction, before the command has come out
+pub record IsAccepting (s : Backend) : Type 0 where
   pub runs : is_some s.running ≡ true
   pub unanswered : is_some s.answer ≡ false
 
@@ -156,12 +158,12 @@ pub record Well (s : Backend) : Type 0 where
   pub transaction : TransactionFits s s.phase
   pub written : has_write_since 0 s ≡ true → option_map_or (λ t. is_some t.xid) s.running false ≡ true
   pub end : EndFits s s.phase
-  pub answered : HasCommand s → is_some s.answer ≡ false → (s.phase ≡ phases.Working) ⊎ (s.phase ≡ phases.Granted)
+  pub answered : HasCommand s → is_some s.answer ≡ false → (s.phase ≡ phases.Working) ⊎ (is_accepting s.phase ≡ true)
   pub come_out : is_some s.answer ≡ true → is_out s ≡ true
   pub past : slice_get s.commands s.finished ≡ None → is_out s ≡ true
   pub free : is_some s.answer ≡ true → (has : HasCommand s) → owed_first s has.command ≡ []
-  pub granted : s.phase ≡ phases.Granted → IsGranted s
-  pub clear : (s.phase ≡ phases.Granted) ⊎ (map cleared s.locks.items ≡ s.locks.items)
+  pub accepting : is_accepting s.phase ≡ true → IsAccepting s
+  pub clear : (is_accepting s.phase ≡ true) ⊎ (map cleared s.locks ≡ s.locks)
 
 -- what the running command answers, where that is worked out
 abbrev pub AnswerFits : Scenario → List Entry → Backend → Rest → Type 0
@@ -217,11 +219,11 @@ pub record IsNew (s : Backend) (id : ℕ) (commands : List Command) : Type 0 whe
   pub answer : s.answer ≡ None
   pub blocks : s.blocks ≡ no_block
   pub running : s.running ≡ None
-  pub writes : s.writes.items ≡ []
+  pub lists : s.lists ≡ []
   pub looked : s.looked ≡ false
   pub read : s.read ≡ false
   pub opened : s.opened ≡ []
-  pub locks : s.locks.items ≡ []
+  pub locks : s.locks ≡ []
   pub kept : s.kept ≡ []
   pub lines : s.lines ≡ []
 

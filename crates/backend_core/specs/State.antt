@@ -1,5 +1,5 @@
 -- What the state of a backend says, by itself.
-use Rattle.std.specs.Prelude.{◌≡◌, ℕ, Bool, true, false, not, Option, Some, None, List, [], ◌∷◌, ◌++◌, ◌+◌, ◌&&◌, map, filter, if◌then◌else◌, is_none, unwrap_or, slice_get}
+use Rattle.std.specs.Prelude.{◌≡◌, ℕ, Bool, true, false, not, Option, Some, None, List, [], ◌∷◌, ◌++◌, ◌+◌, ◌==◌, ◌&&◌, map, filter, if◌then◌else◌, is_none, unwrap_or, slice_get}
 use Rattle.std.specs.Option.{option_map, option_map_or}
 use Rattle.std.specs.List.{list_any, flat_map}
 use Rattle.base_types.specs.Scans.{same_scan, build_scans}
@@ -10,29 +10,55 @@ use Rattle.ddl_effect.specs.Plans.{Plan, Do, Lookup, Column, rests_on}
 use Rattle.ddl_effect.specs.Blocks.{Block, Outside, Inside, Failed, Blocks, no_block, ends_block, refused_by, innermost, blocks_well, blocks_badly}
 use Rattle.ddl_effect.specs.Stages.{plan_at}
 use Rattle.history_model.specs.Transactions.{Running}
-use Rattle.history_model.specs.Sent.{Written, has_write_from}
-use Rattle.cacheless.specs.Locks.{has_lock}
+use Rattle.inval_messages.specs.Lists.{has_write_from, unsent_after}
+use Rattle.inval_messages.specs.Messages.{is_spared}
+use Rattle.cacheless.specs.Locks.{has_lock, cleared}
 use Rattle.cacheless.specs.Session.{Session, Finished, Tally, Badly, Well, Unsettled, outcome_of, is_settled}
-use Rattle.cacheless.specs.Owed.{Owes, OwesLook}
+use Rattle.cacheless.specs.Owed.{Owes, OwesLook, OwesFetch}
 use Rattle.cacheless.specs.Ends.{End, Ends, Commits, TakesBack}
-use Rattle.backend_core.specs.Types.{Oid, Mode, Row, Purpose, Command, CommandError, Opening, OwnLock, KeptScan, Life, Phase, OwnTransaction, Backend}
+use Rattle.backend_core.specs.Types.{Oid, Mode, Message, Row, Purpose, Command, CommandError, Opening, OwnLock, KeptScan, Life, Phase, OwnTransaction, Backend}
 use Rattle.backend_core.specs.declared.phase.Life.TheVariants as lives
 use Rattle.backend_core.specs.declared.phase.Phase.TheVariants as phases
 
--- a look is owed after a grant
+-- what an accept of messages owes: the look that comes next, or the fetch
 abbrev pub owed_at : Phase → List Owes
-owed_at phases.Granted = OwesLook ∷ []
+owed_at phases.Looking = OwesLook ∷ []
+owed_at phases.Fetching = OwesFetch ∷ []
 owed_at phase = []
 
--- 1 if the last entry granted a lock
-abbrev pub granted : Phase → ℕ
-granted phases.Granted = 1
-granted phase = 0
+-- an accept of messages isn't over
+abbrev pub is_accepting : Phase → Bool
+is_accepting phases.Looking = true
+is_accepting phases.Fetching = true
+is_accepting phase = false
+
+-- 1 if a look is owed in an accept
+abbrev pub looks_due : Phase → ℕ
+looks_due phases.Looking = 1
+looks_due phase = 0
+
+-- the phase after a look
+abbrev pub phase_looked : Bool → Phase
+phase_looked true = phases.Fetching
+phase_looked false = phases.Working
+
+-- the phase after a fetch: where it gave the most messages that one gives, more may wait
+abbrev pub phase_fetched : ℕ → Phase
+phase_fetched count = elim (count == 32) [ true ↦ phases.Looking | false ↦ phases.Working ]
+
+-- the locks after an entry of an accept: where it is over they are clear
+abbrev pub locks_accepted : Phase → List OwnLock → List OwnLock
+locks_accepted phase locks = elim (is_accepting phase) [ true ↦ locks | false ↦ map cleared locks ]
 
 -- the transaction is committed, and its locks are still held
 abbrev pub is_visible_at : Phase → Bool
-is_visible_at phases.Visible = true
+is_visible_at (phases.Visible published) = true
 is_visible_at phase = false
+
+-- how many messages of the transaction are published
+abbrev pub published_at : Phase → ℕ
+published_at (phases.Visible published) = published
+published_at phase = 0
 
 -- the last entry took writes back
 abbrev pub is_taken_back : Phase → Bool
@@ -56,7 +82,7 @@ one_if false = 0
 
 -- the running transaction in a phase
 abbrev pub running_in : Phase → Option OwnTransaction → Option Running
-running_in phase own = option_map (λ t. record { first = t.first; xid = option_map (λ x. x.0) t.xid; published = 0; visible = is_visible_at phase }) own
+running_in phase own = option_map (λ t. record { first = t.first; xid = option_map (λ x. x.0) t.xid; published = published_at phase; visible = is_visible_at phase }) own
 
 -- the running transaction
 abbrev pub running_at : Backend → Option Running
@@ -66,17 +92,17 @@ running_at s = running_in s.phase s.running
 abbrev pub begun_own : ℕ → Option OwnTransaction → OwnTransaction
 begun_own number own = unwrap_or own (record { first = number; xid = None })
 
--- a write of a command, which has no messages
-abbrev pub written_in : ℕ → Written
-written_in command = record { command = command; cats = []; rels = [] }
-
--- the writes that weren't taken back
-abbrev pub lists_at : Backend → List Written
-lists_at s = map written_in s.writes.items
+-- the messages that are to be published next
+abbrev pub unsent_at : Backend → List Message
+unsent_at s = unsent_after (published_at s.phase) s.lists
 
 -- the scan is kept
 abbrev pub is_kept : List KeptScan → Purpose → Bool
 is_kept kept scan = list_any (λ k. same_scan k.scan scan) kept
+
+-- what is kept once messages are executed: what none of them covers
+abbrev pub kept_spared : List Message → List KeptScan → List KeptScan
+kept_spared messages kept = filter (λ k. is_spared k.scan messages) kept
 
 -- those of these scans that aren't kept
 abbrev pub missing : List KeptScan → List Purpose → List Purpose
@@ -149,7 +175,7 @@ blocks_next s command = blocks_passed (plan_at s.exec) (s.finished + 1) command 
 
 -- a write of this command or a later one wasn't taken back
 abbrev pub has_write_since : ℕ → Backend → Bool
-has_write_since from s = has_write_from from (lists_at s)
+has_write_since from s = has_write_from from s.lists
 
 -- the relation that a lookup's rows name, if it isn't locked in the mode
 abbrev pub unlocked_of : List OwnLock → Mode → List Row → Option Oid
@@ -182,7 +208,7 @@ session_at s rest = record {
   found = rest.found;
   ended = is_ended s.phase;
   tally = rest.tally;
-  locks = s.locks.items;
+  locks = s.locks;
   judged = rest.judged;
   last = rest.last;
 }

@@ -13,7 +13,7 @@ use Rattle.backend_core.specs.Types.{Oid, Mode, Kind, Row, Purpose, Scenario, En
 use Rattle.backend_core.specs.declared.next.Next.TheVariants as nexts
 use Rattle.backend_core.specs.declared.phase.Phase.TheVariants as phases
 use Rattle.backend_core.specs.NewTables.{AddsTables}
-use Rattle.backend_core.specs.State.{owed_first, scans_missing, missing, is_out, end_at, end_of_running, has_write_since, unlocked_of, Rest, HasCommand}
+use Rattle.backend_core.specs.State.{owed_first, scans_missing, missing, is_out, end_at, end_of_running, has_write_since, unsent_at, unlocked_of, Rest, HasCommand}
 use Rattle.backend_core.specs.Agrees.{Agrees, Stands}
 
 -- one entry of the backend is appended, which the history and the script allow, and the backend is right after it
@@ -52,9 +52,9 @@ pub record Enters (scenario : Scenario) (old new : List Entry) (was now : Backen
   pub tables : AddsTables old entry.event
   pub agrees : AgreesNow scenario new now
 
--- a look is owed: at the start of a transaction, or after a grant
+-- a look is owed: at the start of a transaction, or in an accept of messages
 abbrev pub OwesLookNow : Backend → Type 0
-OwesLookNow s = (has : HasCommand s) × ((owed_first s has.command ≢ []) ⊎ (s.phase ≡ phases.Granted))
+OwesLookNow s = (has : HasCommand s) × (((owed_first s has.command ≢ []) × (s.phase ≡ phases.Working)) ⊎ (s.phase ≡ phases.Looking))
 
 -- the running command does what its plan says, and no look is owed
 pub record IsWorking (s : Backend) : Type 0 where
@@ -84,7 +84,7 @@ pub record NextLock (s : Backend) (rel : Oid) (mode : Mode) : Type 0 where
   pub rest : List Row → Plan
   pub at : plan_at s.exec ≡ Do (Lookup name mode) rest
   pub read : s.read ≡ true
-  pub unlocked : unlocked_of s.locks.items mode s.given.items ≡ Some rel
+  pub unlocked : unlocked_of s.locks mode s.given.items ≡ Some rel
 
 -- the lookup is done: nothing was found, or its relation is locked
 pub record NextFind (s : Backend) : Type 0 where
@@ -93,7 +93,7 @@ pub record NextFind (s : Backend) : Type 0 where
   pub rest : List Row → Plan
   pub at : plan_at s.exec ≡ Do (Lookup name mode) rest
   pub read : s.read ≡ true
-  pub locked : unlocked_of s.locks.items mode s.given.items ≡ None
+  pub locked : unlocked_of s.locks mode s.given.items ≡ None
 
 -- the scans of a descriptor are made, and it is opened
 pub record NextOpen (s : Backend) (rel : Oid) (kind : Kind) : Type 0 where
@@ -116,6 +116,12 @@ pub record NextCommit (s : Backend) (xid : ℕ) : Type 0 where
   pub written : has_write_since first s ≡ true
   pub xid_is : option_map_or (λ t. option_map_or (λ x. Some x.0) t.xid None) s.running None ≡ Some xid
 
+-- a publish of messages comes next
+pub record NextPublish (s : Backend) : Type 0 where
+  pub published : ℕ
+  pub phase : s.phase ≡ phases.Visible published
+  pub some : unsent_at s ≢ []
+
 -- taking back of what the running command or, after the last command, its transaction wrote comes next
 pub record NextTakeBack (s : Backend) (from : ℕ) : Type 0 where
   pub phase : s.phase ≡ phases.Working
@@ -124,7 +130,7 @@ pub record NextTakeBack (s : Backend) (from : ℕ) : Type 0 where
 
 -- the release of the end of the running command comes next, or after the last command that of its transaction
 pub data NextRelease (s : Backend) (from : ℕ) : Type 0 where
-  AfterCommit : s.phase ≡ phases.Visible → option_map_or (λ t. Some t.first) s.running None ≡ Some from → NextRelease s from
+  AfterCommit : (published : ℕ) → s.phase ≡ phases.Visible published → unsent_at s ≡ [] → option_map_or (λ t. Some t.first) s.running None ≡ Some from → NextRelease s from
   AfterTakingBack : s.phase ≡ phases.TakenBack from → NextRelease s from
   WithoutWrite : (working : IsWorking s) → is_some s.answer ≡ true → (end_at s working.has.command ≡ Commits from) ⊎ (end_at s working.has.command ≡ TakesBack from) → has_write_since from s ≡ false → NextRelease s from
   AtTheEnd : s.phase ≡ phases.Working → slice_get s.commands s.finished ≡ None → end_of_running s.running ≡ TakesBack from → has_write_since from s ≡ false → NextRelease s from
@@ -139,11 +145,13 @@ pub record NextFinish (s : Backend) : Type 0 where
 abbrev pub IsNextOf : Backend → Next → Type 0
 IsNextOf s nexts.Look = OwesLookNow s
 IsNextOf s nexts.LookBeforeScan = IsWorking s × (scans_missing s ≢ []) × (s.looked ≡ false)
+IsNextOf s nexts.Fetch = s.phase ≡ phases.Fetching
 IsNextOf s (nexts.LookUp name) = IsWorking s × NextLookUp s name × (s.looked ≡ true)
 IsNextOf s (nexts.Build scan) = IsWorking s × NextBuild s scan × (s.looked ≡ true)
 IsNextOf s (nexts.Lock rel mode) = IsWorking s × NextLock s rel mode
 IsNextOf s nexts.Write = IsWorking s × NextWrite s
 IsNextOf s (nexts.Commit xid) = NextCommit s xid.0
+IsNextOf s nexts.Publish = NextPublish s
 IsNextOf s (nexts.TakeBack from) = NextTakeBack s from
 IsNextOf s (nexts.Release from) = NextRelease s from
 IsNextOf s nexts.Leave = (slice_get s.commands s.finished ≡ None) × (s.running ≡ None)

@@ -1,9 +1,11 @@
 use crate::begun::begun;
 use crate::{KeptScan, Life, OwnTransaction, Phase};
 use base_types::{Command, Listed, NoMemory, Row};
-use cacheless::{Opening, OwnLock};
+use cacheless::Opening;
+use command_lists::InvalLists;
 use ddl_effect::Exec;
 use event_kinds::{Line, LineText};
+use lock_modes::OwnLocks;
 use seg_calls::Seg;
 use std::alloc::Global;
 use txn_blocks::TxnBlocks;
@@ -21,10 +23,10 @@ pub struct Backend {
     pub(crate) blocked: bool,
     pub(crate) phase: Phase,
     pub(crate) answer: Option<LineText>,
-    // the blocks before it, the transaction, and the commands of its writes that weren't taken back
+    // the blocks before it, the transaction, and the messages of its writes that weren't taken back
     pub(crate) blocks: TxnBlocks,
     pub(crate) running: Option<OwnTransaction>,
-    pub(crate) writes: Vec<u32>,
+    pub(crate) lists: InvalLists,
     // a look was made for the next scan
     pub(crate) looked: bool,
     // the scan of the name that it looks up is made, and what it gave, in the entry of this number
@@ -33,7 +35,7 @@ pub struct Backend {
     pub(crate) given_at: u64,
     // the descriptors that it has opened
     pub(crate) opened: Listed<Opening>,
-    pub(crate) locks: Vec<OwnLock>,
+    pub(crate) locks: OwnLocks,
     pub(crate) kept: Listed<KeptScan>,
     pub(crate) lines: Listed<Line>,
 }
@@ -65,13 +67,13 @@ impl Backend {
             answer: None,
             blocks,
             running: None,
-            writes: Vec::new(alloc),
+            lists: InvalLists::new(alloc),
             looked: false,
             read: false,
             given: Vec::new(alloc),
             given_at: 0,
             opened: Listed::new(alloc),
-            locks: Vec::new(alloc),
+            locks: OwnLocks::new(alloc),
             kept: Listed::new(alloc),
             lines: Listed::new(alloc),
         })

@@ -1,9 +1,15 @@
-ghost use Rattle.std.specs.Prelude.{◌≡◌, filter, nat_lt};
+ghost use Rattle.std.specs.Prelude.{◌≡◌, ◌≤◌, filter, length, nat_lt, take};
+ghost use Rattle.inval_messages.specs.Lists.{sent_in, unsent_after};
 
+use crate::accept::execute;
 use crate::{Backend, Life, Phase};
 use base_types::Xid;
+use inval_messages::Message;
 use cacheless::OwnLock;
 use seg_calls::Seg;
+
+// The most messages that one publish puts into the queue.
+const MOST_PUBLISHED: usize = 64;
 
 impl Backend {
     ghost use Rattle.std.specs.Prelude.{◌≡◌, ◌<◌};
@@ -21,7 +27,45 @@ impl Backend {
         ensures enters { Enters (L.script seg.old) (L.history seg.old) (L.history seg.new) self.old self.new }
     {
         seg.visible(self.id, self.finished + 1, xid);
-        self.phase = Phase::Visible;
+        self.phase = Phase::Visible { published: 0 };
+    }
+
+    // It publishes the next messages of its commit.
+    pub(crate) fn publish<L: Seg>(&mut self, seg: &mut L)
+        requires agrees { Agrees (L.script seg.old) (L.history seg.old) self.old }
+        requires played { IsPlayed (L.script seg.old) (L.history seg.old) }
+        requires place { 0 < L.promised seg.old self.old.id }
+        requires next { IsNextOf self.old nexts.Publish }
+        ensures script { L.script seg.new ≡ L.script seg.old }
+        ensures enters { Enters (L.script seg.old) (L.history seg.old) (L.history seg.new) self.old self.new }
+    {
+        let Phase::Visible { published } = self.phase else {
+            unreachable!()
+        };
+        let messages = self.unpublished(published);
+        let count = messages.len();
+        seg.publish(self.id, self.finished + 1, messages);
+        self.phase = Phase::Visible {
+            published: published + count,
+        };
+    }
+
+    // Of the messages of its transaction those that it publishes next, once so many are published: at
+    // most 64, all for the catalog caches before all for descriptors
+    // (`AtEOXact_Inval` in `src/backend/utils/cache/inval.c`, `SendSharedInvalidMessages` and
+    // `SIInsertDataEntries` in `src/backend/storage/ipc/`).
+    pub(crate) fn unpublished(&self, published: usize) -> &[Message]
+        requires { published ≤ length (sent_in self.now.lists) }
+        ensures { result.now ≡ take 64 (unsent_after published self.now.lists) }
+    {
+        let cats = self.lists.cats_from(0);
+        let rels = self.lists.rels_from(0);
+        let rest = if published < cats.len() {
+            &cats[published..]
+        } else {
+            &rels[published - cats.len()..]
+        };
+        &rest[..rest.len().min(MOST_PUBLISHED)]
     }
 
     // What it wrote from this command on is taken back.
@@ -34,7 +78,9 @@ impl Backend {
         ensures enters { Enters (L.script seg.old) (L.history seg.old) (L.history seg.new) self.old self.new }
     {
         seg.gone(self.id, self.finished + 1, from);
-        keep_writes(&mut self.writes, from);
+        execute(&mut self.kept, self.lists.cats_from(from));
+        execute(&mut self.kept, self.lists.rels_from(from));
+        self.lists.abort_from(from);
         self.phase = Phase::TakenBack { from };
     }
 
@@ -49,7 +95,7 @@ impl Backend {
     {
         seg.release(self.id, self.finished + 1, from);
         keep_locks(&mut self.locks, from);
-        self.writes.clear();
+        self.lists.clear();
         self.running = None;
         self.phase = Phase::Ended;
     }
@@ -65,13 +111,6 @@ impl Backend {
         seg.stop(self.id, self.finished + 1);
         self.life = Life::Stopped;
     }
-}
-
-// Only the writes of commands before this one stay.
-fn keep_writes(writes: &mut Vec<u32>, from: u32)
-    ensures { writes.new.items ≡ filter (λ command. nat_lt command from) writes.old.items }
-{
-    writes.retain(|command: &u32| *command < from);
 }
 
 // Only the locks of commands before this one stay.

@@ -6,10 +6,12 @@ use base_types::{Kind, Mode, Name, Oid, Purpose, Xid};
 /// What a backend does next: an entry, or what needs none (`Find`, `Open`, `Answer`, `Finish`).
 #[derive(Clone, Copy)]
 pub enum Next {
-    /// The look at its transaction's start, or after a grant.
+    /// The look at its transaction's start, after a grant, or after a fetch of the most messages.
     Look,
     /// The look before a scan.
     LookBeforeScan,
+    /// It fetches the messages that wait.
+    Fetch,
     /// The scan of a name.
     LookUp(Name),
     /// A scan for a descriptor.
@@ -20,6 +22,8 @@ pub enum Next {
     Write,
     /// It commits.
     Commit { xid: Xid },
+    /// It publishes the next messages of its commit.
+    Publish,
     /// It takes back what it wrote from this command on.
     TakeBack { from: u32 },
     /// It releases the locks from this command on.

@@ -49,7 +49,7 @@ impl Backend {
             Phase::Working => self.next_of_rest(),
             Phase::TakenBack { from } => Next::Release { from },
             Phase::Ended => Next::Leave,
-            Phase::Granted | Phase::Visible => unreachable!(),
+            Phase::Looking | Phase::Fetching | Phase::Visible { .. } => unreachable!(),
         }
     }
 
@@ -74,19 +74,23 @@ impl Backend {
     {
         match self.phase {
             Phase::Working => self.next_of_working(command),
-            Phase::Granted => Next::Look,
-            Phase::Visible => self.next_of_visible(),
+            Phase::Looking => Next::Look,
+            Phase::Fetching => Next::Fetch,
+            Phase::Visible { published } => self.next_of_visible(published),
             Phase::TakenBack { from } => Next::Release { from },
             Phase::Ended => Next::Finish,
         }
     }
 
-    // After a commit.
-    fn next_of_visible(&self) -> Next
+    // After a commit of whose messages so many are published.
+    fn next_of_visible(&self, published: usize) -> Next
         requires well { Well self.now }
-        requires phase { self.now.phase ≡ Phase.Visible }
+        requires phase { self.now.phase ≡ Phase.Visible published }
         ensures { IsNextOf self.now result }
     {
+        if !self.unpublished(published).is_empty() {
+            return Next::Publish;
+        }
         match self.running {
             Some(t) => Next::Release { from: t.first },
             None => unreachable!(),
@@ -144,7 +148,7 @@ impl Backend {
 
     // The relation that the lookup's rows name, if it isn't locked in the mode.
     fn unlocked(&self, mode: Mode) -> Option<Oid>
-        ensures { result ≡ unlocked_of self.now.locks.items mode self.now.given.items }
+        ensures { result ≡ unlocked_of self.now.locks mode self.now.given.items }
     {
         match self.given.first() {
             Some(Row::Class { oid, .. }) if !has_lock(&self.locks, *oid, mode) => Some(*oid),
@@ -269,15 +273,8 @@ impl Backend {
     fn has_write_since(&self, from: u32) -> bool
         ensures { result ≡ is_written_since from self.now }
     {
-        is_any_from(&self.writes, from)
+        self.lists.has_from(from)
     }
-}
-
-// Whether one of the commands is this one or a later one.
-fn is_any_from(commands: &Vec<u32>, from: u32) -> bool
-    ensures { result ≡ list_any (λ c. nat_le from c) commands.now.items }
-{
-    commands.iter().any(|command| from <= *command)
 }
 
 // Whether the command ends a block.

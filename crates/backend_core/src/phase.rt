@@ -20,10 +20,12 @@ pub struct OwnTransaction {
 pub enum Phase {
     /// It does what its plan says.
     Working,
-    /// A lock was granted in its last entry.
-    Granted,
-    /// Its transaction is committed and holds its locks still.
-    Visible,
+    /// It has to look: its last entry granted a lock, or fetched as many messages as one fetch gives.
+    Looking,
+    /// It has to fetch: its last look said that messages wait.
+    Fetching,
+    /// Its transaction is committed and holds its locks still; so many of its messages are published.
+    Visible { published: usize },
     /// What was written from this command on is taken back, and the locks are held still.
     TakenBack { from: u32 },
     /// The locks of its end are released.

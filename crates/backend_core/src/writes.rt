@@ -27,13 +27,12 @@ impl Backend {
         ensures script { L.script seg.new ≡ L.script seg.old }
         ensures enters { OnOk result (Enters (L.script seg.old) (L.history seg.old) (L.history seg.new) self.old self.new) }
     {
-        self.writes.reserve(1)?;
         self.locks.reserve(1)?;
         let command = self.finished + 1;
         let draft = replace(&mut self.exec, Exec::Done).into_draft();
         match seg.write(self.id, command, &draft) {
             Ok(written) => {
-                self.writes.push_reserved(command);
+                self.register(command, &written.messages)?;
                 self.locks.push_reserved(OwnLock {
                     rel: written.first_oid,
                     mode: Mode::AccessExclusive,

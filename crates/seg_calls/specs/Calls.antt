@@ -1,22 +1,25 @@
 -- What the calls of a segment need, and what they do: one word for each class of call.
 -- `old` and `new` are the history before and after a call, `had` and `has` how many places each backend was promised then.
-use Rattle.std.specs.Prelude.{ℕ, Bool, true, false, Option, Some, Result, Ok, Err, OnOk, OnErr, List, [], ◌∷◌, ◌++◌, ◌≡◌, ◌≢◌, ◌≤◌, ◌+◌, length}
+use Rattle.std.specs.Prelude.{ℕ, Bool, true, false, Option, Some, Result, Ok, Err, OnOk, OnErr, List, [], ◌∷◌, ◌++◌, ◌≡◌, ◌≢◌, ◌≤◌, ◌+◌, ◌-◌, ⊥, min, length, take}
 use Rattle.std.specs.List.{flat_map, filter_map, list_any, list_all, range_with_len}
 use Rattle.std.specs.Str.{bytes_eq}
 use Rattle.base_types.specs.RowKeys.{are_distinct_keys}
 use Rattle.base_types.specs.Scenario.{IsBackend}
+use Rattle.base_types.specs.declared.fetched.Fetched.TheVariants as fetches
 use Rattle.ddl_effect.specs.Commands.{commands_of}
 use Rattle.ddl_effect.specs.Drawing.{changes_of}
 use Rattle.history_model.specs.Changes.{items_of}
 use Rattle.history_model.specs.Drawn.{drawn_by, made_by, next_oid}
 use Rattle.history_model.specs.Legal.{MayFollow}
 use Rattle.history_model.specs.Lives.{Alive, life_of, last_event_of}
+use Rattle.history_model.specs.Log.{log_of, position_of, fetched_by}
 use Rattle.history_model.specs.Names.{new_names}
 use Rattle.history_model.specs.Orderly.{IsOrderlyWrite, MayComeNext}
+use Rattle.history_model.specs.Sent.{cats_by, rels_by, unsent_of}
 use Rattle.history_model.specs.Transactions.{running_transaction_of, is_visible}
 use Rattle.history_model.specs.Versions.{answer_of, ended_key}
 use Rattle.history_model.specs.Writes.{changed_key, has_row, has_written, is_guarded, keeps_kind}
-use Rattle.seg_calls.specs.Types.{Oid, NoMemory, Mode, Purpose, Scanned, Scenario, Entry, Event, Gone, LockOk, LockHeld, Scan, Write, ClashRow, ClashRunning, Item, Row, Running, Draft, LockRefusal, WriteRefusal, Written}
+use Rattle.seg_calls.specs.Types.{Oid, Fetched, NoMemory, Mode, Purpose, Scanned, Scenario, Entry, Event, Fetch, Gone, LockOk, LockHeld, Scan, Write, ClashRow, ClashRunning, Item, Message, Row, Running, Draft, LockRefusal, WriteRefusal, Written}
 use Rattle.seg_calls.specs.declared.refusal.LockRefusal.TheVariants as lock_refusals
 use Rattle.seg_calls.specs.declared.refusal.WriteRefusal.TheVariants as write_refusals
 
@@ -106,15 +109,39 @@ Locks old new had has b c rel mode (Ok granted) = Appends old new had has (entry
 Locks old new had has b c rel mode (Err (lock_refusals.Conflict holder held)) = Appends old new had has (entry_of b c (LockHeld rel mode holder held))
 Locks old new had has b c rel mode (Err lock_refusals.NoMemory) = IsUnchanged old new had has
 
--- the items of a draft are written
+-- the messages of changes, in their order
+abbrev pub messages_in : List Entry → ℕ → List Item → List Message
+messages_in before b items = flat_map (λ item. cats_by before b item ++ rels_by before b item) items
+
+-- the items of a draft are written, and their messages are handed over
 pub record MakesWrite (old new : List Entry) (had has : ℕ → ℕ) (b c : ℕ) (draft : Draft) (written : Written) : Type 0 where
   pub appends : Appends old new had has (entry_of b c (Write written.xid (items_drawn old draft)))
   pub first : written.first_oid.0 ≡ next_oid old
+  pub messages : written.messages.items ≡ messages_in old b (items_drawn old draft)
 
 -- a name that the write gives a relation is taken
 pub record Clashes (old new : List Entry) (had has : ℕ → ℕ) (b : ℕ) (draft : Draft) (name : List ℕ) (e : Entry) : Type 0 where
   pub appends : Appends old new had has e
   pub is_new : list_any (bytes_eq name) (new_names old b (items_drawn old draft)) ≡ true
+
+-- how many messages a fetch gives: at most 32
+abbrev pub due_to : List Entry → ℕ → ℕ
+due_to before b = min 32 (length (log_of before) - position_of before b)
+
+-- a fetch gives the next messages of the log, and its entry says how many they are
+pub record GivesMessages (old new : List Entry) (had has : ℕ → ℕ) (b c count : ℕ) (given : List Message) : Type 0 where
+  pub appends : Appends old new had has (entry_of b c (Fetch count))
+  pub due : count ≡ due_to old b
+  pub messages : given ≡ fetched_by old b count
+
+-- a fetch
+abbrev pub Fetches : List Entry → List Entry → (ℕ → ℕ) → (ℕ → ℕ) → ℕ → ℕ → List Message → Fetched → Type 0
+Fetches old new had has b c given (fetches.Messages count) = GivesMessages old new had has b c count given
+Fetches old new had has b c given fetches.Reset = ⊥
+
+-- the messages are the next of those that the backend has to publish
+abbrev pub ArePublishedNext : List Entry → ℕ → List Message → Type 0
+ArePublishedNext before b messages = messages ≡ take (length messages) (unsent_of before b)
 
 -- a write of a draft
 abbrev pub Writes : List Entry → List Entry → (ℕ → ℕ) → (ℕ → ℕ) → ℕ → ℕ → Draft → Result Written WriteRefusal → Type 0

@@ -1,4 +1,5 @@
 use base_types::{Mode, Name, Oid, Xid};
+use inval_messages::Message;
 use row_visibility::Clash;
 
 /// Why a lock isn't granted.
@@ -10,13 +11,15 @@ pub enum LockRefusal {
     NoMemory,
 }
 
-/// What a write has drawn.
-#[derive(Clone, Copy)]
+/// What a write has drawn, and the messages that it leaves.
+#[derive(Drop)]
 pub struct Written {
     /// The transaction's Xid.
     pub xid: Xid,
     /// The first of the new oids, if there are any.
     pub first_oid: Oid,
+    /// The messages of its changes, in their order.
+    pub messages: Vec<Message>,
 }
 
 /// Why a write isn't made.

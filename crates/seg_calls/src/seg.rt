@@ -1,18 +1,20 @@
 use crate::{LockRefusal, WriteRefusal, Written};
-use base_types::{Mode, NoMemory, Oid, Purpose, Scanned, Xid};
+use arrayvec::ArrayVec;
+use base_types::{Fetched, Mode, NoMemory, Oid, Purpose, Scanned, Xid};
 use ddl_effect::Draft;
 use event_kinds::Event;
+use inval_messages::Message;
 
 /// What the backends share. The backend is 1 to the script's number of backends; the command is 0 at
 /// its start, then 1 to the number of its commands, and one more for what comes after the last one.
 pub trait Seg {
-    ghost use Rattle.std.specs.Prelude.{◌≡◌, ◌≤◌, ◌<◌, ◌^◌, ℕ, false, List, length};
+    ghost use Rattle.std.specs.Prelude.{◌≡◌, ◌≤◌, ◌<◌, ◌^◌, ℕ, false, List, [], length};
     ghost use Rattle.base_types.specs.Scenario.{Scenario, IsBackend};
     ghost use Rattle.event_kinds.specs.declared.entry.Entry.{Entry};
     ghost use Rattle.history_model.specs.Drawn.{next_oid};
     ghost use Rattle.history_model.specs.Held.{held_of, holds};
     ghost use Rattle.history_model.specs.Log.{is_waiting};
-    ghost use Rattle.seg_calls.specs.Calls.{entry_of, MayCall, MayRequest, MayWrite, Promises, Appends, Scans, Locks, Writes};
+    ghost use Rattle.seg_calls.specs.Calls.{entry_of, MayCall, MayRequest, MayWrite, Promises, Appends, due_to, Fetches, Scans, Locks, Writes, ArePublishedNext};
 
     ghost history: { Self → List Entry };
 
@@ -50,6 +52,15 @@ pub trait Seg {
         ensures script { script self.new ≡ script self.old }
         ensures appends { Appends (history self.old) (history self.new) (promised self.old) (promised self.new) (entry_of b c (Event.Look yes)) };
 
+    /// It takes the next messages of the queue, at most 32, into an empty buffer (`SIGetDataEntries`
+    /// in `src/backend/storage/ipc/sinvaladt.c`). Condition: its last look said that messages wait.
+    fn fetch(&mut self, b: u32, c: u32, into: &mut ArrayVec<Message, 32>) -> Fetched
+        requires call { MayCall (script self.old) (history self.old) (entry_of b c (Event.Fetch (due_to (history self.old) b))) }
+        requires place { 0 < promised self.old b }
+        requires empty { into.old.items ≡ [] }
+        ensures script { script self.new ≡ script self.old }
+        ensures fetches { Fetches (history self.old) (history self.new) (promised self.old) (promised self.new) b c into.new.items result };
+
     /// What a scan gives it, its own writes among it (`systable_beginscan` and `systable_getnext` in
     /// `src/backend/access/index/genam.c`). Out of memory, nothing changes.
     fn scan(&mut self, b: u32, c: u32, purpose: &Purpose) -> Result<Scanned, NoMemory>
@@ -85,6 +96,16 @@ pub trait Seg {
         requires place { 0 < promised self.old b }
         ensures script { script self.new ≡ script self.old }
         ensures appends { Appends (history self.old) (history self.new) (promised self.old) (promised self.new) (entry_of b c (Event.Visible xid)) };
+
+    /// It puts messages of its commit into the queue (`SIInsertDataEntries` in
+    /// `src/backend/storage/ipc/sinvaladt.c`). Conditions: its transaction is committed, and these are
+    /// the next of its messages, 1 to 64 of them.
+    fn publish(&mut self, b: u32, c: u32, messages: &[Message])
+        requires call { MayCall (script self.old) (history self.old) (entry_of b c (Event.Publish (length messages.now))) }
+        requires place { 0 < promised self.old b }
+        requires next { ArePublishedNext (history self.old) b messages.now }
+        ensures script { script self.new ≡ script self.old }
+        ensures appends { Appends (history self.old) (history self.new) (promised self.old) (promised self.new) (entry_of b c (Event.Publish (length messages.now))) };
 
     /// It releases the locks that it was granted in commands of this number and above
     /// (`LockReleaseAll` in `src/backend/storage/lmgr/lock.c`).

@@ -1,0 +1,120 @@
+// The acceptance of invalidation messages (`AcceptInvalidationMessages` in
+// `src/backend/utils/cache/inval.c`, `ReceiveSharedInvalidMessages` in
+// `src/backend/storage/ipc/sinval.c`): a look, and where messages wait a fetch of at most 32, after
+// which it looks again exactly where the fetch gave 32.
+
+ghost use Rattle.std.specs.Prelude.{◌≡◌, ◌≢◌, ◌<◌, true, false, [], filter, list_any};
+ghost use Rattle.base_types.specs.Scans.{is_build_scan};
+ghost use Rattle.cacheless.specs.Locks.{cleared};
+ghost use Rattle.inval_messages.specs.Messages.{covers as is_covered_by, is_spared};
+ghost use Rattle.backend_core.specs.State.{phase_looked, phase_fetched, locks_accepted, kept_spared as spared, scans_missing};
+
+use crate::begun::begun_own;
+use crate::{Backend, KeptScan, Phase};
+use arrayvec::ArrayVec;
+use base_types::{Fetched, Purpose};
+use inval_messages::Message;
+use lock_modes::OwnLocks;
+use seg_calls::Seg;
+
+// The most messages that one fetch gives.
+const MOST_FETCHED: u32 = 32;
+
+impl Backend {
+    ghost use Rattle.backend_core.specs.Agrees.{Agrees, IsPlayed};
+    ghost use Rattle.backend_core.specs.declared.next.Next.{Next};
+    ghost use Rattle.backend_core.specs.Steps.{Enters, IsNextOf, OwesLookNow, IsWorking};
+
+    // The look that is owed: at its transaction's start, or in an acceptance of messages.
+    pub(crate) fn look<L: Seg>(&mut self, seg: &mut L)
+        requires agrees { Agrees (L.script seg.old) (L.history seg.old) self.old }
+        requires played { IsPlayed (L.script seg.old) (L.history seg.old) }
+        requires place { 0 < L.promised seg.old self.old.id }
+        requires next { OwesLookNow self.old }
+        ensures script { L.script seg.new ≡ L.script seg.old }
+        ensures enters { Enters (L.script seg.old) (L.history seg.old) (L.history seg.new) self.old self.new }
+    {
+        let number = self.finished + 1;
+        let some_wait = seg.waits(self.id);
+        seg.looked(self.id, number, some_wait);
+        self.running = Some(begun_own(number, self.running));
+        self.phase = after_look(some_wait);
+        accept(&mut self.locks, self.phase);
+    }
+
+    // The look before a scan.
+    pub(crate) fn look_before_scan<L: Seg>(&mut self, seg: &mut L)
+        requires agrees { Agrees (L.script seg.old) (L.history seg.old) self.old }
+        requires played { IsPlayed (L.script seg.old) (L.history seg.old) }
+        requires place { 0 < L.promised seg.old self.old.id }
+        requires works { IsWorking self.old }
+        requires missing { scans_missing self.old ≢ [] }
+        requires unlooked { self.old.looked ≡ false }
+        ensures script { L.script seg.new ≡ L.script seg.old }
+        ensures enters { Enters (L.script seg.old) (L.history seg.old) (L.history seg.new) self.old self.new }
+    {
+        let some_wait = seg.waits(self.id);
+        seg.looked(self.id, self.finished + 1, some_wait);
+        self.looked = true;
+        self.phase = after_look(some_wait);
+    }
+
+    // The fetch of messages that wait. What they cover isn't relied on any more.
+    pub(crate) fn fetch<L: Seg>(&mut self, seg: &mut L)
+        requires agrees { Agrees (L.script seg.old) (L.history seg.old) self.old }
+        requires played { IsPlayed (L.script seg.old) (L.history seg.old) }
+        requires place { 0 < L.promised seg.old self.old.id }
+        requires next { IsNextOf self.old Next.Fetch }
+        ensures script { L.script seg.new ≡ L.script seg.old }
+        ensures enters { Enters (L.script seg.old) (L.history seg.old) (L.history seg.new) self.old self.new }
+    {
+        let mut messages = ArrayVec::new();
+        let count = match seg.fetch(self.id, self.finished + 1, &mut messages) {
+            Fetched::Messages(count) => count,
+            Fetched::Reset => unreachable!(),
+        };
+        execute(&mut self.kept, messages.as_slice());
+        self.phase = after_fetch(count);
+        accept(&mut self.locks, self.phase);
+    }
+}
+
+// What comes after a look.
+fn after_look(some_wait: bool) -> Phase
+    ensures { result ≡ phase_looked some_wait }
+{
+    if some_wait {
+        Phase::Fetching
+    } else {
+        Phase::Working
+    }
+}
+
+// What comes after a fetch of so many messages.
+fn after_fetch(count: u32) -> Phase
+    ensures { result ≡ phase_fetched count }
+{
+    if count == MOST_FETCHED {
+        Phase::Looking
+    } else {
+        Phase::Working
+    }
+}
+
+// Makes the locks clear where an acceptance is over.
+fn accept(locks: &mut OwnLocks, phase: Phase)
+    ensures { locks.new ≡ locks_accepted phase locks.old }
+{
+    match phase {
+        Phase::Looking | Phase::Fetching => {}
+        _ => locks.clear_all(),
+    }
+}
+
+// Executes messages: what they cover isn't kept any more (`LocalExecuteInvalidationMessage` in
+// `src/backend/utils/cache/inval.c`).
+pub(crate) fn execute(kept: &mut Listed<KeptScan>, messages: &[Message])
+    ensures { kept.new ≡ spared messages.now kept.old }
+{
+    kept.retain(|k: &KeptScan| !messages.iter().any(|message| covers(message, &k.scan)));
+}
