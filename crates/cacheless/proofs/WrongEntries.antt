@@ -15,7 +15,7 @@ use Rattle.history_model.specs.Orderly.{IsOrderly}
 use Rattle.cacheless.proofs.Given.{oid, xid, entry, new_class, new_column, new_table}
 use Rattle.cacheless.proofs.TwoCreators as creators
 use Rattle.cacheless.proofs.NewOids as oids
-use Rattle.cacheless.proofs.ShowWithoutMessages as show
+use Rattle.cacheless.proofs.CreateThenShow as show
 use Rattle.cacheless.proofs.RefusedLock as refused
 
 -- a write of a name that another running transaction has in use
@@ -39,15 +39,15 @@ pub clash_row_of_running : MayFollow creators.second_looked (entry 2 1 (ClashRow
 clash_row_of_running h = search arith
 
 -- a clash with a running transaction that is committed
-pub clash_with_committed_as_running : MayFollow creators.second_looked_again (entry 2 2 (ClashRunning (codes "x") (xid 1))) → ⊥
+pub clash_with_committed_as_running : MayFollow creators.second_fetched (entry 2 2 (ClashRunning (codes "x") (xid 1))) → ⊥
 clash_with_committed_as_running h = search arith
 
 -- a clash with a relation that hasn't the name
-pub clash_with_wrong_row : MayFollow creators.second_looked_again (entry 2 2 (ClashRow (codes "x") (oid 16385))) → ⊥
+pub clash_with_wrong_row : MayFollow creators.second_fetched (entry 2 2 (ClashRow (codes "x") (oid 16385))) → ⊥
 clash_with_wrong_row h = search arith
 
 -- a write of a name that a relation has
-pub name_written_again : MayFollow creators.second_looked_again (entry 2 2 (Write (xid 2) (new_table 16385 (codes "x") (codes "b")))) → ⊥
+pub name_written_again : MayFollow creators.second_fetched (entry 2 2 (Write (xid 2) (new_table 16385 (codes "x") (codes "b")))) → ⊥
 name_written_again h = search arith
 
 -- a clash with a name that was taken back
@@ -59,7 +59,7 @@ pub running_row_found : MayFollow creators.second_looked (entry 2 1 (Scan (scans
 running_row_found h = search arith
 
 -- a row of a committed transaction isn't found
-pub committed_row_missed : MayFollow creators.second_looked_again (entry 2 2 (Scan (scans.RelName (codes "x")) 0)) → ⊥
+pub committed_row_missed : MayFollow creators.second_fetched (entry 2 2 (Scan (scans.RelName (codes "x")) 0)) → ⊥
 committed_row_missed h = search arith
 
 -- a backend doesn't find what its own transaction wrote
@@ -107,7 +107,7 @@ pub key_written_twice : MayFollow creators.first_looked (entry 1 2 (Write (xid 1
 key_written_twice h = search arith
 
 -- a column for a relation on which the backend holds no lock
-pub unguarded_write : MayFollow creators.second_looked_again (entry 2 2 (Write (xid 2) (new_column 16384 (codes "c") ∷ []))) → ⊥
+pub unguarded_write : MayFollow creators.second_fetched (entry 2 2 (Write (xid 2) (new_column 16384 (codes "c") ∷ []))) → ⊥
 unguarded_write h = search arith
 
 -- a row is replaced that the backend doesn't see
@@ -255,7 +255,7 @@ pub name_free_after_rollback : MayFollow oids.looked (entry 1 4 (Write (xid 2) (
 name_free_after_rollback = search arith
 
 -- a committed row is found
-pub committed_row_found : MayFollow creators.second_looked_again (entry 2 2 (Scan (scans.RelName (codes "x")) 1))
+pub committed_row_found : MayFollow creators.second_fetched (entry 2 2 (Scan (scans.RelName (codes "x")) 1))
 committed_row_found = search arith
 
 -- a part of a transaction may be taken back

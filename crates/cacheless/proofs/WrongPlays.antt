@@ -13,7 +13,7 @@ use Rattle.cacheless.specs.Schedule.{turns_left, IsComplete}
 use Rattle.cacheless.proofs.Given.{oid, xid, entry, new_class, new_column, new_table}
 use Rattle.cacheless.proofs.TwoCreators as creators
 use Rattle.cacheless.proofs.NewOids as oids
-use Rattle.cacheless.proofs.ShowWithoutMessages as show
+use Rattle.cacheless.proofs.CreateThenShow as show
 use Rattle.cacheless.proofs.FailedBlock as failed
 use Rattle.cacheless.proofs.RefusedLock as refused
 
@@ -26,15 +26,15 @@ pub clash_without_look : IsNext creators.clash_of_two_creators creators.second_s
 clash_without_look h = search arith
 
 -- a scan without a look before it
-pub scan_without_look : IsNext show.create_then_show_without_messages show.looked_at_start (entry 1 2 (Scan (scans.RelName (codes "t")) 1)) → ⊥
+pub scan_without_look : IsNext show.create_then_show show.looked_at_start (entry 1 2 (Scan (scans.RelName (codes "t")) 1)) → ⊥
 scan_without_look h = search arith
 
 -- a scan for a descriptor without a look before it
-pub build_without_look : IsNext show.create_then_show_without_messages show.looked_after_lock (entry 1 2 (Scan (scans.Class (oid 16384)) 1)) → ⊥
+pub build_without_look : IsNext show.create_then_show show.looked_after_lock (entry 1 2 (Scan (scans.Class (oid 16384)) 1)) → ⊥
 build_without_look h = search arith
 
 -- a scan right after a lock was granted
-pub no_look_after_lock : IsNext show.create_then_show_without_messages show.locked (entry 1 2 (Scan (scans.Class (oid 16384)) 1)) → ⊥
+pub no_look_after_lock : IsNext show.create_then_show show.locked (entry 1 2 (Scan (scans.Class (oid 16384)) 1)) → ⊥
 no_look_after_lock h = search arith
 
 -- more looks than the bound of a command
@@ -98,7 +98,7 @@ pub clash_of_other_name : IsNext creators.clash_of_two_creators creators.second_
 clash_of_other_name h = search arith
 
 -- a clash of a command that doesn't write
-pub clash_in_show : IsNext show.create_then_show_without_messages show.looked_before_name (entry 1 2 (ClashRow (codes "t") (oid 16384))) → ⊥
+pub clash_in_show : IsNext show.create_then_show show.looked_before_name (entry 1 2 (ClashRow (codes "t") (oid 16384))) → ⊥
 clash_in_show h = search arith
 
 -- a write after a clash
@@ -110,75 +110,75 @@ pub visible_after_clash : IsNext creators.clash_of_two_creators creators.second_
 visible_after_clash h = search arith
 
 -- a new table without its column's row
-pub column_left_out : IsNext show.create_then_show_without_messages show.looked (entry 1 1 (Write (xid 1) (new_class 16384 (codes "t") ∷ []))) → ⊥
+pub column_left_out : IsNext show.create_then_show show.looked (entry 1 1 (Write (xid 1) (new_class 16384 (codes "t") ∷ []))) → ⊥
 column_left_out h = search arith
 
 -- a column's row before the relation's
-pub rows_in_other_order : IsNext show.create_then_show_without_messages show.looked (entry 1 1 (Write (xid 1) (new_column 16384 (codes "a") ∷ new_class 16384 (codes "t") ∷ []))) → ⊥
+pub rows_in_other_order : IsNext show.create_then_show show.looked (entry 1 1 (Write (xid 1) (new_column 16384 (codes "a") ∷ new_class 16384 (codes "t") ∷ []))) → ⊥
 rows_in_other_order h = search arith
 
 -- a new row written as a replaced one
-pub row_replaced_for_added : IsNext show.create_then_show_without_messages show.looked (entry 1 1 (Write (xid 1) (Put (Class (oid 16384) (codes "t") Table None) ∷ new_column 16384 (codes "a") ∷ []))) → ⊥
+pub row_replaced_for_added : IsNext show.create_then_show show.looked (entry 1 1 (Write (xid 1) (Put (Class (oid 16384) (codes "t") Table None) ∷ new_column 16384 (codes "a") ∷ []))) → ⊥
 row_replaced_for_added h = search arith
 
 -- `create table` scans for the name
-pub create_looks_up : IsNext show.create_then_show_without_messages show.looked (entry 1 1 (Scan (scans.RelName (codes "t")) 0)) → ⊥
+pub create_looks_up : IsNext show.create_then_show show.looked (entry 1 1 (Scan (scans.RelName (codes "t")) 0)) → ⊥
 create_looks_up h = search arith
 
 -- a scan for another name
-pub other_name : IsNext show.create_then_show_without_messages show.looked_before_name (entry 1 2 (Scan (scans.RelName (codes "u")) 0)) → ⊥
+pub other_name : IsNext show.create_then_show show.looked_before_name (entry 1 2 (Scan (scans.RelName (codes "u")) 0)) → ⊥
 other_name h = search arith
 
 -- the name scanned twice in a lookup
-pub name_twice : IsNext show.create_then_show_without_messages (show.name_scanned ++ entry 1 2 (Look false) ∷ []) (entry 1 2 (Scan (scans.RelName (codes "t")) 1)) → ⊥
+pub name_twice : IsNext show.create_then_show (show.name_scanned ++ entry 1 2 (Look false) ∷ []) (entry 1 2 (Scan (scans.RelName (codes "t")) 1)) → ⊥
 name_twice h = search arith
 
 -- a lock in another mode
-pub other_mode : IsNext show.create_then_show_without_messages show.name_scanned (entry 1 2 (LockOk (oid 16384) Share)) → ⊥
+pub other_mode : IsNext show.create_then_show show.name_scanned (entry 1 2 (LockOk (oid 16384) Share)) → ⊥
 other_mode h = search arith
 
 -- a lock on another relation
-pub other_relation : IsNext show.create_then_show_without_messages show.name_scanned (entry 1 2 (LockOk (oid 16385) AccessShare)) → ⊥
+pub other_relation : IsNext show.create_then_show show.name_scanned (entry 1 2 (LockOk (oid 16385) AccessShare)) → ⊥
 other_relation h = search arith
 
 -- a scan for the descriptor before the lock
-pub build_before_lock : IsNext show.create_then_show_without_messages (show.name_scanned ++ entry 1 2 (Look false) ∷ []) (entry 1 2 (Scan (scans.Class (oid 16384)) 1)) → ⊥
+pub build_before_lock : IsNext show.create_then_show (show.name_scanned ++ entry 1 2 (Look false) ∷ []) (entry 1 2 (Scan (scans.Class (oid 16384)) 1)) → ⊥
 build_before_lock h = search arith
 
 -- the columns scanned before the relation's row
-pub build_in_other_order : IsNext show.create_then_show_without_messages (show.looked_after_lock ++ entry 1 2 (Look false) ∷ []) (entry 1 2 (Scan (scans.Attribute (oid 16384)) 1)) → ⊥
+pub build_in_other_order : IsNext show.create_then_show (show.looked_after_lock ++ entry 1 2 (Look false) ∷ []) (entry 1 2 (Scan (scans.Attribute (oid 16384)) 1)) → ⊥
 build_in_other_order h = search arith
 
 -- a scan of the descriptor that was made already
-pub build_scan_twice : IsNext show.create_then_show_without_messages (show.class_scanned ++ entry 1 2 (Look false) ∷ []) (entry 1 2 (Scan (scans.Class (oid 16384)) 1)) → ⊥
+pub build_scan_twice : IsNext show.create_then_show (show.class_scanned ++ entry 1 2 (Look false) ∷ []) (entry 1 2 (Scan (scans.Class (oid 16384)) 1)) → ⊥
 build_scan_twice h = search arith
 
 -- a scan that only indexes need
-pub index_scan_of_table : IsNext show.create_then_show_without_messages (show.class_scanned ++ entry 1 2 (Look false) ∷ []) (entry 1 2 (Scan (scans.IndexRow (oid 16384)) 0)) → ⊥
+pub index_scan_of_table : IsNext show.create_then_show (show.class_scanned ++ entry 1 2 (Look false) ∷ []) (entry 1 2 (Scan (scans.IndexRow (oid 16384)) 0)) → ⊥
 index_scan_of_table h = search arith
 
 -- the end before all scans of the descriptor
-pub end_without_build : IsNext show.create_then_show_without_messages show.index_scanned (entry 1 2 (Release 2)) → ⊥
+pub end_without_build : IsNext show.create_then_show show.index_scanned (entry 1 2 (Release 2)) → ⊥
 end_without_build h = search arith
 
 -- the end though a relation was found
-pub end_without_lock : IsNext show.create_then_show_without_messages show.name_scanned (entry 1 2 (Release 2)) → ⊥
+pub end_without_lock : IsNext show.create_then_show show.name_scanned (entry 1 2 (Release 2)) → ⊥
 end_without_lock h = search arith
 
 -- the end releases locks of earlier commands too
-pub wrong_release : IsNext show.create_then_show_without_messages show.trigger_scanned (entry 1 2 (Release 1)) → ⊥
+pub wrong_release : IsNext show.create_then_show show.trigger_scanned (entry 1 2 (Release 1)) → ⊥
 wrong_release h = search arith
 
 -- the next command's number too early
-pub wrong_number : IsNext show.create_then_show_without_messages show.trigger_scanned (entry 1 3 (Release 3)) → ⊥
+pub wrong_number : IsNext show.create_then_show show.trigger_scanned (entry 1 3 (Release 3)) → ⊥
 wrong_number h = search arith
 
 -- a finished command's number
-pub finished_number : IsNext show.create_then_show_without_messages show.released (entry 1 1 (Look false)) → ⊥
+pub finished_number : IsNext show.create_then_show show.released (entry 1 1 (Look false)) → ⊥
 finished_number h = search arith
 
 -- a stop before all commands are finished
-pub stop_before_commands : IsNext show.create_then_show_without_messages show.released (entry 1 2 Stop) → ⊥
+pub stop_before_commands : IsNext show.create_then_show show.released (entry 1 2 Stop) → ⊥
 stop_before_commands h = search arith
 
 -- a backend that the script lacks
@@ -186,11 +186,11 @@ pub no_such_backend : IsNext creators.clash_of_two_creators creators.second_look
 no_such_backend h = search arith
 
 -- a lock protects nothing before its look
-pub protected_before_look : (is_protected show.create_then_show_without_messages show.locked 1 (oid 16384) Table fields.Columns ≡ true) → ⊥
+pub protected_before_look : (is_protected show.create_then_show show.locked 1 (oid 16384) Table fields.Columns ≡ true) → ⊥
 protected_before_look h = search arith
 
 -- a lock that doesn't conflict with each writer protects nothing
-pub protected_by_weak_lock : (is_protected show.create_then_show_without_messages show.looked_after_lock 1 (oid 16384) Table fields.Statistics ≡ true) → ⊥
+pub protected_by_weak_lock : (is_protected show.create_then_show show.looked_after_lock 1 (oid 16384) Table fields.Statistics ≡ true) → ⊥
 protected_by_weak_lock h = search arith
 
 -- a step of another backend
@@ -202,11 +202,11 @@ pub turns_remain : IsComplete creators.clash_of_two_creators creators.second_rel
 turns_remain h = search arith
 
 -- without a schedule, a backend that hasn't stopped
-pub not_stopped : IsComplete show.create_then_show_without_messages show.shown → ⊥
+pub not_stopped : IsComplete show.create_then_show show.shown → ⊥
 not_stopped h = search arith
 
 -- a lock protects once its look is made
-pub protected_after_look : is_protected show.create_then_show_without_messages show.looked_after_lock 1 (oid 16384) Table fields.Columns ≡ true
+pub protected_after_look : is_protected show.create_then_show show.looked_after_lock 1 (oid 16384) Table fields.Columns ≡ true
 protected_after_look = search arith
 
 -- a new table is protected for its writer at once
@@ -214,5 +214,5 @@ pub protected_by_own_table : is_protected creators.clash_of_two_creators creator
 protected_by_own_table = search arith
 
 -- a look more than is needed
-pub look_more_than_needed : IsNext show.create_then_show_without_messages show.looked_before_name (entry 1 2 (Look false))
+pub look_more_than_needed : IsNext show.create_then_show show.looked_before_name (entry 1 2 (Look false))
 look_more_than_needed = search arith
