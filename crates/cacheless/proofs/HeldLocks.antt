@@ -229,9 +229,11 @@ own_session scenario facts b at c events.Start gs old same start none =
     (same ∙ ap (λ o. map (grant_of b) (locks_of o)) (none refl) ∙ sym (ap (map (grant_of b)) (settled-locks facts (commands_of scenario b) (at_command no_block [] [] at (first_of (commands_of scenario b))))), λ is. absurd (cc))
 own_session scenario facts b at c event gs None same start none = let clash : event ≡ events.Start = start refl in absurd (cc)
 own_session scenario facts b at c event gs (Some s) same start none =
-    let commands : List Command = commands_left scenario b s in
-    (own_held-own b c event gs s.locks same ∙ sym (ap (map (grant_of b)) (settled-locks facts commands (entered facts commands at c event s))
-        ∙ accepted-locks b facts (first_of commands) (counted facts event (placed_at at c event s)) ∙ ap (map (grant_of b)) (counted-locks facts event (placed_at at c event s))), λ is. absurd (cc))
+    let commands : List Command = commands_left scenario b s in (
+      own_held-own b c event gs s.locks same ∙ sym (ap (map (grant_of b)) (settled-locks facts commands (entered facts commands at c event s))
+          ∙ accepted-locks b facts (first_of commands) (counted facts event (placed_at at c event s)) ∙ ap (map (grant_of b)) (counted-locks facts event (placed_at at c event s))),
+      λ is. absurd (cc),
+    )
 
 Fits-more : (scenario : Scenario) (history : List Entry) (e : Entry) (b : ℕ) → Follows history e → Fits scenario history b → Fits scenario (history ++ e ∷ []) b
 Fits-more scenario history e b follows fits = by_owner (e.backend == b) refl
