@@ -1,11 +1,13 @@
 -- What the worked examples are made of.
-use Rattle.std.proofs.Common.{ℕ, true, None, List, [], ◌∷◌, negsuc}
+use Rattle.std.proofs.Common.{ℕ, true, None, List, [], ◌∷◌, ◌+◌, ◌/◌, ◌%◌, map, negsuc}
+use Rattle.std.specs.List.{range_with_len}
 use Rattle.base_types.specs.Scenario.{Scenario}
 use Rattle.base_types.specs.declared.ids.Oid.{Oid}
 use Rattle.base_types.specs.declared.ids.Xid.{Xid}
 use Rattle.base_types.specs.declared.col_type.ColType.TheVariants.{Int4}
 use Rattle.base_types.specs.declared.command.Command.{Command}
 use Rattle.base_types.specs.declared.command.Command.TheVariants.{CreateTable}
+use Rattle.base_types.specs.declared.command.NewColumn.{NewColumn}
 use Rattle.base_types.specs.declared.command.Placed.{Placed}
 use Rattle.base_types.specs.declared.command.Turns.{Turns}
 use Rattle.base_types.specs.declared.kind.Kind.TheVariants.{Table}
@@ -48,3 +50,15 @@ new_column rel column = Add (Att (oid rel) 1 column Int4 (negsuc 0) true)
 -- the rows of a new table with one column
 abbrev pub new_table : ℕ → List ℕ → List ℕ → List Item
 new_table rel name column = new_class rel name ∷ new_column rel column ∷ []
+
+-- names of columns, `aa` to `az`, `ba` and so on
+abbrev pub column_name : ℕ → List ℕ
+column_name n = (97 + n / 26) ∷ (97 + n % 26) ∷ []
+
+-- so many columns
+abbrev pub wide_columns : ℕ → List NewColumn
+wide_columns count = map (λ n. record { name = column_name n; col_type = Int4 }) (range_with_len 0 count)
+
+-- the rows of a new table with so many columns
+abbrev pub wide_table : ℕ → List ℕ → ℕ → List Item
+wide_table rel name count = new_class rel name ∷ map (λ n. Add (Att (oid rel) (n + 1) (column_name n) Int4 (negsuc 0) true)) (range_with_len 0 count)

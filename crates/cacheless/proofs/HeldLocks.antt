@@ -33,7 +33,7 @@ use Rattle.cacheless.specs.Locks.{locked_by, locks_by, has_lock, cleared}
 use Rattle.cacheless.specs.Session.{Session, first_of, at_command}
 use Rattle.cacheless.specs.Owed.{owes_accept}
 use Rattle.cacheless.specs.Settled.{done_here, act_done, acted_on, acted, is_finished, next_session, settled}
-use Rattle.cacheless.specs.Sessions.{placed_at, accepted, entered, commands_left, session_by, session_of}
+use Rattle.cacheless.specs.Sessions.{placed_at, counted, accepted, entered, commands_left, session_by, session_of}
 use Rattle.cacheless.proofs.Reading.{session_of-own, session_of-other}
 
 -- the grant that a lock is
@@ -197,6 +197,11 @@ accepted-locks b facts command s = by_owed (owes_accept facts command s)
     by_owed true = refl
     by_owed false = cleared_grants b s.locks
 
+-- counting a full fetch leaves the locks
+pub counted-locks : (facts : Facts) (event : Event) (s : Session) → (counted facts event s).locks ≡ s.locks
+counted-locks facts (events.Fetch count) s = refl
+counted-locks facts event s = refl
+
 -- the session of a backend that has started, and no other, exists and has the backend's locks
 record Fits (scenario : Scenario) (history : List Entry) (b : ℕ) : Type 0 where
   locks : own_grants b (held_of history) ≡ map (grant_of b) (locks_of (session_of scenario history b))
@@ -224,8 +229,11 @@ own_session scenario facts b at c events.Start gs old same start none =
     (same ∙ ap (λ o. map (grant_of b) (locks_of o)) (none refl) ∙ sym (ap (map (grant_of b)) (settled-locks facts (commands_of scenario b) (at_command no_block [] [] at (first_of (commands_of scenario b))))), λ is. absurd (cc))
 own_session scenario facts b at c event gs None same start none = let clash : event ≡ events.Start = start refl in absurd (cc)
 own_session scenario facts b at c event gs (Some s) same start none =
-    let commands : List Command = commands_left scenario b s in
-    (own_held-own b c event gs s.locks same ∙ sym (ap (map (grant_of b)) (settled-locks facts commands (entered facts commands at c event s)) ∙ accepted-locks b facts (first_of commands) (placed_at at c event s)), λ is. absurd (cc))
+    let commands : List Command = commands_left scenario b s in (
+      own_held-own b c event gs s.locks same ∙ sym (ap (map (grant_of b)) (settled-locks facts commands (entered facts commands at c event s))
+          ∙ accepted-locks b facts (first_of commands) (counted facts event (placed_at at c event s)) ∙ ap (map (grant_of b)) (counted-locks facts event (placed_at at c event s))),
+      λ is. absurd (cc),
+    )
 
 Fits-more : (scenario : Scenario) (history : List Entry) (e : Entry) (b : ℕ) → Follows history e → Fits scenario history b → Fits scenario (history ++ e ∷ []) b
 Fits-more scenario history e b follows fits = by_owner (e.backend == b) refl

@@ -4,7 +4,9 @@ pub mod HeldLocks
 pub mod Given
 pub mod TwoCreators
 pub mod NewOids
-pub mod ShowWithoutMessages
+pub mod CreateThenShow
+pub mod AnothersTable
+pub mod FullFetch
 pub mod FailedBlock
 pub mod RefusedLock
 pub mod RefusedCommands

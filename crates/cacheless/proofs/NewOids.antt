@@ -4,7 +4,7 @@ use Rattle.std.proofs.Common.{◌≡◌, ◌≤◌, ◌++◌, ℕ, false, List, 
 use Rattle.base_types.specs.Scenario.{Scenario}
 use Rattle.base_types.specs.declared.command.Command.TheVariants as commands
 use Rattle.event_kinds.specs.declared.entry.Entry.{Entry}
-use Rattle.event_kinds.specs.declared.entry.Event.TheVariants.{Start, Look, Write, Visible, Release, Gone, Stop}
+use Rattle.event_kinds.specs.declared.entry.Event.TheVariants.{Start, Look, Write, Visible, Publish, Release, Gone, Stop}
 use Rattle.event_kinds.specs.Texts.{text_of}
 use Rattle.history_model.specs.Orderly.{MayComeNext, IsSound}
 use Rattle.history_model.specs.Read.{IsEconomical}
@@ -46,7 +46,7 @@ written_plays : IsNext oids_are_not_drawn_again begun (entry 1 2 (Write (xid 1) 
 written_plays = ((at_least_1, at_most_1), (refl, (refl, refl)))
 
 written_comes : MayComeNext begun (entry 1 2 (Write (xid 1) (new_table 16384 (codes "u") (codes "a"))))
-written_comes = record { follows = record { life = omega arith; visible = tt; gone = tt; event = record { xid_is = refl; oids = refl; keys = refl; there = refl; kinds = refl; only = refl; free = refl; guarded = refl } }; orderly = record { fresh = refl; keeps = refl } }
+written_comes = record { follows = record { life = omega arith; visible = tt; gone = tt; event = record { xid_is = refl; oids = refl; keys = refl; there = refl; kinds = refl; only = refl; free = refl; guarded = refl; covered = refl } }; orderly = record { fresh = refl; keeps = refl; named = refl } }
 
 abbrev pub taken_back : List Entry
 taken_back = written ++ entry 1 3 (Gone 1) ∷ []
@@ -82,7 +82,7 @@ written_again_plays : IsNext oids_are_not_drawn_again looked (entry 1 4 (Write (
 written_again_plays = ((at_least_1, at_most_1), (refl, (refl, refl)))
 
 written_again_comes : MayComeNext looked (entry 1 4 (Write (xid 2) (new_table 16385 (codes "w") (codes "a"))))
-written_again_comes = record { follows = record { life = omega arith; visible = tt; gone = tt; event = record { xid_is = refl; oids = refl; keys = refl; there = refl; kinds = refl; only = refl; free = refl; guarded = refl } }; orderly = record { fresh = refl; keeps = refl } }
+written_again_comes = record { follows = record { life = omega arith; visible = tt; gone = tt; event = record { xid_is = refl; oids = refl; keys = refl; there = refl; kinds = refl; only = refl; free = refl; guarded = refl; covered = refl } }; orderly = record { fresh = refl; keeps = refl; named = refl } }
 
 abbrev pub visible : List Entry
 visible = written_again ++ entry 1 4 (Visible (xid 2)) ∷ []
@@ -93,13 +93,28 @@ visible_plays = ((at_least_1, at_most_1), (refl, (refl, refl)))
 visible_comes : MayComeNext written_again (entry 1 4 (Visible (xid 2)))
 visible_comes = record { follows = record { life = omega arith; visible = tt; gone = tt; event = (refl, refl) }; orderly = tt }
 
-abbrev pub ended : List Entry
-ended = visible ++ entry 1 4 (Release 4) ∷ []
+abbrev pub published : List Entry
+published = visible ++ entry 1 4 (Publish 3) ∷ entry 1 4 (Publish 1) ∷ []
 
-ended_plays : IsNext oids_are_not_drawn_again visible (entry 1 4 (Release 4))
+published_plays_1 : IsNext oids_are_not_drawn_again visible (entry 1 4 (Publish 3))
+published_plays_1 = ((at_least_1, at_most_1), (refl, (refl, refl)))
+
+published_comes_1 : MayComeNext visible (entry 1 4 (Publish 3))
+published_comes_1 = record { follows = record { life = omega arith; visible = tt; gone = tt; event = (refl, omega arith, refl) }; orderly = tt }
+
+published_plays_2 : IsNext oids_are_not_drawn_again (visible ++ entry 1 4 (Publish 3) ∷ []) (entry 1 4 (Publish 1))
+published_plays_2 = ((at_least_1, at_most_1), (refl, (refl, refl)))
+
+published_comes_2 : MayComeNext (visible ++ entry 1 4 (Publish 3) ∷ []) (entry 1 4 (Publish 1))
+published_comes_2 = record { follows = record { life = omega arith; visible = tt; gone = tt; event = (refl, omega arith, refl) }; orderly = tt }
+
+abbrev pub ended : List Entry
+ended = published ++ entry 1 4 (Release 4) ∷ []
+
+ended_plays : IsNext oids_are_not_drawn_again published (entry 1 4 (Release 4))
 ended_plays = ((at_least_1, at_most_1), (refl, (refl, refl)))
 
-ended_comes : MayComeNext visible (entry 1 4 (Release 4))
+ended_comes : MayComeNext published (entry 1 4 (Release 4))
 ended_comes = record { follows = record { life = omega arith; visible = tt; gone = tt; event = (omega arith, (refl, refl)) }; orderly = tt }
 
 abbrev pub stopped : List Entry
@@ -112,25 +127,25 @@ stopped_comes : MayComeNext ended (entry 1 5 Stop)
 stopped_comes = record { follows = record { life = omega arith; visible = tt; gone = tt; event = refl }; orderly = tt }
 
 pub oids_are_not_drawn_again_plays : Plays oids_are_not_drawn_again stopped
-oids_are_not_drawn_again_plays = (begun_plays_1, (begun_plays_2, (written_plays, (taken_back_plays, (released_plays, (looked_plays, (written_again_plays, (visible_plays, (ended_plays, (stopped_plays, tt))))))))))
+oids_are_not_drawn_again_plays = (begun_plays_1, (begun_plays_2, (written_plays, (taken_back_plays, (released_plays, (looked_plays, (written_again_plays, (visible_plays, (published_plays_1, (published_plays_2, (ended_plays, (stopped_plays, tt))))))))))))
 
 pub oids_are_not_drawn_again_sound : IsSound stopped
-oids_are_not_drawn_again_sound = (begun_comes_1, (begun_comes_2, (written_comes, (taken_back_comes, (released_comes, (looked_comes, (written_again_comes, (visible_comes, (ended_comes, (stopped_comes, tt))))))))))
+oids_are_not_drawn_again_sound = (begun_comes_1, (begun_comes_2, (written_comes, (taken_back_comes, (released_comes, (looked_comes, (written_again_comes, (visible_comes, (published_comes_1, (published_comes_2, (ended_comes, (stopped_comes, tt))))))))))))
 
 pub oids_are_not_drawn_again_economical : IsEconomical stopped
-oids_are_not_drawn_again_economical = (tt, (tt, (tt, (tt, (tt, (tt, (tt, (tt, (tt, (tt, tt))))))))))
+oids_are_not_drawn_again_economical = (tt, (tt, (tt, (tt, (tt, (tt, (tt, (tt, (tt, (tt, (tt, (tt, tt))))))))))))
 
 pub oids_are_not_drawn_again_follows : FollowsSchedule oids_are_not_drawn_again stopped
-oids_are_not_drawn_again_follows = (refl, (refl, (refl, (refl, (refl, (refl, (refl, (refl, (refl, (refl, tt))))))))))
+oids_are_not_drawn_again_follows = (refl, (refl, (refl, (refl, (refl, (refl, (refl, (refl, (refl, (refl, (refl, (refl, tt))))))))))))
 
 pub oids_are_not_drawn_again_looks : AreLooksTrue stopped
-oids_are_not_drawn_again_looks = (tt, (refl, (tt, (tt, (tt, (refl, (tt, (tt, (tt, (tt, tt))))))))))
+oids_are_not_drawn_again_looks = (tt, (refl, (tt, (tt, (tt, (refl, (tt, (tt, (tt, (tt, (tt, (tt, tt))))))))))))
 
 pub oids_are_not_drawn_again_complete : IsComplete oids_are_not_drawn_again stopped
 oids_are_not_drawn_again_complete = refl
 
 abbrev pub oids_are_not_drawn_again_text : List ℕ
-oids_are_not_drawn_again_text = codes "h 1 0 start\nh 1 1 look no\nh 1 2 write 1 +class(16384,u,r,-) +att(16384,1,a,int4,-1,l)\nh 1 3 gone 1\nh 1 3 release 1\nh 1 4 look no\nh 1 4 write 2 +class(16385,w,r,-) +att(16385,1,a,int4,-1,l)\nh 1 4 visible 2\nh 1 4 release 4\nh 1 5 stop\nl 1 1 ok\nl 1 2 ok\nl 1 3 ok\nl 1 4 ok\nend\n"
+oids_are_not_drawn_again_text = codes "h 1 0 start\nh 1 1 look no\nh 1 2 write 1 +class(16384,u,r,-) +att(16384,1,a,int4,-1,l)\nh 1 3 gone 1\nh 1 3 release 1\nh 1 4 look no\nh 1 4 write 2 +class(16385,w,r,-) +att(16385,1,a,int4,-1,l)\nh 1 4 visible 2\nh 1 4 publish 3\nh 1 4 publish 1\nh 1 4 release 4\nh 1 5 stop\nl 1 1 ok\nl 1 2 ok\nl 1 3 ok\nl 1 4 ok\nend\n"
 
 pub oids_are_not_drawn_again_spelled : text_of stopped (lines_of oids_are_not_drawn_again stopped) ≡ oids_are_not_drawn_again_text
 unfolding digits

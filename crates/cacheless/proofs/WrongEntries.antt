@@ -1,22 +1,29 @@
 -- What no history allows, and at the end what it allows beside it: a worked example up to a place, and one entry there.
-use Rattle.std.proofs.Common.{negsuc, ◌≡◌, ◌++◌, true, false, None, [], ◌∷◌, codes, arith}
+use Rattle.std.proofs.Common.{ℕ, Bool, List, negsuc, ◌≡◌, ◌++◌, true, false, None, [], ◌∷◌, codes, arith}
 use Rattle.base_types.specs.declared.mode.Mode.TheVariants.{AccessShare, AccessExclusive}
 use Rattle.base_types.specs.declared.kind.Kind.TheVariants.{Index}
-use Rattle.base_types.specs.declared.row.Row.TheVariants.{Class, Att}
+use Rattle.base_types.specs.declared.row.Row.{Row}
+use Rattle.base_types.specs.declared.row.Row.TheVariants.{Class, Att, Con, Trg}
+use Rattle.base_types.specs.declared.row.ConKind.TheVariants.{Foreign}
 use Rattle.base_types.specs.declared.col_type.ColType.TheVariants.{Int4}
 use Rattle.base_types.specs.declared.row_key.RowKey.TheVariants as keys
 use Rattle.base_types.specs.declared.scan.Purpose.TheVariants as scans
-use Rattle.event_kinds.specs.declared.entry.Event.TheVariants.{Start, Look, LockOk, LockHeld, Unlock, Scan, Write, ClashRow, ClashRunning, Visible, Publish, Release, Gone, Stop}
-use Rattle.event_kinds.specs.declared.entry.Item.TheVariants.{Put, Remove}
+use Rattle.event_kinds.specs.declared.entry.Event.TheVariants.{Start, Look, Fetch, FetchReset, LockOk, LockHeld, Unlock, Scan, Write, ClashRow, ClashRunning, Visible, Publish, Release, Gone, Fail, Stop}
+use Rattle.event_kinds.specs.declared.entry.Entry.{Entry}
+use Rattle.event_kinds.specs.declared.entry.Item.TheVariants.{Add, Put, Remove, Force}
 use Rattle.history_model.specs.Transactions.{Committed, InProgress, Aborted, status_of}
 use Rattle.history_model.specs.Legal.{MayFollow}
 use Rattle.history_model.specs.Read.{ScansOnlyIfNeeded}
 use Rattle.history_model.specs.Orderly.{IsOrderly}
-use Rattle.cacheless.proofs.Given.{oid, xid, entry, new_class, new_column, new_table}
+use Rattle.cacheless.proofs.Given.{oid, xid, entry, new_class, new_column, new_table, wide_table}
 use Rattle.cacheless.proofs.TwoCreators as creators
 use Rattle.cacheless.proofs.NewOids as oids
-use Rattle.cacheless.proofs.ShowWithoutMessages as show
+use Rattle.cacheless.proofs.CreateThenShow as show
 use Rattle.cacheless.proofs.RefusedLock as refused
+
+-- a foreign key of the second table: whether it is known to hold, and the column of the first to which it refers
+abbrev pub foreign_key : Bool → ℕ → Row
+foreign_key valid refnum = Con (oid 16386) (oid 16385) (codes "k") valid (Foreign 1 (oid 16384) refnum)
 
 -- a write of a name that another running transaction has in use
 pub clash_passed_over : MayFollow creators.second_looked (entry 2 1 (Write (xid 2) (new_table 16385 (codes "x") (codes "b")))) → ⊥
@@ -39,15 +46,15 @@ pub clash_row_of_running : MayFollow creators.second_looked (entry 2 1 (ClashRow
 clash_row_of_running h = search arith
 
 -- a clash with a running transaction that is committed
-pub clash_with_committed_as_running : MayFollow creators.second_looked_again (entry 2 2 (ClashRunning (codes "x") (xid 1))) → ⊥
+pub clash_with_committed_as_running : MayFollow creators.second_fetched (entry 2 2 (ClashRunning (codes "x") (xid 1))) → ⊥
 clash_with_committed_as_running h = search arith
 
 -- a clash with a relation that hasn't the name
-pub clash_with_wrong_row : MayFollow creators.second_looked_again (entry 2 2 (ClashRow (codes "x") (oid 16385))) → ⊥
+pub clash_with_wrong_row : MayFollow creators.second_fetched (entry 2 2 (ClashRow (codes "x") (oid 16385))) → ⊥
 clash_with_wrong_row h = search arith
 
 -- a write of a name that a relation has
-pub name_written_again : MayFollow creators.second_looked_again (entry 2 2 (Write (xid 2) (new_table 16385 (codes "x") (codes "b")))) → ⊥
+pub name_written_again : MayFollow creators.second_fetched (entry 2 2 (Write (xid 2) (new_table 16385 (codes "x") (codes "b")))) → ⊥
 name_written_again h = search arith
 
 -- a clash with a name that was taken back
@@ -59,7 +66,7 @@ pub running_row_found : MayFollow creators.second_looked (entry 2 1 (Scan (scans
 running_row_found h = search arith
 
 -- a row of a committed transaction isn't found
-pub committed_row_missed : MayFollow creators.second_looked_again (entry 2 2 (Scan (scans.RelName (codes "x")) 0)) → ⊥
+pub committed_row_missed : MayFollow creators.second_fetched (entry 2 2 (Scan (scans.RelName (codes "x")) 0)) → ⊥
 committed_row_missed h = search arith
 
 -- a backend doesn't find what its own transaction wrote
@@ -107,7 +114,7 @@ pub key_written_twice : MayFollow creators.first_looked (entry 1 2 (Write (xid 1
 key_written_twice h = search arith
 
 -- a column for a relation on which the backend holds no lock
-pub unguarded_write : MayFollow creators.second_looked_again (entry 2 2 (Write (xid 2) (new_column 16384 (codes "c") ∷ []))) → ⊥
+pub unguarded_write : MayFollow creators.second_fetched (entry 2 2 (Write (xid 2) (new_column 16384 (codes "c") ∷ []))) → ⊥
 unguarded_write h = search arith
 
 -- a row is replaced that the backend doesn't see
@@ -167,7 +174,7 @@ pub visible_twice : MayFollow creators.first_visible (entry 1 3 (Visible (xid 1)
 visible_twice h = search arith
 
 -- a visible transaction keeps a part of its locks
-pub released_in_part : MayFollow creators.first_visible (entry 1 3 (Release 2)) → ⊥
+pub released_in_part : MayFollow creators.first_published (entry 1 3 (Release 2)) → ⊥
 released_in_part h = search arith
 
 -- a scan between the visibility step and the release
@@ -203,16 +210,118 @@ pub locked_twice : MayFollow show.locked (entry 1 2 (LockOk (oid 16384) AccessSh
 locked_twice h = search arith
 
 -- a look says yes where nothing waits
-pub nothing_waits : MayFollow show.released (entry 1 2 (Look true)) → ⊥
+pub nothing_waits : MayFollow show.fetched (entry 1 2 (Look true)) → ⊥
 nothing_waits h = search arith
 
--- messages aren't built
-pub publish_not_built : MayFollow creators.first_visible (entry 1 3 (Publish 1)) → ⊥
-publish_not_built h = search arith
+-- a look says no though messages waited at the backend's last entry
+pub waiting_passed_over : MayFollow show.released (entry 1 2 (Look false)) → ⊥
+waiting_passed_over h = search arith
+
+-- a fetch without a look before it
+pub fetch_without_look : MayFollow creators.first_stopped (entry 2 2 (Fetch 4)) → ⊥
+fetch_without_look h = search arith
+
+-- a fetch after a look that said no
+pub fetch_after_look_no : MayFollow (creators.first_stopped ++ entry 2 2 (Look false) ∷ []) (entry 2 2 (Fetch 4)) → ⊥
+fetch_after_look_no h = search arith
+
+-- a fetch stops though messages are left
+pub fetch_in_part : MayFollow show.looked_at_start (entry 1 2 (Fetch 3)) → ⊥
+fetch_in_part h = search arith
+
+-- a fetch of more messages than there are
+pub fetch_past_the_end : MayFollow show.looked_at_start (entry 1 2 (Fetch 5)) → ⊥
+fetch_past_the_end h = search arith
+
+-- a table of 30 columns sends 33 messages
+abbrev pub waiting_33 : List Entry
+waiting_33 = entry 2 0 Start ∷ entry 1 0 Start ∷ entry 1 1 (Look false) ∷ entry 1 1 (Write (xid 1) (wide_table 16384 (codes "w") 30)) ∷ entry 1 1 (Visible (xid 1)) ∷ entry 1 1 (Publish 32) ∷ entry 1 1 (Publish 1) ∷ entry 2 1 (Look true) ∷ []
+
+-- a fetch of more than 32 messages
+pub fetch_of_33 : MayFollow waiting_33 (entry 2 1 (Fetch 33)) → ⊥
+fetch_of_33 h = search arith
+
+-- a fetch that stops before 32 though more wait
+pub fetch_of_31 : MayFollow waiting_33 (entry 2 1 (Fetch 31)) → ⊥
+fetch_of_31 h = search arith
+
+-- messages are sent before their transaction is visible
+pub publish_before_visible : MayFollow show.written (entry 1 1 (Publish 3)) → ⊥
+publish_before_visible h = search arith
+
+-- the part for descriptors is sent before that for the catalog caches
+pub parts_in_other_order : MayFollow show.visible (entry 1 1 (Publish 1)) → ⊥
+parts_in_other_order h = search arith
+
+-- one publish goes over from one part to the other
+pub both_parts_in_one : MayFollow show.visible (entry 1 1 (Publish 4)) → ⊥
+both_parts_in_one h = search arith
+
+-- a publish leaves a part of what it may send
+pub publish_in_part : MayFollow show.visible (entry 1 1 (Publish 2)) → ⊥
+publish_in_part h = search arith
+
+-- a message is sent twice
+pub publish_again : MayFollow show.published (entry 1 1 (Publish 1)) → ⊥
+publish_again h = search arith
+
+-- a publish of nothing
+pub publish_of_nothing : MayFollow show.published (entry 1 1 (Publish 0)) → ⊥
+publish_of_nothing h = search arith
+
+-- a table of 63 columns sends 65 messages for the catalog caches
+abbrev pub unsent_65 : List Entry
+unsent_65 = entry 1 0 Start ∷ entry 1 1 (Look false) ∷ entry 1 1 (Write (xid 1) (wide_table 16384 (codes "w") 63)) ∷ entry 1 1 (Visible (xid 1)) ∷ []
+
+-- a publish of more than 64 messages
+pub publish_of_65 : MayFollow unsent_65 (entry 1 1 (Publish 65)) → ⊥
+publish_of_65 h = search arith
+
+-- a publish that stops before 64 though more are left
+pub publish_of_63 : MayFollow unsent_65 (entry 1 1 (Publish 63)) → ⊥
+publish_of_63 h = search arith
+
+-- locks are released before anything is sent
+pub release_before_publish : MayFollow show.visible (entry 1 1 (Release 1)) → ⊥
+release_before_publish h = search arith
+
+-- locks are released before the last publish
+pub release_before_last_publish : MayFollow show.first_part_published (entry 1 1 (Release 1)) → ⊥
+release_before_last_publish h = search arith
+
+-- a second table of the transaction is taken back
+abbrev pub second_taken_back : List Entry
+second_taken_back = creators.first_written ++ entry 1 3 (Write (xid 1) (new_table 16385 (codes "y") (codes "a"))) ∷ entry 1 3 (Gone 3) ∷ entry 1 3 (Release 3) ∷ entry 1 3 (Visible (xid 1)) ∷ []
+
+-- its messages are sent too
+pub rolled_back_messages_sent : MayFollow second_taken_back (entry 1 3 (Publish 6)) → ⊥
+rolled_back_messages_sent h = search arith
+
+-- a trigger is added without a message for its table
+pub message_left_out : MayFollow creators.first_written (entry 1 3 (Write (xid 1) (Add (Trg (oid 16385) (oid 16384) (codes "g") true) ∷ []))) → ⊥
+message_left_out h = search arith
+
+-- a second table, and a foreign key from it to the first
+abbrev pub foreign_key_added : List Entry
+foreign_key_added = creators.first_written
+    ++ entry 1 3 (Write (xid 1) (new_table 16385 (codes "y") (codes "b")))
+    ∷ entry 1 4 (Write (xid 1) (Add (foreign_key true 1) ∷ Force (oid 16384) ∷ [])) ∷ []
+
+-- a foreign key refers to another column, without a message for the table that it refers to
+pub referred_table_passed_over : MayFollow foreign_key_added (entry 1 5 (Write (xid 1) (Put (foreign_key true 2) ∷ []))) → ⊥
+referred_table_passed_over h = search arith
 
 -- unlocking isn't built
 pub unlock_not_built : MayFollow show.locked (entry 1 2 (Unlock (oid 16384) AccessShare)) → ⊥
 unlock_not_built h = search arith
+
+-- a reset, until the queue is bounded
+pub reset_not_built : MayFollow show.looked_at_start (entry 1 2 FetchReset) → ⊥
+reset_not_built h = search arith
+
+-- a refusal of memory isn't built
+pub fail_not_built : MayFollow show.locked (entry 1 2 Fail) → ⊥
+fail_not_built h = search arith
 
 -- a command's number that falls
 pub number_falls : MayFollow creators.first_written (entry 1 1 (Look false)) → ⊥
@@ -242,6 +351,10 @@ undrawn_oid_locked h = search arith
 pub key_added_again : IsOrderly show.name_scanned (entry 1 2 (Write (xid 2) (new_column 16384 (codes "b") ∷ []))) → ⊥
 key_added_again h = search arith
 
+-- a row that a write names is given by a scan that no message covers
+pub named_row_passed_over : IsOrderly creators.first_written (entry 1 3 (Write (xid 1) (Add (Trg (oid 16385) (oid 16384) (codes "g") true) ∷ []))) → ⊥
+named_row_passed_over h = search arith
+
 -- a scan for a descriptor that is usable
 pub needless_scan : ScansOnlyIfNeeded show.trigger_scanned 1 (Scan (scans.Attribute (oid 16384)) 1) → ⊥
 needless_scan h = search arith
@@ -255,8 +368,40 @@ pub name_free_after_rollback : MayFollow oids.looked (entry 1 4 (Write (xid 2) (
 name_free_after_rollback = search arith
 
 -- a committed row is found
-pub committed_row_found : MayFollow creators.second_looked_again (entry 2 2 (Scan (scans.RelName (codes "x")) 1))
+pub committed_row_found : MayFollow creators.second_fetched (entry 2 2 (Scan (scans.RelName (codes "x")) 1))
 committed_row_found = search arith
+
+-- a look may miss what was sent since the backend's last entry
+pub look_misses_later_messages : MayFollow creators.first_stopped (entry 2 2 (Look false))
+look_misses_later_messages = search arith
+
+-- 32 messages are fetched though more wait
+pub fetch_of_32 : MayFollow waiting_33 (entry 2 1 (Fetch 32))
+fetch_of_32 = search arith
+
+-- 64 messages are sent though more are left
+pub publish_of_64 : MayFollow unsent_65 (entry 1 1 (Publish 64))
+publish_of_64 = search arith
+
+-- what is left of a transaction of which a part was taken back
+pub rest_is_sent : MayFollow second_taken_back (entry 1 3 (Publish 3))
+rest_is_sent = search arith
+
+-- a trigger is added with a message for its table
+pub message_forced : MayFollow creators.first_written (entry 1 3 (Write (xid 1) (Add (Trg (oid 16385) (oid 16384) (codes "g") true) ∷ Force (oid 16384) ∷ [])))
+message_forced = search arith
+
+-- a foreign key is replaced by itself, which changes nothing for the table that it refers to
+pub replaced_by_itself : MayFollow foreign_key_added (entry 1 5 (Write (xid 1) (Put (foreign_key true 1) ∷ [])))
+replaced_by_itself = search arith
+
+-- whether a foreign key is known to hold counts for its own table alone
+pub validity_of_foreign_key : MayFollow foreign_key_added (entry 1 5 (Write (xid 1) (Put (foreign_key false 1) ∷ [])))
+validity_of_foreign_key = search arith
+
+-- an own message for the relation makes its scans needed again
+pub scan_needed_again : ScansOnlyIfNeeded (show.trigger_scanned ++ entry 1 2 (Write (xid 2) (Force (oid 16384) ∷ [])) ∷ []) 1 (Scan (scans.Attribute (oid 16384)) 1)
+scan_needed_again = search arith
 
 -- a part of a transaction may be taken back
 pub part_taken_back : MayFollow (creators.first_written ++ entry 1 3 (Write (xid 1) (new_table 16385 (codes "y") (codes "a"))) ∷ []) (entry 1 3 (Gone 3))

@@ -1,8 +1,9 @@
 -- What a backend's next entry depends on of a history: facts of its own entries alone.
 use Rattle.std.specs.Prelude.{ℕ, Bool, Option, Some, List}
+use Rattle.inval_messages.specs.Lists.{Written}
 use Rattle.history_model.specs.Lives.{last_event_of}
 use Rattle.history_model.specs.Transactions.{Running, running_by, running_transaction_of}
-use Rattle.history_model.specs.Sent.{Written, lists_by, lists_of}
+use Rattle.history_model.specs.Sent.{lists_by, lists_of}
 use Rattle.history_model.specs.Read.{usable_by, is_usable, rows_by, rows_read}
 use Rattle.cacheless.specs.Types.{Row, Purpose, Entry, Event}
 

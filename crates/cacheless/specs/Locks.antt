@@ -6,7 +6,7 @@ use Rattle.base_types.specs.Scans.{same_oid}
 use Rattle.base_types.specs.declared.row.Row.TheVariants.{Class}
 use Rattle.event_kinds.specs.declared.entry.Event.TheVariants.{LockOk, Write, Release}
 use Rattle.event_kinds.specs.declared.entry.Item.TheVariants.{Add}
-use Rattle.cacheless.specs.Types.{Oid, Mode, AccessExclusive, OwnLock, Item, Event}
+use Rattle.cacheless.specs.Types.{Oid, Mode, AccessExclusive, Row, OwnLock, Item, Event}
 
 -- the lock on a new relation, which is clear at once
 abbrev pub locked_by : ℕ → Item → List OwnLock
@@ -23,6 +23,11 @@ locks_by command event old = old
 -- the mode is held on the relation
 abbrev pub has_lock : List OwnLock → Oid → Mode → Bool
 has_lock locks rel mode = list_any (λ lock. same_oid lock.rel rel && same_mode lock.mode mode) locks
+
+-- the relation of the first row is locked in the mode
+abbrev pub is_locked : List OwnLock → Mode → List Row → Bool
+is_locked locks mode (Class oid name kind fill ∷ more) = has_lock locks oid mode
+is_locked locks mode given = false
 
 -- the lock, which is clear from now on
 abbrev pub cleared : OwnLock → OwnLock

@@ -7,8 +7,9 @@ use Rattle.event_kinds.specs.declared.entry.Event.TheVariants as events
 use Rattle.ddl_effect.specs.Plans.{Plan, Do, Lookup, Column, Read, rests_on}
 use Rattle.ddl_effect.specs.Blocks.{Outside, no_block, ends_block, refused_by}
 use Rattle.history_model.specs.Writes.{is_empty}
-use Rattle.cacheless.specs.Types.{Purpose, Command, Event, Opening}
+use Rattle.cacheless.specs.Types.{Purpose, Command, Event, Opening, OwnLock}
 use Rattle.cacheless.specs.Facts.{Facts}
+use Rattle.cacheless.specs.Locks.{is_locked}
 use Rattle.cacheless.specs.Session.{Session, Badly, outcome_of}
 
 -- a look at the has-messages word, a fetch, or a scan
@@ -40,35 +41,39 @@ unusable facts wanted = filter (λ scan. not (facts.usable scan)) wanted
 abbrev pub builds_owed : Facts → List Opening → List Purpose
 builds_owed facts opened = flat_map (λ o. unusable facts (build_scans o.kind o.rel)) opened
 
--- the scans that the next act lacks: that of a name or of a column is made for each act anew
-abbrev pub act_owed : Facts → Bool → Plan → List Purpose
-act_owed facts read (Do (Lookup name mode) rest) = if read then [] else scans.RelName name ∷ []
-act_owed facts read (Do (Column rel name) rest) = if read then [] else scans.AttName rel name ∷ []
-act_owed facts read (Do act rest) = unusable facts (rests_on act)
-act_owed facts read plan = []
+-- the scans that the next act lacks: that of a name or of a column is made for each act anew, and a name's isn't repeated once the relation is locked
+abbrev pub act_owed : Facts → List OwnLock → Bool → Plan → List Purpose
+act_owed facts locks read (Do (Lookup name mode) rest) = if read && (facts.usable (scans.RelName name) || is_locked locks mode (facts.rows (scans.RelName name))) then [] else scans.RelName name ∷ []
+act_owed facts locks read (Do (Column rel name) rest) = if read && facts.usable (scans.AttName rel name) then [] else scans.AttName rel name ∷ []
+act_owed facts locks read (Do act rest) = unusable facts (rests_on act)
+act_owed facts locks read plan = []
 
 -- the scans that are owed: none once the command has failed
 abbrev pub scans_owed : Facts → Session → List Purpose
-scans_owed facts s = elim (outcome_of s.left) [ Badly ↦ [] | other ↦ builds_owed facts s.opened ++ act_owed facts s.read s.left ]
+scans_owed facts s = elim (outcome_of s.left) [ Badly ↦ [] | other ↦ builds_owed facts s.opened ++ act_owed facts s.locks s.read s.left ]
 
 -- all that has to come before the next act
 abbrev pub owed_of : Facts → Command → Session → List Owes
 owed_of facts command s = owed_at_start facts command s ++ owed_after facts.last ++ map OwesScan (scans_owed facts s)
 
 -- the first scan that the next act lacks; what it reads of an opened descriptor is scanned in the order of that descriptor
-abbrev pub act_next : Facts → Bool → Plan → List Purpose
-act_next facts read (Do (Read scan) rest) = []
-act_next facts read plan = take 1 (act_owed facts read plan)
+abbrev pub act_next : Facts → List OwnLock → Bool → Plan → List Purpose
+act_next facts locks read (Do (Read scan) rest) = []
+act_next facts locks read plan = take 1 (act_owed facts locks read plan)
 
 -- of each descriptor the first scan that it lacks, and the first that the next act lacks
 abbrev pub scans_next : Facts → Session → List Purpose
-scans_next facts s = elim (outcome_of s.left) [ Badly ↦ [] | other ↦ flat_map (λ o. take 1 (unusable facts (build_scans o.kind o.rel))) s.opened ++ act_next facts s.read s.left ]
+scans_next facts s = elim (outcome_of s.left) [ Badly ↦ [] | other ↦ flat_map (λ o. take 1 (unusable facts (build_scans o.kind o.rel))) s.opened ++ act_next facts s.locks s.read s.left ]
 
 -- a scan may be made now
 abbrev pub is_next_scan : Purpose → Facts → Session → Bool
 is_next_scan scan facts s = list_any (same_scan scan) (scans_next facts s)
 
+-- a scan for an opened descriptor is owed
+abbrev pub owes_build : Facts → Session → Bool
+owes_build facts s = elim (outcome_of s.left) [ Badly ↦ false | other ↦ not (is_empty (builds_owed facts s.opened)) ]
+
 -- an accept of messages isn't over: a look, a fetch, or a scan for an opened descriptor is owed
 abbrev pub owes_accept : Facts → Option Command → Session → Bool
 owes_accept facts None s = not (is_empty (owed_after facts.last))
-owes_accept facts (Some command) s = not (is_empty (owed_at_start facts command s ++ owed_after facts.last)) || elim (outcome_of s.left) [ Badly ↦ false | other ↦ not (is_empty (builds_owed facts s.opened)) ]
+owes_accept facts (Some command) s = not (is_empty (owed_at_start facts command s ++ owed_after facts.last)) || owes_build facts s

@@ -1,5 +1,5 @@
 -- The order in which backends do what their commands say.
-use Rattle.std.specs.Prelude.{ℕ, Bool, true, false, Option, Some, None, List, [], ◌∷◌, ◌≡◌, ◌+◌, ◌==◌, nat_lt, nat_le, ⊤, length, is_some, slice_get, if◌then◌else◌}
+use Rattle.std.specs.Prelude.{ℕ, Bool, true, false, Option, Some, None, List, [], ◌∷◌, ◌≡◌, ◌+◌, ◌*◌, ◌==◌, nat_lt, nat_le, ⊤, length, is_some, slice_get, if◌then◌else◌}
 use Rattle.std.specs.Option.{option_map_or}
 use Rattle.std.specs.List.{list_any, flat_map}
 use Rattle.std.specs.Str.{bytes_eq}
@@ -27,13 +27,13 @@ use Rattle.cacheless.specs.Sessions.{session_of}
 abbrev pub started_in : ℕ → Facts → ℕ
 started_in number facts = option_map_or (λ t. elim (t.first == number) [ true ↦ 1 | false ↦ 0 ]) facts.running 0
 
--- there was a look for each scan and grant of the command and for the start of its transaction, and one more
+-- there was a look for each scan and grant of the command, for the start of its transaction and for each full fetch that asks for one, and one more
 abbrev pub has_looked : Facts → Session → Bool
-has_looked facts s = nat_lt (s.tally.scans + s.tally.grants + started_in (number_of s) facts) s.tally.looks
+has_looked facts s = nat_lt (s.tally.scans + s.tally.grants + started_in (number_of s) facts + s.tally.full) s.tally.looks
 
 -- no fetch has to come first, and the looks of the command stay within their bound
 abbrev pub may_look : Facts → Session → Bool
-may_look facts s = elim (owed_after facts.last) [ OwesFetch ∷ owed ↦ false | owed ↦ nat_le (s.tally.looks + 1) (s.tally.scans + s.tally.grants + 3) ]
+may_look facts s = elim (owed_after facts.last) [ OwesFetch ∷ owed ↦ false | owed ↦ nat_le (s.tally.looks + 1) (s.tally.scans + s.tally.grants + 2 * s.tally.fetches + 3) ]
 
 -- the next act asks for this lock
 abbrev pub IsLock : Facts → Plan → Oid → Mode → Type 0
@@ -72,6 +72,7 @@ IsEnd facts command s event = (owed_at_end facts command s ≡ []) × (end_left 
 -- what may come next in a command, where the next new oid is this one
 abbrev pub MayPlay : ℕ → Facts → Command → Session → Event → Type 0
 MayPlay next facts command s (events.Look some_wait) = may_look facts s ≡ true
+MayPlay next facts command s (events.Fetch count) = ⊤
 MayPlay next facts command s (events.Scan scan count) = (owed_after facts.last ≡ []) × (is_next_scan scan facts s ≡ true) × (has_looked facts s ≡ true)
 MayPlay next facts command s (events.LockOk rel mode) = (owed_of facts command s ≡ []) × IsLock facts s.left rel mode
 MayPlay next facts command s (events.LockHeld rel mode holder held) = (owed_of facts command s ≡ []) × IsLock facts s.left rel mode
@@ -91,6 +92,7 @@ IsLastEnd facts event = (owed_after facts.last ≡ []) × (next_of_end facts (en
 -- after the last command a transaction that still runs is taken back, and the stop follows
 abbrev pub MayPlayLast : Facts → Session → Event → Type 0
 MayPlayLast facts s (events.Look some_wait) = (is_some facts.running ≡ true) × (may_look facts s ≡ true)
+MayPlayLast facts s (events.Fetch count) = ⊤
 MayPlayLast facts s (events.Gone from) = IsLastEnd facts (events.Gone from)
 MayPlayLast facts s (events.Release from) = IsLastEnd facts (events.Release from)
 MayPlayLast facts s events.Stop = facts.running ≡ None

@@ -12,11 +12,13 @@ pub record Finished : Type 0 where
   pub found : List (Option Oid)
   pub judged : ℕ
 
--- how many looks, scans and grants the running command has made
+-- how many looks, scans and fetches the running command has made, how many locks it was granted, and after how many of its fetches of 32 messages no scan for an opened descriptor was owed
 pub record Tally : Type 0 where
   pub looks : ℕ
   pub scans : ℕ
   pub grants : ℕ
+  pub fetches : ℕ
+  pub full : ℕ
 
 -- a backend between its start and its stop:
 --   blocks     the transaction blocks before the running command
@@ -27,8 +29,9 @@ pub record Tally : Type 0 where
 --   opened     the descriptors that the command has opened, until its write
 --   read       the scan of a name or a column on which the next act rests is made
 --   found      the relations with which its lookups ended
+--   sought     what was left of it before its last lookup
 --   ended      its release is made
---   tally      its looks, scans and grants
+--   tally      its looks, scans, grants and fetches
 --   locks      the locks that the backend holds
 --   judged     the number of the backend's last entry but for those that end the running command
 --   last       the number of the backend's last entry
@@ -41,6 +44,7 @@ pub record Session : Type 0 where
   pub opened : List Opening
   pub read : Bool
   pub found : List (Option Oid)
+  pub sought : Plan
   pub ended : Bool
   pub tally : Tally
   pub locks : List OwnLock
@@ -86,8 +90,9 @@ at_command blocks finished locks last command = record {
   opened = [];
   read = false;
   found = [];
+  sought = Done;
   ended = false;
-  tally = record { looks = 0; scans = 0; grants = 0 };
+  tally = record { looks = 0; scans = 0; grants = 0; fetches = 0; full = 0 };
   locks = locks;
   judged = last;
   last = last;

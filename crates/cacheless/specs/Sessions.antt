@@ -1,11 +1,11 @@
 -- The session of a backend: a fold over its entries.
-use Rattle.std.specs.Prelude.{ℕ, Bool, true, false, Option, Some, None, List, [], ◌∷◌, ◌++◌, ◌+◌, ◌||◌, if◌then◌else◌, map, length, drop}
+use Rattle.std.specs.Prelude.{ℕ, Bool, true, false, not, Option, Some, None, List, [], ◌∷◌, ◌++◌, ◌+◌, ◌-◌, ◌==◌, ◌&&◌, ◌||◌, if◌then◌else◌, map, length, take, drop}
 use Rattle.std.specs.Option.{option_map}
 use Rattle.base_types.specs.Scans.{same_scan}
 use Rattle.base_types.specs.declared.scan.Purpose.TheVariants as scans
 use Rattle.event_kinds.specs.declared.entry.Event.TheVariants as events
 use Rattle.rel_desc.specs.declared.error.CommandError.TheVariants as errors
-use Rattle.ddl_effect.specs.Plans.{Lookup, Column, Write, Plan, Fails, Do}
+use Rattle.ddl_effect.specs.Plans.{Lookup, Column, Write, Plan, Fails, Absent, Do}
 use Rattle.ddl_effect.specs.Commands.{commands_of}
 use Rattle.ddl_effect.specs.Blocks.{no_block}
 use Rattle.history_model.specs.Prefixes.{along_own}
@@ -13,7 +13,7 @@ use Rattle.cacheless.specs.Types.{Purpose, Command, CommandError, Scenario, Entr
 use Rattle.cacheless.specs.Facts.{Facts, facts_of}
 use Rattle.cacheless.specs.Locks.{locks_by, cleared}
 use Rattle.cacheless.specs.Session.{Session, Tally, first_of, at_command}
-use Rattle.cacheless.specs.Owed.{owes_accept}
+use Rattle.cacheless.specs.Owed.{owes_build, owes_accept}
 use Rattle.cacheless.specs.Settled.{settled}
 
 -- the error that an entry shows ends the command
@@ -31,11 +31,17 @@ abbrev pub written : Plan → Session → Session
 written (Do (Write draft) rest) s = record s { left = rest []; opened = []; read = false }
 written plan s = s
 
+-- a lookup that ended without a relation goes on
+abbrev pub resumed : Plan → Session → Session
+resumed (Absent name) s = record s { left = s.sought; read = true; found = take (length s.found - 1) s.found }
+resumed plan s = s
+
 -- the tally after an event
 abbrev pub tally_by : Event → Tally → Tally
 tally_by (events.Look some_wait) old = record old { looks = old.looks + 1 }
 tally_by (events.Scan scan rows) old = record old { scans = old.scans + 1 }
 tally_by (events.LockOk rel mode) old = record old { grants = old.grants + 1 }
+tally_by (events.Fetch count) old = record old { fetches = old.fetches + 1 }
 tally_by event old = old
 
 -- what an event changes of the running command
@@ -45,6 +51,7 @@ noted (events.LockHeld rel mode holder held) s = refused_with (errors.Locked rel
 noted (events.ClashRow name rel) s = refused_with (errors.RelationExists name) s
 noted (events.ClashRunning name xid) s = refused_with (errors.NameInUse name xid) s
 noted (events.Write xid items) s = written s.left s
+noted (events.Fetch count) s = resumed s.left s
 noted (events.Release from) s = record s { ended = true }
 noted event s = s
 
@@ -65,6 +72,11 @@ placed_at at command event s = record (noted event s) {
   last = at;
 }
 
+-- after a fetch of 32 messages a further look is owed, and it counts for no scan where no scan for an opened descriptor is owed
+abbrev pub counted : Facts → Event → Session → Session
+counted facts (events.Fetch count) s = record s { tally = elim ((count == 32) && not (owes_build facts s)) [ true ↦ record s.tally { full = s.tally.full + 1 } | false ↦ s.tally ] }
+counted facts event s = s
+
 -- where no accept is left to end, all locks are clear
 abbrev pub accepted : Facts → Option Command → Session → Session
 accepted facts command s = record s { locks = elim (owes_accept facts command s) [ true ↦ s.locks | false ↦ map cleared s.locks ] }
@@ -75,7 +87,7 @@ commands_left scenario b s = drop (length s.finished) (commands_of scenario b)
 
 -- the session before anything else is done, by the facts after the entry, which has this number
 abbrev pub entered : Facts → List Command → ℕ → ℕ → Event → Session → Session
-entered facts commands at command event s = accepted facts (first_of commands) (placed_at at command event s)
+entered facts commands at command event s = accepted facts (first_of commands) (counted facts event (placed_at at command event s))
 
 -- the session after an entry of the backend
 abbrev pub session_by : Scenario → Facts → ℕ → ℕ → ℕ → Event → Option Session → Option Session

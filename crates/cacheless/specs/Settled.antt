@@ -46,13 +46,18 @@ abbrev pub found_by : Act → List Row → List (Option Oid)
 found_by (Lookup name mode) given = class_oid given ∷ []
 found_by act given = []
 
+-- what was left before the last lookup, where the act at hand is one
+abbrev pub sought_by : Act → Session → Plan
+sought_by (Lookup name mode) s = s.left
+sought_by act s = s.sought
+
 -- the session after an act that gave these rows
 abbrev pub act_done : Act → List Row → Plan → Session → Session
-act_done act given rest s = record s { left = rest; opened = s.opened ++ opened_by act; read = false; found = s.found ++ found_by act given }
+act_done act given rest s = record s { left = rest; opened = s.opened ++ opened_by act; read = false; found = s.found ++ found_by act given; sought = sought_by act s }
 
 -- what the next act gives, if no scan is owed and it needs no entry
 abbrev pub done_here : Facts → Session → Act → Plan → Option (List Row)
-done_here facts s act plan = elim (is_empty (builds_owed facts s.opened ++ act_owed facts s.read plan)) [ true ↦ gives facts s.locks act | false ↦ None ]
+done_here facts s act plan = elim (is_empty (builds_owed facts s.opened ++ act_owed facts s.locks s.read plan)) [ true ↦ gives facts s.locks act | false ↦ None ]
 
 -- the session after the acts of a plan that need no entry
 abbrev pub acted_on : Facts → Plan → Session → Session

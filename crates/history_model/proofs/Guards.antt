@@ -23,7 +23,8 @@ use Rattle.row_visibility.specs.declared.version.Stamp.{Stamp}
 use Rattle.history_model.specs.Versions.{versions_of, versions_by, ends, added_row, is_back}
 use Rattle.history_model.specs.declared.grant.Grant.{Grant}
 use Rattle.history_model.specs.Held.{held_of, held_by}
-use Rattle.history_model.specs.Sent.{lists_of, ends_transaction as ends_at, has_write_from}
+use Rattle.inval_messages.specs.Lists.{has_write_from}
+use Rattle.history_model.specs.Sent.{lists_of, ends_transaction as ends_at}
 use Rattle.history_model.specs.Orderly.{main_rel}
 use Rattle.history_model.proofs.Every.{every-weaker, every-both, any-weaker, any-filter, any-left}
 use Rattle.history_model.proofs.Lawful.{IsLawful}

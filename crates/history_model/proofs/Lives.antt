@@ -9,7 +9,8 @@ use Rattle.event_kinds.specs.declared.entry.Event.TheVariants as events
 use Rattle.history_model.specs.Prefixes.{along_own}
 use Rattle.history_model.specs.Lives.{Life, Unstarted, Alive, Stopped, life_by, life_of, FollowsLife}
 use Rattle.history_model.specs.Transactions.{Running, running_transaction_of, running_by, begun, after_release}
-use Rattle.history_model.specs.Sent.{Written, written_by, lists_of, lists_by, ends_transaction as ends_at}
+use Rattle.inval_messages.specs.Lists.{Written}
+use Rattle.history_model.specs.Sent.{written_by, lists_of, lists_by, ends_transaction as ends_at}
 use Rattle.history_model.proofs.Prefixes.{own-own, own-other}
 use Rattle.history_model.proofs.Reading.{life_of-own as life-own, life_of-other as life-other, running_transaction_of-own as running-own, running_transaction_of-other as running-other, lists_of-own as lists-own, lists_of-other as lists-other}
 use Rattle.history_model.proofs.Every.{every-weaker, every-append, every-filter}

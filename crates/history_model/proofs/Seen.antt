@@ -15,7 +15,8 @@ use Rattle.row_visibility.specs.declared.version.Version.{Version}
 use Rattle.row_visibility.specs.declared.version.Stamp.{Stamp}
 use Rattle.row_visibility.specs.Seen.{seen_by}
 use Rattle.history_model.specs.Versions.{versions_of}
-use Rattle.history_model.specs.Sent.{Written, lists_of, ends_transaction as ends_at}
+use Rattle.inval_messages.specs.Lists.{Written}
+use Rattle.history_model.specs.Sent.{lists_of, ends_transaction as ends_at}
 use Rattle.history_model.proofs.Every.{every-weaker, every-append, every-both}
 use Rattle.history_model.proofs.Lawful.{IsLawful, IsLawfulEvent}
 use Rattle.history_model.proofs.Reading.{running_transaction_of-own as running-own, running_transaction_of-other as running-other, is_committed-more as committed-more}

@@ -13,7 +13,8 @@ use Rattle.history_model.specs.Transactions.{Running, running_transaction_of, ru
 use Rattle.row_visibility.specs.declared.version.Version.{Version}
 use Rattle.row_visibility.specs.declared.version.Stamp.{Stamp}
 use Rattle.history_model.specs.Versions.{versions_of, versions_by, change_by, end_by, ends, version_of, added_row, is_back, end_back}
-use Rattle.history_model.specs.Sent.{Written, written_by, lists_of, lists_by}
+use Rattle.inval_messages.specs.Lists.{Written}
+use Rattle.history_model.specs.Sent.{written_by, lists_of, lists_by}
 use Rattle.history_model.proofs.Reading.{running_transaction_of-own as running-own, versions_of-more as versions-more, lists_of-own as lists-own, lists_of-other as lists-other}
 use Rattle.history_model.proofs.Every.{every-weaker, every, every-append, every-map, every-filter, every-both, every-swap, any-filter, any-left, any-right}
 use Rattle.history_model.proofs.Lawful.{IsLawful}

@@ -4,12 +4,12 @@ pub mod Prefixes
 pub mod Lives
 pub mod Transactions
 pub mod Versions
-pub mod Messages
 pub mod Sent
 pub mod Log
 pub mod Held
 pub mod Drawn
 pub mod Names
+pub mod Covered
 pub mod Writes
 pub mod Legal
 pub mod Read

@@ -1,9 +1,8 @@
 -- The queue as a log that is never shortened.
 use Rattle.std.specs.Prelude.{ℕ, Bool, false, List, [], ◌++◌, ◌∷◌, ◌+◌, ◌&&◌, nat_lt, length, take, drop}
-use Rattle.history_model.specs.Types.{Entry, Event, Start, Look, Fetch, FetchReset, Publish}
+use Rattle.history_model.specs.Types.{Message, Entry, Event, Start, Look, Fetch, FetchReset, Publish}
 use Rattle.history_model.specs.Prefixes.{along, along_own}
 use Rattle.history_model.specs.Lives.{is_alive, life_of}
-use Rattle.history_model.specs.Messages.{Message}
 use Rattle.history_model.specs.Sent.{unsent_of}
 
 -- the log after an event of a backend, by the entries before it

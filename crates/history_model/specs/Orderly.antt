@@ -1,7 +1,7 @@
 -- What the commands keep, though a legal history need not.
 use Rattle.std.specs.Prelude.{ℕ, Bool, true, false, List, ◌≡◌, ◌<◌, ⊤}
 use Rattle.std.specs.Option.{option_map_or}
-use Rattle.std.specs.List.{list_any, list_all}
+use Rattle.std.specs.List.{flat_map, list_any, list_all}
 use Rattle.base_types.specs.RowKeys.{key_of, same_key}
 use Rattle.base_types.specs.Scans.{same_oid}
 use Rattle.base_types.specs.declared.row.Row.TheVariants as rows
@@ -9,6 +9,9 @@ use Rattle.history_model.specs.Types.{Oid, Row, RowKey, Item, Add, Put, Entry, E
 use Rattle.history_model.specs.Prefixes.{EachEntry}
 use Rattle.history_model.specs.Versions.{versions_of, old_row}
 use Rattle.history_model.specs.Drawn.{next_oid}
+use Rattle.history_model.specs.Sent.{messages_written}
+use Rattle.history_model.specs.Covered.{scans_of, is_covered}
+use Rattle.history_model.specs.Writes.{rows_named}
 use Rattle.history_model.specs.Legal.{MayFollow}
 
 -- a version has the key
@@ -34,10 +37,15 @@ abbrev pub keeps_relation : List Entry → ℕ → Item → Bool
 keeps_relation before b (Put row) = option_map_or (λ old. same_oid (main_rel old) (main_rel row)) (old_row before b (Put row)) true
 keeps_relation before b item = true
 
--- the rows that a write adds have new keys, and those that it replaces stay rows of their relations
+-- a message of the write covers each scan that gives a row which a change names
+abbrev pub covers_named : List Entry → ℕ → List Item → Bool
+covers_named before b items = list_all (is_covered (messages_written before b items)) (flat_map scans_of (flat_map (λ item. rows_named item (old_row before b item)) items))
+
+-- the rows that a write adds have new keys, those that it replaces stay rows of their relations, and its messages cover all scans that give one of them
 pub record IsOrderlyWrite (before : List Entry) (b : ℕ) (items : List Item) : Type 0 where
   pub fresh : list_all (is_fresh before) items ≡ true
   pub keeps : list_all (keeps_relation before b) items ≡ true
+  pub named : covers_named before b items ≡ true
 
 -- a lock is asked for on no relation whose oid is still to be drawn, and a write is orderly
 abbrev pub IsOrderlyEvent : List Entry → ℕ → Event → Type 0

@@ -1,11 +1,12 @@
 -- Which scans a backend has made, and which of them it may still rely on.
-use Rattle.std.specs.Prelude.{ℕ, Bool, true, false, Option, Some, None, List, [], ◌∷◌, ◌≡◌, ◌+◌, ◌&&◌, ◌||◌, length, filter, nat_le, unwrap_or, ⊤}
+use Rattle.std.specs.Prelude.{ℕ, Bool, true, false, Option, Some, None, List, [], ◌≡◌, ◌+◌, ◌&&◌, ◌||◌, length, unwrap_or, ⊤}
 use Rattle.base_types.specs.Scans.{same_scan, is_build_scan}
+use Rattle.inval_messages.specs.Messages.{is_spared}
+use Rattle.inval_messages.specs.Lists.{lists_from, sent_in}
 use Rattle.history_model.specs.Types.{Row, Purpose, Entry, Event, Scan, Fetch, FetchReset, Write, Gone, Fail}
 use Rattle.history_model.specs.Prefixes.{along_own, EachEntry}
 use Rattle.history_model.specs.Versions.{answer_of}
-use Rattle.history_model.specs.Messages.{is_spared}
-use Rattle.history_model.specs.Sent.{written_by, lists_of, sent_in}
+use Rattle.history_model.specs.Sent.{messages_written, lists_of}
 use Rattle.history_model.specs.Log.{fetched_by}
 
 -- the event is this scan
@@ -33,8 +34,8 @@ rows_read history b purpose = along_own b (λ before old e. rows_by before b pur
 abbrev pub spares_by : List Entry → ℕ → ℕ → Purpose → Event → Bool
 spares_by before b command purpose (Fetch count) = is_spared purpose (fetched_by before b count)
 spares_by before b command purpose FetchReset = false
-spares_by before b command purpose (Write xid items) = is_spared purpose (sent_in (written_by before b command items ∷ []))
-spares_by before b command purpose (Gone from) = is_spared purpose (sent_in (filter (λ w. nat_le from w.command) (lists_of before b)))
+spares_by before b command purpose (Write xid items) = is_spared purpose (messages_written before b items)
+spares_by before b command purpose (Gone from) = is_spared purpose (sent_in (lists_from from (lists_of before b)))
 spares_by before b command purpose Fail = false
 spares_by before b command purpose event = true
 

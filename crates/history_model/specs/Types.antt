@@ -10,9 +10,6 @@ pub use Rattle.base_types.specs.declared.row_key.RowKey.{RowKey}
 pub use Rattle.base_types.specs.declared.change.Change.{Change}
 pub use Rattle.base_types.specs.declared.change.Change.TheVariants.{Insert, Replace, Delete}
 pub use Rattle.base_types.specs.declared.scan.Purpose.{Purpose}
-pub use Rattle.base_types.specs.declared.key.CacheId.{CacheId}
-pub use Rattle.base_types.specs.declared.key.CacheId.TheVariants.{RelName, RelOid, AttName}
-pub use Rattle.base_types.specs.declared.key.KeyPart.{KeyPart}
 pub use Rattle.event_kinds.specs.declared.entry.Entry.{Entry}
 pub use Rattle.event_kinds.specs.declared.entry.Event.{Event}
 pub use Rattle.event_kinds.specs.declared.entry.Event.TheVariants.{Start, Look, Fetch, FetchReset, LockOk, LockHeld, Scan, Write, ClashRow, ClashRunning, Visible, Publish, Release, Gone, Fail, Stop}
@@ -20,4 +17,6 @@ pub use Rattle.event_kinds.specs.declared.entry.Item.{Item}
 pub use Rattle.event_kinds.specs.declared.entry.Item.TheVariants.{Add, Put, Remove, Force}
 pub use Rattle.row_visibility.specs.declared.version.Stamp.{Stamp}
 pub use Rattle.row_visibility.specs.declared.version.Version.{Version}
+pub use Rattle.inval_messages.specs.declared.message.Message.{Message}
+pub use Rattle.inval_messages.specs.declared.message.Message.TheVariants.{Rel}
 pub use Rattle.history_model.specs.declared.grant.Grant.{Grant}

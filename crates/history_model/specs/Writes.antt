@@ -13,6 +13,7 @@ use Rattle.history_model.specs.Versions.{ended_key, added_row, old_row, row_with
 use Rattle.history_model.specs.Held.{held_of, holds}
 use Rattle.history_model.specs.Drawn.{drawn_by, made_by, next_oid}
 use Rattle.history_model.specs.Names.{new_names, users_of}
+use Rattle.history_model.specs.Covered.{covers_changes}
 
 -- the key of the row that a change is of, if it is of one
 abbrev pub changed_key : Item → List RowKey
@@ -72,7 +73,7 @@ abbrev pub keeps_kind : List Entry → ℕ → Item → Bool
 keeps_kind before b (Put row) = option_map_or (λ old. same_kind old row) (old_row before b (Put row)) true
 keeps_kind before b item = true
 
--- a write has its transaction's Xid or the next one, draws the next oids in order, changes no key twice, replaces and takes away rows that are seen, leaves the kinds of relations, is the only one of its command, and has no new name that is in use and no change that isn't guarded
+-- a write has its transaction's Xid or the next one, draws the next oids in order, changes no key twice, replaces and takes away rows that are seen, leaves the kinds of relations, is the only one of its command, has no new name that is in use and no change that isn't guarded, and covers each scan that it changes by a message
 pub record IsWriteAllowed (before : List Entry) (b c : ℕ) (xid : Xid) (items : List Item) : Type 0 where
   pub xid_is : xid.0 ≡ xid_for before b
   pub oids : flat_map drawn_by items ≡ range_with_len (next_oid before) (length (flat_map drawn_by items))
@@ -82,3 +83,4 @@ pub record IsWriteAllowed (before : List Entry) (b c : ℕ) (xid : Xid) (items :
   pub only : has_written before b c ≡ false
   pub free : list_all (is_free before b) (new_names before b items) ≡ true
   pub guarded : list_all (is_guarded before b (flat_map made_by items)) items ≡ true
+  pub covered : covers_changes before b c xid items ≡ true

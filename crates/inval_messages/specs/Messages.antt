@@ -5,12 +5,7 @@ use Rattle.base_types.specs.CacheKeys.{key_hash, cache_number}
 use Rattle.base_types.specs.Scans.{same_oid}
 use Rattle.base_types.specs.declared.key.KeyPart.TheVariants as parts
 use Rattle.base_types.specs.declared.scan.Purpose.TheVariants as scans
-use Rattle.history_model.specs.Types.{Oid, Purpose, CacheId, RelName, RelOid, AttName, KeyPart}
-
--- a message: for the entries of a catalog cache with a hash, or for a relation's descriptor
-pub data Message : Type 0 where
-  Cat : (cache : CacheId) → (hash : ℕ) → Message
-  Rel : (rel : Oid) → Message
+use Rattle.inval_messages.specs.Types.{Purpose, CacheId, RelName, RelOid, AttName, KeyPart, Message, Cat, Rel}
 
 -- the message for a key of a catalog cache
 abbrev pub message_for : CacheId → List KeyPart → Message

@@ -1,0 +1,4 @@
+pub mod Types
+pub mod Messages
+pub mod Changes
+pub mod Lists
