@@ -1,12 +1,12 @@
 -- A change of a row of pg_class or pg_attribute has a message for each scan that gives the old row or the new one.
-use Rattle.std.proofs.Common.{◌≡◌, ◌∙◌, ◌⊎◌, inl, inr, ℕ, ℤ, Bool, true, false, Option, Some, None, List, [], ◌∷◌, ◌++◌, ◌==◌, ◌&&◌, ◌||◌, cond, refl, ap, sym, subst, eqb-true, eq-eqb}
+use Rattle.std.proofs.Common.{◌≡◌, ◌∙◌, ◌⊎◌, inl, inr, ℕ, ℤ, Bool, true, false, Option, Some, None, List, [], ◌∷◌, ◌++◌, ◌==◌, ◌&&◌, ◌||◌, cond, refl, ap, subst, eqb-true, eq-eqb}
 use Rattle.std.specs.Str.{bytes_eq}
 use Rattle.std.specs.List.{list_any}
 use Rattle.std.specs.Option.{option_and_then, option_map_or, option_to_list}
-use Rattle.std.proofs.lemmas.Bool.{or_cases, or_left, or_right}
+use Rattle.std.proofs.lemmas.Bool.{or_left, or_right}
 use Rattle.std.proofs.lemmas.List.Folds.{list_any-append}
 use Rattle.std.proofs.lemmas.Slice.Eq.{bytes_eq-Decides}
-use Rattle.base_types.specs.CacheKeys.{cache_number, key_hash}
+use Rattle.base_types.specs.CacheKeys.{cache_number}
 use Rattle.base_types.specs.Scans.{same_oid, selects}
 use Rattle.base_types.specs.declared.kind.Kind.{Kind}
 use Rattle.base_types.specs.declared.col_type.ColType.{ColType}
@@ -16,7 +16,7 @@ use Rattle.base_types.specs.declared.row.ConKind.TheVariants as kinds
 use Rattle.base_types.specs.declared.row.Row.TheVariants as rows
 use Rattle.base_types.specs.declared.scan.Purpose.TheVariants as scans
 use Rattle.inval_messages.specs.Types.{Oid, ConKind, Row, Purpose, CacheId, RelName, RelOid, AttName, KeyPart, Message, Cat, Rel}
-use Rattle.inval_messages.specs.Messages.{message_for, same_message, covers, is_for_cache}
+use Rattle.inval_messages.specs.Messages.{message_for, same_message, covers}
 use Rattle.inval_messages.specs.Changes.{cat_for, rel_for, old_then_new, cats_at, cats_of, rels_of, messages_of}
 
 both : (x y : Bool) → (x && y) ≡ true → (x ≡ true) × (y ≡ true)

@@ -1,6 +1,6 @@
 -- The messages of a change of one row, by the old row, if there is one, and the new one, if there is one.
 use Rattle.std.specs.Prelude.{Option, Some, None, List, [], ◌∷◌, ◌++◌, if◌then◌else◌}
-use Rattle.std.specs.Option.{option_and_then, option_map_or, option_to_list}
+use Rattle.std.specs.Option.{option_and_then, option_to_list}
 use Rattle.base_types.specs.declared.key.KeyPart.TheVariants as parts
 use Rattle.base_types.specs.declared.row.Row.TheVariants as rows
 use Rattle.base_types.specs.declared.row.ConKind.TheVariants as kinds
