@@ -1,5 +1,5 @@
 -- Invalidation messages, and which scans a message covers.
-use Rattle.std.specs.Prelude.{ℕ, Bool, false, not, List, [], ◌∷◌, ◌==◌, ◌&&◌}
+use Rattle.std.specs.Prelude.{Bool, false, not, List, [], ◌∷◌, ◌==◌, ◌&&◌}
 use Rattle.std.specs.List.{list_any}
 use Rattle.base_types.specs.CacheKeys.{key_hash, cache_number}
 use Rattle.base_types.specs.Scans.{same_oid}

@@ -1,0 +1,3 @@
+mod Order
+mod Ranges
+mod Parts
