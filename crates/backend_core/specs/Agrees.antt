@@ -1,5 +1,5 @@
 -- How a backend agrees with a history.
-use Rattle.std.specs.Prelude.{◌≡◌, ◌≤◌, ◌<◌, ◌+◌, ◌⊎◌, ℕ, Bool, true, false, not, Some, None, List, [], ◌∷◌, ◌==◌, map, drop, take, length, All, slice_get, is_some, ⊤}
+use Rattle.std.specs.Prelude.{◌≡◌, ◌≤◌, ◌<◌, ◌+◌, ◌⊎◌, ℕ, Bool, true, false, not, Some, None, List, [], ◌∷◌, ◌==◌, ◌||◌, map, drop, take, length, All, slice_get, is_some, ⊤}
 use Rattle.std.specs.Option.{option_map_or}
 use Rattle.base_types.specs.Scans.{is_build_scan}
 use Rattle.base_types.specs.Scenario.{IsBackend}
@@ -17,8 +17,9 @@ use Rattle.history_model.specs.Read.{IsEconomical, place_read}
 use Rattle.history_model.specs.Writes.{has_written, is_empty}
 use Rattle.seg_calls.specs.Calls.{took_back}
 use Rattle.cacheless.specs.Facts.{Facts, facts_of}
-use Rattle.cacheless.specs.Session.{Finished, Tally, none_open, plan_first, refused_first}
-use Rattle.cacheless.specs.Locks.{cleared}
+use Rattle.cacheless.specs.Session.{Finished, Tally, Well as CameOutWell, outcome_of, none_open, plan_first, refused_first}
+use Rattle.cacheless.specs.Locks.{is_locked, cleared}
+use Rattle.inval_messages.specs.Lists.{sent_in}
 use Rattle.cacheless.specs.Owed.{owed_after}
 use Rattle.cacheless.specs.Ends.{Commits, TakesBack}
 use Rattle.cacheless.specs.Settled.{settled, finished_as}
@@ -26,13 +27,13 @@ use Rattle.cacheless.specs.Sessions.{session_of}
 use Rattle.cacheless.specs.Plays.{Plays}
 use Rattle.cacheless.specs.Schedule.{AreLooksTrue}
 use Rattle.cacheless.specs.Lines.{answer_judged, lines_from}
-use Rattle.backend_core.specs.Types.{Row, Purpose, Command, CommandError, Scenario, Entry, KeptScan, Phase, Backend}
+use Rattle.backend_core.specs.Types.{Row, Purpose, Command, CommandError, Scenario, Entry, OwnLock, KeptScan, Phase, Backend}
 use Rattle.backend_core.specs.declared.phase.Life.TheVariants as lives
 use Rattle.backend_core.specs.declared.phase.Phase.TheVariants as phases
 use Rattle.backend_core.specs.NewTables.{HasTables, StaysRead, SeesRelation}
 use Rattle.backend_core.specs.Passing.{is_silent}
 use Rattle.backend_core.specs.Way.{Way}
-use Rattle.backend_core.specs.State.{owed_at, published_at, is_accepting, looks_due, is_taken_back, is_ended, one_if, running_at, is_kept, builds_missing, is_out, begins_in, owed_first, end_at, is_inside, blocks_next, has_write_since, end_of_running, Rest, session_at, HasCommand}
+use Rattle.backend_core.specs.State.{owed_at, is_absent, published_at, is_accepting, looks_due, is_taken_back, is_ended, one_if, running_at, is_kept, builds_missing, is_out, begins_in, owed_first, end_at, is_inside, blocks_next, has_write_since, end_of_running, Rest, session_at, HasCommand}
 
 -- a history that the script's commands played so far
 pub record IsPlayed (scenario : Scenario) (history : List Entry) : Type 0 where
@@ -42,10 +43,10 @@ pub record IsPlayed (scenario : Scenario) (history : List Entry) : Type 0 where
   pub looks : AreLooksTrue history
   pub tables : HasTables history
 
--- what a lookup's scan gave is what the backend holds of it
-abbrev pub RowsFit : (Purpose → List Row) → Plan → List Row → Type 0
-RowsFit rows (Do (Lookup name mode) rest) given = rows (scans.RelName name) ≡ given
-RowsFit rows plan given = ⊤
+-- what a lookup's scan gave is what the backend holds of it, and it serves: it is usable, or the relation that it gave is locked
+abbrev pub RowsFit : Facts → List OwnLock → Plan → List Row → Type 0
+RowsFit facts locks (Do (Lookup name mode) rest) given = (facts.rows (scans.RelName name) ≡ given) × ((facts.usable (scans.RelName name) || is_locked locks mode given) ≡ true)
+RowsFit facts locks plan given = ⊤
 
 -- what is kept of a scan is what the last such scan gave
 pub record ReadRight (rows : Purpose → List Row) (k : KeptScan) : Type 0 where
@@ -61,11 +62,11 @@ pub record FactsFit (facts : Facts) (s : Backend) : Type 0 where
   pub taken : (from : ℕ) → s.phase ≡ phases.TakenBack from → facts.last ≡ Some (events.Gone from)
   pub usable : (scan : Purpose) → is_build_scan scan ≡ true → facts.usable scan ≡ is_kept s.kept scan
   pub kept : All (ReadRight facts.rows) s.kept
-  pub given : s.read ≡ true → RowsFit facts.rows (plan_at s.exec) s.given.items
+  pub given : s.read ≡ true → RowsFit facts s.locks (plan_at s.exec) s.given.items
 
 -- the looks of the command are as many as its scans, its grants, its transaction's start and its fetches of the most messages, and one more where one was made for the next scan
 abbrev pub TallyFits : Tally → Backend → Type 0
-TallyFits tally s = tally.looks + looks_due s.phase ≡ tally.full + tally.scans + tally.grants + option_map_or (λ t. one_if (t.first == s.finished + 1)) s.running 0 + one_if s.looked
+TallyFits tally s = (tally.looks + looks_due s.phase ≡ tally.full + tally.scans + tally.grants + option_map_or (λ t. one_if (t.first == s.finished + 1)) s.running 0 + one_if s.looked) × (tally.full ≤ tally.fetches)
 
 -- the life of a backend that has joined and hasn't left
 pub record IsAlive (life : Life) (s : Backend) : Type 0 where
@@ -136,19 +137,37 @@ EndFits s phases.Ended = IsOver s
 
 -- a command that ends blocks does nothing else, if the blocks admit it
 abbrev pub EndsAlone : Backend → Type 0
-EndsAlone s = (command : Command) → slice_get s.commands s.finished ≡ Some command → ends_block command ≡ true → s.blocked ≡ false → plan_at s.exec ≡ Done
+EndsAlone s = (command : Command) → slice_get s.commands s.finished ≡ Some command → ends_block command ≡ true → s.blocked ≡ false → (plan_at s.exec ≡ Done) × (s.opened ≡ [])
+
+-- a command that has opened a descriptor: it has come out, it accepts no messages any more, and all scans for the descriptor are kept
+pub record HasOpened (s : Backend) : Type 0 where
+  pub out : is_out s ≡ true
+  pub quiet : is_accepting s.phase ≡ false
+  pub free : (has : HasCommand s) → owed_first s has.command ≡ []
+  pub builds : outcome_of (plan_at s.exec) ≡ CameOutWell → builds_missing s.kept s.opened ≡ []
+
+-- a descriptor is opened by the last act of a command
+abbrev pub OpensLast : Backend → Type 0
+OpensLast s = (s.opened ≡ []) ⊎ HasOpened s
+
+-- the relation that a lookup's rows name is locked
+abbrev pub IsFoundLocked : List OwnLock → Plan → List Row → Type 0
+IsFoundLocked locks (Do (Lookup name mode) rest) given = is_locked locks mode given ≡ true
+IsFoundLocked locks plan given = ⊤
 
 -- messages are accepted in the running transaction, before the command has come out
 pub record IsAccepting (s : Backend) : Type 0 where
   pub runs : is_some s.running ≡ true
   pub unanswered : is_some s.answer ≡ false
+  pub unsettled : is_absent (plan_at s.exec) ≡ false
+  pub locked : s.read ≡ true → IsFoundLocked s.locks (plan_at s.exec) s.given.items
 
 -- what the code keeps by itself
 pub record Well (s : Backend) : Type 0 where
   pub built : All (λ command. is_built (plan_of none_open command) ≡ true) s.commands
   pub few : length s.commands ≤ 20000
   pub most : s.finished ≤ length s.commands
-  pub builds : builds_missing s.kept s.opened ≡ []
+  pub opened : OpensLast s
   pub blocked : s.blocked ≡ is_some (refused_first s.blocks (slice_get s.commands s.finished))
   pub refused : s.blocked ≡ true → plan_at s.exec ≡ plan_first s.blocks (slice_get s.commands s.finished)
   pub plain : EndsAlone s
@@ -162,6 +181,7 @@ pub record Well (s : Backend) : Type 0 where
   pub come_out : is_some s.answer ≡ true → is_out s ≡ true
   pub past : slice_get s.commands s.finished ≡ None → is_out s ≡ true
   pub free : is_some s.answer ≡ true → (has : HasCommand s) → owed_first s has.command ≡ []
+  pub starts : (has : HasCommand s) → owed_first s has.command ≢ [] → is_absent (plan_at s.exec) ≡ false
   pub accepting : is_accepting s.phase ≡ true → IsAccepting s
   pub clear : (is_accepting s.phase ≡ true) ⊎ (map cleared s.locks ≡ s.locks)
 

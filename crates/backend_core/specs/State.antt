@@ -6,7 +6,7 @@ use Rattle.base_types.specs.Scans.{same_scan, build_scans}
 use Rattle.base_types.specs.declared.row.Row.TheVariants as rows
 use Rattle.base_types.specs.declared.scan.Purpose.TheVariants as scans
 use Rattle.base_types.specs.declared.command.Command.TheVariants as commands
-use Rattle.ddl_effect.specs.Plans.{Plan, Do, Lookup, Column, rests_on}
+use Rattle.ddl_effect.specs.Plans.{Plan, Absent, Do, Lookup, Column, rests_on}
 use Rattle.ddl_effect.specs.Blocks.{Block, Outside, Inside, Failed, Blocks, no_block, ends_block, refused_by, innermost, blocks_well, blocks_badly}
 use Rattle.ddl_effect.specs.Stages.{plan_at}
 use Rattle.history_model.specs.Transactions.{Running}
@@ -119,6 +119,11 @@ act_missing kept read (Do (Column rel name) rest) = if read then [] else scans.A
 act_missing kept read (Do act rest) = missing kept (rests_on act)
 act_missing kept read plan = []
 
+-- a lookup has found nothing
+abbrev pub is_absent : Plan → Bool
+is_absent (Absent name) = true
+is_absent plan = false
+
 -- the scans that come before the next act: none once the command has failed
 abbrev pub scans_missing : Backend → List Purpose
 scans_missing s = elim (outcome_of (plan_at s.exec)) [ Badly ↦ [] | other ↦ builds_missing s.kept s.opened ++ act_missing s.kept s.read (plan_at s.exec) ]
@@ -187,13 +192,14 @@ pub record Rest : Type 0 where
   pub finished : List Finished
   pub refused : Option CommandError
   pub found : List (Option Oid)
+  pub sought : Plan
   pub tally : Tally
   pub judged : ℕ
   pub last : ℕ
 
 -- that of a session
 abbrev pub rest_of : Session → Rest
-rest_of s = record { finished = s.finished; refused = s.refused; found = s.found; tally = s.tally; judged = s.judged; last = s.last }
+rest_of s = record { finished = s.finished; refused = s.refused; found = s.found; sought = s.sought; tally = s.tally; judged = s.judged; last = s.last }
 
 -- the session of a backend: what it holds, and the rest
 abbrev pub session_at : Backend → Rest → Session
@@ -206,6 +212,7 @@ session_at s rest = record {
   opened = s.opened;
   read = s.read;
   found = rest.found;
+  sought = rest.sought;
   ended = is_ended s.phase;
   tally = rest.tally;
   locks = s.locks;

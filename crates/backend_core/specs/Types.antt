@@ -15,6 +15,7 @@ pub use Rattle.event_kinds.specs.declared.entry.Item.{Item}
 pub use Rattle.event_kinds.specs.declared.entry.Line.{Line}
 pub use Rattle.rel_desc.specs.declared.error.CommandError.{CommandError}
 pub use Rattle.rel_desc.specs.declared.answer.Answer.{Answer}
+pub use Rattle.inval_messages.specs.declared.message.Message.{Message}
 pub use Rattle.row_visibility.specs.declared.version.Version.{Version}
 pub use Rattle.ddl_effect.specs.declared.draft.Draft.{Draft}
 pub use Rattle.ddl_effect.specs.declared.exec.Exec.{Exec}
