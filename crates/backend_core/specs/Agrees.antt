@@ -20,6 +20,7 @@ use Rattle.cacheless.specs.Facts.{Facts, facts_of}
 use Rattle.cacheless.specs.Session.{Finished, Tally, Well as CameOutWell, outcome_of, none_open, plan_first, refused_first}
 use Rattle.cacheless.specs.Locks.{is_locked, cleared}
 use Rattle.inval_messages.specs.Lists.{sent_in}
+use Rattle.command_lists.specs.Lists.{no_lists}
 use Rattle.cacheless.specs.Owed.{owed_after}
 use Rattle.cacheless.specs.Ends.{Commits, TakesBack}
 use Rattle.cacheless.specs.Settled.{settled, finished_as}
@@ -33,7 +34,7 @@ use Rattle.backend_core.specs.declared.phase.Phase.TheVariants as phases
 use Rattle.backend_core.specs.NewTables.{HasTables, StaysRead, SeesRelation}
 use Rattle.backend_core.specs.Passing.{is_silent}
 use Rattle.backend_core.specs.Way.{Way}
-use Rattle.backend_core.specs.State.{owed_at, is_absent, published_at, is_accepting, looks_due, is_taken_back, is_ended, one_if, running_at, is_kept, builds_missing, is_out, begins_in, owed_first, end_at, is_inside, blocks_next, has_write_since, end_of_running, Rest, session_at, HasCommand}
+use Rattle.backend_core.specs.State.{owed_at, is_absent, published_at, is_accepting, looks_due, is_taken_back, is_ended, one_if, running_at, lists_at, is_kept, builds_missing, is_out, begins_in, owed_first, end_at, is_inside, blocks_next, has_write_since, end_of_running, Rest, session_at, HasCommand}
 
 -- a history that the script's commands played so far
 pub record IsPlayed (scenario : Scenario) (history : List Entry) : Type 0 where
@@ -56,13 +57,13 @@ pub record ReadRight (rows : Purpose → List Row) (k : KeptScan) : Type 0 where
 -- the facts of a backend's entries are what it holds
 pub record FactsFit (facts : Facts) (s : Backend) : Type 0 where
   pub running : facts.running ≡ running_at s
-  pub lists : facts.lists ≡ s.lists
+  pub lists : facts.lists ≡ lists_at s
   pub owed : owed_after facts.last ≡ owed_at s.phase
   pub took : took_back facts.last ≡ is_taken_back s.phase
   pub taken : (from : ℕ) → s.phase ≡ phases.TakenBack from → facts.last ≡ Some (events.Gone from)
   pub usable : (scan : Purpose) → is_build_scan scan ≡ true → facts.usable scan ≡ is_kept s.kept scan
   pub kept : All (ReadRight facts.rows) s.kept
-  pub given : s.read ≡ true → RowsFit facts s.locks (plan_at s.exec) s.given.items
+  pub given : s.read ≡ true → RowsFit facts s.locks.items (plan_at s.exec) s.given.items
 
 -- the looks of the command are as many as its scans, its grants, its transaction's start and its fetches of the most messages, and one more where one was made for the next scan
 abbrev pub TallyFits : Tally → Backend → Type 0
@@ -115,7 +116,7 @@ pub record CommitFits (s : Backend) : Type 0 where
   pub end : end_at s has.command ≡ Commits first
   pub runs : option_map_or (λ t. Some t.first) s.running None ≡ Some first
   pub written : has_write_since first s ≡ true
-  pub published : published_at s.phase ≤ length (sent_in s.lists)
+  pub published : published_at s.phase ≤ length (sent_in (lists_at s))
 
 -- taking back on its way
 pub record TakeBackFits (s : Backend) (from : ℕ) : Type 0 where
@@ -160,7 +161,7 @@ pub record IsAccepting (s : Backend) : Type 0 where
   pub runs : is_some s.running ≡ true
   pub unanswered : is_some s.answer ≡ false
   pub unsettled : is_absent (plan_at s.exec) ≡ false
-  pub locked : s.read ≡ true → IsFoundLocked s.locks (plan_at s.exec) s.given.items
+  pub locked : s.read ≡ true → IsFoundLocked s.locks.items (plan_at s.exec) s.given.items
 
 -- what the code keeps by itself
 pub record Well (s : Backend) : Type 0 where
@@ -183,7 +184,7 @@ pub record Well (s : Backend) : Type 0 where
   pub free : is_some s.answer ≡ true → (has : HasCommand s) → owed_first s has.command ≡ []
   pub starts : (has : HasCommand s) → owed_first s has.command ≢ [] → is_absent (plan_at s.exec) ≡ false
   pub accepting : is_accepting s.phase ≡ true → IsAccepting s
-  pub clear : (is_accepting s.phase ≡ true) ⊎ (map cleared s.locks ≡ s.locks)
+  pub clear : (is_accepting s.phase ≡ true) ⊎ (map cleared s.locks.items ≡ s.locks.items)
 
 -- what the running command answers, where that is worked out
 abbrev pub AnswerFits : Scenario → List Entry → Backend → Rest → Type 0
@@ -239,11 +240,11 @@ pub record IsNew (s : Backend) (id : ℕ) (commands : List Command) : Type 0 whe
   pub answer : s.answer ≡ None
   pub blocks : s.blocks ≡ no_block
   pub running : s.running ≡ None
-  pub lists : s.lists ≡ []
+  pub lists : s.lists.lists ≡ no_lists
   pub looked : s.looked ≡ false
   pub read : s.read ≡ false
   pub opened : s.opened ≡ []
-  pub locks : s.locks ≡ []
+  pub locks : s.locks.items ≡ []
   pub kept : s.kept ≡ []
   pub lines : s.lines ≡ []
 

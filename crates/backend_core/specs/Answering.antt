@@ -41,7 +41,7 @@ shown_first kept locks (o ∷ opened) field = shown_of kept locks o field
 
 -- what a command answers that came out well
 abbrev pub answer_done : Backend → Command → Answer
-answer_done s (commands.Show name field) = shown_first s.kept s.locks s.opened field
+answer_done s (commands.Show name field) = shown_first s.kept s.locks.items s.opened field
 answer_done s commands.Commit = commit_answer s.blocks.block
 answer_done s command = answers.Ok
 

@@ -17,7 +17,7 @@ is_ends end = false
 
 -- the next act needs no entry: a lookup whose relation is locked or wasn't found, or a descriptor whose scans are made
 abbrev pub is_done_here : Backend → Plan → Bool
-is_done_here s (Do (Lookup name mode) rest) = s.read && is_none (unlocked_of s.locks mode s.given.items)
+is_done_here s (Do (Lookup name mode) rest) = s.read && is_none (unlocked_of s.locks.items mode s.given.items)
 is_done_here s (Do (Open rel kind) rest) = is_empty (missing s.kept (build_scans kind rel))
 is_done_here s plan = false
 

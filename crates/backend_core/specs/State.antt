@@ -10,7 +10,8 @@ use Rattle.ddl_effect.specs.Plans.{Plan, Absent, Do, Lookup, Column, rests_on}
 use Rattle.ddl_effect.specs.Blocks.{Block, Outside, Inside, Failed, Blocks, no_block, ends_block, refused_by, innermost, blocks_well, blocks_badly}
 use Rattle.ddl_effect.specs.Stages.{plan_at}
 use Rattle.history_model.specs.Transactions.{Running}
-use Rattle.inval_messages.specs.Lists.{has_write_from, unsent_after}
+use Rattle.inval_messages.specs.Lists.{Written, has_write_from, unsent_after}
+use Rattle.command_lists.specs.Lists.{all_lists}
 use Rattle.inval_messages.specs.Messages.{is_spared}
 use Rattle.cacheless.specs.Locks.{has_lock, cleared}
 use Rattle.cacheless.specs.Session.{Session, Finished, Tally, Badly, Well, Unsettled, outcome_of, is_settled}
@@ -92,9 +93,13 @@ running_at s = running_in s.phase s.running
 abbrev pub begun_own : ℕ → Option OwnTransaction → OwnTransaction
 begun_own number own = unwrap_or own (record { first = number; xid = None })
 
+-- the writes that weren't taken back
+abbrev pub lists_at : Backend → List Written
+lists_at s = all_lists s.lists.lists
+
 -- the messages that are to be published next
 abbrev pub unsent_at : Backend → List Message
-unsent_at s = unsent_after (published_at s.phase) s.lists
+unsent_at s = unsent_after (published_at s.phase) (lists_at s)
 
 -- the scan is kept
 abbrev pub is_kept : List KeptScan → Purpose → Bool
@@ -180,7 +185,7 @@ blocks_next s command = blocks_passed (plan_at s.exec) (s.finished + 1) command 
 
 -- a write of this command or a later one wasn't taken back
 abbrev pub has_write_since : ℕ → Backend → Bool
-has_write_since from s = has_write_from from s.lists
+has_write_since from s = has_write_from from (lists_at s)
 
 -- the relation that a lookup's rows name, if it isn't locked in the mode
 abbrev pub unlocked_of : List OwnLock → Mode → List Row → Option Oid
@@ -215,7 +220,7 @@ session_at s rest = record {
   sought = rest.sought;
   ended = is_ended s.phase;
   tally = rest.tally;
-  locks = s.locks;
+  locks = s.locks.items;
   judged = rest.judged;
   last = rest.last;
 }

@@ -84,7 +84,7 @@ pub record NextLock (s : Backend) (rel : Oid) (mode : Mode) : Type 0 where
   pub rest : List Row → Plan
   pub at : plan_at s.exec ≡ Do (Lookup name mode) rest
   pub read : s.read ≡ true
-  pub unlocked : unlocked_of s.locks mode s.given.items ≡ Some rel
+  pub unlocked : unlocked_of s.locks.items mode s.given.items ≡ Some rel
 
 -- the lookup is done: nothing was found, or its relation is locked
 pub record NextFind (s : Backend) : Type 0 where
@@ -93,7 +93,7 @@ pub record NextFind (s : Backend) : Type 0 where
   pub rest : List Row → Plan
   pub at : plan_at s.exec ≡ Do (Lookup name mode) rest
   pub read : s.read ≡ true
-  pub locked : unlocked_of s.locks mode s.given.items ≡ None
+  pub locked : unlocked_of s.locks.items mode s.given.items ≡ None
 
 -- the scans of a descriptor are made, and it is opened
 pub record NextOpen (s : Backend) (rel : Oid) (kind : Kind) : Type 0 where

@@ -103,7 +103,7 @@ fn after_fetch(count: u32) -> Phase
 
 // Makes the locks clear where an acceptance is over.
 fn accept(locks: &mut OwnLocks, phase: Phase)
-    ensures { locks.new ≡ locks_accepted phase locks.old }
+    ensures { locks.new.items ≡ locks_accepted phase locks.old.items }
 {
     match phase {
         Phase::Looking | Phase::Fetching => {}

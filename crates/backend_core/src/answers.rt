@@ -81,7 +81,7 @@ impl Backend {
 
     // All fields of the descriptor that is open, or one.
     fn shown_open(&self, alloc: Global, field: Option<Field>) -> Result<Answer, NoMemory>
-        ensures { IfOk result (λ answer. answer ≡ shown_first self.now.kept self.now.locks self.now.opened field) }
+        ensures { IfOk result (λ answer. answer ≡ shown_first self.now.kept self.now.locks.items self.now.opened field) }
     {
         let kept = self.kept.as_slice();
         match (self.opened.as_slice().first(), field) {

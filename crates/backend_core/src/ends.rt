@@ -55,8 +55,8 @@ impl Backend {
     // (`AtEOXact_Inval` in `src/backend/utils/cache/inval.c`, `SendSharedInvalidMessages` and
     // `SIInsertDataEntries` in `src/backend/storage/ipc/`).
     pub(crate) fn unpublished(&self, published: usize) -> &[Message]
-        requires { published ≤ length (sent_in self.now.lists) }
-        ensures { result.now ≡ take 64 (unsent_after published self.now.lists) }
+        requires { published ≤ length (sent_in (lists_at self.now)) }
+        ensures { result.now ≡ take 64 (unsent_after published (lists_at self.now)) }
     {
         let cats = self.lists.cats_from(0);
         let rels = self.lists.rels_from(0);

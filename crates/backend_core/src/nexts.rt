@@ -148,7 +148,7 @@ impl Backend {
 
     // The relation that the lookup's rows name, if it isn't locked in the mode.
     fn unlocked(&self, mode: Mode) -> Option<Oid>
-        ensures { result ≡ unlocked_of self.now.locks mode self.now.given.items }
+        ensures { result ≡ unlocked_of self.now.locks.items mode self.now.given.items }
     {
         match self.given.first() {
             Some(Row::Class { oid, .. }) if !has_lock(&self.locks, *oid, mode) => Some(*oid),

@@ -1,6 +1,6 @@
 -- What the calls of a segment need, and what they do: one word for each class of call.
 -- `old` and `new` are the history before and after a call, `had` and `has` how many places each backend was promised then.
-use Rattle.std.specs.Prelude.{ℕ, Bool, true, false, Option, Some, Result, Ok, Err, OnOk, OnErr, List, [], ◌∷◌, ◌++◌, ◌≡◌, ◌≢◌, ◌≤◌, ◌+◌, ◌-◌, ⊥, min, length, take}
+use Rattle.std.specs.Prelude.{ℕ, Bool, true, false, Option, Some, Result, Ok, Err, OnOk, OnErr, List, [], ◌∷◌, ◌++◌, ◌≡◌, ◌≢◌, ◌≤◌, ◌+◌, ◌-◌, min, length, take}
 use Rattle.std.specs.List.{flat_map, filter_map, list_any, list_all, range_with_len}
 use Rattle.std.specs.Str.{bytes_eq}
 use Rattle.base_types.specs.RowKeys.{are_distinct_keys}
