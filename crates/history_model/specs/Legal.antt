@@ -2,6 +2,7 @@
 use Rattle.std.specs.Prelude.{ℕ, Bool, true, false, Option, Some, None, List, [], ◌≡◌, ◌≤◌, ◌==◌, length, ⊤}
 use Rattle.std.specs.Option.{option_map}
 use Rattle.std.specs.List.{list_any}
+use Rattle.lock_modes.specs.Grants.{holds, first_conflict}
 use Rattle.history_model.specs.Types.{Mode, Entry, Event, Start, Look, LockOk, LockHeld, Scan, Write, ClashRow, ClashRunning, Visible, Publish, Release, Gone, Stop}
 use Rattle.history_model.specs.Prefixes.{EachEntry}
 use Rattle.history_model.specs.Lives.{FollowsLife, life_of, last_event_of}
@@ -9,7 +10,7 @@ use Rattle.history_model.specs.Transactions.{running_transaction_of, is_visible,
 use Rattle.history_model.specs.Versions.{answer_of}
 use Rattle.history_model.specs.Sent.{lists_of, has_write_from, left_in}
 use Rattle.history_model.specs.Log.{is_waiting, has_waited}
-use Rattle.history_model.specs.Held.{held_of, holds, first_conflict}
+use Rattle.history_model.specs.Held.{held_of}
 use Rattle.history_model.specs.Names.{users_of, is_named}
 use Rattle.history_model.specs.Writes.{IsWriteAllowed}
 

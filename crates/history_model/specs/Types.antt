@@ -20,4 +20,4 @@ pub use Rattle.event_kinds.specs.declared.entry.Item.{Item}
 pub use Rattle.event_kinds.specs.declared.entry.Item.TheVariants.{Add, Put, Remove, Force}
 pub use Rattle.row_visibility.specs.declared.version.Stamp.{Stamp}
 pub use Rattle.row_visibility.specs.declared.version.Version.{Version}
-pub use Rattle.history_model.specs.declared.grant.Grant.{Grant}
+pub use Rattle.lock_modes.specs.declared.grant.Grant.{Grant}

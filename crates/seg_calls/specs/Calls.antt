@@ -5,6 +5,7 @@ use Rattle.std.specs.List.{flat_map, filter_map, list_any, list_all, range_with_
 use Rattle.std.specs.Str.{bytes_eq}
 use Rattle.base_types.specs.RowKeys.{are_distinct_keys}
 use Rattle.base_types.specs.Scenario.{IsBackend}
+use Rattle.lock_modes.specs.declared.granted.LockRefusal.TheVariants as lock_refusals
 use Rattle.ddl_effect.specs.Commands.{commands_of}
 use Rattle.ddl_effect.specs.Drawing.{changes_of}
 use Rattle.history_model.specs.Changes.{items_of}
@@ -17,7 +18,6 @@ use Rattle.history_model.specs.Transactions.{running_transaction_of, is_visible}
 use Rattle.history_model.specs.Versions.{answer_of, ended_key}
 use Rattle.history_model.specs.Writes.{changed_key, has_row, has_written, is_guarded, keeps_kind}
 use Rattle.seg_calls.specs.Types.{Oid, NoMemory, Mode, Purpose, Scanned, Scenario, Entry, Event, Gone, LockOk, LockHeld, Scan, Write, ClashRow, ClashRunning, Item, Row, Running, Draft, LockRefusal, WriteRefusal, Written}
-use Rattle.seg_calls.specs.declared.refusal.LockRefusal.TheVariants as lock_refusals
 use Rattle.seg_calls.specs.declared.refusal.WriteRefusal.TheVariants as write_refusals
 
 -- the entry of a backend and a command
