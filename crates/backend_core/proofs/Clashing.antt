@@ -5,6 +5,7 @@ use Rattle.std.specs.Str.{bytes_eq}
 use Rattle.std.specs.declared.alloc.Global.{Global}
 use Rattle.std.specs.declared.vec.Vec.{Vec}
 use Rattle.event_kinds.specs.declared.entry.Event.TheVariants as events
+use Rattle.lock_modes.specs.Own.{cleared}
 use Rattle.ddl_effect.specs.declared.exec.Exec.TheVariants as stages
 use Rattle.ddl_effect.specs.Plans.{Fails}
 use Rattle.ddl_effect.specs.Commands.{writing}
@@ -22,7 +23,6 @@ use Rattle.seg_calls.specs.declared.refusal.WriteRefusal.{WriteRefusal}
 use Rattle.seg_calls.specs.declared.refusal.WriteRefusal.TheVariants as refusals
 use Rattle.seg_calls.specs.Calls.{Clashes, Writes, items_drawn, entry_of, took_back}
 use Rattle.cacheless.specs.Facts.{Facts, facts_of}
-use Rattle.cacheless.specs.Locks.{cleared}
 use Rattle.cacheless.specs.Session.{Session, first_of, outcome_of, is_settled}
 use Rattle.cacheless.specs.Owed.{owed_after, owed_of}
 use Rattle.cacheless.specs.Sessions.{placed_at, tally_by, ends_command, accepted}

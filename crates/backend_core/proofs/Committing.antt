@@ -4,13 +4,13 @@ use Rattle.std.specs.Prelude.{nat_le}
 use Rattle.std.specs.Option.{option_map, option_map_or}
 use Rattle.std.proofs.lemmas.Bool.{le-leb, eq-eqb}
 use Rattle.event_kinds.specs.declared.entry.Event.TheVariants as events
+use Rattle.lock_modes.specs.Own.{cleared}
 use Rattle.history_model.specs.Drawn.{next_oid}
 use Rattle.history_model.specs.Sent.{Written, has_write_from, unsent_in}
 use Rattle.history_model.specs.Transactions.{begun, has_xid, is_visible}
 use Rattle.history_model.proofs.Every.{any-weaker}
 use Rattle.seg_calls.specs.Calls.{entry_of, MayCall, Appends}
 use Rattle.cacheless.specs.Facts.{Facts, facts_of}
-use Rattle.cacheless.specs.Locks.{cleared}
 use Rattle.cacheless.specs.Ends.{Commits, xid_of, next_sent, next_of_end}
 use Rattle.cacheless.specs.Plays.{MayPlayIn, IsEnd}
 use Rattle.cacheless.specs.Sessions.{placed_at}

@@ -5,6 +5,7 @@ use Rattle.std.proofs.Math.Bool.{and-false}
 use Rattle.std.specs.declared.vec.Vec.{Vec}
 use Rattle.std.specs.declared.alloc.Global.{Global}
 use Rattle.base_types.specs.declared.scan.Purpose.TheVariants as scans
+use Rattle.lock_modes.specs.Own.{cleared}
 use Rattle.ddl_effect.specs.Plans.{Plan, Done, Fails, Absent, Do, NotBuilt}
 use Rattle.ddl_effect.specs.Blocks.{Block, Outside, Inside, Failed, no_block, ends_block, refused_by}
 use Rattle.ddl_effect.specs.Stages.{plan_at}
@@ -13,7 +14,6 @@ use Rattle.history_model.specs.Read.{is_scan_of}
 use Rattle.history_model.specs.Writes.{is_write}
 use Rattle.seg_calls.specs.Calls.{entry_of}
 use Rattle.cacheless.specs.Session.{first_of, outcome_of, is_settled}
-use Rattle.cacheless.specs.Locks.{cleared}
 use Rattle.cacheless.specs.Owed.{OwesLook}
 use Rattle.cacheless.specs.Sessions.{placed_at}
 use Rattle.backend_core.specs.Types.{Row, Purpose, Command, Scenario, Entry, Event, OwnLock, Phase, OwnTransaction, Backend}

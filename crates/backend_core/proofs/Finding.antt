@@ -6,6 +6,7 @@ use Rattle.base_types.specs.Scans.{build_scans}
 use Rattle.base_types.specs.Scenario.{Scenario}
 use Rattle.base_types.specs.declared.row.Row.TheVariants as rows
 use Rattle.base_types.specs.declared.scan.Purpose.TheVariants as scans
+use Rattle.lock_modes.specs.Own.{has_lock}
 use Rattle.ddl_effect.specs.Blocks.{Block, Outside, Inside, Failed}
 use Rattle.ddl_effect.specs.Plans.{Plan, Act, Done, Do, Lookup, Open, after_act}
 use Rattle.ddl_effect.specs.Commands.{plan_of}
@@ -13,7 +14,6 @@ use Rattle.ddl_effect.specs.Stages.{plan_at}
 use Rattle.history_model.specs.Writes.{is_empty}
 use Rattle.history_model.proofs.Every.{every-append}
 use Rattle.cacheless.specs.Facts.{Facts, facts_of}
-use Rattle.cacheless.specs.Locks.{has_lock}
 use Rattle.cacheless.specs.Session.{none_open}
 use Rattle.cacheless.specs.Owed.{act_owed}
 use Rattle.cacheless.specs.Settled.{if_locked, looked_up, gives, opened_by, found_by, act_done, done_here, settled}

@@ -8,12 +8,14 @@ use Rattle.base_types.specs.declared.row.Row.TheVariants as rows
 use Rattle.base_types.specs.declared.scan.Purpose.TheVariants as scans
 use Rattle.event_kinds.specs.declared.entry.Event.TheVariants as events
 use Rattle.rel_desc.specs.declared.error.CommandError.TheVariants as errors
+use Rattle.lock_modes.specs.Grants.{holds}
+use Rattle.lock_modes.specs.Own.{cleared, has_lock}
 use Rattle.ddl_effect.specs.Plans.{Plan, Fails, Do, Act, Lookup}
 use Rattle.ddl_effect.specs.Blocks.{ends_block}
 use Rattle.ddl_effect.specs.Stages.{plan_at}
 use Rattle.ddl_effect.specs.declared.exec.Exec.TheVariants as stages
 use Rattle.history_model.specs.Drawn.{next_oid}
-use Rattle.history_model.specs.Held.{held_of, holds}
+use Rattle.history_model.specs.Held.{held_of}
 use Rattle.history_model.specs.Orderly.{MayComeNext}
 use Rattle.history_model.specs.Writes.{is_empty}
 use Rattle.history_model.proofs.Prefixes.{EachEntry-weaker}
@@ -21,7 +23,6 @@ use Rattle.seg_calls.specs.Calls.{entry_of, Appends, Locks}
 use Rattle.seg_calls.specs.declared.refusal.LockRefusal.{LockRefusal}
 use Rattle.seg_calls.specs.declared.refusal.LockRefusal.TheVariants.{Conflict}
 use Rattle.cacheless.specs.Facts.{Facts, facts_of}
-use Rattle.cacheless.specs.Locks.{cleared, has_lock}
 use Rattle.cacheless.specs.Session.{Session, Badly, outcome_of, first_of}
 use Rattle.cacheless.specs.Owed.{OwesScan, owed_at_start, owed_after, builds_owed, act_owed, owed_of, owes_accept}
 use Rattle.cacheless.specs.Settled.{class_oid, if_locked, looked_up, gives, done_here}

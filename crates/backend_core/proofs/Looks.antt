@@ -10,13 +10,13 @@ use Rattle.std.proofs.lemmas.List.{get_or_default}
 use Rattle.std.proofs.lemmas.List.Edits.{map_over_more}
 use Rattle.base_types.specs.Scenario.{Scenario}
 use Rattle.event_kinds.specs.declared.entry.Event.TheVariants as events
+use Rattle.lock_modes.specs.Own.{cleared}
 use Rattle.ddl_effect.specs.Blocks.{Block, Outside, Inside, Failed, ends_block, refused_by, no_block}
 use Rattle.history_model.specs.Drawn.{next_oid}
 use Rattle.history_model.specs.Transactions.{begun}
 use Rattle.history_model.specs.Writes.{is_empty}
 use Rattle.seg_calls.specs.Calls.{entry_of, Appends, MayCall}
 use Rattle.cacheless.specs.Facts.{Facts, facts_of}
-use Rattle.cacheless.specs.Locks.{cleared}
 use Rattle.cacheless.specs.Session.{Session, Badly, outcome_of, first_of}
 use Rattle.cacheless.specs.Owed.{Owes, OwesFetch, OwesLook, begins, owed_at_start, owed_after, builds_owed, owes_accept}
 use Rattle.cacheless.specs.Sessions.{placed_at}

@@ -15,6 +15,8 @@ use Rattle.event_kinds.specs.declared.entry.Item.{Item}
 use Rattle.event_kinds.specs.declared.entry.Item.TheVariants as forms
 use Rattle.row_visibility.specs.declared.version.Stamp.{Stamp}
 use Rattle.row_visibility.specs.declared.version.Version.{Version}
+use Rattle.lock_modes.specs.Grants.{holds}
+use Rattle.lock_modes.specs.declared.own_lock.OwnLock.{OwnLock}
 use Rattle.ddl_effect.specs.declared.draft.Draft.{Draft}
 use Rattle.ddl_effect.specs.Commands.{new_table, new_column}
 use Rattle.ddl_effect.specs.Drawing.{drawn_change}
@@ -24,9 +26,8 @@ use Rattle.history_model.specs.Names.{new_names}
 use Rattle.history_model.specs.Orderly.{main_rel, is_fresh, keeps_relation}
 use Rattle.history_model.specs.Versions.{versions_of, ended_key}
 use Rattle.history_model.specs.Writes.{changed_key, has_row, has_written, is_guarded, keeps_kind}
-use Rattle.history_model.specs.Held.{held_of, holds}
+use Rattle.history_model.specs.Held.{held_of}
 use Rattle.seg_calls.specs.Calls.{MayWrite, items_drawn}
-use Rattle.cacheless.specs.declared.own_lock.OwnLock.{OwnLock}
 use Rattle.cacheless.specs.Facts.{Facts}
 use Rattle.cacheless.specs.Locks.{locked_by}
 use Rattle.cacheless.specs.Plays.{names_of, drafted}

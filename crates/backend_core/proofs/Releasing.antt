@@ -6,6 +6,7 @@ use Rattle.std.proofs.lemmas.Bool.{eq-eqb, le-leb, both_ways, false_from_ne_true
 use Rattle.std.specs.declared.vec.Vec.{Vec}
 use Rattle.std.specs.declared.alloc.Global.{Global}
 use Rattle.event_kinds.specs.declared.entry.Event.TheVariants as events
+use Rattle.lock_modes.specs.Own.{cleared}
 use Rattle.history_model.specs.Drawn.{next_oid}
 use Rattle.history_model.specs.Legal.{FollowsVisible, FollowsGone, MayRelease}
 use Rattle.history_model.specs.Lives.{FollowsLife}
@@ -14,7 +15,6 @@ use Rattle.history_model.specs.Transactions.{begun, after_release, is_visible, r
 use Rattle.history_model.proofs.NoMessages.{left_none, unsent_none}
 use Rattle.seg_calls.specs.Calls.{entry_of, took_back, MayCall, Appends}
 use Rattle.cacheless.specs.Facts.{Facts, facts_of}
-use Rattle.cacheless.specs.Locks.{cleared}
 use Rattle.cacheless.specs.Owed.{Owes, owed_after}
 use Rattle.cacheless.specs.Ends.{End, Ends, Commits, TakesBack, xid_of, next_sent, next_of_commit, next_of_end}
 use Rattle.cacheless.specs.Plays.{MayPlayIn, IsEnd}

@@ -11,10 +11,10 @@ use Rattle.base_types.specs.declared.kind.Kind.TheVariants.{Table, Index}
 use Rattle.base_types.proofs.SameScan.{same_scan-true}
 use Rattle.rel_desc.specs.declared.answer.Answer.TheVariants as answers
 use Rattle.rel_desc.specs.declared.answer.Shown.{Shown}
+use Rattle.lock_modes.specs.Own.{clear_modes}
 use Rattle.history_model.specs.Read.{place_read, rows_read}
 use Rattle.history_model.specs.Versions.{answer_of, fresh_text}
 use Rattle.cacheless.specs.Lines.{read_field, shown_field, shown_fields}
-use Rattle.cacheless.specs.Locks.{clear_modes}
 use Rattle.cacheless.specs.Protected.{protects, is_protected}
 use Rattle.cacheless.specs.Session.{Session}
 use Rattle.cacheless.specs.Sessions.{session_of}

@@ -6,6 +6,7 @@ use Rattle.std.proofs.lemmas.Bool.{ltb-true, lt-leb}
 use Rattle.std.specs.declared.vec.Vec.{Vec}
 use Rattle.std.specs.declared.alloc.Global.{Global}
 use Rattle.event_kinds.specs.declared.entry.Event.TheVariants as events
+use Rattle.lock_modes.specs.Own.{cleared}
 use Rattle.history_model.specs.Drawn.{next_oid}
 use Rattle.history_model.specs.Read.{is_usable}
 use Rattle.history_model.specs.Sent.{has_write_from}
@@ -13,7 +14,6 @@ use Rattle.history_model.specs.Transactions.{begun}
 use Rattle.history_model.proofs.NoMessages.{usable_by-none}
 use Rattle.seg_calls.specs.Calls.{entry_of, MayCall, Appends}
 use Rattle.cacheless.specs.Facts.{Facts, facts_of}
-use Rattle.cacheless.specs.Locks.{cleared}
 use Rattle.cacheless.specs.Owed.{owed_after}
 use Rattle.cacheless.specs.Ends.{TakesBack, next_of_end}
 use Rattle.cacheless.specs.Plays.{MayPlayIn, IsEnd}

@@ -9,6 +9,7 @@ use Rattle.std.proofs.lemmas.Bool.{ne_eqb, eq-eqb}
 use Rattle.std.proofs.lemmas.List.{map-append}
 use Rattle.base_types.specs.declared.mode.Mode.TheVariants.{AccessExclusive}
 use Rattle.event_kinds.specs.declared.entry.Event.TheVariants as events
+use Rattle.lock_modes.specs.Own.{cleared}
 use Rattle.ddl_effect.specs.declared.exec.Exec.TheVariants as stages
 use Rattle.ddl_effect.specs.Plans.{Plan, Done, Do, Write}
 use Rattle.ddl_effect.specs.Commands.{plan_of, writing}
@@ -24,7 +25,6 @@ use Rattle.history_model.proofs.NoMessages.{usable_by-none}
 use Rattle.seg_calls.specs.declared.refusal.Written.{Written as Made}
 use Rattle.seg_calls.specs.Calls.{MakesWrite, MayRequest, MayWrite, Appends, items_drawn, entry_of}
 use Rattle.cacheless.specs.Facts.{facts_of}
-use Rattle.cacheless.specs.Locks.{cleared}
 use Rattle.cacheless.specs.Session.{Session, none_open, outcome_of, is_settled, first_of}
 use Rattle.cacheless.specs.Owed.{OwesScan, builds_owed, owed_of}
 use Rattle.cacheless.specs.Sessions.{written, placed_at}

@@ -7,6 +7,7 @@ use Rattle.base_types.specs.declared.row.Row.TheVariants as rows
 use Rattle.base_types.specs.declared.scan.Purpose.TheVariants as scans
 use Rattle.event_kinds.specs.declared.entry.Event.TheVariants as events
 use Rattle.rel_desc.specs.Answers.{answer_text}
+use Rattle.lock_modes.specs.Own.{cleared}
 use Rattle.ddl_effect.specs.Plans.{Plan, Done, Fails, Absent, Do, Lookup, is_built}
 use Rattle.ddl_effect.specs.Commands.{plan_of, commands_of}
 use Rattle.ddl_effect.specs.Blocks.{Block, Outside, Inside, Failed, no_block, is_open, innermost, ends_block}
@@ -18,7 +19,7 @@ use Rattle.history_model.specs.Writes.{has_written, is_empty}
 use Rattle.seg_calls.specs.Calls.{took_back}
 use Rattle.cacheless.specs.Facts.{Facts, facts_of}
 use Rattle.cacheless.specs.Session.{Finished, Tally, Well as CameOutWell, outcome_of, none_open, plan_first, refused_first}
-use Rattle.cacheless.specs.Locks.{is_locked, cleared}
+use Rattle.cacheless.specs.Locks.{is_locked}
 use Rattle.inval_messages.specs.Lists.{sent_in}
 use Rattle.command_lists.specs.Lists.{no_lists}
 use Rattle.cacheless.specs.Owed.{owed_after}

@@ -8,10 +8,10 @@ use Rattle.rel_desc.specs.Answers.{answer_text}
 use Rattle.rel_desc.specs.declared.answer.Answer.TheVariants as answers
 use Rattle.rel_desc.specs.declared.answer.Shown.{Shown}
 use Rattle.rel_desc.specs.declared.error.CommandError.TheVariants.{NoRelation}
+use Rattle.lock_modes.specs.Own.{clear_modes}
 use Rattle.ddl_effect.specs.Plans.{Plan, Fails, Absent}
 use Rattle.ddl_effect.specs.Stages.{plan_at}
 use Rattle.cacheless.specs.Lines.{commit_answer}
-use Rattle.cacheless.specs.Locks.{clear_modes}
 use Rattle.cacheless.specs.Protected.{protects}
 use Rattle.backend_core.specs.Types.{Field, Purpose, Command, Answer, Opening, OwnLock, KeptScan, Backend}
 use Rattle.backend_core.specs.State.{HasCommand}

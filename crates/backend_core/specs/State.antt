@@ -6,14 +6,14 @@ use Rattle.base_types.specs.Scans.{same_scan, build_scans}
 use Rattle.base_types.specs.declared.row.Row.TheVariants as rows
 use Rattle.base_types.specs.declared.scan.Purpose.TheVariants as scans
 use Rattle.base_types.specs.declared.command.Command.TheVariants as commands
+use Rattle.lock_modes.specs.Own.{has_lock, cleared}
+use Rattle.inval_messages.specs.Lists.{Written, has_write_from, unsent_after}
+use Rattle.inval_messages.specs.Messages.{is_spared}
+use Rattle.command_lists.specs.Lists.{all_lists}
 use Rattle.ddl_effect.specs.Plans.{Plan, Absent, Do, Lookup, Column, rests_on}
 use Rattle.ddl_effect.specs.Blocks.{Block, Outside, Inside, Failed, Blocks, no_block, ends_block, refused_by, innermost, blocks_well, blocks_badly}
 use Rattle.ddl_effect.specs.Stages.{plan_at}
 use Rattle.history_model.specs.Transactions.{Running}
-use Rattle.inval_messages.specs.Lists.{Written, has_write_from, unsent_after}
-use Rattle.command_lists.specs.Lists.{all_lists}
-use Rattle.inval_messages.specs.Messages.{is_spared}
-use Rattle.cacheless.specs.Locks.{has_lock, cleared}
 use Rattle.cacheless.specs.Session.{Session, Finished, Tally, Badly, Well, Unsettled, outcome_of, is_settled}
 use Rattle.cacheless.specs.Owed.{Owes, OwesLook, OwesFetch}
 use Rattle.cacheless.specs.Ends.{End, Ends, Commits, TakesBack}

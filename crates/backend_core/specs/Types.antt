@@ -17,10 +17,10 @@ pub use Rattle.rel_desc.specs.declared.error.CommandError.{CommandError}
 pub use Rattle.rel_desc.specs.declared.answer.Answer.{Answer}
 pub use Rattle.inval_messages.specs.declared.message.Message.{Message}
 pub use Rattle.row_visibility.specs.declared.version.Version.{Version}
+pub use Rattle.lock_modes.specs.declared.own_lock.OwnLock.{OwnLock}
 pub use Rattle.ddl_effect.specs.declared.draft.Draft.{Draft}
 pub use Rattle.ddl_effect.specs.declared.exec.Exec.{Exec}
 pub use Rattle.cacheless.specs.declared.opening.Opening.{Opening}
-pub use Rattle.cacheless.specs.declared.own_lock.OwnLock.{OwnLock}
 pub use Rattle.backend_core.specs.declared.backend.Backend.{Backend}
 pub use Rattle.backend_core.specs.declared.kept_scan.KeptScan.{KeptScan}
 pub use Rattle.backend_core.specs.declared.next.Next.{Next}

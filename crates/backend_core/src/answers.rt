@@ -5,7 +5,7 @@ ghost use Rattle.base_types.specs.Modes.{conflicts as do_conflict};
 ghost use Rattle.base_types.specs.Scans.{same_oid};
 ghost use Rattle.base_types.specs.Scenario.{Scenario};
 ghost use Rattle.event_kinds.specs.declared.entry.Entry.{Entry};
-ghost use Rattle.cacheless.specs.Locks.{clear_modes};
+ghost use Rattle.lock_modes.specs.Own.{clear_modes};
 ghost use Rattle.cacheless.specs.Protected.{protects};
 ghost use Rattle.backend_core.specs.declared.next.Next.TheVariants as nexts;
 ghost use Rattle.backend_core.specs.State.{is_out};

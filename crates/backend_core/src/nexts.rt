@@ -2,9 +2,9 @@ ghost use Rattle.std.specs.Prelude.{◌≡◌, ◌≢◌, ◌&&◌, true, false,
 ghost use Rattle.std.specs.List.{find, list_any};
 ghost use Rattle.base_types.specs.Scans.{build_scans};
 ghost use Rattle.base_types.specs.declared.scan.Purpose.{Purpose};
+ghost use Rattle.lock_modes.specs.Own.{has_lock as is_locked};
 ghost use Rattle.ddl_effect.specs.Stages.{plan_at, want_of};
 ghost use Rattle.ddl_effect.specs.Blocks.{ends_block as does_end_block};
-ghost use Rattle.cacheless.specs.Locks.{has_lock as is_locked};
 ghost use Rattle.cacheless.specs.Ends.{Commits};
 ghost use Rattle.backend_core.specs.State.{is_kept, is_out as has_come_out, begins_in, end_at, end_in_well, end_in_badly, end_in_block, has_write_since as is_written_since, unlocked_of};
 ghost use Rattle.backend_core.specs.Endings.{end_of_ending};

@@ -1,7 +1,7 @@
 // The looks, the scans and the locks of a backend.
 
 ghost use Rattle.std.specs.Prelude.{◌≡◌, map};
-ghost use Rattle.cacheless.specs.Locks.{cleared};
+ghost use Rattle.lock_modes.specs.Own.{cleared};
 ghost use Rattle.backend_core.specs.State.{begun_own};
 
 use crate::{Backend, KeptScan, OwnTransaction, Phase};

@@ -18,18 +18,20 @@ use Rattle.event_kinds.specs.declared.entry.Event.{Event}
 use Rattle.event_kinds.specs.declared.entry.Event.TheVariants as events
 use Rattle.event_kinds.specs.declared.entry.Item.{Item}
 use Rattle.event_kinds.specs.declared.entry.Item.TheVariants.{Add}
+use Rattle.lock_modes.specs.declared.grant.Grant.{Grant}
+use Rattle.lock_modes.specs.Grants.{holds, stays}
+use Rattle.lock_modes.specs.declared.own_lock.OwnLock.{OwnLock}
+use Rattle.lock_modes.specs.Own.{has_lock, cleared}
 use Rattle.ddl_effect.specs.Plans.{Plan, Done, Fails, Absent, NotBuilt, Do}
 use Rattle.ddl_effect.specs.Commands.{commands_of}
 use Rattle.ddl_effect.specs.Blocks.{no_block}
 use Rattle.history_model.specs.Prefixes.{EachEntry}
 use Rattle.history_model.specs.Lives.{Life, Unstarted, Alive, Stopped, life_by, life_of, FollowsLife}
-use Rattle.history_model.specs.declared.grant.Grant.{Grant}
-use Rattle.history_model.specs.Held.{granted_by, held_by, held_of, holds}
+use Rattle.history_model.specs.Held.{granted_by, held_by, held_of}
 use Rattle.history_model.proofs.Prefixes.{each-keeps}
 use Rattle.history_model.proofs.Reading.{held_of-more, life_of-own, life_of-other}
-use Rattle.cacheless.specs.declared.own_lock.OwnLock.{OwnLock}
 use Rattle.cacheless.specs.Facts.{Facts, facts_of, facts_by}
-use Rattle.cacheless.specs.Locks.{locked_by, locks_by, has_lock, cleared}
+use Rattle.cacheless.specs.Locks.{locked_by, locks_by}
 use Rattle.cacheless.specs.Session.{Session, first_of, at_command}
 use Rattle.cacheless.specs.Owed.{owes_accept}
 use Rattle.cacheless.specs.Settled.{done_here, act_done, acted_on, acted, is_finished, next_session, settled}
@@ -84,9 +86,6 @@ own_granted b c (item ∷ items) =
     one item = refl
 
 -- what another releases, and what is released here
-abbrev pub stays : ℕ → ℕ → Grant → Bool
-stays a from g = not ((g.backend == a) && nat_le from g.command)
-
 others_release : (a b from : ℕ) (gs : List Grant) → (a == b) ≡ false → own_grants b (filter (stays a from) gs) ≡ own_grants b gs
 others_release a b from [] other = refl
 others_release a b from (g ∷ gs) other = by_tests (g.backend == a) refl (nat_le from g.command) (g.backend == b) refl (others_release a b from gs other)

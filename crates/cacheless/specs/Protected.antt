@@ -3,8 +3,8 @@ use Rattle.std.specs.Prelude.{ℕ, Bool, List, []}
 use Rattle.std.specs.Option.{option_map_or}
 use Rattle.std.specs.List.{list_any, list_all}
 use Rattle.base_types.specs.Modes.{conflicts, writers_of}
+use Rattle.lock_modes.specs.Own.{clear_modes}
 use Rattle.cacheless.specs.Types.{Oid, Mode, Kind, Field, Scenario, Entry}
-use Rattle.cacheless.specs.Locks.{clear_modes}
 use Rattle.cacheless.specs.Sessions.{session_of}
 
 -- each mode in which others may change the field conflicts with one of these; a field that the kind lacks has no writers

@@ -5,13 +5,14 @@ use Rattle.base_types.specs.Scans.{same_scan}
 use Rattle.base_types.specs.declared.scan.Purpose.TheVariants as scans
 use Rattle.event_kinds.specs.declared.entry.Event.TheVariants as events
 use Rattle.rel_desc.specs.declared.error.CommandError.TheVariants as errors
+use Rattle.lock_modes.specs.Own.{cleared}
 use Rattle.ddl_effect.specs.Plans.{Lookup, Column, Write, Plan, Fails, Absent, Do}
 use Rattle.ddl_effect.specs.Commands.{commands_of}
 use Rattle.ddl_effect.specs.Blocks.{no_block}
 use Rattle.history_model.specs.Prefixes.{along_own}
 use Rattle.cacheless.specs.Types.{Purpose, Command, CommandError, Scenario, Entry, Event}
 use Rattle.cacheless.specs.Facts.{Facts, facts_of}
-use Rattle.cacheless.specs.Locks.{locks_by, cleared}
+use Rattle.cacheless.specs.Locks.{locks_by}
 use Rattle.cacheless.specs.Session.{Session, Tally, first_of, at_command}
 use Rattle.cacheless.specs.Owed.{owes_build, owes_accept}
 use Rattle.cacheless.specs.Settled.{settled}

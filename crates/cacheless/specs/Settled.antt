@@ -2,12 +2,12 @@
 use Rattle.std.specs.Prelude.{Bool, true, false, Option, Some, None, List, [], ◌∷◌, ◌++◌, ◌&&◌, is_none}
 use Rattle.base_types.specs.declared.row.Row.TheVariants as rows
 use Rattle.base_types.specs.declared.scan.Purpose.TheVariants as scans
+use Rattle.lock_modes.specs.Own.{has_lock}
 use Rattle.ddl_effect.specs.Plans.{Act, Lookup, Open, Column, Read, Lock, Write, Plan, Do}
 use Rattle.ddl_effect.specs.Blocks.{Blocks, blocks_well, blocks_badly}
 use Rattle.history_model.specs.Writes.{is_empty}
 use Rattle.cacheless.specs.Types.{Oid, Mode, Row, Command, Opening, OwnLock}
 use Rattle.cacheless.specs.Facts.{Facts}
-use Rattle.cacheless.specs.Locks.{has_lock}
 use Rattle.cacheless.specs.Session.{Session, Finished, number_of, first_of, at_command, Well, outcome_of, is_settled}
 use Rattle.cacheless.specs.Owed.{owed_at_start, owed_after, builds_owed, act_owed, owed_of}
 use Rattle.cacheless.specs.Ends.{end_left}

@@ -16,6 +16,6 @@ pub use Rattle.event_kinds.specs.declared.entry.Line.{Line}
 pub use Rattle.rel_desc.specs.declared.error.CommandError.{CommandError}
 pub use Rattle.rel_desc.specs.declared.answer.Answer.{Answer}
 pub use Rattle.rel_desc.specs.declared.answer.Shown.{Shown}
+pub use Rattle.lock_modes.specs.declared.own_lock.OwnLock.{OwnLock}
 pub use Rattle.ddl_effect.specs.declared.draft.Draft.{Draft}
 pub use Rattle.cacheless.specs.declared.opening.Opening.{Opening}
-pub use Rattle.cacheless.specs.declared.own_lock.OwnLock.{OwnLock}

@@ -13,7 +13,5 @@
 #![tactic(auto)]
 
 mod opening;
-mod own_lock;
 
 pub use opening::Opening;
-pub use own_lock::OwnLock;

@@ -14,8 +14,9 @@ use Rattle.event_kinds.specs.declared.entry.Event.{Event}
 use Rattle.event_kinds.specs.declared.entry.Event.TheVariants as events
 use Rattle.event_kinds.specs.declared.entry.Item.{Item}
 use Rattle.event_kinds.specs.declared.entry.Item.TheVariants as items
-use Rattle.history_model.specs.declared.grant.Grant.{Grant}
-use Rattle.history_model.specs.Held.{granted_by, held_by, held_of, first_conflict}
+use Rattle.lock_modes.specs.declared.grant.Grant.{Grant}
+use Rattle.lock_modes.specs.Grants.{first_conflict}
+use Rattle.history_model.specs.Held.{granted_by, held_by, held_of}
 use Rattle.history_model.specs.Drawn.{drawn_by, next_oid_by, next_oid}
 use Rattle.history_model.proofs.Reading.{held_of-more as held-more, next_oid-more as next-more}
 use Rattle.history_model.proofs.Every.{every-weaker, every-append, every-filter, every-both}

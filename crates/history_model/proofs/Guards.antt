@@ -17,11 +17,11 @@ use Rattle.event_kinds.specs.declared.entry.Entry.{Entry}
 use Rattle.event_kinds.specs.declared.entry.Event.{Event}
 use Rattle.event_kinds.specs.declared.entry.Event.TheVariants as events
 use Rattle.event_kinds.specs.declared.entry.Item.{Item}
+use Rattle.lock_modes.specs.declared.grant.Grant.{Grant}
 use Rattle.history_model.specs.Transactions.{Running, running_transaction_of, running_by, begun, after_release, has_xid, runs_as}
 use Rattle.row_visibility.specs.declared.version.Version.{Version}
 use Rattle.row_visibility.specs.declared.version.Stamp.{Stamp}
 use Rattle.history_model.specs.Versions.{versions_of, versions_by, ends, added_row, is_back}
-use Rattle.history_model.specs.declared.grant.Grant.{Grant}
 use Rattle.history_model.specs.Held.{held_of, held_by}
 use Rattle.inval_messages.specs.Lists.{has_write_from}
 use Rattle.history_model.specs.Sent.{lists_of, ends_transaction as ends_at}

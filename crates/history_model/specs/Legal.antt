@@ -2,6 +2,7 @@
 use Rattle.std.specs.Prelude.{ℕ, Bool, true, false, Option, Some, None, List, [], ◌≡◌, ◌≤◌, ◌==◌, ◌-◌, min, length, ⊤}
 use Rattle.std.specs.Option.{option_map}
 use Rattle.std.specs.List.{list_any}
+use Rattle.lock_modes.specs.Grants.{holds, first_conflict}
 use Rattle.inval_messages.specs.Lists.{has_write_from}
 use Rattle.history_model.specs.Types.{Mode, Entry, Event, Start, Look, Fetch, LockOk, LockHeld, Scan, Write, ClashRow, ClashRunning, Visible, Publish, Release, Gone, Stop}
 use Rattle.history_model.specs.Prefixes.{EachEntry}
@@ -10,7 +11,7 @@ use Rattle.history_model.specs.Transactions.{running_transaction_of, is_visible,
 use Rattle.history_model.specs.Versions.{answer_of}
 use Rattle.history_model.specs.Sent.{lists_of, left_in, unsent_of}
 use Rattle.history_model.specs.Log.{log_of, position_of, is_waiting, has_waited}
-use Rattle.history_model.specs.Held.{held_of, holds, first_conflict}
+use Rattle.history_model.specs.Held.{held_of}
 use Rattle.history_model.specs.Names.{users_of, is_named}
 use Rattle.history_model.specs.Writes.{IsWriteAllowed}
 

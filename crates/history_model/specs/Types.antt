@@ -17,6 +17,6 @@ pub use Rattle.event_kinds.specs.declared.entry.Item.{Item}
 pub use Rattle.event_kinds.specs.declared.entry.Item.TheVariants.{Add, Put, Remove, Force}
 pub use Rattle.row_visibility.specs.declared.version.Stamp.{Stamp}
 pub use Rattle.row_visibility.specs.declared.version.Version.{Version}
+pub use Rattle.lock_modes.specs.declared.grant.Grant.{Grant}
 pub use Rattle.inval_messages.specs.declared.message.Message.{Message}
 pub use Rattle.inval_messages.specs.declared.message.Message.TheVariants.{Rel}
-pub use Rattle.history_model.specs.declared.grant.Grant.{Grant}

@@ -7,10 +7,11 @@ use Rattle.base_types.specs.Scans.{same_oid}
 use Rattle.base_types.specs.declared.row.ConKind.TheVariants as demands
 use Rattle.base_types.specs.declared.row.Row.TheVariants as rows
 use Rattle.base_types.specs.declared.scan.Purpose.TheVariants as scans
+use Rattle.lock_modes.specs.Grants.{holds}
 use Rattle.history_model.specs.Types.{Oid, Xid, AccessExclusive, Table, Index, Row, RowKey, Item, Add, Put, Remove, Force, Entry, Event, Write}
 use Rattle.history_model.specs.Transactions.{xid_for}
 use Rattle.history_model.specs.Versions.{ended_key, added_row, old_row, row_with, answer_of}
-use Rattle.history_model.specs.Held.{held_of, holds}
+use Rattle.history_model.specs.Held.{held_of}
 use Rattle.history_model.specs.Drawn.{drawn_by, made_by, next_oid}
 use Rattle.history_model.specs.Names.{new_names, users_of}
 use Rattle.history_model.specs.Covered.{covers_changes}

@@ -31,3 +31,10 @@ impl Message {
         }
     }
 }
+
+impl Default for Message {
+    /// The message that fills a place of a buffer which holds no message yet: for no relation's oid.
+    fn default() -> Message {
+        Message::Rel { rel: Oid(0) }
+    }
+}

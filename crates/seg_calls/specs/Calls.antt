@@ -6,6 +6,7 @@ use Rattle.std.specs.Str.{bytes_eq}
 use Rattle.base_types.specs.RowKeys.{are_distinct_keys}
 use Rattle.base_types.specs.Scenario.{IsBackend}
 use Rattle.base_types.specs.declared.fetched.Fetched.TheVariants as fetches
+use Rattle.lock_modes.specs.declared.granted.LockRefusal.TheVariants as lock_refusals
 use Rattle.ddl_effect.specs.Commands.{commands_of}
 use Rattle.ddl_effect.specs.Drawing.{changes_of}
 use Rattle.history_model.specs.Changes.{items_of}
@@ -20,7 +21,6 @@ use Rattle.history_model.specs.Transactions.{running_transaction_of, is_visible}
 use Rattle.history_model.specs.Versions.{answer_of, ended_key}
 use Rattle.history_model.specs.Writes.{changed_key, has_row, has_written, is_guarded, keeps_kind}
 use Rattle.seg_calls.specs.Types.{Oid, Fetched, NoMemory, Mode, Purpose, Scanned, Scenario, Entry, Event, Fetch, Gone, LockOk, LockHeld, Scan, Write, ClashRow, ClashRunning, Item, Message, Row, Running, Draft, LockRefusal, WriteRefusal, Written}
-use Rattle.seg_calls.specs.declared.refusal.LockRefusal.TheVariants as lock_refusals
 use Rattle.seg_calls.specs.declared.refusal.WriteRefusal.TheVariants as write_refusals
 
 -- the entry of a backend and a command

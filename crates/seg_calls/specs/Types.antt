@@ -15,7 +15,7 @@ pub use Rattle.event_kinds.specs.declared.entry.Item.{Item}
 pub use Rattle.inval_messages.specs.declared.message.Message.{Message}
 pub use Rattle.row_visibility.specs.declared.clash.Clash.{Clash}
 pub use Rattle.row_visibility.specs.declared.clash.Clash.TheVariants.{Row, Running}
+pub use Rattle.lock_modes.specs.declared.granted.LockRefusal.{LockRefusal}
 pub use Rattle.ddl_effect.specs.declared.draft.Draft.{Draft}
-pub use Rattle.seg_calls.specs.declared.refusal.LockRefusal.{LockRefusal}
 pub use Rattle.seg_calls.specs.declared.refusal.WriteRefusal.{WriteRefusal}
 pub use Rattle.seg_calls.specs.declared.refusal.Written.{Written}

@@ -29,5 +29,6 @@
 mod refusal;
 mod seg;
 
-pub use refusal::{LockRefusal, WriteRefusal, Written};
+pub use lock_modes::LockRefusal;
+pub use refusal::{WriteRefusal, Written};
 pub use seg::Seg;

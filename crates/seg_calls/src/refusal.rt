@@ -1,15 +1,6 @@
-use base_types::{Mode, Name, Oid, Xid};
+use base_types::{Name, Oid, Xid};
 use inval_messages::Message;
 use row_visibility::Clash;
-
-/// Why a lock isn't granted.
-#[derive(Clone, Copy)]
-pub enum LockRefusal {
-    /// The first other holder of a conflicting mode, in the order of grants, and that mode.
-    Conflict { holder: u32, mode: Mode },
-    /// Out of memory.
-    NoMemory,
-}
 
 /// What a write has drawn, and the messages that it leaves.
 #[derive(Drop)]

@@ -11,8 +11,9 @@ pub trait Seg {
     ghost use Rattle.std.specs.Prelude.{◌≡◌, ◌≤◌, ◌<◌, ◌^◌, ℕ, false, List, [], length};
     ghost use Rattle.base_types.specs.Scenario.{Scenario, IsBackend};
     ghost use Rattle.event_kinds.specs.declared.entry.Entry.{Entry};
+    ghost use Rattle.lock_modes.specs.Grants.{holds};
     ghost use Rattle.history_model.specs.Drawn.{next_oid};
-    ghost use Rattle.history_model.specs.Held.{held_of, holds};
+    ghost use Rattle.history_model.specs.Held.{held_of};
     ghost use Rattle.history_model.specs.Log.{is_waiting};
     ghost use Rattle.seg_calls.specs.Calls.{entry_of, MayCall, MayRequest, MayWrite, Promises, Appends, due_to, Fetches, Scans, Locks, Writes, ArePublishedNext};
 

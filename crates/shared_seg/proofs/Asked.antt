@@ -6,9 +6,9 @@ use Rattle.base_types.specs.declared.command.Placed.{Placed}
 use Rattle.base_types.specs.Scenario.{Scenario, IsScript}
 use Rattle.event_kinds.specs.declared.entry.Entry.{Entry}
 use Rattle.event_kinds.specs.declared.entry.Event.{Event}
+use Rattle.lock_modes.specs.declared.grant.Grant.{Grant}
 use Rattle.catalog_rows.specs.Store.{Store}
 use Rattle.ddl_effect.specs.Commands.{commands_of}
-use Rattle.history_model.specs.declared.grant.Grant.{Grant}
 use Rattle.history_model.specs.Drawn.{next_oid_by}
 use Rattle.history_model.specs.Held.{held_by}
 use Rattle.history_model.specs.Legal.{AllowsEvent}

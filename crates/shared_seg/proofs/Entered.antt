@@ -4,8 +4,8 @@ use Rattle.std.proofs.lemmas.List.{length-set}
 use Rattle.base_types.specs.Scenario.{Scenario, IsBackend}
 use Rattle.event_kinds.specs.declared.entry.Entry.{Entry}
 use Rattle.event_kinds.specs.declared.entry.Event.{Event}
+use Rattle.lock_modes.specs.declared.grant.Grant.{Grant}
 use Rattle.catalog_rows.specs.Store.{Store}
-use Rattle.history_model.specs.declared.grant.Grant.{Grant}
 use Rattle.history_model.specs.Orderly.{IsOrderly}
 use Rattle.history_model.specs.Drawn.{next_oid_by}
 use Rattle.history_model.specs.Transactions.{last_xid_by, makes_visible}

@@ -4,9 +4,10 @@ use Rattle.std.specs.Option.{option_map}
 use Rattle.base_types.specs.declared.ids.Oid.{Oid}
 use Rattle.base_types.specs.declared.mode.Mode.{Mode}
 use Rattle.event_kinds.specs.declared.entry.Event.TheVariants.{LockOk, LockHeld}
-use Rattle.history_model.specs.declared.grant.Grant.{Grant}
+use Rattle.lock_modes.specs.declared.grant.Grant.{Grant}
+use Rattle.lock_modes.specs.Grants.{holds, first_conflict}
 use Rattle.history_model.specs.Drawn.{next_oid}
-use Rattle.history_model.specs.Held.{held_of, holds, first_conflict}
+use Rattle.history_model.specs.Held.{held_of}
 use Rattle.history_model.specs.Legal.{AllowsEvent}
 use Rattle.shared_seg.specs.LockTable.{Holds}
 use Rattle.shared_seg.specs.declared.lock_table.LockTable.{LockTable}

@@ -9,8 +9,8 @@ use Rattle.base_types.specs.Modes.{conflicts}
 use Rattle.base_types.specs.Scans.{same_oid}
 use Rattle.base_types.specs.declared.ids.Oid.{Oid}
 use Rattle.base_types.specs.declared.mode.Mode.{Mode}
-use Rattle.history_model.specs.declared.grant.Grant.{Grant}
-use Rattle.history_model.specs.Held.{first_conflict}
+use Rattle.lock_modes.specs.declared.grant.Grant.{Grant}
+use Rattle.lock_modes.specs.Grants.{first_conflict}
 use Rattle.shared_seg.specs.declared.lock_table.LockTable.{LockTable}
 use Rattle.shared_seg.specs.GrantLists.{grants_at, stays}
 use Rattle.shared_seg.specs.LockTable.{Holds}

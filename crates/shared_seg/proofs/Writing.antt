@@ -12,6 +12,7 @@ use Rattle.event_kinds.specs.declared.entry.Entry.{Entry}
 use Rattle.event_kinds.specs.declared.entry.Event.TheVariants.{Write, ClashRow, ClashRunning}
 use Rattle.row_visibility.specs.declared.clash.Clash.{Clash}
 use Rattle.row_visibility.specs.declared.clash.Clash.TheVariants.{Row, Running}
+use Rattle.lock_modes.specs.declared.grant.Grant.{Grant}
 use Rattle.seg_calls.specs.declared.refusal.Written.{Written}
 use Rattle.seg_calls.specs.declared.refusal.WriteRefusal.{WriteRefusal}
 use Rattle.seg_calls.specs.declared.refusal.WriteRefusal.TheVariants.{Clash as RefusesClash}
@@ -19,7 +20,6 @@ use Rattle.event_kinds.specs.declared.entry.Item.{Item}
 use Rattle.catalog_rows.specs.Store.{Store, has_committed, after_write}
 use Rattle.ddl_effect.specs.declared.draft.Draft.{Draft}
 use Rattle.ddl_effect.specs.Drawing.{changes_of}
-use Rattle.history_model.specs.declared.grant.Grant.{Grant}
 use Rattle.history_model.specs.Changes.{items_of}
 use Rattle.history_model.specs.Drawn.{next_oid}
 use Rattle.history_model.specs.Held.{granted_by}

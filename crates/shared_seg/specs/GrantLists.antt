@@ -2,7 +2,7 @@
 use Rattle.std.specs.Prelude.{ℕ, Bool, not, List, [], ◌==◌, ◌&&◌, nat_eq, nat_le}
 use Rattle.std.specs.Option.{option_map_or}
 use Rattle.std.specs.HashMap.{get}
-use Rattle.history_model.specs.declared.grant.Grant.{Grant}
+use Rattle.lock_modes.specs.declared.grant.Grant.{Grant}
 use Rattle.shared_seg.specs.declared.grant_lists.GrantLists.{GrantLists}
 
 -- the grants of a number

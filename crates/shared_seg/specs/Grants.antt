@@ -1,6 +1,6 @@
 -- A list of grants.
 use Rattle.std.specs.Prelude.{ℕ, List}
-use Rattle.history_model.specs.declared.grant.Grant.{Grant}
+use Rattle.lock_modes.specs.declared.grant.Grant.{Grant}
 
 -- the grants, and for how many more there is room
 pub record Grants : Type 0 where

@@ -1,6 +1,6 @@
 -- The locks that are held.
 use Rattle.std.specs.Prelude.{ℕ, List, ◌≡◌, ◌≤◌, ◌<◌, ◌==◌, filter, slice_index_or}
-use Rattle.history_model.specs.declared.grant.Grant.{Grant}
+use Rattle.lock_modes.specs.declared.grant.Grant.{Grant}
 use Rattle.shared_seg.specs.GrantLists.{grants_at, room_at}
 use Rattle.shared_seg.specs.declared.lock_table.LockTable.{LockTable}
 

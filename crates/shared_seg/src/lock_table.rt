@@ -2,8 +2,8 @@ ghost use Rattle.std.specs.Prelude.{◌≡◌, ◌++◌, ◌==◌, ◌&&◌, ℕ
 ghost use Rattle.std.specs.List.{find, list_any};
 ghost use Rattle.base_types.specs.Modes.{conflicts as do_conflict};
 ghost use Rattle.base_types.specs.Scans.{same_oid};
-ghost use Rattle.history_model.specs.declared.grant.Grant.{Grant};
-ghost use Rattle.history_model.specs.Held.{first_conflict};
+ghost use Rattle.lock_modes.specs.declared.grant.Grant.{Grant};
+ghost use Rattle.lock_modes.specs.Grants.{first_conflict};
 ghost use Rattle.shared_seg.specs.GrantLists.{grants_at, stays};
 ghost use Rattle.shared_seg.specs.LockTable.{Holds, HasRoom};
 

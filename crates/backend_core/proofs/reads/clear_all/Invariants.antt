@@ -1,5 +1,5 @@
 use Rattle.std.proofs.Common.{◌≡◌, ◌++◌, map, take, drop}
-use Rattle.cacheless.specs.Locks.{cleared}
+use Rattle.lock_modes.specs.Own.{cleared}
 use Rattle.backend_core.proofs.reads.clear_all.Given as goal
 
 abbrev pub invariant-loop-lock : goal.invariant-loop-lock

@@ -1,0 +1,5 @@
+mod Marks
+mod Filters
+mod Conflicts
+mod Room
+mod Releasing
