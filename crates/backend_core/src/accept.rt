@@ -3,19 +3,16 @@
 // `src/backend/storage/ipc/sinval.c`): a look, and where messages wait a fetch of at most 32, after
 // which it looks again exactly where the fetch gave 32.
 
-ghost use Rattle.std.specs.Prelude.{◌≡◌, ◌≢◌, ◌<◌, true, false, [], filter, list_any};
-ghost use Rattle.base_types.specs.Scans.{is_build_scan};
-ghost use Rattle.cacheless.specs.Locks.{cleared};
-ghost use Rattle.inval_messages.specs.Messages.{covers as is_covered_by, is_spared};
-ghost use Rattle.backend_core.specs.State.{phase_looked, phase_fetched, locks_accepted, kept_spared as spared, scans_missing};
+ghost use Rattle.std.specs.Prelude.{◌≡◌, ◌≢◌, ◌<◌, false, []};
+ghost use Rattle.backend_core.specs.State.{begun_own, phase_looked, phase_fetched, locks_accepted, scans_missing};
 
-use crate::begun::begun_own;
-use crate::{Backend, KeptScan, Phase};
+use crate::execute::execute;
+use crate::{Backend, OwnTransaction, Phase};
 use arrayvec::ArrayVec;
-use base_types::{Fetched, Purpose};
-use inval_messages::Message;
+use base_types::Fetched;
 use lock_modes::OwnLocks;
 use seg_calls::Seg;
+use std::alloc::Global;
 
 // The most messages that one fetch gives.
 const MOST_FETCHED: u32 = 32;
@@ -37,7 +34,7 @@ impl Backend {
         let number = self.finished + 1;
         let some_wait = seg.waits(self.id);
         seg.looked(self.id, number, some_wait);
-        self.running = Some(begun_own(number, self.running));
+        self.running = Some(running_from(number, self.running));
         self.phase = after_look(some_wait);
         accept(&mut self.locks, self.phase);
     }
@@ -60,7 +57,7 @@ impl Backend {
     }
 
     // The fetch of messages that wait. What they cover isn't relied on any more.
-    pub(crate) fn fetch<L: Seg>(&mut self, seg: &mut L)
+    pub(crate) fn fetch<L: Seg>(&mut self, alloc: Global, seg: &mut L)
         requires agrees { Agrees (L.script seg.old) (L.history seg.old) self.old }
         requires played { IsPlayed (L.script seg.old) (L.history seg.old) }
         requires place { 0 < L.promised seg.old self.old.id }
@@ -73,7 +70,7 @@ impl Backend {
             Fetched::Messages(count) => count,
             Fetched::Reset => unreachable!(),
         };
-        execute(&mut self.kept, messages.as_slice());
+        execute(alloc, &mut self.kept, messages.as_slice());
         self.phase = after_fetch(count);
         accept(&mut self.locks, self.phase);
     }
@@ -111,10 +108,12 @@ fn accept(locks: &mut OwnLocks, phase: Phase)
     }
 }
 
-// Executes messages: what they cover isn't kept any more (`LocalExecuteInvalidationMessage` in
-// `src/backend/utils/cache/inval.c`).
-pub(crate) fn execute(kept: &mut Listed<KeptScan>, messages: &[Message])
-    ensures { kept.new ≡ spared messages.now kept.old }
+// The running transaction, or one that begins with this command.
+fn running_from(number: u32, running: Option<OwnTransaction>) -> OwnTransaction
+    ensures { result ≡ begun_own number running }
 {
-    kept.retain(|k: &KeptScan| !messages.iter().any(|message| covers(message, &k.scan)));
+    running.unwrap_or(OwnTransaction {
+        first: number,
+        xid: None,
+    })
 }

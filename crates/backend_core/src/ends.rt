@@ -1,12 +1,13 @@
-ghost use Rattle.std.specs.Prelude.{◌≡◌, ◌≤◌, filter, length, nat_lt, take};
+ghost use Rattle.std.specs.Prelude.{◌≡◌, ◌≤◌, length, take};
 ghost use Rattle.inval_messages.specs.Lists.{sent_in, unsent_after};
+ghost use Rattle.backend_core.specs.State.{lists_at};
 
-use crate::accept::execute;
+use crate::execute::execute;
 use crate::{Backend, Life, Phase};
 use base_types::Xid;
 use inval_messages::Message;
-use cacheless::OwnLock;
 use seg_calls::Seg;
+use std::alloc::Global;
 
 // The most messages that one publish puts into the queue.
 const MOST_PUBLISHED: usize = 64;
@@ -69,7 +70,7 @@ impl Backend {
     }
 
     // What it wrote from this command on is taken back.
-    pub(crate) fn take_back<L: Seg>(&mut self, seg: &mut L, from: u32)
+    pub(crate) fn take_back<L: Seg>(&mut self, alloc: Global, seg: &mut L, from: u32)
         requires agrees { Agrees (L.script seg.old) (L.history seg.old) self.old }
         requires played { IsPlayed (L.script seg.old) (L.history seg.old) }
         requires place { 0 < L.promised seg.old self.old.id }
@@ -78,8 +79,8 @@ impl Backend {
         ensures enters { Enters (L.script seg.old) (L.history seg.old) (L.history seg.new) self.old self.new }
     {
         seg.gone(self.id, self.finished + 1, from);
-        execute(&mut self.kept, self.lists.cats_from(from));
-        execute(&mut self.kept, self.lists.rels_from(from));
+        execute(alloc, &mut self.kept, self.lists.cats_from(from));
+        execute(alloc, &mut self.kept, self.lists.rels_from(from));
         self.lists.abort_from(from);
         self.phase = Phase::TakenBack { from };
     }
@@ -94,7 +95,7 @@ impl Backend {
         ensures enters { Enters (L.script seg.old) (L.history seg.old) (L.history seg.new) self.old self.new }
     {
         seg.release(self.id, self.finished + 1, from);
-        keep_locks(&mut self.locks, from);
+        self.locks.release(from);
         self.lists.clear();
         self.running = None;
         self.phase = Phase::Ended;
@@ -111,11 +112,4 @@ impl Backend {
         seg.stop(self.id, self.finished + 1);
         self.life = Life::Stopped;
     }
-}
-
-// Only the locks of commands before this one stay.
-fn keep_locks(locks: &mut Vec<OwnLock>, from: u32)
-    ensures { locks.new.items ≡ filter (λ lock. nat_lt lock.command from) locks.old.items }
-{
-    locks.retain(|lock: &OwnLock| lock.command < from);
 }

@@ -33,10 +33,12 @@
 //! descriptor as a whole.
 #![tactic(auto)]
 
+mod accept;
 mod answers;
 mod backend;
 mod begun;
 mod ends;
+mod execute;
 mod finish;
 mod join;
 mod kept_scan;

@@ -1,52 +1,15 @@
-// The looks, the scans and the locks of a backend.
+// The scans and the locks of a backend.
 
-ghost use Rattle.std.specs.Prelude.{◌≡◌, map};
-ghost use Rattle.lock_modes.specs.Own.{cleared};
-ghost use Rattle.backend_core.specs.State.{begun_own};
-
-use crate::{Backend, KeptScan, OwnTransaction, Phase};
+use crate::{Backend, KeptScan, Phase};
 use base_types::{Listed, Mode, Name, NoMemory, Oid, Purpose};
-use cacheless::OwnLock;
 use ddl_effect::Exec;
 use rel_desc::CommandError;
 use seg_calls::{LockRefusal, Seg};
 
 impl Backend {
-    ghost use Rattle.std.specs.Prelude.{◌≡◌, ◌≢◌, ◌<◌, [], true, false, OnOk};
-    ghost use Rattle.backend_core.specs.State.{scans_missing};
+    ghost use Rattle.std.specs.Prelude.{◌≡◌, true, OnOk};
     ghost use Rattle.backend_core.specs.Agrees.{Agrees, IsPlayed};
-    ghost use Rattle.backend_core.specs.Steps.{Enters, OwesLookNow, IsWorking, NextLookUp, NextBuild, NextLock};
-
-    // The look that is owed: at its transaction's start, or after a grant.
-    pub(crate) fn look<L: Seg>(&mut self, seg: &mut L)
-        requires agrees { Agrees (L.script seg.old) (L.history seg.old) self.old }
-        requires played { IsPlayed (L.script seg.old) (L.history seg.old) }
-        requires place { 0 < L.promised seg.old self.old.id }
-        requires next { OwesLookNow self.old }
-        ensures script { L.script seg.new ≡ L.script seg.old }
-        ensures enters { Enters (L.script seg.old) (L.history seg.old) (L.history seg.new) self.old self.new }
-    {
-        let number = self.finished + 1;
-        seg.looked(self.id, number, false);
-        self.phase = Phase::Working;
-        self.running = Some(begun(number, self.running));
-        clear_all(&mut self.locks);
-    }
-
-    // The look before a scan.
-    pub(crate) fn look_before_scan<L: Seg>(&mut self, seg: &mut L)
-        requires agrees { Agrees (L.script seg.old) (L.history seg.old) self.old }
-        requires played { IsPlayed (L.script seg.old) (L.history seg.old) }
-        requires place { 0 < L.promised seg.old self.old.id }
-        requires works { IsWorking self.old }
-        requires missing { scans_missing self.old ≢ [] }
-        requires unlooked { self.old.looked ≡ false }
-        ensures script { L.script seg.new ≡ L.script seg.old }
-        ensures enters { Enters (L.script seg.old) (L.history seg.old) (L.history seg.new) self.old self.new }
-    {
-        seg.looked(self.id, self.finished + 1, false);
-        self.looked = true;
-    }
+    ghost use Rattle.backend_core.specs.Steps.{Enters, IsWorking, NextLookUp, NextBuild, NextLock};
 
     // The scan of a name.
     pub(crate) fn look_up<L: Seg>(&mut self, seg: &mut L, name: Name) -> Result<(), NoMemory>
@@ -96,16 +59,12 @@ impl Backend {
         ensures script { L.script seg.new ≡ L.script seg.old }
         ensures enters { OnOk result (Enters (L.script seg.old) (L.history seg.old) (L.history seg.new) self.old self.new) }
     {
+        self.locks.reserve()?;
         let number = self.finished + 1;
         match seg.lock(self.id, number, rel, mode) {
             Ok(()) => {
-                self.locks.push(OwnLock {
-                    rel,
-                    mode,
-                    command: number,
-                    clear: false,
-                })?;
-                self.phase = Phase::Granted;
+                self.locks.add(rel, mode, number);
+                self.phase = Phase::Looking;
                 Ok(())
             }
             Err(LockRefusal::Conflict { holder, mode: held }) => {
@@ -118,24 +77,5 @@ impl Backend {
             }
             Err(LockRefusal::NoMemory) => Err(NoMemory),
         }
-    }
-}
-
-// The running transaction, or one that begins with this command.
-fn begun(number: u32, running: Option<OwnTransaction>) -> OwnTransaction
-    ensures { result ≡ begun_own number running }
-{
-    running.unwrap_or(OwnTransaction {
-        first: number,
-        xid: None,
-    })
-}
-
-// Makes all locks clear.
-fn clear_all(locks: &mut Vec<OwnLock>)
-    ensures { locks.new.items ≡ map cleared locks.old.items }
-{
-    for lock in locks.iter_mut() {
-        lock.clear = true;
     }
 }

@@ -50,14 +50,14 @@ impl Backend {
         match next {
             Next::Look => self.look(seg),
             Next::LookBeforeScan => self.look_before_scan(seg),
-            Next::Fetch => self.fetch(seg),
+            Next::Fetch => self.fetch(alloc, seg),
             Next::LookUp(name) => self.look_up(seg, *name)?,
             Next::Build(scan) => self.build(seg, scan)?,
             Next::Lock { rel, mode } => self.lock(seg, *rel, *mode)?,
             Next::Write => self.write(alloc, seg)?,
             Next::Commit { xid } => self.commit(seg, *xid),
             Next::Publish => self.publish(seg),
-            Next::TakeBack { from } => self.take_back(seg, *from),
+            Next::TakeBack { from } => self.take_back(alloc, seg, *from),
             Next::Release { from } => self.release(seg, *from),
             Next::Leave | Next::Find | Next::Open { .. } | Next::Answer | Next::Finish => {
                 unreachable!()

@@ -1,11 +1,15 @@
-ghost use Rattle.std.specs.Prelude.{◌≡◌, Some};
+ghost use Rattle.std.specs.Prelude.{◌≡◌, ◌≤◌, ◌++◌, ◌∷◌, [], Some, OnOk};
+ghost use Rattle.std.specs.List.{AllByRecursion};
+ghost use Rattle.command_lists.specs.Lists.{all_lists, list_of};
 ghost use Rattle.std.specs.Option.{option_map_or};
 ghost use Rattle.backend_core.specs.Refusals.{error_of as error_after};
 
+use crate::execute::execute;
 use crate::{Backend, OwnTransaction};
-use base_types::{Listed, Mode, NoMemory, Xid};
-use cacheless::OwnLock;
+use base_types::{Listed, NoMemory, Xid};
+use command_lists::InvalLists;
 use ddl_effect::Exec;
+use inval_messages::Message;
 use rel_desc::CommandError;
 use row_visibility::Clash;
 use seg_calls::{Seg, WriteRefusal};
@@ -27,18 +31,14 @@ impl Backend {
         ensures script { L.script seg.new ≡ L.script seg.old }
         ensures enters { OnOk result (Enters (L.script seg.old) (L.history seg.old) (L.history seg.new) self.old self.new) }
     {
-        self.locks.reserve(1)?;
+        self.locks.reserve()?;
         let command = self.finished + 1;
         let draft = replace(&mut self.exec, Exec::Done).into_draft();
         match seg.write(self.id, command, &draft) {
             Ok(written) => {
-                self.register(command, &written.messages)?;
-                self.locks.push_reserved(OwnLock {
-                    rel: written.first_oid,
-                    mode: Mode::AccessExclusive,
-                    command,
-                    clear: true,
-                });
+                register(&mut self.lists, command, &written.messages)?;
+                execute(alloc, &mut self.kept, written.messages.as_slice());
+                self.locks.add_new(written.first_oid, command);
                 self.running = Some(with_xid(self.running, command, written.xid));
                 self.opened = Listed::new(alloc);
                 self.read = false;
@@ -53,6 +53,20 @@ impl Backend {
             }
         }
     }
+}
+
+// The messages of a command's write go to its list, which is done with them: a command writes last.
+fn register(lists: &mut InvalLists, command: u32, messages: &Vec<Message>) -> Result<(), NoMemory>
+    requires { AllByRecursion (λ list. list.command ≤ command) (all_lists lists.old.lists) }
+    ensures { OnOk result (all_lists lists.new.lists ≡ all_lists lists.old.lists ++ list_of command messages.now.items ∷ []) }
+{
+    lists.reserve(messages.len())?;
+    lists.begin_command(command);
+    for message in messages {
+        lists.register(command, *message);
+    }
+    lists.end_command();
+    Ok(())
 }
 
 // The error with which a refused write ends its command, if it does.
