@@ -1,3 +1,5 @@
 mod Order
 mod Ranges
 mod Parts
+mod Registering
+mod Aborting

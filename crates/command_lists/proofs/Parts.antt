@@ -24,7 +24,7 @@ pub all-lists : (cats rels : List Message) (ended : List Start) (running : Optio
 all-lists cats rels ended None = sym (until-append cats rels ended [] (end_of cats rels))
 all-lists cats rels ended (Some start) = sym (until-append cats rels ended (start ∷ []) (end_of cats rels))
 
-before-more : (a b c : Place) → IsBefore a b → IsBefore b c → IsBefore a c
+pub before-more : (a b c : Place) → IsBefore a b → IsBefore b c → IsBefore a c
 before-more a b c low high = (omega (arith, low.0, high.0), omega (arith, low.1, high.1))
 
 -- the first list doesn't begin past the end
