@@ -1,16 +1,16 @@
 -- The lists of a command and of those after it are taken away: both vectors are cut where the first of them begins.
-use Rattle.std.proofs.Common.{◌≡◌, ◌∙◌, ℕ, ◌+◌, ◌≤◌, ◌<◌, Bool, true, false, Option, Some, None, List, [], ◌∷◌, ◌++◌, length, filter, take, drop, nat_le, nat_lt, refl, sym, ap, subst, arith, append-nil, ltb-true, ltb-false, leb-true, le-leb, lt-ltb, length-append}
-use Rattle.std.specs.Option.{option_map, option_to_list}
-use Rattle.std.specs.List.{slice_range, AllByRecursion}
+use Rattle.std.proofs.Common.{◌≡◌, ◌∙◌, ℕ, ◌≤◌, Bool, true, false, Option, Some, None, List, [], ◌∷◌, ◌++◌, length, filter, take, drop, nat_le, nat_lt, refl, sym, ap, subst, arith, append-nil, ltb-true, ltb-false, leb-true, le-leb, lt-ltb, length-append}
+use Rattle.std.specs.Option.{option_to_list}
+use Rattle.std.specs.List.{AllByRecursion}
 use Rattle.std.proofs.lemmas.List.{take-append-drop, length-take-le}
 use Rattle.std.proofs.lemmas.List.Elements.{filter-append}
 use Rattle.std.proofs.Math.Seq.{take-length}
-use Rattle.inval_messages.specs.Lists.{Written, lists_before}
+use Rattle.inval_messages.specs.Lists.{lists_before}
 use Rattle.command_lists.specs.Types.{Message, Place, Start}
-use Rattle.command_lists.specs.Lists.{CommandLists, aborted, running_before}
+use Rattle.command_lists.specs.Lists.{aborted}
 use Rattle.command_lists.specs.Starts.{AreInOrder, AreWithin, AreKept, IsBefore, end_of, first_of, list_between, lists_until, lists_in, running_until}
-use Rattle.command_lists.proofs.Order.{filter-all, filter-none, kept, left_out}
-use Rattle.command_lists.proofs.Parts.{starts_from, starts_before, until-more, before-until, within-before, first-append, first-before, cut-before, order-left, order-filter}
+use Rattle.command_lists.proofs.Order.{filter-none, kept, left_out}
+use Rattle.command_lists.proofs.Parts.{starts_from, starts_before, until-more, before-until, within-before, first-append, cut-before, order-left, order-filter}
 use Rattle.command_lists.proofs.Registering.{within-earlier, last-before}
 
 -- both vectors end where they are cut

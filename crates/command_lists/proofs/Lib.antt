@@ -3,3 +3,4 @@ mod Ranges
 mod Parts
 mod Registering
 mod Aborting
+pub mod Writes

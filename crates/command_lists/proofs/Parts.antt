@@ -1,13 +1,13 @@
 -- The lists between their starts.
-use Rattle.std.proofs.Common.{◌≡◌, ◌∙◌, ℕ, ◌+◌, ◌≤◌, Bool, true, false, Option, Some, None, List, [], ◌∷◌, ◌++◌, length, filter, take, drop, nat_le, nat_lt, refl, sym, ap, subst, arith, le-leb, leb-true, ltb-true, lt-ltb, ltb-false, leb-false}
+use Rattle.std.proofs.Common.{◌≡◌, ◌∙◌, ℕ, ◌≤◌, Bool, true, false, Option, Some, None, List, [], ◌∷◌, ◌++◌, length, filter, nat_le, nat_lt, refl, sym, ap, subst, arith, le-leb, leb-true, ltb-true, lt-ltb, leb-false}
 use Rattle.std.specs.Option.{option_to_list}
-use Rattle.std.specs.List.{slice_range, flat_map, AllByRecursion}
+use Rattle.std.specs.List.{slice_range, AllByRecursion}
 use Rattle.inval_messages.specs.Lists.{Written, cats_in, rels_in, lists_from, lists_before}
 use Rattle.command_lists.specs.Types.{Message, Place, Start}
-use Rattle.command_lists.specs.Lists.{CommandLists, all_lists, command_ended}
+use Rattle.command_lists.specs.Lists.{all_lists, command_ended}
 use Rattle.command_lists.specs.Starts.{AreInOrder, AreWithin, IsBefore, end_of, first_of, list_between, lists_until, lists_in}
 use Rattle.command_lists.proofs.Order.{filter-all, filter-none, kept, left_out}
-use Rattle.command_lists.proofs.Ranges.{range-none, range-join, range-before, range-last}
+use Rattle.command_lists.proofs.Ranges.{range-none, range-join, range-before}
 
 pub first-append : (xs ys : List Start) (end : Place) → first_of (xs ++ ys) end ≡ first_of xs (first_of ys end)
 first-append [] ys end = refl

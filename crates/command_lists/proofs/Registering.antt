@@ -5,12 +5,12 @@ use Rattle.std.specs.List.{slice_range, list_any, AllByRecursion}
 use Rattle.base_types.specs.declared.ids.Oid.{Oid}
 use Rattle.base_types.specs.declared.key.CacheId.{CacheId}
 use Rattle.inval_messages.specs.Messages.{same_message}
-use Rattle.inval_messages.specs.Lists.{Written, once_more}
+use Rattle.inval_messages.specs.Lists.{Written}
 use Rattle.command_lists.specs.Types.{Message, Cat, Rel, Place, Start}
-use Rattle.command_lists.specs.Lists.{CommandLists, all_lists, new_list, with_message, registered, begun, is_of}
-use Rattle.command_lists.specs.Starts.{AreInOrder, AreWithin, AreKept, IsBefore, end_of, first_of, list_between, lists_until, lists_in, runs, ended_by, running_by}
+use Rattle.command_lists.specs.Lists.{CommandLists, all_lists, new_list, with_message, registered, begun}
+use Rattle.command_lists.specs.Starts.{AreInOrder, AreWithin, AreKept, IsBefore, end_of, list_between, lists_until, lists_in, ended_by, running_by}
 use Rattle.command_lists.proofs.Ranges.{range-none, range-last}
-use Rattle.command_lists.proofs.Parts.{all-lists, until-more, first-before, before-more}
+use Rattle.command_lists.proofs.Parts.{all-lists, until-more, before-more}
 
 empty-list : (cats rels : List Message) (command : ℕ) → list_between cats rels (record { command = command; at = end_of cats rels }) (end_of cats rels) ≡ new_list command
 empty-list cats rels command =

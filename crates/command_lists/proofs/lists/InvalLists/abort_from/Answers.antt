@@ -1,4 +1,4 @@
-use Rattle.std.proofs.Common.{◌≡◌, ◌∙◌, ap, subst, sym}
+use Rattle.std.proofs.Common.{◌∙◌, ap, subst, sym}
 use Rattle.std.specs.Option.{option_to_list}
 use Rattle.std.specs.Vec.{vec_capacity}
 use Rattle.command_lists.specs.Lists.{aborted}

@@ -1,10 +1,9 @@
-use Rattle.std.proofs.Common.{◌≡◌, ◌∙◌, ◌≤◌, ◌<◌, ◌+◌, ◌++◌, ◌∷◌, [], Some, length, ap, sym, subst, arith, length-append}
+use Rattle.std.proofs.Common.{◌∙◌, ◌≤◌, ◌<◌, ◌+◌, ◌++◌, ◌∷◌, [], length, ap, sym, subst, arith, length-append}
 use Rattle.std.specs.List.{AllByRecursion}
 use Rattle.std.specs.Option.{option_to_list}
 use Rattle.std.specs.Vec.{vec_capacity}
 use Rattle.command_lists.specs.Types.{Cat, Rel}
 use Rattle.command_lists.specs.Lists.{all_lists, registered}
-use Rattle.command_lists.specs.Starts.{AreKept, lists_in}
 use Rattle.command_lists.proofs.Registering.{cat-registered, rel-registered, kept-begun}
 use Rattle.command_lists.proofs.lists.InvalLists.register.Goals as goal
 
