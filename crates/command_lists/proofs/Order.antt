@@ -1,6 +1,6 @@
 -- Lists in the order of their commands, parted at one.
-use Rattle.std.proofs.Common.{◌≡◌, ◌∙◌, ℕ, zero, suc, ◌+◌, ◌<◌, ◌≤◌, Bool, true, false, not, List, [], ◌∷◌, ◌++◌, length, get_or, take, drop, filter, cond, nat_le, nat_lt, refl, sym, ap, arith, add-one, leb-true, le-leb, lt-ltb, ltb-true, leb-false, ltb-false}
-use Rattle.std.specs.List.{AllByRecursion, AllWithin}
+use Rattle.std.proofs.Common.{◌≡◌, ◌∙◌, ℕ, zero, suc, ◌<◌, ◌≤◌, Bool, true, false, not, List, [], ◌∷◌, length, get_or, take, drop, filter, nat_le, nat_lt, refl, sym, ap, arith, leb-true, lt-ltb, ltb-true, leb-false, ltb-false}
+use Rattle.std.specs.List.{AllByRecursion}
 use Rattle.std.specs.List.Sorted.{IsPartitionedBy, IsPartitionPoint}
 use Rattle.command_lists.specs.Types.{Start}
 use Rattle.command_lists.specs.Starts.{AreInOrder}

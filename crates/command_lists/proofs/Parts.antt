@@ -1,13 +1,13 @@
 -- The lists between their starts.
-use Rattle.std.proofs.Common.{◌≡◌, ◌∙◌, ℕ, ◌+◌, ◌≤◌, Bool, true, false, Option, Some, None, List, [], ◌∷◌, ◌++◌, length, filter, take, drop, nat_le, nat_lt, refl, sym, ap, subst, arith, le-leb, leb-true, ltb-true, lt-ltb, ltb-false, leb-false}
+use Rattle.std.proofs.Common.{◌≡◌, ◌∙◌, ℕ, ◌≤◌, Bool, true, false, Option, Some, None, List, [], ◌∷◌, ◌++◌, length, filter, nat_le, nat_lt, refl, sym, ap, subst, arith, le-leb, leb-true, ltb-true, lt-ltb, leb-false}
 use Rattle.std.specs.Option.{option_to_list}
-use Rattle.std.specs.List.{slice_range, flat_map, AllByRecursion}
+use Rattle.std.specs.List.{slice_range, AllByRecursion}
 use Rattle.inval_messages.specs.Lists.{Written, cats_in, rels_in, lists_from, lists_before}
 use Rattle.command_lists.specs.Types.{Message, Place, Start}
-use Rattle.command_lists.specs.Lists.{CommandLists, all_lists, command_ended}
+use Rattle.command_lists.specs.Lists.{all_lists, command_ended}
 use Rattle.command_lists.specs.Starts.{AreInOrder, AreWithin, IsBefore, end_of, first_of, list_between, lists_until, lists_in}
 use Rattle.command_lists.proofs.Order.{filter-all, filter-none, kept, left_out}
-use Rattle.command_lists.proofs.Ranges.{range-none, range-join, range-before, range-last}
+use Rattle.command_lists.proofs.Ranges.{range-none, range-join, range-before}
 
 pub first-append : (xs ys : List Start) (end : Place) → first_of (xs ++ ys) end ≡ first_of xs (first_of ys end)
 first-append [] ys end = refl
@@ -24,7 +24,7 @@ pub all-lists : (cats rels : List Message) (ended : List Start) (running : Optio
 all-lists cats rels ended None = sym (until-append cats rels ended [] (end_of cats rels))
 all-lists cats rels ended (Some start) = sym (until-append cats rels ended (start ∷ []) (end_of cats rels))
 
-before-more : (a b c : Place) → IsBefore a b → IsBefore b c → IsBefore a c
+pub before-more : (a b c : Place) → IsBefore a b → IsBefore b c → IsBefore a c
 before-more a b c low high = (omega (arith, low.0, high.0), omega (arith, low.1, high.1))
 
 -- the first list doesn't begin past the end

@@ -1,6 +1,6 @@
 -- How the lists are kept: all catalog parts in one vector, all relation parts in another, and where each list begins in both.
-use Rattle.std.specs.Prelude.{ℕ, ⊤, Option, List, [], ◌∷◌, ◌++◌, ◌≤◌, ◌+◌, ◌-◌, length, min}
-use Rattle.std.specs.Option.{option_map, option_to_list}
+use Rattle.std.specs.Prelude.{ℕ, ⊤, Bool, true, false, Option, Some, None, List, [], ◌∷◌, ◌++◌, ◌==◌, ◌≤◌, ◌+◌, nat_lt, length}
+use Rattle.std.specs.Option.{option_map, option_map_or, option_to_list}
 use Rattle.std.specs.List.{slice_range, AllByRecursion}
 use Rattle.inval_messages.specs.Lists.{Written}
 use Rattle.command_lists.specs.Types.{Message, Place, Start}
@@ -30,6 +30,24 @@ lists_in cats rels ended running = record {
   earlier = lists_until cats rels ended (first_of (option_to_list running) (end_of cats rels));
   running = option_map (λ start. list_between cats rels start (end_of cats rels)) running;
 }
+
+-- the list that runs is of the command
+abbrev pub runs : ℕ → Option Start → Bool
+runs command running = option_map_or (λ start. start.command == command) running false
+
+-- the lists that have ended once the command's list runs
+abbrev pub ended_by : ℕ → List Start → Option Start → List Start
+ended_by command ended running = elim (runs command running) [ true ↦ ended | false ↦ ended ++ option_to_list running ]
+
+-- the list that runs then: the same, or one that begins at the end
+abbrev pub running_by : ℕ → Place → Option Start → Start
+running_by command end None = record { command = command; at = end }
+running_by command end (Some start) = elim (start.command == command) [ true ↦ start | false ↦ record { command = command; at = end } ]
+
+-- the list that runs, where its command is before this one
+abbrev pub running_until : ℕ → Option Start → Option Start
+running_until from None = None
+running_until from (Some start) = elim (nat_lt start.command from) [ true ↦ Some start | false ↦ None ]
 
 -- a place is not past another
 abbrev pub IsBefore : Place → Place → Type 0

@@ -1,9 +1,10 @@
 ghost use Rattle.std.specs.Prelude.{◌≡◌, ◌≤◌, ◌<◌, ◌+◌, OnOk};
-ghost use Rattle.std.specs.List.{AllByRecursion};
+ghost use Rattle.std.specs.List.{AllByRecursion, list_any};
+ghost use Rattle.inval_messages.specs.Messages.{same_message};
 ghost use Rattle.inval_messages.specs.Lists.{cats_in, rels_in, lists_from};
 ghost use Rattle.command_lists.specs.Starts.{end_of as whole};
 
-use crate::start::{Place, Start, place_from};
+use crate::start::{Place, Start, begin, count_before, place_from, running_before};
 use base_types::NoMemory;
 use inval_messages::Message;
 use std::alloc::Global;
@@ -65,6 +66,29 @@ impl InvalLists {
         Ok(())
     }
 
+    /// Adds a message to the command's list, which runs from now on: one for a catalog cache always, one
+    /// for a descriptor unless the list has it (`AddCatcacheInvalidationMessage` and
+    /// `AddRelcacheInvalidationMessage` in inval.c). Conditions: a spare place, and no list of a later
+    /// command.
+    pub fn register(&mut self, command: u32, message: Message)
+        requires place { 0 < self.old.spare }
+        requires order { AllByRecursion (λ list. list.command ≤ command) (all_lists self.old.lists) }
+        ensures lists { self.new.lists ≡ registered command message self.old.lists }
+        ensures spare { self.old.spare ≤ self.new.spare + 1 }
+    {
+        let end = end_of(&self.cats, &self.rels);
+        let start = begin(&mut self.ended, self.running, command, end);
+        self.running = Some(start);
+        match message {
+            Message::Cat { .. } => self.cats.push_reserved(message),
+            Message::Rel { .. } => {
+                if !is_among(&self.rels[start.at.rels..], message) {
+                    self.rels.push_reserved(message);
+                }
+            }
+        }
+    }
+
     /// The running command's list is done: it is the last of the earlier ones now
     /// (`CommandEndInvalidationMessages` in inval.c, which executes it first).
     pub fn end_command(&mut self)
@@ -75,6 +99,32 @@ impl InvalLists {
             self.ended.push_reserved(start);
             self.running = None;
         }
+    }
+
+    /// Takes away the lists of this command and of those after it (`AtEOSubXact_Inval` in inval.c, which
+    /// executes them first).
+    pub fn abort_from(&mut self, from: u32)
+        ensures lists { self.new.lists ≡ aborted from self.old.lists }
+        ensures spare { self.old.spare ≤ self.new.spare }
+    {
+        let end = end_of(&self.cats, &self.rels);
+        let at = place_from(&self.ended, self.running, end, from);
+        let count = count_before(&self.ended, from);
+        self.cats.truncate(at.cats);
+        self.rels.truncate(at.rels);
+        self.ended.truncate(count);
+        self.running = running_before(self.running, from);
+    }
+
+    /// Takes away all lists, at a transaction's end (`AtEOXact_Inval` in inval.c).
+    pub fn clear(&mut self)
+        ensures lists { self.new.lists ≡ no_lists }
+        ensures spare { self.old.spare ≤ self.new.spare }
+    {
+        self.cats.clear();
+        self.rels.clear();
+        self.ended.clear();
+        self.running = None;
     }
 
     /// The messages for the catalog caches of this command and of those after it, in order. From the
@@ -114,4 +164,11 @@ fn end_of(cats: &[Message], rels: &[Message]) -> Place
         cats: cats.len(),
         rels: rels.len(),
     }
+}
+
+// Whether the message is one of these.
+fn is_among(messages: &[Message], message: Message) -> bool
+    ensures { result ≡ list_any (same_message message) messages.now }
+{
+    messages.iter().any(|other| message.is_same(*other))
 }

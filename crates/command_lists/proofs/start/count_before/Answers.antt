@@ -1,4 +1,4 @@
-use Rattle.std.proofs.Common.{◌≡◌, nat_le, nat_lt, take, drop, filter, rules}
+use Rattle.std.proofs.Common.{nat_le, nat_lt, rules}
 use Rattle.std.proofs.lemmas.List.Sorted.{IsPartitionPoint-from_clause}
 use Rattle.command_lists.proofs.Order.{parted, cut_at, either_side}
 use Rattle.command_lists.proofs.start.count_before.Goals as goal

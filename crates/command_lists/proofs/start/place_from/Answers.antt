@@ -1,4 +1,4 @@
-use Rattle.std.proofs.Common.{◌≡◌, ◌++◌, nat_le, filter, subst, sym, rules, arith}
+use Rattle.std.proofs.Common.{◌≡◌, ◌++◌, nat_le, filter, subst, sym, arith}
 use Rattle.std.specs.Option.{option_to_list}
 use Rattle.std.proofs.lemmas.Grind.{common_steps}
 use Rattle.command_lists.specs.Starts.{IsBefore, first_of}

@@ -1,4 +1,4 @@
-use Rattle.std.proofs.Common.{◌≡◌, ◌∙◌, None, ap, sym}
+use Rattle.std.proofs.Common.{◌∙◌, None, ap, sym}
 use Rattle.command_lists.specs.Lists.{command_ended}
 use Rattle.command_lists.specs.Starts.{lists_in}
 use Rattle.command_lists.proofs.Parts.{ended-lists}

@@ -1,4 +1,4 @@
-use Rattle.std.proofs.Common.{◌≡◌, ◌∙◌, ap}
+use Rattle.std.proofs.Common.{◌∙◌, ap}
 use Rattle.inval_messages.specs.Lists.{rels_in, lists_from}
 use Rattle.command_lists.specs.Lists.{all_lists}
 use Rattle.command_lists.proofs.Parts.{rels-slice}
