@@ -1,5 +1,5 @@
 -- How a backend agrees with a history.
-use Rattle.std.specs.Prelude.{◌≡◌, ◌≤◌, ◌<◌, ◌+◌, ◌⊎◌, ℕ, Bool, true, false, not, Some, None, List, [], ◌∷◌, ◌==◌, ◌||◌, map, drop, take, length, All, slice_get, is_some, ⊤}
+use Rattle.std.specs.Prelude.{◌≡◌, ◌≢◌, ◌≤◌, ◌<◌, ◌+◌, ◌⊎◌, ℕ, Bool, true, false, not, Some, None, List, [], ◌∷◌, ◌==◌, ◌||◌, map, drop, take, length, All, slice_get, is_some, ⊤}
 use Rattle.std.specs.Option.{option_map_or}
 use Rattle.base_types.specs.Scans.{is_build_scan}
 use Rattle.base_types.specs.Scenario.{IsBackend}
@@ -177,6 +177,7 @@ pub record Well (s : Backend) : Type 0 where
   pub levels : innermost (s.finished + 1) s.blocks.levels ≤ s.finished + 1
   pub first : option_map_or (λ t. t.first) s.running 0 ≤ s.finished + 1
   pub transaction : TransactionFits s s.phase
+  pub ended : s.lists.lists.running ≡ None
   pub written : has_write_since 0 s ≡ true → option_map_or (λ t. is_some t.xid) s.running false ≡ true
   pub end : EndFits s s.phase
   pub answered : HasCommand s → is_some s.answer ≡ false → (s.phase ≡ phases.Working) ⊎ (is_accepting s.phase ≡ true)

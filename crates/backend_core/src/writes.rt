@@ -1,6 +1,6 @@
 ghost use Rattle.std.specs.Prelude.{◌≡◌, ◌≤◌, ◌++◌, ◌∷◌, [], Some, OnOk};
 ghost use Rattle.std.specs.List.{AllByRecursion};
-ghost use Rattle.command_lists.specs.Lists.{all_lists, list_of};
+ghost use Rattle.command_lists.specs.Lists.{all_lists, new_list, with_messages};
 ghost use Rattle.std.specs.Option.{option_map_or};
 ghost use Rattle.backend_core.specs.Refusals.{error_of as error_after};
 
@@ -58,9 +58,9 @@ impl Backend {
 // The messages of a command's write go to its list, which is done with them: a command writes last.
 fn register(lists: &mut InvalLists, command: u32, messages: &Vec<Message>) -> Result<(), NoMemory>
     requires { AllByRecursion (λ list. list.command ≤ command) (all_lists lists.old.lists) }
-    ensures { OnOk result (all_lists lists.new.lists ≡ all_lists lists.old.lists ++ list_of command messages.now.items ∷ []) }
+    ensures { OnOk result (all_lists lists.new.lists ≡ all_lists lists.old.lists ++ with_messages messages.now.items (new_list command) ∷ []) }
 {
-    lists.reserve(messages.len())?;
+    lists.reserve(messages.len() + 1)?;
     lists.begin_command(command);
     for message in messages {
         lists.register(command, *message);

@@ -4,3 +4,4 @@ mod Parts
 mod Registering
 mod Aborting
 pub mod Writes
+pub mod Having

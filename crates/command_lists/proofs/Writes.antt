@@ -6,13 +6,9 @@ use Rattle.std.specs.List.{flat_map, AllByRecursion}
 use Rattle.inval_messages.specs.Lists.{Written, once_more, has_messages, lists_from, lists_before, cats_in, rels_in}
 use Rattle.inval_messages.proofs.Parts.{ForCaches, ForDescriptors}
 use Rattle.command_lists.specs.Types.{Message, Cat, Rel}
-use Rattle.command_lists.specs.Lists.{CommandLists, all_lists, new_list, with_message, registered, is_of, aborted, command_ended, running_before}
+use Rattle.command_lists.specs.Lists.{CommandLists, all_lists, new_list, with_message, with_messages, registered, is_of, aborted, command_ended, running_before}
 use Rattle.command_lists.proofs.Order.{filter-all, kept, left_out}
 use Rattle.command_lists.proofs.Registering.{told}
-
--- a list with all these messages, one after another
-abbrev pub with_messages : List Message → Written → Written
-with_messages messages list = fold (λ w m. with_message m w) list messages
 
 -- the lists after all these messages of a command
 abbrev pub all_registered : ℕ → List Message → CommandLists → CommandLists

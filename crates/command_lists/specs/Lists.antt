@@ -1,5 +1,5 @@
 -- The messages of a transaction: the lists of its earlier commands, and the running command's.
-use Rattle.std.specs.Prelude.{ℕ, Bool, true, false, Option, Some, None, List, [], ◌∷◌, ◌++◌, ◌==◌, nat_lt}
+use Rattle.std.specs.Prelude.{ℕ, Bool, true, false, Option, Some, None, List, [], ◌∷◌, ◌++◌, ◌==◌, nat_lt, fold}
 use Rattle.std.specs.Option.{option_map, option_map_or, option_to_list}
 use Rattle.inval_messages.specs.Lists.{Written, once_more, lists_before}
 use Rattle.command_lists.specs.Types.{Message, Cat, Rel}
@@ -30,6 +30,10 @@ new_list command = record { command = command; cats = []; rels = [] }
 abbrev pub with_message : Message → Written → Written
 with_message (Cat cache hash) list = record { command = list.command; cats = list.cats ++ Cat cache hash ∷ []; rels = list.rels }
 with_message (Rel rel) list = record { command = list.command; cats = list.cats; rels = once_more list.rels (Rel rel) }
+
+-- a list with all these messages, one after another
+abbrev pub with_messages : List Message → Written → Written
+with_messages messages list = fold (λ w m. with_message m w) list messages
 
 -- the running list is of the command
 abbrev pub is_of : ℕ → Option Written → Bool

@@ -1,10 +1,12 @@
 ghost use Rattle.std.specs.Prelude.{◌≡◌, ◌≤◌, ◌<◌, ◌+◌, OnOk};
 ghost use Rattle.std.specs.List.{AllByRecursion, list_any};
 ghost use Rattle.inval_messages.specs.Messages.{same_message};
-ghost use Rattle.inval_messages.specs.Lists.{cats_in, rels_in, lists_from};
+ghost use Rattle.inval_messages.specs.Lists.{cats_in, rels_in, lists_from, has_write_from};
 ghost use Rattle.command_lists.specs.Starts.{end_of as whole};
 
-use crate::start::{Place, Start, begin, count_before, place_from, running_before};
+use crate::start::{
+    Place, Start, begin, count_before, has_start_from, place_from, running_before,
+};
 use base_types::NoMemory;
 use inval_messages::Message;
 use std::alloc::Global;
@@ -37,7 +39,7 @@ impl Model for InvalLists {
 }
 
 impl InvalLists {
-    ghost use Rattle.command_lists.specs.Lists.{no_lists, all_lists, registered, command_ended, aborted};
+    ghost use Rattle.command_lists.specs.Lists.{no_lists, all_lists, begun, registered, command_ended, aborted};
 
     /// No messages, which takes no memory.
     pub fn new(alloc: Global) -> InvalLists
@@ -64,6 +66,19 @@ impl InvalLists {
         self.rels.reserve(n)?;
         self.ended.reserve(places)?;
         Ok(())
+    }
+
+    /// Lets the command's list run, even if no message comes. Conditions: a spare place, and no list of a
+    /// later command.
+    pub fn begin_command(&mut self, command: u32)
+        requires place { 0 < self.old.spare }
+        requires order { AllByRecursion (λ list. list.command ≤ command) (all_lists self.old.lists) }
+        ensures lists { self.new.lists ≡ begun command self.old.lists }
+        ensures spare { self.old.spare ≤ self.new.spare + 1 }
+    {
+        let end = end_of(&self.cats, &self.rels);
+        let start = begin(&mut self.ended, self.running, command, end);
+        self.running = Some(start);
     }
 
     /// Adds a message to the command's list, which runs from now on: one for a catalog cache always, one
@@ -125,6 +140,13 @@ impl InvalLists {
         self.rels.clear();
         self.ended.clear();
         self.running = None;
+    }
+
+    /// Whether there is a list of this command or of one after it.
+    pub fn has_from(&self, from: u32) -> bool
+        ensures { result ≡ has_write_from from (all_lists self.now.lists) }
+    {
+        has_start_from(&self.ended, self.running, from)
     }
 
     /// The messages for the catalog caches of this command and of those after it, in order. From the

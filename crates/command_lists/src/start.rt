@@ -1,4 +1,5 @@
 ghost use Rattle.std.specs.Prelude.{◌≡◌, ◌≤◌, ◌++◌, ◌+◌, nat_le, nat_lt, length, take, drop, filter, vec_len, vec_capacity};
+ghost use Rattle.std.specs.List.{list_any};
 ghost use Rattle.std.specs.Option.{option_to_list};
 ghost use Rattle.command_lists.specs.Starts.{AreInOrder, AreWithin, IsBefore, first_of, ended_by, running_by, running_until};
 
@@ -71,4 +72,28 @@ pub(crate) fn running_before(running: Option<Start>, from: u32) -> Option<Start>
     ensures { result ≡ running_until from running }
 {
     running.filter(|start| start.command < from)
+}
+
+// Whether one of the lists is of this command or of one after it.
+pub(crate) fn has_start_from(ended: &[Start], running: Option<Start>, from: u32) -> bool
+    ensures { result ≡ list_any (λ start. nat_le from start.command) (ended.now ++ option_to_list running) }
+{
+    has_ended_from(ended, from) || runs_from(running, from)
+}
+
+// Whether one of the lists that have ended is of this command or of one after it.
+fn has_ended_from(ended: &[Start], from: u32) -> bool
+    ensures { result ≡ list_any (λ start. nat_le from start.command) ended.now }
+{
+    ended.iter().any(|start| from <= start.command)
+}
+
+// Whether the running list, if there is one, is of this command or of one after it.
+fn runs_from(running: Option<Start>, from: u32) -> bool
+    ensures { result ≡ list_any (λ start. nat_le from start.command) (option_to_list running) }
+{
+    match running {
+        Some(start) => from <= start.command,
+        None => false,
+    }
 }

@@ -1,0 +1,11 @@
+use Rattle.std.proofs.Common.{◌∙◌, ap}
+use Rattle.inval_messages.specs.Lists.{has_write_from}
+use Rattle.command_lists.specs.Lists.{all_lists}
+use Rattle.command_lists.proofs.Having.{has-start}
+use Rattle.command_lists.proofs.lists.InvalLists.has_from.Goals as goal
+
+pub returns : goal.returns
+returns c =
+    let l = c.self.inside in
+    rw (c.has_start_from.ensures, c.deref.ensures.value)
+    (has-start c.args.from l.cats.items l.rels.items l.ended.items l.running ∙ ap (λ held. has_write_from c.args.from (all_lists held.lists)) c.self.view_is)
