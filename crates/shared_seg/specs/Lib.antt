@@ -10,3 +10,4 @@ pub mod IsDrawn
 pub mod Grants
 pub mod GrantLists
 pub mod LockTable
+pub mod MessageLog

@@ -29,6 +29,7 @@ mod drawing;
 mod grant_lists;
 mod grants;
 mod lock_table;
+mod message_log;
 mod naming;
 mod places;
 mod shared;
