@@ -7,6 +7,3 @@ pub mod Undone
 pub mod Drawn
 pub mod Naming
 pub mod IsDrawn
-pub mod Grants
-pub mod GrantLists
-pub mod LockTable
