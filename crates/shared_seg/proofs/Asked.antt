@@ -18,8 +18,6 @@ use Rattle.history_model.proofs.Runs.{writes_as}
 use Rattle.history_model.specs.Orderly.{MayComeNext, IsOrderlyEvent}
 use Rattle.seg_calls.specs.Calls.{entry_of, MayRequest, Appends, IsUnchanged}
 use Rattle.seg_calls.proofs.Allowed.{is_start, request_follows}
-use Rattle.shared_seg.specs.LockTable.{Holds}
-use Rattle.shared_seg.specs.declared.lock_table.LockTable.{LockTable}
 use Rattle.shared_seg.specs.declared.transaction.Transaction.{Transaction}
 use Rattle.shared_seg.specs.Kept.{Kept, places_in}
 use Rattle.shared_seg.specs.KeepsFolds.{KeepsFolds}
@@ -55,7 +53,7 @@ asked_appends k now after has b c event is request asked allows orderly entries 
     (appends_free k.history after k.promised has (entry_of b c event) entries (asked_comes k.script k.history b c event (request_inside k now b c is request) asked allows orderly) same)
 
 -- with what is kept beside it
-pub asked_keeps : (k now : Kept) (after : List Entry) (has : List ℕ) (b c : ℕ) (event : Event) (store stored : Store) (locks locked : LockTable) (transactions own : List (Option Transaction)) (next oid last xid : ℕ)
+pub asked_keeps : (k now : Kept) (after : List Entry) (has : List ℕ) (b c : ℕ) (event : Event) (store stored : Store) (locks locked : List Grant) (transactions own : List (Option Transaction)) (next oid last xid : ℕ)
     → k ≡ now → KeepsFolds k.script k.history k.promised store locks transactions next last → MayRequest now.script now.history b c → is_start event ≡ false → AllowsEvent k.history b c event → IsOrderlyEvent k.history b event
     → after ≡ k.history ++ entry_of b c event ∷ [] → has ≡ k.promised → Steps k.history (entry_of b c event) store stored locks locked transactions own next oid last xid → KeepsFolds k.script after has stored locked own oid xid
 asked_keeps k now after has b c event store stored locks locked transactions own next oid last xid is keeps request asked allows orderly entries same steps =
@@ -68,16 +66,16 @@ pub same_unchanged : (k now : Kept) (after : List Entry) (has : List ℕ) → k 
 same_unchanged k now after has is entries same = record { entries = entries ∙ ap (λ (x : Kept). x.history) is; places = λ b. ap (λ l. promised_in l b) (same ∙ ap (λ (x : Kept). x.promised) is) }
 
 -- what is kept stays
-pub same_keeps : (script : Scenario) (history after : List Entry) (promised has : List ℕ) (store : Store) (locks : LockTable) (transactions : List (Option Transaction)) (next last : ℕ)
+pub same_keeps : (script : Scenario) (history after : List Entry) (promised has : List ℕ) (store : Store) (locks : List Grant) (transactions : List (Option Transaction)) (next last : ℕ)
     → KeepsFolds script history promised store locks transactions next last → after ≡ history → has ≡ promised → KeepsFolds script after has store locks transactions next last
 same_keeps script history after promised has store locks transactions next last keeps entries same = rw (entries, same) keeps
 
 -- the same of an entry that begins a transaction, if none runs, and changes no row, no oid and no Xid
-pub asked_quiet : (k now : Kept) (after : List Entry) (has : List ℕ) (b c : ℕ) (event : Event) (store : Store) (locks locked : LockTable) (transactions own : List (Option Transaction)) (next last : ℕ)
+pub asked_quiet : (k now : Kept) (after : List Entry) (has : List ℕ) (b c : ℕ) (event : Event) (store : Store) (locks locked : List Grant) (transactions own : List (Option Transaction)) (next last : ℕ)
     → k ≡ now → KeepsFolds k.script k.history k.promised store locks transactions next last → MayRequest now.script now.history b c → is_start event ≡ false → AllowsEvent k.history b c event → IsOrderlyEvent k.history b event
     → after ≡ k.history ++ entry_of b c event ∷ [] → has ≡ k.promised
     → versions_by k.history b c event store.versions ≡ store.versions → next_oid_by event next ≡ next → last_xid_by event last ≡ last → ((x : ℕ) → makes_visible x event ≡ false) → ((x : ℕ) → writes_as x event ≡ false)
-    → ((all : List Grant) → Holds locks all → Holds locked (held_by b c event all)) → own ≡ slice_set transactions b (transaction_by c event (transaction_at transactions b)) → KeepsFolds k.script after has store locked own next last
+    → locked ≡ held_by b c event locks → own ≡ slice_set transactions b (transaction_by c event (transaction_at transactions b)) → KeepsFolds k.script after has store locked own next last
 asked_quiet k now after has b c event store locks locked transactions own next last is keeps request asked allows orderly entries same no_version no_oid no_xid no_commit no_write held_is own_is =
     let inside : MayRequest k.script k.history b c = request_inside k now b c is request in
     asked_keeps k now after has b c event store store locks locked transactions own next next last last is keeps request asked allows orderly entries same

@@ -4,7 +4,6 @@ mod Clashes
 mod Entered
 mod Keeps
 mod Locked
-mod Locks
 mod NewNames
 mod Own
 mod Promises

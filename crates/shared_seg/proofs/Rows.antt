@@ -14,10 +14,10 @@ use Rattle.event_kinds.specs.declared.entry.Event.TheVariants.{Visible, Gone}
 use Rattle.row_visibility.specs.declared.version.Stamp.{Stamp}
 use Rattle.row_visibility.specs.declared.version.Version.{Version}
 use Rattle.row_visibility.specs.Seen.{is_own}
+use Rattle.lock_modes.specs.declared.grant.Grant.{Grant}
 use Rattle.catalog_rows.specs.Store.{Store, has_committed, taken_back, restored}
 use Rattle.history_model.specs.Transactions.{Running, has_xid, runs_as, running_transaction_of}
 use Rattle.seg_calls.specs.Calls.{entry_of}
-use Rattle.shared_seg.specs.declared.lock_table.LockTable.{LockTable}
 use Rattle.shared_seg.specs.declared.transaction.Transaction.{Transaction}
 use Rattle.shared_seg.specs.Transactions.{transaction_at, transaction_of, transaction_by, kept_of, own_xid_in, xid_at}
 use Rattle.shared_seg.specs.Undone.{undone}
@@ -33,7 +33,7 @@ marked marks xid x within = unwrap_or-slice_get (slice_set marks xid true) x fal
     by_cases (inr other) = get_or-set_other marks xid x true false (λ e. other.1 (sym e)) ∙ sym (or-false (get_or marks x false)) ∙ ap (λ b. get_or marks x false || b) (sym other.0)
 
 -- a transaction that has drawn its Xid becomes visible
-pub visible_steps : (history : List Entry) (b c : ℕ) (xid : Xid) (store after : Store) (locks : LockTable) (transactions own : List (Option Transaction)) (next last : ℕ)
+pub visible_steps : (history : List Entry) (b c : ℕ) (xid : Xid) (store after : Store) (locks : List Grant) (transactions own : List (Option Transaction)) (next last : ℕ)
     → after ≡ record { versions = store.versions; committed = slice_set store.committed xid.0 true } → xid.0 < length store.committed
     → b < length transactions → own ≡ slice_set transactions b (transaction_by c (Visible xid) (transaction_at transactions b))
     → Steps history (entry_of b c (Visible xid)) store after locks locks transactions own next next last last
@@ -42,7 +42,7 @@ visible_steps history b c xid store after locks transactions own next last after
   committed = λ x. marked store.committed xid.0 x drawn;
   grows = omega (arith, length-set store.committed xid.0 true);
   drawn = λ x writes. absurd (cc);
-  held_is = λ all holds. holds;
+  held_is = refl;
   oid_is = refl;
   xid_is = refl;
   slots = ap length own_is ∙ length-set transactions b _;
@@ -93,7 +93,7 @@ undone_is None from store = ap (λ vs. record { versions = vs; committed = store
 undone_is (Some xid) from store = λ i. record { versions = taken_back (λ s. eqb-turned s.xid.0 xid.0 i && nat_le from s.command) store.versions; committed = store.committed }
 
 -- a transaction's writes are taken back
-pub gone_steps : (history : List Entry) (b c from : ℕ) (store after : Store) (locks : LockTable) (transactions own : List (Option Transaction)) (next last : ℕ)
+pub gone_steps : (history : List Entry) (b c from : ℕ) (store after : Store) (locks : List Grant) (transactions own : List (Option Transaction)) (next last : ℕ)
     → transaction_at transactions b ≡ transaction_of history b → after ≡ undone (xid_at transactions b) from store
     → b < length transactions → own ≡ slice_set transactions b (transaction_by c (Gone from) (transaction_at transactions b))
     → Steps history (entry_of b c (Gone from)) store after locks locks transactions own next next last last
@@ -103,7 +103,7 @@ gone_steps history b c from store after locks transactions own next last kept af
       committed = λ x. sym (or-false (has_committed store.committed x));
       grows = omega arith;
       drawn = λ x writes. absurd (cc);
-      held_is = λ all holds. holds;
+      held_is = refl;
       oid_is = refl;
       xid_is = refl;
       slots = ap length own_is ∙ length-set transactions b _;

@@ -7,9 +7,8 @@ use Rattle.std.proofs.Math.ListN.{get_or-eq_default}
 use Rattle.base_types.specs.Scenario.{Scenario, IsScript}
 use Rattle.base_types.specs.declared.ids.TheConstants.{FIRST_OID}
 use Rattle.event_kinds.specs.declared.entry.Entry.{Entry}
+use Rattle.lock_modes.specs.declared.grant.Grant.{Grant}
 use Rattle.catalog_rows.specs.Store.{Store, no_rows}
-use Rattle.shared_seg.specs.LockTable.{Holds}
-use Rattle.shared_seg.specs.declared.lock_table.LockTable.{LockTable}
 use Rattle.shared_seg.specs.declared.transaction.Transaction.{Transaction}
 use Rattle.shared_seg.specs.KeepsFolds.{KeepsFolds}
 
@@ -20,15 +19,15 @@ all_same n i x = by_test (nat_lt i n) refl
     by_test true is = get_or-replicate n i x x (ltb-true i n is)
     by_test false is = get_or-eq_default (replicate n x) x (omega (arith, ltb-false i n is, length-replicate n x))
 
-keeps_start : (script : Scenario) (n : ℕ) (locks : LockTable) → Holds locks [] → IsScript script → n ≡ script.backends + 1 → KeepsFolds script [] (replicate n 0) no_rows locks (replicate n None) FIRST_OID 0
-keeps_start script n locks none is size = record {
+keeps_start : (script : Scenario) (n : ℕ) → IsScript script → n ≡ script.backends + 1 → KeepsFolds script [] (replicate n 0) no_rows [] (replicate n None) FIRST_OID 0
+keeps_start script n is size = record {
   script_is = is;
   backends = length-replicate n 0 ∙ size;
   slots = length-replicate n None ∙ size;
   versions = refl;
   committed = λ x. refl;
   places = λ b x runs. absurd (cc);
-  locks_are = none;
+  locks_are = refl;
   next_is = refl;
   last_is = refl;
   own = λ b. all_same n b None;
@@ -36,8 +35,8 @@ keeps_start script n locks none is size = record {
 }
 
 -- the same of what the parts are
-pub keeps_start_at : (script given : Scenario) (n : ℕ) (entries : List Entry) (promised : List ℕ) (store : Store) (locks : LockTable) (transactions : List (Option Transaction)) → IsScript given → n ≡ given.backends
-    → script ≡ given → entries ≡ [] → promised ≡ replicate (n + 1) 0 → store ≡ no_rows → Holds locks [] → transactions ≡ replicate (n + 1) None
+pub keeps_start_at : (script given : Scenario) (n : ℕ) (entries : List Entry) (promised : List ℕ) (store : Store) (locks : List Grant) (transactions : List (Option Transaction)) → IsScript given → n ≡ given.backends
+    → script ≡ given → entries ≡ [] → promised ≡ replicate (n + 1) 0 → store ≡ no_rows → locks ≡ [] → transactions ≡ replicate (n + 1) None
     → KeepsFolds script entries promised store locks transactions FIRST_OID 0
 keeps_start_at script given n entries promised store locks transactions is size script_is entries_are promised_are store_is locks_are transactions_are =
-    rw (script_is, entries_are, promised_are, store_is, transactions_are) (keeps_start given (n + 1) locks locks_are is (ap (λ m. m + 1) size))
+    rw (script_is, entries_are, promised_are, store_is, locks_are, transactions_are) (keeps_start given (n + 1) is (ap (λ m. m + 1) size))

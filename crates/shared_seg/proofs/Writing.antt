@@ -31,8 +31,6 @@ use Rattle.history_model.specs.Writes.{is_free, changed_key}
 use Rattle.base_types.specs.RowKeys.{are_distinct_keys}
 use Rattle.history_model.proofs.Ordered.{sound_ordered}
 use Rattle.seg_calls.specs.Calls.{entry_of, items_drawn, MayRequest, MayWrite, MakesWrite, Clashes, Writes}
-use Rattle.shared_seg.specs.LockTable.{Holds}
-use Rattle.shared_seg.specs.declared.lock_table.LockTable.{LockTable}
 use Rattle.shared_seg.specs.declared.drawing.Drawn.{Drawn}
 use Rattle.shared_seg.specs.declared.naming.Taken.{Taken}
 use Rattle.shared_seg.specs.declared.transaction.Transaction.{Transaction}
@@ -56,7 +54,7 @@ use Rattle.shared_seg.proofs.Written.{xid_drawn_is, versions_written, committed_
 pub write_inside : (k now : Kept) (b c : ℕ) (draft : Draft) → k ≡ now → MayWrite now.history b c draft → MayWrite k.history b c draft
 write_inside k now b c draft is may = subst (λ (x : Kept). MayWrite x.history b c draft) (sym is) may
 
-module _ (script : Scenario) (history : List Entry) (promised : List ℕ) (store : Store) (locks : LockTable) (transactions : List (Option Transaction)) (next last b c : ℕ) (k : KeepsFolds script history promised store locks transactions next last) where
+module _ (script : Scenario) (history : List Entry) (promised : List ℕ) (store : Store) (locks : List Grant) (transactions : List (Option Transaction)) (next last b c : ℕ) (k : KeepsFolds script history promised store locks transactions next last) where
   mirrors : Mirrors history b store (xid_at transactions b)
   mirrors = record { versions = k.versions; committed = k.committed; own_is = λ s. runs_own history b transactions s (k.own b) }
 
@@ -80,8 +78,8 @@ module _ (script : Scenario) (history : List Entry) (promised : List ℕ) (store
   }
 
   -- what is kept makes its step
-  pub write_steps : (draft : Draft) (drawn : Drawn) (after : Store) (locked : LockTable) (own : List (Option Transaction)) → MayRequest script history b c → MayWrite history b c draft → IsDrawn (xid_at transactions b) draft next last drawn
-      → after ≡ after_write store drawn.xid c drawn.changes.items → ((all : List Grant) → Holds locks all → Holds locked (all ++ flat_map (granted_by b c) drawn.items.items)) → own ≡ slice_set transactions b (transaction_by c (Write drawn.xid drawn.items.items) (transaction_at transactions b))
+  pub write_steps : (draft : Draft) (drawn : Drawn) (after : Store) (locked : List Grant) (own : List (Option Transaction)) → MayRequest script history b c → MayWrite history b c draft → IsDrawn (xid_at transactions b) draft next last drawn
+      → after ≡ after_write store drawn.xid c drawn.changes.items → locked ≡ locks ++ flat_map (granted_by b c) drawn.items.items → own ≡ slice_set transactions b (transaction_by c (Write drawn.xid drawn.items.items) (transaction_at transactions b))
       → Steps history (entry_of b c (Write drawn.xid (items_drawn history draft))) store after locks locked transactions own next drawn.next_oid last (max last drawn.xid.0)
   write_steps draft drawn after locked own request may is after_is held_is own_is = record {
     versions = ap (λ (s : Store). s.versions) after_is ∙ ap (λ x. (after_write store x c drawn.changes.items).versions) is.xid
@@ -90,7 +88,7 @@ module _ (script : Scenario) (history : List Entry) (promised : List ℕ) (store
     committed = λ x. ap (λ (s : Store). has_committed s.committed x) after_is ∙ committed_written store.committed drawn.xid.0 x;
     grows = omega (arith, ap (λ (s : Store). length s.committed) after_is, (place_written store.committed drawn.xid.0).0);
     drawn = λ x writes. omega (arith, ap (λ (s : Store). length s.committed) after_is, (place_written store.committed drawn.xid.0).1, eqb-true drawn.xid.0 x writes);
-    held_is = λ all holds. subst (λ items. Holds locked (all ++ flat_map (granted_by b c) items)) items_made (held_is all holds);
+    held_is = held_is ∙ ap (λ items. locks ++ flat_map (granted_by b c) items) items_made;
     oid_is = is.next_oid ∙ ap (λ n. next + n) (sym (ap length may.oids ∙ length-range_with_len (next_oid history) draft.new_oids));
     xid_is = refl;
     slots = ap length own_is ∙ length-set transactions b _;
@@ -122,13 +120,13 @@ pub entry_written : (history mid after : List Entry) (b c : ℕ) (xid : Xid) (li
 entry_written history mid after b c xid list made drawn entries same listed are = entries ∙ (λ i. same i ++ entry_of b c (Write xid ((listed ∙ are) i)) ∷ [])
 
 -- what is kept after a clash
-pub clash_keeps : (k now : Kept) (after : List Entry) (has : List ℕ) (b c : ℕ) (name : List ℕ) (clash : Clash) (store : Store) (locks : LockTable) (transactions own : List (Option Transaction)) (next last : ℕ)
+pub clash_keeps : (k now : Kept) (after : List Entry) (has : List ℕ) (b c : ℕ) (name : List ℕ) (clash : Clash) (store : Store) (locks : List Grant) (transactions own : List (Option Transaction)) (next last : ℕ)
     → k ≡ now → KeepsFolds k.script k.history k.promised store locks transactions next last → MayRequest now.script now.history b c → AllowsEvent k.history b c (clash_event_of name clash)
     → after ≡ k.history ++ entry_of b c (clash_event_of name clash) ∷ [] → has ≡ k.promised → own ≡ slice_set transactions b (Some (begun_own c (transaction_at transactions b))) → KeepsFolds k.script after has store locks own next last
 clash_keeps k now after has b c name (Row rel) store locks transactions own next last is keeps request allows entries same own_is =
-    asked_quiet k now after has b c (ClashRow name rel) store locks locks transactions own next last is keeps request refl allows tt entries same refl refl refl (λ x. refl) (λ x. refl) (λ all holds. holds) own_is
+    asked_quiet k now after has b c (ClashRow name rel) store locks locks transactions own next last is keeps request refl allows tt entries same refl refl refl (λ x. refl) (λ x. refl) refl own_is
 clash_keeps k now after has b c name (Running xid) store locks transactions own next last is keeps request allows entries same own_is =
-    asked_quiet k now after has b c (ClashRunning name xid) store locks locks transactions own next last is keeps request refl allows tt entries same refl refl refl (λ x. refl) (λ x. refl) (λ all holds. holds) own_is
+    asked_quiet k now after has b c (ClashRunning name xid) store locks locks transactions own next last is keeps request refl allows tt entries same refl refl refl (λ x. refl) (λ x. refl) refl own_is
 
 -- and what callers see of it
 pub clash_writes : (k now : Kept) (after : List Entry) (has : List ℕ) (b c : ℕ) (draft : Draft) (name : List ℕ) (clash : Clash) → k ≡ now → MayRequest now.script now.history b c → AllowsEvent k.history b c (clash_event_of name clash)
@@ -156,5 +154,5 @@ clash_writes_at k now after has b c draft taken answer answer_is is request allo
     subst (λ r. Writes now.history after (places_in now) (promised_in has) b c draft (Err r)) (sym answer_is) (clash_writes k now after has b c draft taken.name taken.clash is request allows new entries same)
 
 -- the last Xid by another name
-pub keeps_last : (script : Scenario) (history : List Entry) (promised : List ℕ) (store : Store) (locks : LockTable) (transactions : List (Option Transaction)) (next m n : ℕ) → m ≡ n → KeepsFolds script history promised store locks transactions next n → KeepsFolds script history promised store locks transactions next m
+pub keeps_last : (script : Scenario) (history : List Entry) (promised : List ℕ) (store : Store) (locks : List Grant) (transactions : List (Option Transaction)) (next m n : ℕ) → m ≡ n → KeepsFolds script history promised store locks transactions next n → KeepsFolds script history promised store locks transactions next m
 keeps_last script history promised store locks transactions next m n same keeps = subst (KeepsFolds script history promised store locks transactions next) (sym same) keeps

@@ -7,7 +7,4 @@ pub mod Undone
 pub mod Drawn
 pub mod Naming
 pub mod IsDrawn
-pub mod Grants
-pub mod GrantLists
-pub mod LockTable
 pub mod MessageLog

@@ -4,7 +4,7 @@ ghost use Rattle.history_model.specs.Held.{granted_by};
 
 use base_types::{Mode, NoMemory, Row};
 use event_kinds::Item;
-use history_model::Grant;
+use lock_modes::Grant;
 use std::alloc::Global;
 
 // The grants of the relations that a write makes.

@@ -3,10 +3,10 @@
 //! It keeps the history, the versions of all rows, the locks that are held, the running transaction of
 //! each backend, and the next numbers to be drawn. The history alone says what all of these are: each is
 //! what the definitions read off it, so that is the invariant, with one law of one more entry for each
-//! (`specs/KeepsFolds.antt`, `proofs/Keeps.antt`). The locks are kept by relation and by backend
-//! (`src/lock_table.rt`), so that a request passes over the grants of its relation, and a release over
-//! those of its backend and of their relations. And the history is sound: each of its entries may
-//! follow those before it.
+//! (`specs/KeepsFolds.antt`, `proofs/Keeps.antt`). Rows and locks are kept by the crates below, a
+//! [`RowStore`](catalog_rows::RowStore) and a [`LockTable`](lock_modes::LockTable), each of which is
+//! one list to the contracts. And the history is sound: each of its entries may follow those before
+//! it.
 //!
 //! The promise to the layers above is the contract of `Seg`: a call appends its one entry, which the
 //! history allows, or it is out of memory and has changed nothing. A call that must not fail takes a
@@ -26,9 +26,7 @@
 #![tactic(auto)]
 
 mod drawing;
-mod grant_lists;
 mod grants;
-mod lock_table;
 mod message_log;
 mod naming;
 mod places;

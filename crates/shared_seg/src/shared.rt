@@ -4,7 +4,6 @@ ghost use Rattle.shared_seg.specs.Naming.{clash_with, refuses};
 
 use crate::drawing::{Drawn, draw};
 use crate::grants::new_grants;
-use crate::lock_table::LockTable;
 use crate::naming::{Taken, first_taken};
 use crate::places::Places;
 use crate::transaction::{Transaction, begin, begin_writing, clear, end_from, own_xid};
@@ -12,7 +11,7 @@ use base_types::{FIRST_OID, Listed, Mode, NoMemory, Oid, Purpose, Scanned, Xid};
 use catalog_rows::RowStore;
 use ddl_effect::Draft;
 use event_kinds::{Entry, Event};
-use history_model::Grant;
+use lock_modes::{Granted, LockTable};
 use row_visibility::{Clash, Reader};
 use script_text::Script;
 use seg_calls::{LockRefusal, Seg, WriteRefusal, Written};
@@ -44,7 +43,7 @@ impl Model for Shared {
 
     ghost view = { λ s. record { history = s.places.entries; script = s.script.value; promised = s.places.promised; short = s.short } };
 
-    ghost invariant = { λ s. KeepsFolds s.script.value s.places.entries s.places.promised s.store s.locks s.transactions.items s.next_oid s.last_xid };
+    ghost invariant = { λ s. KeepsFolds s.script.value s.places.entries s.places.promised s.store s.locks.held s.transactions.items s.next_oid s.last_xid };
 }
 
 impl Shared {
@@ -159,53 +158,35 @@ impl Seg for Shared {
     }
 
     fn lock(&mut self, b: u32, c: u32, rel: Oid, mode: Mode) -> Result<(), LockRefusal> {
-        match self.locks.conflicting(b, rel, mode) {
-            Some(grant) => {
-                let Grant {
-                    backend: holder,
-                    mode: held,
-                    ..
-                } = grant;
-                let event = Event::LockHeld {
-                    rel,
-                    mode,
-                    holder,
-                    held,
-                };
-                let Ok(()) = self.places.add(Entry {
+        let Ok(()) = self.places.make_room() else {
+            return Err(LockRefusal::NoMemory);
+        };
+        match self.locks.request(b, c, rel, mode) {
+            Ok(Granted::New) => {
+                self.places.push(Entry {
                     backend: b,
                     command: c,
-                    event,
-                })
-                else {
-                    return Err(LockRefusal::NoMemory);
-                };
-                begin(&mut self.transactions, b, c);
-                Err(LockRefusal::Conflict { holder, mode: held })
-            }
-            None => {
-                let grants = [Grant {
-                    backend: b,
-                    command: c,
-                    rel,
-                    mode,
-                }];
-                let Ok(()) = self.locks.reserve(&grants) else {
-                    return Err(LockRefusal::NoMemory);
-                };
-                let event = Event::LockOk { rel, mode };
-                let Ok(()) = self.places.add(Entry {
-                    backend: b,
-                    command: c,
-                    event,
-                })
-                else {
-                    return Err(LockRefusal::NoMemory);
-                };
-                self.locks.grant(&grants);
+                    event: Event::LockOk { rel, mode },
+                });
                 begin(&mut self.transactions, b, c);
                 Ok(())
             }
+            Ok(Granted::Held) => unreachable!(),
+            Err(LockRefusal::Conflict { holder, mode: held }) => {
+                self.places.push(Entry {
+                    backend: b,
+                    command: c,
+                    event: Event::LockHeld {
+                        rel,
+                        mode,
+                        holder,
+                        held,
+                    },
+                });
+                begin(&mut self.transactions, b, c);
+                Err(LockRefusal::Conflict { holder, mode: held })
+            }
+            Err(LockRefusal::NoMemory) => Err(LockRefusal::NoMemory),
         }
     }
 
@@ -239,7 +220,7 @@ impl Seg for Shared {
         let Ok(grants) = new_grants(self.alloc, b, c, &items) else {
             return Err(WriteRefusal::NoMemory);
         };
-        let Ok(()) = self.locks.reserve(&grants) else {
+        let Ok(()) = self.locks.prepare(grants) else {
             return Err(WriteRefusal::NoMemory);
         };
         let Ok(()) = self.places.make_room() else {
@@ -248,7 +229,7 @@ impl Seg for Shared {
         let Ok(()) = self.store.apply(xid, c, &changes) else {
             return Err(WriteRefusal::NoMemory);
         };
-        self.locks.grant(&grants);
+        self.locks.grant_prepared();
         self.places.push(Entry {
             backend: b,
             command: c,
@@ -280,7 +261,7 @@ impl Seg for Shared {
             command: c,
             event: Event::Release { from },
         });
-        self.locks.release_from(b, from);
+        self.locks.release(b, from);
         end_from(&mut self.transactions, b, c, from);
     }
 

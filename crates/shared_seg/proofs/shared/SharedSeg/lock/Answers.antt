@@ -1,17 +1,19 @@
-use Rattle.std.proofs.Common.{refl, rules}
+use Rattle.std.proofs.Common.{◌∙◌, refl, rules}
 use Rattle.event_kinds.specs.declared.entry.Event.TheVariants.{LockOk, LockHeld}
 use Rattle.shared_seg.proofs.Asked.{asked_quiet}
-use Rattle.shared_seg.proofs.Locked.{drawn_inside, allows_lock, allows_refusal}
+use Rattle.shared_seg.proofs.Locked.{drawn_inside, granted, refused, allows_lock, allows_refusal}
 use Rattle.shared_seg.proofs.shared.SharedSeg.lock.Goals as goal
 
-pub invariant_of-self-in-Some : goal.invariant_of-self-in-Some
-invariant_of-self-in-Some c =
-    asked_quiet _ _ _ _ c.args.b c.args.c (LockHeld c.args.rel c.args.mode c.in-Some.grant.backend c.in-Some.grant.mode) _ _ _ _ _ _ _ c.self.view_is c.self.invariant c.requires.call refl
-    (allows_refusal _ _ c.args.b c.args.c c.args.rel c.args.mode _ _ c.in-Some.grant c.self.view_is c.requires.new c.self.invariant.locks_are c.conflicting.ensures c.in-Some.is) (drawn_inside _ _ c.args.rel c.self.view_is c.requires.drawn)
-    (search rules) c.add.ensures.promised refl refl refl (λ x. refl) (λ x. refl) (λ all holds. holds) c.begin.ensures
-
-pub invariant_of-self-in-None : goal.invariant_of-self-in-None
-invariant_of-self-in-None c =
+pub invariant_of-self-in-Ok-New : goal.invariant_of-self-in-Ok-New
+invariant_of-self-in-Ok-New c =
+    let grants = granted _ _ _ _ c.in-Ok-New.field-0-is c.in-Ok-New.ensures.answers in
     asked_quiet _ _ _ _ c.args.b c.args.c (LockOk c.args.rel c.args.mode) _ _ _ _ _ _ _ c.self.view_is c.self.invariant c.requires.call refl
-    (allows_lock _ _ c.args.b c.args.c c.args.rel c.args.mode _ _ c.self.view_is c.requires.new c.self.invariant.locks_are c.conflicting.ensures c.in-None.is) (drawn_inside _ _ c.args.rel c.self.view_is c.requires.drawn)
-    (search rules) c.add-in-None.ensures.promised refl refl refl (λ x. refl) (λ x. refl) (λ all holds. c.grant.ensures all (c.reserve.ensures.same all holds)) c.begin-in-None.ensures
+    (allows_lock c.self.inside.places.entries _ _ c.args.b c.args.c c.args.rel c.args.mode c.self.invariant.locks_are grants) (drawn_inside _ _ c.args.rel c.self.view_is c.requires.drawn)
+    (search rules) (c.push.ensures.promised ∙ c.make_room.ensures.same.promised) refl refl refl (λ x. refl) (λ x. refl) grants.more c.begin.ensures
+
+pub invariant_of-self-in-Err-Conflict : goal.invariant_of-self-in-Err-Conflict
+invariant_of-self-in-Err-Conflict c =
+    let refusal = refused _ _ _ _ c.in-Err-Conflict.holder c.in-Err-Conflict.held c.in-Err-Conflict.field-0-is c.in-Err-Conflict.ensures.answers in
+    asked_quiet _ _ _ _ c.args.b c.args.c (LockHeld c.args.rel c.args.mode c.in-Err-Conflict.holder c.in-Err-Conflict.held) _ _ _ _ _ _ _ c.self.view_is c.self.invariant c.requires.call refl
+    (allows_refusal c.self.inside.places.entries _ _ c.args.b c.args.c c.args.rel c.args.mode c.in-Err-Conflict.holder c.in-Err-Conflict.held c.self.invariant.locks_are refusal) (drawn_inside _ _ c.args.rel c.self.view_is c.requires.drawn)
+    (search rules) (c.push-in-Err-Conflict.ensures.promised ∙ c.make_room.ensures.same.promised) refl refl refl (λ x. refl) (λ x. refl) refusal.same c.begin-in-Err-Conflict.ensures

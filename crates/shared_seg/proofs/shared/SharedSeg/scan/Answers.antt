@@ -14,7 +14,7 @@ invariant_of-self-2 c =
     let given : c.in_ok-rows.rows.items ≡ rows_of_scan c.self.inside.store c.args.purpose.now (record { xid = xid_at c.self.inside.transactions.items c.args.b; command = c.args.c + 1 }) = search rules in
     let counted : c.in_ok-count.count ≡ length c.in_ok-rows.rows.items = search rules in
     let answer = scan_is_answer _ _ _ _ _ _ _ _ c.args.b c.args.c c.args.purpose.now c.self.invariant (request_inside _ _ c.args.b c.args.c c.self.view_is c.requires.call) in
-    asked_quiet _ _ _ _ c.args.b c.args.c (Scan c.args.purpose.now c.in_ok-count.count) _ _ _ _ _ _ _ c.self.view_is c.self.invariant c.requires.call refl (counted ∙ ap length (given ∙ answer)) tt c.in_ok-add.ensures.ok c.add.ensures.promised refl refl refl (λ x. refl) (λ x. refl) (λ all holds. holds) c.begin.ensures
+    asked_quiet _ _ _ _ c.args.b c.args.c (Scan c.args.purpose.now c.in_ok-count.count) _ _ _ _ _ _ _ c.self.view_is c.self.invariant c.requires.call refl (counted ∙ ap length (given ∙ answer)) tt c.in_ok-add.ensures.ok c.add.ensures.promised refl refl refl (λ x. refl) (λ x. refl) refl c.begin.ensures
 
 pub returns-clause-scans : goal.returns-clause-scans
 returns-clause-scans c =

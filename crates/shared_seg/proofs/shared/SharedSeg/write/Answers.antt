@@ -5,7 +5,6 @@ use Rattle.history_model.specs.Held.{granted_by}
 use Rattle.catalog_rows.specs.Store.{after_write}
 use Rattle.seg_calls.specs.Calls.{entry_of, items_drawn}
 use Rattle.shared_seg.specs.IsDrawn.{IsDrawn}
-use Rattle.shared_seg.specs.LockTable.{Holds}
 use Rattle.shared_seg.specs.Naming.{IsTaken, NamesFree, clash_event_of}
 use Rattle.shared_seg.specs.Transactions.{xid_at}
 use Rattle.shared_seg.proofs.Asked.{request_inside, small_number, asked_keeps}
@@ -39,7 +38,8 @@ returns-in-Some-clause-writes c =
 
 pub invariant_of-self-2 : goal.invariant_of-self-2
 invariant_of-self-2 c =
-    let granted : c.deref-6.result.now ≡ flat_map (granted_by c.args.b c.args.c) c.in-Ok.drawn.items.items = c.deref-6.ensures.value ∙ c.in-Ok-new_grants.ensures ∙ ap (flat_map (granted_by c.args.b c.args.c)) c.deref-3.ensures.value in
+    let granted : c.grant_prepared.new.self.held ≡ c.self.inside.locks.held ++ flat_map (granted_by c.args.b c.args.c) c.in-Ok.drawn.items.items =
+    c.grant_prepared.ensures.held ∙ (λ i. c.prepare.ensures.held i ++ (c.in-Ok-prepare.ensures.ok ∙ c.in-Ok-new_grants.ensures ∙ ap (flat_map (granted_by c.args.b c.args.c)) c.deref-3.ensures.value) i) in
     let own : c.own_xid-own.result ≡ xid_at c.self.inside.transactions.items c.args.b = search rules in
     let drawn = subst (λ o. IsDrawn o c.args.draft.now c.self.inside.next_oid c.self.inside.last_xid c.in-Ok.drawn) own c.in-Ok.ensures in
     let free = subst (λ o. NamesFree c.self.inside.store (record { xid = o; command = c.args.c + 1 }) c.in-Ok.drawn.changes.items) own (search rules) in
@@ -51,8 +51,8 @@ invariant_of-self-2 c =
     (asked_keeps _ _ _ _ c.args.b c.args.c (Write c.in-Ok.drawn.xid (items_drawn c.self.inside.places.entries c.args.draft.now)) _ _ _ _ _ _ _ _ _ _ c.self.view_is c.self.invariant c.requires.call refl
     (write_allowed _ _ _ _ _ _ _ _ c.args.b c.args.c c.self.invariant c.args.draft.now c.in-Ok.drawn request may drawn free) may.orderly
     (entry_written _ _ _ c.args.b c.args.c c.in-Ok.drawn.xid _ _ _ c.push.ensures.entries c.make_room.ensures.same.entries c.from_vec.ensures made) (c.push.ensures.promised ∙ c.make_room.ensures.same.promised)
-    (write_steps _ _ _ _ _ _ _ _ c.args.b c.args.c c.self.invariant c.args.draft.now c.in-Ok.drawn _ _ _ request may drawn (c.in-Ok-apply.ensures.ok ∙ ap (after_write c.self.inside.store c.in-Ok.drawn.xid c.args.c) c.deref-5.ensures.value)
-    (λ all holds. subst (λ gs. Holds c.grant.new.self (all ++ gs)) granted (c.grant.ensures all (c.reserve.ensures.same all holds))) c.begin_writing.ensures))
+    (write_steps _ _ _ _ _ _ _ _ c.args.b c.args.c c.self.invariant c.args.draft.now c.in-Ok.drawn _ _ _ request may drawn (c.in-Ok-apply.ensures.ok ∙ ap (after_write c.self.inside.store c.in-Ok.drawn.xid c.args.c) c.deref-4.ensures.value)
+    granted c.begin_writing.ensures))
 
 pub returns-clause-writes : goal.returns-clause-writes
 returns-clause-writes c =
