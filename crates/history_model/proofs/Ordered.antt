@@ -67,7 +67,7 @@ all_each : {X : Type 0} (p : X → Bool) (xs : List X) → list_all p xs ≡ tru
 all_each p [] all = tt
 all_each p (x ∷ xs) all = let parts = and_parts (p x) (list_all p xs) all in (parts.0, all_each p xs parts.1)
 
-all_flat : {X Y : Type 0} (p : Y → Bool) (f : X → List Y) (xs : List X) → list_all p (flat_map f xs) ≡ true → AllByRecursion (λ x. list_all p (f x) ≡ true) xs
+pub all_flat : {X Y : Type 0} (p : Y → Bool) (f : X → List Y) (xs : List X) → list_all p (flat_map f xs) ≡ true → AllByRecursion (λ x. list_all p (f x) ≡ true) xs
 all_flat p f [] all = tt
 all_flat p f (x ∷ xs) all = let parts = and_parts (list_all p (f x)) (list_all p (flat_map f xs)) (sym (list_all-append p (f x) (flat_map f xs)) ∙ all) in (parts.0, all_flat p f xs parts.1)
 
@@ -88,7 +88,7 @@ oid_eq : (a b : Oid) → same_oid a b ≡ true → a ≡ b
 oid_eq a b is = let e : a.0 ≡ b.0 = eqb-true a.0 b.0 is in ap {B = Oid} (λ n. record { 0 = n }) e
 
 -- the rows that a change names
-both_rows : {Y : Type 0} (p : Y → Bool) (f : Row → List Y) (old new : Option Row) → list_all p (flat_map f (filter_map (λ r. r) (old ∷ new ∷ []))) ≡ true → IfSome new (λ row. list_all p (f row) ≡ true) × IfSome old (λ row. list_all p (f row) ≡ true)
+pub both_rows : {Y : Type 0} (p : Y → Bool) (f : Row → List Y) (old new : Option Row) → list_all p (flat_map f (filter_map (λ r. r) (old ∷ new ∷ []))) ≡ true → IfSome new (λ row. list_all p (f row) ≡ true) × IfSome old (λ row. list_all p (f row) ≡ true)
 both_rows p f None None all = (tt, tt)
 both_rows p f None (Some new) all = ((all_flat p f (new ∷ []) all).0, tt)
 both_rows p f (Some old) None all = (tt, (all_flat p f (old ∷ []) all).0)
@@ -223,7 +223,7 @@ one_seen history b (v ∷ vs) pairs = (
 )
 
 -- each version that a change ends has a named row
-ended_named : (history : List Entry) (b : ℕ) (N : Row → Type 0) (item : Item) → OneVersion history → IfSome (old_row history b item) N → AllByRecursion (λ v. ends history b item v ≡ true → N v.row) (versions_of history)
+pub ended_named : (history : List Entry) (b : ℕ) (N : Row → Type 0) (item : Item) → OneVersion history → IfSome (old_row history b item) N → AllByRecursion (λ v. ends history b item v ≡ true → N v.row) (versions_of history)
 ended_named history b N item one named = of (ended_key item) named
   where
     of : (o : Option RowKey) → IfSome (option_map_or (row_with history b) o None) N

@@ -67,4 +67,4 @@ rows_changed before b item = map (λ v. v.row) (filter (ends before b item) (ver
 
 -- each scan whose answer a write changes for its writer is covered by one of its messages
 abbrev pub covers_changes : List Entry → ℕ → ℕ → Xid → List Item → Bool
-covers_changes before b c xid items = list_all (λ scan. is_covered (messages_written before b items) scan || keeps_answer before b c xid items scan) (flat_map scans_of (flat_map (rows_changed before b) items))
+covers_changes before b c xid items = list_all (λ scan. is_covered (messages_written before b items) scan || keeps_answer before b c xid items scan) (flat_map (λ item. flat_map scans_of (rows_changed before b item)) items)

@@ -39,7 +39,7 @@ keeps_relation before b item = true
 
 -- a message of the write covers each scan that gives a row which a change names
 abbrev pub covers_named : List Entry → ℕ → List Item → Bool
-covers_named before b items = list_all (is_covered (messages_written before b items)) (flat_map scans_of (flat_map (λ item. rows_named item (old_row before b item)) items))
+covers_named before b items = list_all (is_covered (messages_written before b items)) (flat_map (λ item. flat_map scans_of (rows_named item (old_row before b item))) items)
 
 -- the rows that a write adds have new keys, those that it replaces stay rows of their relations, and its messages cover all scans that give one of them
 pub record IsOrderlyWrite (before : List Entry) (b : ℕ) (items : List Item) : Type 0 where

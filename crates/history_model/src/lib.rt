@@ -6,9 +6,9 @@
 //! What may come next is a relation of an entry and the entries before it, and a history is legal
 //! where that holds of each of its entries. Nothing here is a cache, a queue or an index.
 //!
-//! specs/ is to be read in this order: Prefixes, Lives, Transactions, Versions, Changes, Messages, Sent,
-//! Log, Held, Drawn, Names, Writes, Legal, Read, Orderly. While messages aren't built no write has
-//! any (`Sent`), so none is ever on its way.
+//! specs/ is to be read in this order: Prefixes, Lives, Transactions, Versions, Changes, Sent, Log,
+//! Held, Drawn, Names, Covered, Writes, Legal, Read, Orderly. Which messages a change has, and which
+//! scans a message covers, is said in inval_messages.
 //!
 //! What each sound history keeps is proved in proofs/Ordered.antt: locks exclude each other, what a
 //! running transaction has touched it holds locked, and no backend sees two versions of one row.
