@@ -15,11 +15,11 @@ use Rattle.history_model.proofs.Prefixes.{each-keeps, own-own, own-other}
 use Rattle.history_model.proofs.Reading.{life_of-own, life_of-other, log_of-more, position_of-own, position_of-other}
 
 -- no entry shortens the log
-pub log_by-grows : (before : List Entry) (b : ℕ) (event : Event) (old : List Message) → length old ≤ length (log_by before b event old)
+log_by-grows : (before : List Entry) (b : ℕ) (event : Event) (old : List Message) → length old ≤ length (log_by before b event old)
 log_by-grows before b (events.Publish count) old = omega (arith, length-append old (take count (unsent_of before b)))
 log_by-grows before b event old = omega arith
 
-log_of-grows : (before : List Entry) (e : Entry) → length (log_of before) ≤ length (log_of (before ++ e ∷ []))
+pub log_of-grows : (before : List Entry) (e : Entry) → length (log_of before) ≤ length (log_of (before ++ e ∷ []))
 log_of-grows before e = omega (arith, ap length (log_of-more before e), log_by-grows before e.backend e.event (log_of before))
 
 waits_on : (alive : Bool) (at n m : ℕ) → (alive && nat_lt at n) ≡ true → n ≤ m → (alive && nat_lt at m) ≡ true

@@ -307,7 +307,7 @@ find_each p q [] same = refl
 find_each p q (v ∷ versions) same = λ i. cond (same.0 i) (Some v) (find_each p q versions same.1 i)
 
 -- the row with a key is the same in both
-row_same : (history : List Entry) (b : ℕ) (store : Store) (reader : Reader) → store.versions ≡ versions_of history → AllByRecursion (λ v. sees_version (has_committed store.committed) reader v ≡ sees history b v) (versions_of history) → (key : RowKey)
+pub row_same : (history : List Entry) (b : ℕ) (store : Store) (reader : Reader) → store.versions ≡ versions_of history → AllByRecursion (λ v. sees_version (has_committed store.committed) reader v ≡ sees history b v) (versions_of history) → (key : RowKey)
     → row_of_key store key reader ≡ row_with history b key
 row_same history b store reader are reads key =
     ap (λ vs. option_map (λ v. v.row) (find (λ v. sees_version (has_committed store.committed) reader v && same_key (key_of v.row) key) vs)) are

@@ -12,3 +12,5 @@ mod Scanned
 mod Start
 mod Writing
 mod Written
+pub mod Queue
+pub mod Announcing

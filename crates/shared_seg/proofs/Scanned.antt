@@ -17,7 +17,8 @@ use Rattle.row_visibility.specs.declared.version.Version.{Version}
 use Rattle.row_visibility.specs.Seen.{is_own, sees_stamp, sees_version}
 use Rattle.lock_modes.specs.declared.grant.Grant.{Grant}
 use Rattle.catalog_rows.specs.Store.{Store, has_committed, rows_of_scan}
-use Rattle.history_model.specs.Sent.{Written, lists_of}
+use Rattle.inval_messages.specs.Lists.{Written}
+use Rattle.history_model.specs.Sent.{lists_of}
 use Rattle.history_model.specs.Transactions.{is_committed, runs_as}
 use Rattle.history_model.specs.Versions.{versions_of, counts, sees, answer_of}
 use Rattle.history_model.proofs.Every.{every-weaker}

@@ -29,8 +29,9 @@ use Rattle.history_model.specs.Orderly.{IsOrderlyWrite}
 use Rattle.history_model.specs.Versions.{change_by}
 use Rattle.history_model.specs.Writes.{is_free, changed_key}
 use Rattle.base_types.specs.RowKeys.{are_distinct_keys}
+use Rattle.history_model.proofs.Covering.{named_covers}
 use Rattle.history_model.proofs.Ordered.{sound_ordered}
-use Rattle.seg_calls.specs.Calls.{entry_of, items_drawn, MayRequest, MayWrite, MakesWrite, Clashes, Writes}
+use Rattle.seg_calls.specs.Calls.{entry_of, items_drawn, messages_in, MayRequest, MayWrite, MakesWrite, Clashes, Writes}
 use Rattle.shared_seg.specs.declared.drawing.Drawn.{Drawn}
 use Rattle.shared_seg.specs.declared.naming.Taken.{Taken}
 use Rattle.shared_seg.specs.declared.transaction.Transaction.{Transaction}
@@ -41,8 +42,11 @@ use Rattle.shared_seg.specs.KeepsFolds.{KeepsFolds}
 use Rattle.shared_seg.specs.Naming.{NamesFree, IsTaken, clash_with, clash_event_of, refuses}
 use Rattle.shared_seg.specs.Places.{promised_in}
 use Rattle.shared_seg.specs.Transactions.{transaction_at, transaction_by, own_xid_in, xid_at, begun_own}
+use Rattle.inval_messages.specs.declared.message.Message.{Message}
+use Rattle.shared_seg.specs.Announced.{messages_at}
+use Rattle.shared_seg.proofs.Announcing.{messages_same}
 use Rattle.shared_seg.proofs.Asked.{request_inside, asked_appends, asked_quiet}
-use Rattle.shared_seg.proofs.Clashes.{Mirrors, all_free, names_same, clash_allowed}
+use Rattle.shared_seg.proofs.Clashes.{row_same, Mirrors, all_free, names_same, clash_allowed}
 use Rattle.shared_seg.proofs.Entered.{within}
 use Rattle.shared_seg.proofs.Keeps.{Steps}
 use Rattle.shared_seg.proofs.Own.{kept_set}
@@ -75,7 +79,13 @@ module _ (script : Scenario) (history : List Entry) (promised : List ℕ) (store
     free = subst (λ items. list_all (is_free history b) (new_names history b items) ≡ true) (ap (λ cs. items_of cs draft.forced) is.changes ∙ items_are draft)
         (all_free history b store (record { xid = xid_at transactions b; command = c + 1 }) mirrors (reads_same script history promised store locks transactions next last b c k request) drawn.changes.items draft.forced free);
     guarded = may.guarded;
+    covered = named_covers history b c drawn.xid (items_drawn history draft) k.sound may.orderly.named;
   }
+
+  -- its messages are those of its items
+  pub write_announced : (items : List Item) (messages : List Message) → MayRequest script history b c → messages ≡ flat_map (messages_at store (record { xid = xid_at transactions b; command = c + 1 })) items → messages ≡ messages_in history b items
+  write_announced items messages request are = are ∙ messages_same history b store (record { xid = xid_at transactions b; command = c + 1 })
+      (row_same history b store (record { xid = xid_at transactions b; command = c + 1 }) k.versions (reads_same script history promised store locks transactions next last b c k request)) items
 
   -- what is kept makes its step
   pub write_steps : (draft : Draft) (drawn : Drawn) (after : Store) (locked : List Grant) (own : List (Option Transaction)) → MayRequest script history b c → MayWrite history b c draft → IsDrawn (xid_at transactions b) draft next last drawn
@@ -141,10 +151,10 @@ clash_writes k now after has b c draft name (Running xid) is request allows new 
 
 -- what callers see of a write
 pub makes_write : (k now : Kept) (after : List Entry) (has : List ℕ) (b c next : ℕ) (draft : Draft) (written : Written) → k ≡ now → MayRequest now.script now.history b c → AllowsEvent k.history b c (Write written.xid (items_drawn k.history draft)) → IsOrderlyWrite k.history b (items_drawn k.history draft)
-    → after ≡ k.history ++ entry_of b c (Write written.xid (items_drawn k.history draft)) ∷ [] → has ≡ k.promised → written.first_oid.0 ≡ next → next ≡ next_oid k.history → MakesWrite now.history after (places_in now) (promised_in has) b c draft written
-makes_write k now after has b c next draft written is request allows orderly entries same first drawn =
+    → after ≡ k.history ++ entry_of b c (Write written.xid (items_drawn k.history draft)) ∷ [] → has ≡ k.promised → written.first_oid.0 ≡ next → next ≡ next_oid k.history → written.messages.items ≡ messages_in k.history b (items_drawn k.history draft) → MakesWrite now.history after (places_in now) (promised_in has) b c draft written
+makes_write k now after has b c next draft written is request allows orderly entries same first drawn messages =
     subst (λ (x : Kept). MakesWrite x.history after (places_in x) (promised_in has) b c draft written) is
-    (record { appends = asked_appends k k after has b c (Write written.xid (items_drawn k.history draft)) refl (request_inside k now b c is request) refl allows orderly entries same; first = first ∙ drawn })
+    (record { appends = asked_appends k k after has b c (Write written.xid (items_drawn k.history draft)) refl (request_inside k now b c is request) refl allows orderly entries same; first = first ∙ drawn; messages = messages })
 
 -- the same of what a call answers
 pub clash_writes_at : (k now : Kept) (after : List Entry) (has : List ℕ) (b c : ℕ) (draft : Draft) (taken : Taken) (answer : WriteRefusal) → answer ≡ refuses taken → k ≡ now → MayRequest now.script now.history b c → AllowsEvent k.history b c (clash_with taken)

@@ -8,3 +8,5 @@ pub mod Drawn
 pub mod Naming
 pub mod IsDrawn
 pub mod MessageLog
+pub mod Announced
+pub mod KeepsQueue

@@ -22,9 +22,11 @@
 //!
 //! Different from the server: a lock is never waited for, and the first holder in the way is named; a new
 //! name that a running transaction has in use is refused where the server would wait; Xids and oids that
-//! would pass 32 bits are answered as out of memory. No message is sent yet, so none ever waits.
+//! would pass 32 bits are answered as out of memory. The queue of messages is never shortened, so no
+//! backend is ever reset.
 #![tactic(auto)]
 
+mod announce;
 mod drawing;
 mod grants;
 mod message_log;

@@ -2,15 +2,19 @@ ghost use Rattle.std.specs.Prelude.{◌≡◌, ◌≤◌, ◌<◌, ◌+◌, ◌+
 ghost use Rattle.shared_seg.specs.Undone.{undone};
 ghost use Rattle.shared_seg.specs.Naming.{clash_with, refuses};
 
+use crate::announce::announced;
 use crate::drawing::{Drawn, draw};
 use crate::grants::new_grants;
+use crate::message_log::MessageLog;
 use crate::naming::{Taken, first_taken};
 use crate::places::Places;
 use crate::transaction::{Transaction, begin, begin_writing, clear, end_from, own_xid};
-use base_types::{FIRST_OID, Listed, Mode, NoMemory, Oid, Purpose, Scanned, Xid};
+use arrayvec::ArrayVec;
+use base_types::{FIRST_OID, Fetched, Listed, Mode, NoMemory, Oid, Purpose, Scanned, Xid};
 use catalog_rows::RowStore;
 use ddl_effect::Draft;
 use event_kinds::{Entry, Event};
+use inval_messages::Message;
 use lock_modes::{Granted, LockTable};
 use row_visibility::{Clash, Reader};
 use script_text::Script;
@@ -18,6 +22,9 @@ use seg_calls::{LockRefusal, Seg, WriteRefusal, Written};
 use std::alloc::Global;
 use std::marker::Model;
 use std::snapshot::Snapshot;
+
+// The most messages that one publish adds.
+const MOST_PUBLISHED: usize = 64;
 
 /// What all backends of a script share.
 #[derive(Drop)]
@@ -27,6 +34,7 @@ pub struct Shared {
     places: Places,
     store: RowStore,
     locks: LockTable,
+    queue: MessageLog,
     // by backend
     transactions: Vec<Option<Transaction>>,
     next_oid: u32,
@@ -39,11 +47,11 @@ impl Model for Shared {
 
     ghost Value = { Kept };
 
-    ghost use Rattle.shared_seg.specs.KeepsFolds.{KeepsFolds};
+    ghost use Rattle.shared_seg.specs.KeepsQueue.{KeepsShared};
 
     ghost view = { λ s. record { history = s.places.entries; script = s.script.value; promised = s.places.promised; short = s.short } };
 
-    ghost invariant = { λ s. KeepsFolds s.script.value s.places.entries s.places.promised s.store s.locks.held s.transactions.items s.next_oid s.last_xid };
+    ghost invariant = { λ s. KeepsShared s.script.value s.places.entries s.places.promised s.store s.locks.held s.transactions.items s.next_oid s.last_xid s.queue };
 }
 
 impl Shared {
@@ -54,6 +62,7 @@ impl Shared {
     {
         let backends = script.backends();
         let places = Places::new(alloc, backends)?;
+        let queue = MessageLog::new(alloc, backends)?;
         let mut transactions = Vec::new(alloc);
         transactions.reserve(backends as usize + 1)?;
         add_slots(&mut transactions, backends as usize + 1);
@@ -63,6 +72,7 @@ impl Shared {
             places,
             store: RowStore::new(alloc),
             locks: LockTable::new(alloc),
+            queue,
             transactions,
             next_oid: FIRST_OID,
             last_xid: 0,
@@ -86,6 +96,7 @@ impl Shared {
             places,
             store: _,
             locks: _,
+            queue: _,
             transactions: _,
             next_oid: _,
             last_xid: _,
@@ -104,7 +115,10 @@ impl Seg for Shared {
     ghost promised = { places_in };
 
     fn promise(&mut self, b: u32, n: u32) -> Result<(), NoMemory> {
-        self.places.promise(b, n)
+        let more = n.saturating_sub(self.places.promised(b)) as usize;
+        self.queue.reserve(MOST_PUBLISHED * (self.places.total() + more))?;
+        self.places.promise(b, n)?;
+        Ok(())
     }
 
     fn promised(&self, b: u32) -> u32 {
@@ -112,9 +126,7 @@ impl Seg for Shared {
     }
 
     fn waits(&self, b: u32) -> bool {
-        // No message is built yet, so there is none that could wait.
-        let _places = &self.places;
-        false
+        self.queue.waits(b)
     }
 
     fn start(&mut self, b: u32) {
@@ -123,6 +135,7 @@ impl Seg for Shared {
             command: 0,
             event: Event::Start,
         });
+        self.queue.join(b);
         clear(&mut self.transactions, b);
     }
 
@@ -133,6 +146,17 @@ impl Seg for Shared {
             event: Event::Look { yes },
         });
         begin(&mut self.transactions, b, c);
+    }
+
+    fn fetch(&mut self, b: u32, c: u32, into: &mut ArrayVec<Message, 32>) -> Fetched {
+        let count = self.queue.fetch(b, into);
+        self.places.append(Entry {
+            backend: b,
+            command: c,
+            event: Event::Fetch { count },
+        });
+        begin(&mut self.transactions, b, c);
+        Fetched::Messages(count)
     }
 
     fn scan(&mut self, b: u32, c: u32, purpose: &Purpose) -> Result<Scanned, NoMemory> {
@@ -217,6 +241,9 @@ impl Seg for Shared {
             begin(&mut self.transactions, b, c);
             return Err(refusal_of(&taken));
         }
+        let Ok(messages) = announced(self.alloc, &self.store, reader, &items) else {
+            return Err(WriteRefusal::NoMemory);
+        };
         let Ok(grants) = new_grants(self.alloc, b, c, &items) else {
             return Err(WriteRefusal::NoMemory);
         };
@@ -242,7 +269,11 @@ impl Seg for Shared {
         let first_oid = Oid(self.next_oid);
         self.next_oid = next_oid;
         self.last_xid = self.last_xid.max(xid.0);
-        Ok(Written { xid, first_oid })
+        Ok(Written {
+            xid,
+            first_oid,
+            messages,
+        })
     }
 
     fn visible(&mut self, b: u32, c: u32, xid: Xid) {
@@ -252,6 +283,18 @@ impl Seg for Shared {
             event: Event::Visible { xid },
         });
         self.store.commit(xid);
+        begin(&mut self.transactions, b, c);
+    }
+
+    fn publish(&mut self, b: u32, c: u32, messages: &[Message]) {
+        self.places.append(Entry {
+            backend: b,
+            command: c,
+            event: Event::Publish {
+                count: messages.len() as u32,
+            },
+        });
+        self.queue.publish(messages);
         begin(&mut self.transactions, b, c);
     }
 
@@ -282,6 +325,7 @@ impl Seg for Shared {
             command: c,
             event: Event::Stop,
         });
+        self.queue.leave(b);
     }
 
     ghost short = { λ s. s.short };

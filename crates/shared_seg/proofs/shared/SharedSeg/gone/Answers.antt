@@ -3,13 +3,17 @@ use Rattle.event_kinds.specs.declared.entry.Event.TheVariants.{Gone}
 use Rattle.seg_calls.specs.Calls.{entry_of}
 use Rattle.shared_seg.proofs.Entered.{call_inside, within, placed_appends, placed_keeps}
 use Rattle.shared_seg.proofs.Rows.{gone_steps}
+use Rattle.shared_seg.proofs.Queue.{placed_still}
 use Rattle.shared_seg.proofs.shared.SharedSeg.gone.Goals as goal
 
 pub invariant_of-self : goal.invariant_of-self
-invariant_of-self c =
-    let call = call_inside _ _ (entry_of c.args.b c.args.c (Gone c.args.from)) c.self.view_is c.requires.call in
-    placed_keeps _ _ _ _ (entry_of c.args.b c.args.c (Gone c.args.from)) _ _ _ _ _ _ _ _ _ _ c.self.view_is c.self.invariant c.requires.call tt c.append.ensures.entries c.append.ensures.promised
-    (gone_steps _ c.args.b c.args.c c.args.from _ _ _ _ _ _ _ (c.self.invariant.own c.args.b) (search rules) (within c.self.inside.script.value c.args.b _ call.backend c.self.invariant.slots) c.begin.ensures)
+invariant_of-self c = record {
+  folds =
+      let call = call_inside _ _ (entry_of c.args.b c.args.c (Gone c.args.from)) c.self.view_is c.requires.call in
+      placed_keeps _ _ _ _ (entry_of c.args.b c.args.c (Gone c.args.from)) _ _ _ _ _ _ _ _ _ _ c.self.view_is c.self.invariant.folds c.requires.call tt c.append.ensures.entries c.append.ensures.promised
+      (gone_steps _ c.args.b c.args.c c.args.from _ _ _ _ _ _ _ (c.self.invariant.folds.own c.args.b) (search rules) (within c.self.inside.script.value c.args.b _ call.backend c.self.invariant.folds.slots) c.begin.ensures);
+  queued = placed_still _ _ _ _ (entry_of c.args.b c.args.c (Gone c.args.from)) _ c.self.view_is c.self.invariant.queued c.requires.call c.self.invariant.folds.backends refl c.append.ensures.entries c.append.ensures.promised;
+}
 
 pub returns-clause-appends : goal.returns-clause-appends
-returns-clause-appends c = placed_appends _ _ _ _ (entry_of c.args.b c.args.c (Gone c.args.from)) refl c.self.view_is c.requires.call tt c.self.invariant.backends c.append.ensures.entries c.append.ensures.promised
+returns-clause-appends c = placed_appends _ _ _ _ (entry_of c.args.b c.args.c (Gone c.args.from)) refl c.self.view_is c.requires.call tt c.self.invariant.folds.backends c.append.ensures.entries c.append.ensures.promised

@@ -2,11 +2,15 @@ use Rattle.std.proofs.Common.{refl}
 use Rattle.event_kinds.specs.declared.entry.Event.TheVariants.{Look}
 use Rattle.seg_calls.specs.Calls.{entry_of}
 use Rattle.shared_seg.proofs.Entered.{placed_appends, quiet_keeps}
+use Rattle.shared_seg.proofs.Queue.{placed_still}
 use Rattle.shared_seg.proofs.shared.SharedSeg.looked.Goals as goal
 
 pub invariant_of-self : goal.invariant_of-self
-invariant_of-self c =
-    quiet_keeps _ _ _ _ c.args.b c.args.c (Look c.args.yes) _ _ _ _ _ _ _ c.self.view_is c.self.invariant c.requires.call tt c.append.ensures.entries c.append.ensures.promised refl refl refl (λ x. refl) (λ x. refl) refl c.begin.ensures
+invariant_of-self c = record {
+  folds =
+      quiet_keeps _ _ _ _ c.args.b c.args.c (Look c.args.yes) _ _ _ _ _ _ _ c.self.view_is c.self.invariant.folds c.requires.call tt c.append.ensures.entries c.append.ensures.promised refl refl refl (λ x. refl) (λ x. refl) refl c.begin.ensures;
+  queued = placed_still _ _ _ _ (entry_of c.args.b c.args.c (Look c.args.yes)) _ c.self.view_is c.self.invariant.queued c.requires.call c.self.invariant.folds.backends refl c.append.ensures.entries c.append.ensures.promised;
+}
 
 pub returns-clause-appends : goal.returns-clause-appends
-returns-clause-appends c = placed_appends _ _ _ _ (entry_of c.args.b c.args.c (Look c.args.yes)) refl c.self.view_is c.requires.call tt c.self.invariant.backends c.append.ensures.entries c.append.ensures.promised
+returns-clause-appends c = placed_appends _ _ _ _ (entry_of c.args.b c.args.c (Look c.args.yes)) refl c.self.view_is c.requires.call tt c.self.invariant.folds.backends c.append.ensures.entries c.append.ensures.promised
