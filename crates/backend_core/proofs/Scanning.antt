@@ -39,50 +39,11 @@ use Rattle.backend_core.specs.Agrees.{IsPlayed, FactsFit, TallyFits, RowsFit, Re
 use Rattle.backend_core.specs.Steps.{IsWorking, NextLookUp, NextBuild, Enters}
 use Rattle.backend_core.proofs.SeesRelation.{found_seen, read_stays-after}
 use Rattle.backend_core.proofs.Stepping.{Waits, facts_after, rest_after, own_enters}
-use Rattle.backend_core.proofs.Carry.{MayCome, may_come, Leaves, own_leaves, LeavesWrites, LeavesRelations, leaves_relations, has_written-quiet, place_read-scan, kept-more, SameCommand, way-more, later-more, command-more, no_answer, look_true, waits_at, scans_same, builds_same, act_same, missing_at, owed_free, clear_at, accepted-clear}
+use Rattle.backend_core.proofs.Carry.{transaction-more, end_free, waits_scan, runs_on, MayCome, may_come, Leaves, own_leaves, LeavesWrites, LeavesRelations, leaves_relations, has_written-quiet, place_read-scan, kept-more, SameCommand, way-more, later-more, command-more, no_answer, look_true, waits_at, scans_same, builds_same, act_same, missing_at, owed_free, clear_at, accepted-clear}
 use Rattle.backend_core.proofs.Looks.{may_look_at}
 use Rattle.backend_core.proofs.Acting.{IsActing, is_acting, missing_acts}
 use Rattle.backend_core.proofs.CanFollow.{CanGoOn}
 use Rattle.backend_core.proofs.Ways.{acts}
-
--- a transaction fits in another state, if its release isn't made in either
-pub transaction-more : (was now : Backend) → is_ended was.phase ≡ false → is_ended now.phase ≡ false → now.blocks ≡ was.blocks → now.running ≡ was.running → now.finished ≡ was.finished → now.commands ≡ was.commands
-    → TransactionFits was was.phase → TransactionFits now now.phase
-transaction-more was now going goes blocks running finished commands fits = to_phase now.phase goes (subst (RunsBy now) (ap (λ x. x.block) (sym blocks)) (by_block was.blocks.block (from_phase was.phase going fits)))
-  where
-    from_phase : (p : Phase) → is_ended p ≡ false → TransactionFits was p → RunsBy was was.blocks.block
-    from_phase phases.Working h f = f
-    from_phase phases.Granted h f = f
-    from_phase phases.Visible h f = f
-    from_phase (phases.TakenBack from) h f = f
-    from_phase phases.Ended h f = absurd (cc)
-
-    to_phase : (p : Phase) → is_ended p ≡ false → RunsBy now now.blocks.block → TransactionFits now p
-    to_phase phases.Working h f = f
-    to_phase phases.Granted h f = f
-    to_phase phases.Visible h f = f
-    to_phase (phases.TakenBack from) h f = f
-    to_phase phases.Ended h f = absurd (cc)
-
-    first : option_map_or (λ t. t.first) now.running 0 ≡ option_map_or (λ t. t.first) was.running 0
-    first = ap (λ o. option_map_or (λ t. t.first) o 0) running
-
-    same_begins : (command : Command) → begins_in now.blocks now.phase command ≡ begins_in was.blocks was.phase command
-    same_begins command = ap (λ b. begins_in b now.phase command) blocks ∙ ap (λ t. elim was.blocks.block as (λ x. Bool) [ Outside ↦ not (ends_block command) && not t && is_none (refused_by no_block command) | block ↦ false ]) (goes ∙ sym going)
-
-    by_block : (b : Block) → RunsBy was b → RunsBy now b
-    by_block Outside (inl none) = inl (running ∙ none)
-    by_block Outside (inr alone) = inr (record {
-      has = record { command = alone.has.command; at = ap (λ l. slice_get l now.finished) commands ∙ ap (slice_get was.commands) finished ∙ alone.has.at };
-      begins = same_begins alone.has.command ∙ alone.begins;
-      first = first ∙ alone.first ∙ ap (λ n. n + 1) (sym finished);
-    })
-    by_block Inside block = record { runs = ap is_some running ∙ block.runs; first = λ command. first ∙ block.first command ∙ ap (λ b. innermost command b.levels) (sym blocks) }
-    by_block Failed none = running ∙ none
-
--- the end isn't on its way
-pub end_free : (s : Backend) → s.phase ≡ phases.Working → EndFits s s.phase
-end_free s phase = subst (EndFits s) (sym phase) tt
 
 -- the same state but for its reading: where it works, it stays well
 pub reads_well : (was : Backend) (exec : Exec) (looked read : Bool) (given : Vec Row Global) (given_at : ℕ) (kept : List KeptScan) → was.phase ≡ phases.Working → builds_missing kept was.opened ≡ [] → plan_at exec ≡ plan_at was.exec
@@ -109,81 +70,9 @@ reads_well was exec looked read given given_at kept phase builds plan well = rec
   clear = inr (clear_at was well (λ is. absurd (cc (is, phase))));
 }
 
--- a scan is missing: the backend waits for it
-is_empty-not : {X : Type 0} (xs : List X) → xs ≢ [] → is_empty xs ≡ false
-is_empty-not [] some = absurd (some refl)
-is_empty-not (x ∷ xs) some = refl
-
-pub waits_scan : (scenario : Scenario) (seen : List Entry) (s : Backend) (agrees : Agrees scenario seen s) (has : HasCommand s) → scans_missing s ≢ [] → Waits agrees
-waits_scan scenario seen s agrees has some = waits_at scenario seen s agrees has (λ rest. waits-scans (facts_of seen s.id) has.command rest (session_at s agrees.rest)
-    (ap is_empty (scans_same (facts_of seen s.id) s agrees.rest agrees.facts) ∙ is_empty-not (scans_missing s) some))
-
--- its transaction goes on
-pub runs_on : (number : ℕ) (s : Backend) (facts : Facts) → FactsFit facts s → is_some s.running ≡ true → Some (begun number facts.running) ≡ running_at s
-runs_on number s facts fits runs = ap (λ o. Some (begun number o)) fits.running ∙ by_own s.running runs
-  where
-    by_own : (own : Option OwnTransaction) → is_some own ≡ true → Some (begun number (running_in s.phase own)) ≡ running_in s.phase own
-    by_own None h = absurd (cc)
-    by_own (Some t) h = refl
-
 both_none : {X : Type 0} (xs ys : List X) → xs ++ ys ≡ [] → (xs ≡ []) × (ys ≡ [])
 both_none [] ys none = (refl, none)
 both_none (x ∷ xs) ys none = absurd (cc)
-
--- the look before a scan
-pub scan_look_enters : (scenario : Scenario) (old new : List Entry) (had has : ℕ → ℕ) (was : Backend) → Agrees scenario old was → IsPlayed scenario old → IsWorking was → scans_missing was ≢ [] → was.looked ≡ false
-    → Appends old new had has (entry_of was.id (was.finished + 1) (events.Look false)) → Enters scenario old new was (record was { looked = true })
-scan_look_enters scenario old new had has was agrees played works some unlooked appends =
-    own_enters scenario old new had has was now (events.Look false) agrees (waits_scan scenario old was agrees works.has some)
-    (record { session = λ _ _ _ _ _ _. refl; finished = λ _. refl; life = λ _. refl })
-    (record {
-      plays = subst (λ o. MayPlayIn (next_oid old) (facts_of old was.id) o (session_at was agrees.rest) (events.Look false)) (sym works.has.at) (may_look_at (facts_of old was.id) was agrees.rest agrees.facts (agrees.tally (ap is_ended works.phase)));
-      needed = tt;
-      truly = look_true scenario old was.id played;
-      tables = tt;
-    })
-    (record {
-      moves = record { id = refl; commands = refl; finished = refl; life = refl; lines = refl };
-      session = accepted-clear (facts_after old was (events.Look false)) (first_of (drop was.finished was.commands)) (placed_at (length old + 1) (was.finished + 1) (events.Look false) (session_at was agrees.rest)) (clear_at was agrees.well (λ is. absurd (cc (is, works.phase))));
-      facts = record {
-        running = runs_on (was.finished + 1) was (facts_of old was.id) agrees.facts acting.runs;
-        lists = agrees.facts.lists;
-        owed = sym (ap owed_at works.phase);
-        took = sym (ap is_taken_back works.phase);
-        taken = λ from is. absurd (cc (is, works.phase));
-        usable = agrees.facts.usable;
-        kept = agrees.facts.kept;
-        given = agrees.facts.given;
-      };
-      tally = λ _. omega (arith, agrees.tally (ap is_ended works.phase), ap one_if unlooked);
-      well = reads_well was was.exec true was.read was.given was.given_at was.kept works.phase agrees.well.builds refl agrees.well;
-    })
-    (record {
-      command = command-more old e was now agrees.rest later (record { id = refl; commands = refl; finished = refl; answer = refl; plan = refl; opened = refl; block = refl; refused = refl; found = refl }) (record { read = refl; given = refl; given_at = refl })
-          leaves.writes leaves.places leaves.relations agrees.command;
-      kept = kept-more old e was.id was.kept may (λ i d within. refl) agrees.kept;
-      answer = no_answer scenario (old ++ e ∷ []) now later acting.unanswered;
-      judged = λ _ _. refl;
-    })
-    appends
-  where
-    now : Backend
-    now = record was { looked = true }
-
-    acting : IsActing old was agrees.rest works.has.command
-    acting = is_acting scenario old was agrees works (missing_acts was agrees.well some)
-
-    e : Entry
-    e = entry_of was.id (was.finished + 1) (events.Look false)
-
-    later : Rest
-    later = rest_after old was (events.Look false) agrees.rest
-
-    may : MayCome old e
-    may = may_come scenario old e played appends.comes tt
-
-    leaves : Leaves old e was.id
-    leaves = own_leaves old e was.id may refl (λ name. refl) refl
 
 -- the count of looks is enough for one more scan
 pub looked_enough : (facts : Facts) (s : Backend) (rest : Rest) → FactsFit facts s → TallyFits rest.tally s → length rest.finished ≡ s.finished → s.phase ≡ phases.Working → s.looked ≡ true → has_looked facts (session_at s rest) ≡ true
