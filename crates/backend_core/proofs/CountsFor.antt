@@ -11,12 +11,12 @@ use Rattle.event_kinds.specs.declared.entry.Item.{Item}
 use Rattle.row_visibility.specs.declared.version.Stamp.{Stamp}
 use Rattle.row_visibility.specs.declared.version.Version.{Version}
 use Rattle.base_types.specs.declared.row.Row.{Row}
-use Rattle.inval_messages.specs.Lists.{Written, has_write_from}
 use Rattle.history_model.specs.Drawn.{next_oid, next_oid_by}
 use Rattle.history_model.specs.Legal.{FollowsVisible, MayRelease, MayFollow}
 use Rattle.history_model.specs.Lives.{Life, Unstarted, Alive, Stopped, life_of, FollowsLife}
 use Rattle.history_model.specs.Orderly.{main_rel, MayComeNext, IsSound}
 use Rattle.history_model.specs.Sent.{lists_of, ends_transaction}
+use Rattle.inval_messages.specs.Lists.{Written, has_write_from}
 use Rattle.history_model.specs.Transactions.{Running, running_transaction_of, is_visible, runs_as, is_committed}
 use Rattle.history_model.specs.Versions.{versions_of, counts, ends}
 use Rattle.history_model.proofs.Every.{every, every-weaker, every-append, every-filter, every-both}
