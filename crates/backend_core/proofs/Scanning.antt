@@ -40,52 +40,11 @@ use Rattle.backend_core.specs.Agrees.{IsPlayed, FactsFit, TallyFits, RowsFit, Re
 use Rattle.backend_core.specs.Steps.{IsWorking, NextLookUp, NextBuild, Enters}
 use Rattle.backend_core.proofs.SeesRelation.{found_seen, read_stays-after}
 use Rattle.backend_core.proofs.Stepping.{Waits, facts_after, rest_after, own_enters}
-use Rattle.backend_core.proofs.Carry.{MayCome, may_come, Leaves, own_leaves, LeavesWrites, LeavesRelations, leaves_relations, has_written-quiet, place_read-scan, kept-more, SameCommand, way-more, later-more, command-more, no_answer, waits_at, scans_same, act_same, none_opened, none_missing, missing_at, owed_free, clear_at, accepted-clear}
+use Rattle.backend_core.proofs.Carry.{transaction-more, end_free, waits_scan, runs_on, MayCome, may_come, Leaves, own_leaves, LeavesWrites, LeavesRelations, leaves_relations, has_written-quiet, place_read-scan, kept-more, SameCommand, way-more, later-more, command-more, no_answer, waits_at, scans_same, act_same, none_opened, none_missing, missing_at, owed_free, clear_at, accepted-clear}
 use Rattle.backend_core.proofs.Acting.{IsActing, is_acting, missing_acts}
 use Rattle.backend_core.proofs.CanFollow.{CanGoOn}
 use Rattle.backend_core.proofs.Nexting.{the_command}
 use Rattle.backend_core.proofs.Ways.{acts}
-
--- a transaction fits in another state, if its release isn't made in either
-pub transaction-more : (was now : Backend) → is_ended was.phase ≡ false → is_ended now.phase ≡ false → now.blocks ≡ was.blocks → now.running ≡ was.running → now.finished ≡ was.finished → now.commands ≡ was.commands
-    → TransactionFits was was.phase → TransactionFits now now.phase
-transaction-more was now going goes blocks running finished commands fits = to_phase now.phase goes (subst (RunsBy now) (ap (λ x. x.block) (sym blocks)) (by_block was.blocks.block (from_phase was.phase going fits)))
-  where
-    from_phase : (p : Phase) → is_ended p ≡ false → TransactionFits was p → RunsBy was was.blocks.block
-    from_phase phases.Working h f = f
-    from_phase phases.Looking h f = f
-    from_phase phases.Fetching h f = f
-    from_phase (phases.Visible published) h f = f
-    from_phase (phases.TakenBack from) h f = f
-    from_phase phases.Ended h f = absurd (cc)
-
-    to_phase : (p : Phase) → is_ended p ≡ false → RunsBy now now.blocks.block → TransactionFits now p
-    to_phase phases.Working h f = f
-    to_phase phases.Looking h f = f
-    to_phase phases.Fetching h f = f
-    to_phase (phases.Visible published) h f = f
-    to_phase (phases.TakenBack from) h f = f
-    to_phase phases.Ended h f = absurd (cc)
-
-    first : option_map_or (λ t. t.first) now.running 0 ≡ option_map_or (λ t. t.first) was.running 0
-    first = ap (λ o. option_map_or (λ t. t.first) o 0) running
-
-    same_begins : (command : Command) → begins_in now.blocks now.phase command ≡ begins_in was.blocks was.phase command
-    same_begins command = ap (λ b. begins_in b now.phase command) blocks ∙ ap (λ t. elim was.blocks.block as (λ x. Bool) [ Outside ↦ not (ends_block command) && not t && is_none (refused_by no_block command) | block ↦ false ]) (goes ∙ sym going)
-
-    by_block : (b : Block) → RunsBy was b → RunsBy now b
-    by_block Outside (inl none) = inl (running ∙ none)
-    by_block Outside (inr alone) = inr (record {
-      has = record { command = alone.has.command; at = ap (λ l. slice_get l now.finished) commands ∙ ap (slice_get was.commands) finished ∙ alone.has.at };
-      begins = same_begins alone.has.command ∙ alone.begins;
-      first = first ∙ alone.first ∙ ap (λ n. n + 1) (sym finished);
-    })
-    by_block Inside block = record { runs = ap is_some running ∙ block.runs; first = λ command. first ∙ block.first command ∙ ap (λ b. innermost command b.levels) (sym blocks) }
-    by_block Failed none = running ∙ none
-
--- the end isn't on its way
-pub end_free : (s : Backend) → s.phase ≡ phases.Working → EndFits s s.phase
-end_free s phase = subst (EndFits s) (sym phase) tt
 
 -- the same state but for its reading: where it works, it stays well
 pub reads_well : (was : Backend) (looked read : Bool) (given : Vec Row Global) (given_at : ℕ) (kept : List KeptScan) → IsWorking was → is_out was ≡ false → Well was
@@ -116,23 +75,6 @@ reads_well was looked read given given_at kept works inside well = record {
   where
     now : Backend
     now = record was { looked = looked; read = read; given = given; given_at = given_at; kept = kept }
-
--- a scan is missing: the backend waits for it
-is_empty-not : {X : Type 0} (xs : List X) → xs ≢ [] → is_empty xs ≡ false
-is_empty-not [] some = absurd (some refl)
-is_empty-not (x ∷ xs) some = refl
-
-pub waits_scan : (scenario : Scenario) (seen : List Entry) (s : Backend) (agrees : Agrees scenario seen s) (has : HasCommand s) → scans_missing s ≢ [] → Waits agrees
-waits_scan scenario seen s agrees has some = waits_at scenario seen s agrees has (λ rest. waits-scans (facts_of seen s.id) has.command rest (session_at s agrees.rest)
-    (ap is_empty (scans_same (facts_of seen s.id) s agrees.rest agrees.facts) ∙ is_empty-not (scans_missing s) some))
-
--- its transaction goes on
-pub runs_on : (number : ℕ) (s : Backend) (facts : Facts) → FactsFit facts s → is_some s.running ≡ true → Some (begun number facts.running) ≡ running_at s
-runs_on number s facts fits runs = ap (λ o. Some (begun number o)) fits.running ∙ by_own s.running runs
-  where
-    by_own : (own : Option OwnTransaction) → is_some own ≡ true → Some (begun number (running_in s.phase own)) ≡ running_in s.phase own
-    by_own None h = absurd (cc)
-    by_own (Some t) h = refl
 
 -- the count of looks is enough for one more scan
 pub looked_enough : (facts : Facts) (s : Backend) (rest : Rest) → FactsFit facts s → TallyFits rest.tally s → length rest.finished ≡ s.finished → s.phase ≡ phases.Working → s.looked ≡ true → has_looked facts (session_at s rest) ≡ true
