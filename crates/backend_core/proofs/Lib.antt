@@ -25,6 +25,7 @@ pub mod Releasing
 pub mod Leaving
 pub mod Beginning
 pub mod NewTable
+pub mod Registering
 pub mod Writing
 pub mod Clashing
 pub mod Finding
