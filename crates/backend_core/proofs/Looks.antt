@@ -341,7 +341,7 @@ first_look scenario old new had has was some_wait locks agrees played true_is at
     by_block Inside first = absurd (cc)
     by_block Failed first = absurd (cc)
 
-runs_same : (number : ℕ) (own : Option OwnTransaction) → is_some own ≡ true → Some (begun_own number own) ≡ own
+pub runs_same : (number : ℕ) (own : Option OwnTransaction) → is_some own ≡ true → Some (begun_own number own) ≡ own
 runs_same number None runs = absurd (cc)
 runs_same number (Some t) runs = refl
 

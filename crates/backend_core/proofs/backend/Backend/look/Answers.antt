@@ -5,4 +5,4 @@ pub looked-requires-clause-call : goal.looked-requires-clause-call
 looked-requires-clause-call g c = owed_call _ _ _ _ c.requires.agrees c.requires.played c.requires.next c.waits-some_wait.ensures
 
 pub returns-clause-enters : goal.returns-clause-enters
-returns-clause-enters g c = look_enters _ _ _ _ _ _ _ _ _ c.requires.agrees c.requires.played c.requires.next c.waits-some_wait.ensures c.running_from.ensures c.after_look.ensures c.accept.ensures c.looked.ensures.appends
+returns-clause-enters g c = look_enters _ _ _ _ _ _ _ _ _ _ c.requires.agrees c.requires.played c.requires.next c.waits-some_wait.ensures c.running_from.ensures c.after_look-self.ensures c.accept.ensures c.looked.ensures.appends
