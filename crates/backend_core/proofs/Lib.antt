@@ -7,11 +7,13 @@ pub mod CanFollow
 pub mod Stages
 pub mod Stepping
 pub mod Carry
+pub mod Sparing
 pub mod Ending
 pub mod Nexting
 pub mod Passing
 pub mod Played
 pub mod Looks
+pub mod Fetching
 pub mod Acting
 pub mod Scanning
 pub mod Locking
