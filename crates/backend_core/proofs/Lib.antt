@@ -10,6 +10,7 @@ pub mod Carry
 pub mod Ending
 pub mod Nexting
 pub mod Passing
+pub mod Unsent
 pub mod Played
 pub mod Looks
 pub mod Acting
