@@ -1,5 +1,5 @@
 -- What stays with one more entry, and what each entry of a backend needs.
-use Rattle.std.proofs.Common.{cond, not, ◌≡◌, ◌≢◌, ◌≤◌, ◌<◌, ◌+◌, ◌⊎◌, inl, inr, ◌∙◌, ℕ, Bool, true, false, Option, Some, None, List, [], ◌∷◌, ◌++◌, ◌==◌, ◌&&◌, ◌||◌, refl, sym, ap, subst, length, drop, take, map, All, get_or, is_none, is_some, slice_get, unwrap_or, arith, Fits, w32}
+use Rattle.std.proofs.Common.{cond, not, ◌≡◌, ◌≢◌, ◌≤◌, ◌<◌, ◌+◌, ◌⊎◌, inl, inr, ◌∙◌, ℕ, Bool, true, false, Option, Some, None, List, [], ◌∷◌, ◌++◌, ◌==◌, ◌&&◌, ◌||◌, refl, sym, ap, subst, length, drop, take, map, All, get_or, is_none, is_some, slice_get, unwrap_or, arith, Fits, w32, if◌then◌else◌}
 use Rattle.std.proofs.Math.Bool.{and-false, or-false}
 use Rattle.std.proofs.lemmas.List.{drop_more, take-append-le}
 use Rattle.std.proofs.lemmas.Option.{slice_get_within, get_or_from_slice_get}
@@ -22,12 +22,14 @@ use Rattle.history_model.specs.Writes.{has_written, is_write, is_empty}
 use Rattle.history_model.proofs.Every.{every-weaker}
 use Rattle.history_model.proofs.Reading.{read_at-own, place_read-other, has_written-more}
 use Rattle.history_model.proofs.Sound.{sound_is_legal}
+use Rattle.history_model.proofs.Waiting.{not_waited}
+use Rattle.history_model.specs.Log.{is_waiting}
 use Rattle.seg_calls.specs.Calls.{entry_of, MayCall, MayRequest}
 use Rattle.seg_calls.proofs.Allowed.{is_start, request_follows}
-use Rattle.seg_calls.proofs.Quiet.{log_of-none, none_waits, none_waited}
 use Rattle.cacheless.specs.Facts.{Facts, facts_of}
-use Rattle.cacheless.specs.Session.{Session, Badly, none_open, outcome_of}
-use Rattle.cacheless.specs.Owed.{OwesLook, OwesScan, owed_at_start, owed_after, unusable, builds_owed, act_owed, scans_owed, owed_of, owes_accept}
+use Rattle.cacheless.specs.Locks.{is_locked}
+use Rattle.cacheless.specs.Session.{Session, Outcome, Unsettled, Well as CameOutWell, Badly, none_open, outcome_of, is_settled}
+use Rattle.cacheless.specs.Owed.{OwesLook, OwesScan, owed_at_start, owed_after, unusable, builds_owed, act_owed, scans_owed, owed_of, owes_build, owes_accept}
 use Rattle.cacheless.specs.Settled.{settled, finished_as}
 use Rattle.cacheless.specs.Sessions.{accepted}
 use Rattle.cacheless.specs.Lines.{answer_judged}
@@ -35,8 +37,8 @@ use Rattle.cacheless.specs.Schedule.{LooksTruly}
 use Rattle.backend_core.specs.Types.{Oid, Kind, Command, Row, Purpose, Entry, Event, Opening, OwnLock, KeptScan, Phase, OwnTransaction, Backend}
 use Rattle.backend_core.specs.declared.phase.Phase.TheVariants as phases
 use Rattle.backend_core.specs.NewTables.{AddsTables, HasTables, SeesRelation, is_own_gone}
-use Rattle.backend_core.specs.State.{owed_at, is_visible_at, is_taken_back, running_in, is_kept, missing, builds_missing, act_missing, scans_missing, begins_in, owed_first, Rest, session_at, HasCommand}
-use Rattle.backend_core.specs.Agrees.{IsPlayed, FactsFit, Well, PlaceFits, GivenSeen, CommandFits, KeptFits, AnswerFits, Agrees}
+use Rattle.backend_core.specs.State.{owed_at, is_accepting, is_out, is_visible_at, is_taken_back, running_in, is_kept, missing, builds_missing, act_missing, scans_missing, begins_in, owed_first, Rest, session_at, HasCommand}
+use Rattle.backend_core.specs.Agrees.{IsPlayed, RowsFit, FactsFit, OpensLast, Well, PlaceFits, GivenSeen, CommandFits, KeptFits, AnswerFits, Agrees}
 use Rattle.backend_core.specs.Steps.{IsWorking}
 use Rattle.backend_core.specs.Way.{made_in, relation_by, SeesAll, Way}
 use Rattle.backend_core.proofs.SeesRelation.{other_not_gone, SeesRelation-more}
@@ -246,16 +248,19 @@ may_call scenario seen s event agrees hidden standing other allows = record {
   follows = request_follows scenario seen s.id (s.finished + 1) event (may_request scenario seen s agrees hidden standing) other allows;
 }
 
--- a look says that nothing waits, and that is true
-pub look_allowed : (scenario : Scenario) (seen : List Entry) (b c : ℕ) → IsPlayed scenario seen → AllowsEvent seen b c (events.Look false)
-look_allowed scenario seen b c played = none_waited seen b (sound_is_legal seen played.sound)
+-- a look says what is so: whether messages wait
+look_allowed : (scenario : Scenario) (seen : List Entry) (b c : ℕ) (some_wait : Bool) → IsPlayed scenario seen → is_waiting seen b ≡ some_wait → AllowsEvent seen b c (events.Look some_wait)
+look_allowed scenario seen b c true played is = is
+look_allowed scenario seen b c false played is = not_waited seen b (sound_is_legal seen played.sound) is
 
-pub look_true : (scenario : Scenario) (seen : List Entry) (b : ℕ) → IsPlayed scenario seen → LooksTruly seen b (events.Look false)
-look_true scenario seen b played = none_waits seen b (log_of-none seen (sound_is_legal seen played.sound))
+pub look_true : (seen : List Entry) (b : ℕ) (some_wait : Bool) → is_waiting seen b ≡ some_wait → LooksTruly seen b (events.Look some_wait)
+look_true seen b true is = tt
+look_true seen b false is = is
 
--- so it may look, where it works
-pub look_call : (scenario : Scenario) (seen : List Entry) (s : Backend) → Agrees scenario seen s → IsPlayed scenario seen → s.phase ≡ phases.Working → MayCall scenario seen (entry_of s.id (s.finished + 1) (events.Look false))
-look_call scenario seen s agrees played phase = may_call scenario seen s (events.Look false) agrees (ap is_visible_at phase) (ap is_taken_back phase) refl (look_allowed scenario seen s.id (s.finished + 1) played)
+-- so it may look, but in the midst of a commit or of taking back
+pub look_call : (scenario : Scenario) (seen : List Entry) (s : Backend) (some_wait : Bool) → Agrees scenario seen s → IsPlayed scenario seen → is_visible_at s.phase ≡ false → is_taken_back s.phase ≡ false → is_waiting seen s.id ≡ some_wait
+    → MayCall scenario seen (entry_of s.id (s.finished + 1) (events.Look some_wait))
+look_call scenario seen s some_wait agrees played hidden standing is = may_call scenario seen s (events.Look some_wait) agrees hidden standing refl (look_allowed scenario seen s.id (s.finished + 1) some_wait played is)
 
 -- the running command is the first of those that are left
 pub left_command : {X : Type 0} (xs : List X) (n : ℕ) (x : X) → slice_get xs n ≡ Some x → drop n xs ≡ x ∷ drop (n + 1) xs
@@ -282,24 +287,59 @@ builds-missing facts kept usable [] = refl
 builds-missing facts kept usable (o ∷ opened) = ap (λ l. l ++ builds_owed facts opened) (unusable-missing facts kept usable o.kind o.rel) ∙ ap (λ l. missing kept (build_scans o.kind o.rel) ++ l) (builds-missing facts kept usable opened)
 
 -- the same of the next act
-act-missing : (facts : Facts) (kept : List KeptScan) → ((scan : Purpose) → is_build_scan scan ≡ true → facts.usable scan ≡ is_kept kept scan) → (read : Bool) (p : Plan) → ReadsBuilds p → act_owed facts read p ≡ act_missing kept read p
-act-missing facts kept usable read (Do (Lookup name mode) rest) reads = refl
-act-missing facts kept usable read (Do (Open rel kind) rest) reads = unusable-missing facts kept usable kind rel
-act-missing facts kept usable read (Do (Column rel name) rest) reads = refl
-act-missing facts kept usable read (Do (Read scan) rest) reads = ap (λ t. cond (not t) (scan ∷ []) []) (usable scan reads)
-act-missing facts kept usable read (Do (Lock rel mode) rest) reads = refl
-act-missing facts kept usable read (Do (Write draft) rest) reads = refl
-act-missing facts kept usable read p reads = refl
+act-missing : (facts : Facts) (kept : List KeptScan) (locks : List OwnLock) → ((scan : Purpose) → is_build_scan scan ≡ true → facts.usable scan ≡ is_kept kept scan) → (read : Bool) (p : Plan) (given : List Row) → ReadsBuilds p → (read ≡ true → RowsFit facts locks p given)
+    → act_owed facts locks read p ≡ act_missing kept read p
+act-missing facts kept locks usable true (Do (Lookup name mode) rest) given reads fits =
+    ap (λ t. if t then [] else scans.RelName name ∷ []) (ap (λ l. facts.usable (scans.RelName name) || is_locked locks mode l) (fits refl).0 ∙ (fits refl).1)
+act-missing facts kept locks usable false (Do (Lookup name mode) rest) given reads fits = refl
+act-missing facts kept locks usable read (Do (Open rel kind) rest) given reads fits = unusable-missing facts kept usable kind rel
+act-missing facts kept locks usable read (Do (Column rel name) rest) given reads fits = absurd reads
+act-missing facts kept locks usable read (Do (Read scan) rest) given reads fits = ap (λ t. cond (not t) (scan ∷ []) []) (usable scan reads)
+act-missing facts kept locks usable read (Do (Lock rel mode) rest) given reads fits = refl
+act-missing facts kept locks usable read (Do (Write draft) rest) given reads fits = refl
+act-missing facts kept locks usable read p given reads fits = refl
 
 pub builds_same : (facts : Facts) (s : Backend) → FactsFit facts s → builds_owed facts s.opened ≡ builds_missing s.kept s.opened
 builds_same facts s fits = builds-missing facts s.kept fits.usable s.opened
 
-pub act_same : (facts : Facts) (s : Backend) → FactsFit facts s → act_owed facts s.read (plan_at s.exec) ≡ act_missing s.kept s.read (plan_at s.exec)
-act_same facts s fits = act-missing facts s.kept fits.usable s.read (plan_at s.exec) (stage_reads s.exec)
+pub act_same : (facts : Facts) (s : Backend) → FactsFit facts s → act_owed facts s.locks.items s.read (plan_at s.exec) ≡ act_missing s.kept s.read (plan_at s.exec)
+act_same facts s fits = act-missing facts s.kept s.locks.items fits.usable s.read (plan_at s.exec) s.given.items (stage_reads s.exec) fits.given
 
 pub scans_same : (facts : Facts) (s : Backend) (rest : Rest) → FactsFit facts s → scans_owed facts (session_at s rest) ≡ scans_missing s
 scans_same facts s rest fits = ap (λ l. elim (outcome_of (plan_at s.exec)) as (λ x. List Purpose) [ Badly ↦ [] | other ↦ l ])
-    (ap (λ l. l ++ act_owed facts s.read (plan_at s.exec)) (builds_same facts s fits) ∙ ap (λ l. builds_missing s.kept s.opened ++ l) (act_same facts s fits))
+    (ap (λ l. l ++ act_owed facts s.locks.items s.read (plan_at s.exec)) (builds_same facts s fits) ∙ ap (λ l. builds_missing s.kept s.opened ++ l) (act_same facts s fits))
+
+-- a command that hasn't come out has opened nothing
+pub none_opened : (s : Backend) → Well s → is_out s ≡ false → s.opened ≡ []
+none_opened s well inside = by_side well.opened
+  where
+    by_side : OpensLast s → s.opened ≡ []
+    by_side (inl none) = none
+    by_side (inr has) = absurd (cc (has.out, inside))
+
+-- so no scan is missing for a descriptor
+pub none_missing : (s : Backend) → Well s → is_out s ≡ false → builds_missing s.kept s.opened ≡ []
+none_missing s well inside = ap (builds_missing s.kept) (none_opened s well inside)
+
+-- nor is one where the command has come out well
+pub none_missing_well : (s : Backend) → Well s → outcome_of (plan_at s.exec) ≡ CameOutWell → builds_missing s.kept s.opened ≡ []
+none_missing_well s well is = by_side well.opened
+  where
+    by_side : OpensLast s → builds_missing s.kept s.opened ≡ []
+    by_side (inl none) = ap (builds_missing s.kept) none
+    by_side (inr has) = has.builds is
+
+-- so none is owed
+pub owes_no_build : (facts : Facts) (s : Backend) (rest : Rest) → FactsFit facts s → Well s → owes_build facts (session_at s rest) ≡ false
+owes_no_build facts s rest fits well = by_outcome (outcome_of (plan_at s.exec)) refl
+  where
+    owes : Outcome → List Purpose → Bool
+    owes outcome builds = elim outcome [ Badly ↦ false | other ↦ not (is_empty builds) ]
+
+    by_outcome : (o : Outcome) → outcome_of (plan_at s.exec) ≡ o → owes (outcome_of (plan_at s.exec)) (builds_owed facts s.opened) ≡ false
+    by_outcome Badly is = ap (λ o. owes o (builds_owed facts s.opened)) is
+    by_outcome CameOutWell is = ap (λ o. owes o (builds_owed facts s.opened)) is ∙ ap (λ l. not (is_empty l)) (builds_same facts s fits ∙ none_missing_well s well is)
+    by_outcome Unsettled is = ap (λ o. owes o (builds_owed facts s.opened)) is ∙ ap (λ l. not (is_empty l)) (builds_same facts s fits ∙ none_missing s well (ap is_settled is))
 
 -- where no scan is missing for an opened descriptor, the next act decides
 pub missing_at : (s : Backend) (p : Plan) → builds_missing s.kept s.opened ≡ [] → plan_at s.exec ≡ p → scans_missing s ≡ elim (outcome_of p) as (λ x. List Purpose) [ Badly ↦ [] | other ↦ act_missing s.kept s.read p ]
@@ -323,12 +363,12 @@ pub nothing_first : (scenario : Scenario) (seen : List Entry) (s : Backend) (agr
 nothing_first scenario seen s agrees works =
     ap (λ l. is_empty (l ++ owed_after (facts_of seen s.id).last)) (start_owed (facts_of seen s.id) works.has.command s agrees.rest agrees.facts ∙ works.free) ∙ ap is_empty (owed_free scenario seen s agrees works.phase)
 
--- the locks are clear outside a grant
-pub clear_at : (s : Backend) → Well s → s.phase ≢ phases.Granted → map cleared s.locks.items ≡ s.locks.items
+-- the locks are clear where no messages are accepted
+pub clear_at : (s : Backend) → Well s → is_accepting s.phase ≡ false → map cleared s.locks.items ≡ s.locks.items
 clear_at s well outside = by_side well.clear
   where
-    by_side : (s.phase ≡ phases.Granted) ⊎ (map cleared s.locks.items ≡ s.locks.items) → map cleared s.locks.items ≡ s.locks.items
-    by_side (inl is) = absurd (outside is)
+    by_side : (is_accepting s.phase ≡ true) ⊎ (map cleared s.locks.items ≡ s.locks.items) → map cleared s.locks.items ≡ s.locks.items
+    by_side (inl is) = absurd (cc (is, outside))
     by_side (inr clear) = clear
 
 -- clear locks stay as they are

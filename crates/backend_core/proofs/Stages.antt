@@ -2,14 +2,15 @@
 use Rattle.std.proofs.Common.{◌≡◌, true}
 use Rattle.std.specs.Prelude.{⊤}
 use Rattle.base_types.specs.Scans.{is_build_scan}
-use Rattle.ddl_effect.specs.Plans.{Plan, Do, Read}
+use Rattle.ddl_effect.specs.Plans.{Plan, Do, Column, Read}
 use Rattle.ddl_effect.specs.Stages.{plan_at}
 use Rattle.ddl_effect.specs.declared.exec.Exec.TheVariants as stages
 use Rattle.backend_core.specs.Types.{Exec}
 
--- an act that only reads rows reads them of a descriptor
+-- an act that only reads rows reads them of a descriptor, and none reads a single column
 abbrev pub ReadsBuilds : Plan → Type 0
 ReadsBuilds (Do (Read scan) rest) = is_build_scan scan ≡ true
+ReadsBuilds (Do (Column rel name) rest) = ⊥
 ReadsBuilds plan = ⊤
 
 -- no stage reads single rows so far: a line a stage
