@@ -11,6 +11,7 @@ pub mod Ending
 pub mod Nexting
 pub mod Passing
 pub mod Unsent
+pub mod Sparing
 pub mod Played
 pub mod Looks
 pub mod Acting
@@ -19,6 +20,7 @@ pub mod Locking
 pub mod Others
 pub mod EndEntries
 pub mod Committing
+pub mod Publishing
 pub mod TakingBack
 pub mod Releasing
 pub mod Leaving

@@ -2,7 +2,7 @@
 use Rattle.std.proofs.Common.{◌≡◌, ◌≢◌, ◌≤◌, ◌∙◌, ℕ, Bool, true, false, not, ◌&&◌, ◌==◌, Option, Some, None, List, [], ◌∷◌, ◌++◌, refl, sym, ap, subst, length, take, filter, if◌then◌else◌, is_none, is_some, slice_get, ◌⊎◌, inl, inr, arith}
 use Rattle.std.specs.Prelude.{nat_le}
 use Rattle.std.specs.List.{find}
-use Rattle.std.proofs.lemmas.Bool.{le-leb}
+use Rattle.std.proofs.lemmas.Bool.{le-leb, eqb-true}
 use Rattle.std.specs.Option.{option_map_or}
 use Rattle.base_types.specs.Scans.{build_scans}
 use Rattle.base_types.specs.declared.scan.Purpose.TheVariants as scans
@@ -80,7 +80,7 @@ owes_look s command at phase owes = (record { command = command; at = at }, inl 
 
 take_none : (messages : List Message) → (length (take 64 messages) == 0) ≡ true → messages ≡ []
 take_none [] none = refl
-take_none (m ∷ messages) none = absurd (cc)
+take_none (m ∷ messages) none = absurd (omega (arith, eqb-true (length (take 64 (m ∷ messages))) 0 none))
 
 first_running : (own : Option OwnTransaction) (t : OwnTransaction) → own ≡ Some t → option_map_or (λ o. Some o.first) own None ≡ Some t.first
 first_running own t is = ap (λ o. option_map_or (λ (x : OwnTransaction). Some x.first) o None) is

@@ -8,14 +8,15 @@ use Rattle.ddl_effect.specs.Stages.{plan_at}
 use Rattle.history_model.specs.Writes.{is_empty}
 use Rattle.cacheless.specs.Ends.{End, Ends, Commits, TakesBack}
 use Rattle.cacheless.specs.Owed.{Owes}
-use Rattle.cacheless.specs.Session.{Outcome, Unsettled, Well as CameWell, Badly, outcome_of, is_settled}
+use Rattle.cacheless.specs.Session.{Badly, outcome_of, is_settled}
 use Rattle.backend_core.specs.Types.{Oid, Mode, Row, Purpose, Command, Next, Backend}
 use Rattle.backend_core.specs.declared.next.Next.TheVariants as nexts
 use Rattle.backend_core.specs.declared.phase.Phase.TheVariants as phases
 use Rattle.backend_core.specs.State.{owed_first, missing, builds_missing, act_missing, scans_missing, is_out, end_at, unlocked_of, HasCommand}
-use Rattle.backend_core.specs.Agrees.{OpensLast, Well}
+use Rattle.backend_core.specs.Agrees.{Well}
 use Rattle.backend_core.specs.Steps.{OwesLookNow, IsWorking, NextTakeBack, NextRelease, AfterCommit, AfterTakingBack, WithoutWrite, AtTheEnd, NextFinish, IsNextOf, makes_entry}
 use Rattle.backend_core.specs.Passing.{is_ends, is_done_here, passes_on, passes_in, is_silent}
+use Rattle.backend_core.proofs.Carry.{none_missing, none_missing_well}
 
 -- in a command
 in_command : (s : Backend) (has : HasCommand s) (t : Bool) → passes_in s has.command s.phase ≡ t → is_silent s ≡ t
@@ -63,25 +64,12 @@ look_now : (s : Backend) → OwesLookNow s → is_silent s ≡ false
 look_now s (has, inl (owed, phase)) = in_command s has false (first_look s has.command owed phase)
 look_now s (has, inr looking) = in_command s has false (ap (passes_in s has.command) looking)
 
--- where a scan is missing, the opened descriptors miss none
-builds_none : (s : Backend) → OpensLast s → (outcome_of (plan_at s.exec) ≡ Badly → ⊥) → builds_missing s.kept s.opened ≡ []
-builds_none s (inl none) well = ap (builds_missing s.kept) none
-builds_none s (inr opens) well = by_outcome (outcome_of (plan_at s.exec)) refl
-  where
-    by_outcome : (o : Outcome) → outcome_of (plan_at s.exec) ≡ o → builds_missing s.kept s.opened ≡ []
-    by_outcome Unsettled is = let both : false ≡ true = sym (ap is_settled is) ∙ opens.out in absurd (cc)
-    by_outcome CameWell is = opens.builds is
-    by_outcome Badly is = absurd (well is)
-
 -- a scan is missing
 missing_now : (s : Backend) → Well s → scans_missing s ≢ [] → (is_settled (outcome_of (plan_at s.exec)) ≡ false) × (is_done_here s (plan_at s.exec) ≡ false)
 missing_now s well some = by_plan (plan_at s.exec) refl some
   where
-    builds : (p : Plan) → plan_at s.exec ≡ p → (outcome_of p ≡ Badly → ⊥) → builds_missing s.kept s.opened ≡ []
-    builds p at good = builds_none s well.opened (λ badly. good (ap outcome_of (sym at) ∙ badly))
-
-    act : (p : Plan) → plan_at s.exec ≡ p → (outcome_of p ≡ Badly → ⊥) → (l : List Purpose) → (builds_missing s.kept s.opened ++ l ≡ [] → ⊥) → l ≡ [] → ⊥
-    act p at good l never none = never (ap (λ b. b ++ l) (builds p at good) ∙ none)
+    act : (p : Plan) → plan_at s.exec ≡ p → is_settled (outcome_of p) ≡ false → (l : List Purpose) → (builds_missing s.kept s.opened ++ l ≡ [] → ⊥) → l ≡ [] → ⊥
+    act p at inside l never none = never (ap (λ b. b ++ l) (none_missing s well (ap (λ q. is_settled (outcome_of q)) at ∙ inside)) ∙ none)
 
     by_read : (t u : Bool) (scan : Purpose) → ((if t then [] else scan ∷ []) ≡ [] → ⊥) → (t && u) ≡ false
     by_read true u scan never = absurd (never refl)
@@ -92,12 +80,12 @@ missing_now s well some = by_plan (plan_at s.exec) refl some
     by_list (x ∷ xs) never = refl
 
     by_plan : (q : Plan) → plan_at s.exec ≡ q → (elim (outcome_of q) as (λ x. List Purpose) [ Badly ↦ [] | other ↦ builds_missing s.kept s.opened ++ act_missing s.kept s.read q ] ≡ [] → ⊥) → (is_settled (outcome_of q) ≡ false) × (is_done_here s q ≡ false)
-    by_plan Done at never = absurd (act Done at (λ is. absurd (cc)) [] never refl)
+    by_plan Done at never = absurd (never (ap (λ b. b ++ []) (none_missing_well s well (ap outcome_of at))))
     by_plan (Fails error) at never = absurd (never refl)
     by_plan (Absent name) at never = absurd (never refl)
     by_plan NotBuilt at never = (refl, refl)
-    by_plan (Do (Lookup name mode) rest) at never = (refl, by_read s.read _ (scans.RelName name) (act (Do (Lookup name mode) rest) at (λ is. absurd (cc)) _ never))
-    by_plan (Do (Open rel kind) rest) at never = (refl, by_list (missing s.kept (build_scans kind rel)) (act (Do (Open rel kind) rest) at (λ is. absurd (cc)) _ never))
+    by_plan (Do (Lookup name mode) rest) at never = (refl, by_read s.read _ (scans.RelName name) (act (Do (Lookup name mode) rest) at refl _ never))
+    by_plan (Do (Open rel kind) rest) at never = (refl, by_list (missing s.kept (build_scans kind rel)) (act (Do (Open rel kind) rest) at refl _ never))
     by_plan (Do (Column rel name) rest) at never = (refl, refl)
     by_plan (Do (Read scan) rest) at never = (refl, refl)
     by_plan (Do (Lock rel mode) rest) at never = (refl, refl)

@@ -2,7 +2,7 @@
 use Rattle.std.proofs.Common.{◌≡◌, ◌≤◌, ◌+◌, ◌-◌, ◌∙◌, ℕ, Bool, true, false, List, [], ◌∷◌, ◌++◌, refl, sym, ap, length, drop, take, min, cond, arith}
 use Rattle.std.specs.Prelude.{nat_lt}
 use Rattle.std.specs.List.{AllByRecursion}
-use Rattle.std.proofs.lemmas.Bool.{lt-ltb, ltb-false}
+use Rattle.std.proofs.lemmas.Bool.{ltb-true, false_from_ne_true}
 use Rattle.std.proofs.lemmas.List.{take_min, take_rest, length-append, length-drop}
 use Rattle.std.proofs.Math.Seq.{drop-append-add}
 use Rattle.inval_messages.specs.Lists.{Written, lists_from, cats_in, rels_in, sent_in, rest_of_parts, unsent_after}
@@ -11,11 +11,11 @@ use Rattle.backend_core.specs.Types.{Message, Backend}
 use Rattle.backend_core.specs.State.{lists_at}
 
 -- the rest of the second part, where all of the first is published
-pub rest_second : (published : ℕ) (cats rels : List Message) → nat_lt published (length cats) ≡ false → take (length rels - (published - length cats)) (drop (published - length cats) rels) ≡ rest_of_parts published cats rels
+pub rest_second : (published : ℕ) (cats rels : List Message) → length cats ≤ published → take (length rels - (published - length cats)) (drop (published - length cats) rels) ≡ rest_of_parts published cats rels
 rest_second published cats rels after =
-    let more : length cats + (published - length cats) ≡ published = omega (arith, ltb-false published (length cats) after) in
+    let more : length cats + (published - length cats) ≡ published = omega (arith, after) in
     take_rest rels (published - length cats) ∙ sym (drop-append-add cats rels (published - length cats)) ∙ ap (λ n. drop n (cats ++ rels)) more
-    ∙ sym (ap (λ t. cond t (drop published cats) (drop published (cats ++ rels))) after)
+    ∙ sym (ap (λ t. cond t (drop published cats) (drop published (cats ++ rels))) (false_from_ne_true (nat_lt published (length cats)) (λ is. absurd (omega (arith, ltb-true published (length cats) is, after)))))
 
 -- what is left is no more than what isn't published
 pub rest_short : (published : ℕ) (cats rels : List Message) → published ≤ length (cats ++ rels) → published + length (rest_of_parts published cats rels) ≤ length (cats ++ rels)

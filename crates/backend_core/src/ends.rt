@@ -1,4 +1,4 @@
-ghost use Rattle.std.specs.Prelude.{◌≡◌, ◌≤◌, ◌+◌, length, take};
+ghost use Rattle.std.specs.Prelude.{◌≡◌, ◌≤◌, ◌<◌, ◌+◌, ◌^◌, length, take};
 ghost use Rattle.inval_messages.specs.Lists.{sent_in, unsent_after, rest_of_parts};
 ghost use Rattle.backend_core.specs.State.{lists_at};
 
@@ -57,7 +57,8 @@ impl Backend {
     // `SIInsertDataEntries` in `src/backend/storage/ipc/`).
     pub(crate) fn unpublished(&self, published: usize) -> &[Message]
         requires { published ≤ length (sent_in (lists_at self.now)) }
-        ensures { result.now ≡ take 64 (unsent_after published (lists_at self.now)) }
+        ensures next { result.now ≡ take 64 (unsent_after published (lists_at self.now)) }
+        ensures fits { published + length result.now < 2 ^ 64 }
     {
         let rest = rest_of(self.lists.cats_from(0), self.lists.rels_from(0), published);
         &rest[..MOST_PUBLISHED.min(rest.len())]
@@ -112,7 +113,8 @@ impl Backend {
 // published, of the second.
 fn rest_of<'a>(cats: &'a [Message], rels: &'a [Message], published: usize) -> &'a [Message]
     requires { published ≤ length cats.now + length rels.now }
-    ensures { result.now ≡ rest_of_parts published cats.now rels.now }
+    ensures rest { result.now ≡ rest_of_parts published cats.now rels.now }
+    ensures fits { published + length result.now < 2 ^ 64 }
 {
     if published < cats.len() {
         &cats[published..]
