@@ -1,6 +1,8 @@
 -- What stays with one more entry, and what each entry of a backend needs.
 use Rattle.std.proofs.Common.{cond, not, ◌≡◌, ◌≢◌, ◌≤◌, ◌<◌, ◌+◌, ◌⊎◌, inl, inr, ◌∙◌, ℕ, Bool, true, false, Option, Some, None, List, [], ◌∷◌, ◌++◌, ◌==◌, ◌&&◌, ◌||◌, refl, sym, ap, subst, length, drop, take, map, All, get_or, is_none, is_some, slice_get, unwrap_or, arith, Fits, w32, if◌then◌else◌}
+use Rattle.std.specs.Option.{option_map_or}
 use Rattle.std.proofs.Math.Bool.{and-false, or-false}
+use Rattle.std.proofs.lemmas.Bool.{or_right}
 use Rattle.std.proofs.lemmas.List.{drop_more, take-append-le}
 use Rattle.std.proofs.lemmas.Option.{slice_get_within, get_or_from_slice_get}
 use Rattle.base_types.specs.Scans.{build_scans, is_build_scan}
@@ -10,14 +12,15 @@ use Rattle.base_types.specs.declared.row.Row.TheVariants as rows
 use Rattle.base_types.specs.declared.scan.Purpose.TheVariants as scans
 use Rattle.event_kinds.specs.declared.entry.Event.TheVariants as events
 use Rattle.rel_desc.specs.Answers.{answer_text}
-use Rattle.lock_modes.specs.Own.{cleared}
+use Rattle.lock_modes.specs.Own.{is_own, has_lock, cleared}
 use Rattle.ddl_effect.specs.Plans.{Plan, Absent, Do, Lookup, Open, Column, Read, Lock, Write}
 use Rattle.ddl_effect.specs.Commands.{plan_of, commands_of}
+use Rattle.ddl_effect.specs.Blocks.{Block, Outside, Inside, Failed, innermost, ends_block, refused_by, no_block}
 use Rattle.ddl_effect.specs.Stages.{plan_at}
 use Rattle.history_model.specs.Legal.{AllowsEvent}
 use Rattle.history_model.specs.Orderly.{MayComeNext, IsSound}
 use Rattle.history_model.specs.Read.{is_scan_of, read_at, place_read}
-use Rattle.history_model.specs.Transactions.{is_visible}
+use Rattle.history_model.specs.Transactions.{begun, is_visible}
 use Rattle.history_model.specs.Writes.{has_written, is_write, is_empty}
 use Rattle.history_model.proofs.Every.{every-weaker}
 use Rattle.history_model.proofs.Reading.{read_at-own, place_read-other, has_written-more}
@@ -34,13 +37,14 @@ use Rattle.cacheless.specs.Settled.{settled, finished_as}
 use Rattle.cacheless.specs.Sessions.{accepted}
 use Rattle.cacheless.specs.Lines.{answer_judged}
 use Rattle.cacheless.specs.Schedule.{LooksTruly}
-use Rattle.backend_core.specs.Types.{Oid, Kind, Command, Row, Purpose, Entry, Event, Opening, OwnLock, KeptScan, Phase, OwnTransaction, Backend}
+use Rattle.backend_core.specs.Types.{Oid, Mode, Kind, Command, Row, Purpose, Entry, Event, Opening, OwnLock, KeptScan, Phase, OwnTransaction, Backend}
 use Rattle.backend_core.specs.declared.phase.Phase.TheVariants as phases
 use Rattle.backend_core.specs.NewTables.{AddsTables, HasTables, SeesRelation, is_own_gone}
-use Rattle.backend_core.specs.State.{owed_at, is_accepting, is_out, is_visible_at, is_taken_back, running_in, is_kept, missing, builds_missing, act_missing, scans_missing, begins_in, owed_first, Rest, session_at, HasCommand}
-use Rattle.backend_core.specs.Agrees.{IsPlayed, RowsFit, FactsFit, OpensLast, Well, PlaceFits, GivenSeen, CommandFits, KeptFits, AnswerFits, Agrees}
+use Rattle.backend_core.specs.State.{owed_at, is_accepting, locks_accepted, is_out, is_visible_at, is_taken_back, is_ended, running_in, running_at, is_kept, missing, builds_missing, act_missing, scans_missing, begins_in, owed_first, Rest, session_at, HasCommand}
+use Rattle.backend_core.specs.Agrees.{IsPlayed, RowsFit, FactsFit, OpensLast, IsFoundLocked, RunsBy, TransactionFits, EndFits, Well, PlaceFits, GivenSeen, CommandFits, KeptFits, AnswerFits, Agrees}
 use Rattle.backend_core.specs.Steps.{IsWorking}
 use Rattle.backend_core.specs.Way.{made_in, relation_by, SeesAll, Way}
+use Rattle.cacheless.proofs.Settling.{waits-scans}
 use Rattle.backend_core.proofs.SeesRelation.{other_not_gone, SeesRelation-more}
 use Rattle.backend_core.proofs.StaysRead.{StaysRead-more}
 use Rattle.backend_core.proofs.Stages.{ReadsBuilds, stage_reads}
@@ -378,3 +382,96 @@ accepted-clear facts command s clear = λ i. record s { locks = by_owed (owes_ac
     by_owed : (t : Bool) → elim t as (λ x. List OwnLock) [ true ↦ s.locks | false ↦ map cleared s.locks ] ≡ s.locks
     by_owed true = refl
     by_owed false = clear
+
+-- a transaction fits in another state, if its release isn't made in either
+pub transaction-more : (was now : Backend) → is_ended was.phase ≡ false → is_ended now.phase ≡ false → now.blocks ≡ was.blocks → now.running ≡ was.running → now.finished ≡ was.finished → now.commands ≡ was.commands
+    → TransactionFits was was.phase → TransactionFits now now.phase
+transaction-more was now going goes blocks running finished commands fits = to_phase now.phase goes (subst (RunsBy now) (ap (λ x. x.block) (sym blocks)) (by_block was.blocks.block (from_phase was.phase going fits)))
+  where
+    from_phase : (p : Phase) → is_ended p ≡ false → TransactionFits was p → RunsBy was was.blocks.block
+    from_phase phases.Working h f = f
+    from_phase phases.Looking h f = f
+    from_phase phases.Fetching h f = f
+    from_phase (phases.Visible published) h f = f
+    from_phase (phases.TakenBack from) h f = f
+    from_phase phases.Ended h f = absurd (cc)
+
+    to_phase : (p : Phase) → is_ended p ≡ false → RunsBy now now.blocks.block → TransactionFits now p
+    to_phase phases.Working h f = f
+    to_phase phases.Looking h f = f
+    to_phase phases.Fetching h f = f
+    to_phase (phases.Visible published) h f = f
+    to_phase (phases.TakenBack from) h f = f
+    to_phase phases.Ended h f = absurd (cc)
+
+    first : option_map_or (λ t. t.first) now.running 0 ≡ option_map_or (λ t. t.first) was.running 0
+    first = ap (λ o. option_map_or (λ t. t.first) o 0) running
+
+    same_begins : (command : Command) → begins_in now.blocks now.phase command ≡ begins_in was.blocks was.phase command
+    same_begins command = ap (λ b. begins_in b now.phase command) blocks ∙ ap (λ t. elim was.blocks.block as (λ x. Bool) [ Outside ↦ not (ends_block command) && not t && is_none (refused_by no_block command) | block ↦ false ]) (goes ∙ sym going)
+
+    by_block : (b : Block) → RunsBy was b → RunsBy now b
+    by_block Outside (inl none) = inl (running ∙ none)
+    by_block Outside (inr alone) = inr (record {
+      has = record { command = alone.has.command; at = ap (λ l. slice_get l now.finished) commands ∙ ap (slice_get was.commands) finished ∙ alone.has.at };
+      begins = same_begins alone.has.command ∙ alone.begins;
+      first = first ∙ alone.first ∙ ap (λ n. n + 1) (sym finished);
+    })
+    by_block Inside block = record { runs = ap is_some running ∙ block.runs; first = λ command. first ∙ block.first command ∙ ap (λ b. innermost command b.levels) (sym blocks) }
+    by_block Failed none = running ∙ none
+
+-- the end isn't on its way
+pub end_free : (s : Backend) → s.phase ≡ phases.Working → EndFits s s.phase
+end_free s phase = subst (EndFits s) (sym phase) tt
+
+-- a scan is missing: the backend waits for it
+not_empty_list : {X : Type 0} (xs : List X) → xs ≢ [] → is_empty xs ≡ false
+not_empty_list [] some = absurd (some refl)
+not_empty_list (x ∷ xs) some = refl
+
+pub waits_scan : (scenario : Scenario) (seen : List Entry) (s : Backend) (agrees : Agrees scenario seen s) (has : HasCommand s) → scans_missing s ≢ [] → Waits agrees
+waits_scan scenario seen s agrees has some = waits_at scenario seen s agrees has (λ rest. waits-scans (facts_of seen s.id) has.command rest (session_at s agrees.rest)
+    (ap is_empty (scans_same (facts_of seen s.id) s agrees.rest agrees.facts) ∙ not_empty_list (scans_missing s) some))
+
+-- its transaction goes on
+pub runs_on : (number : ℕ) (s : Backend) (facts : Facts) → FactsFit facts s → is_some s.running ≡ true → Some (begun number facts.running) ≡ running_at s
+runs_on number s facts fits runs = ap (λ o. Some (begun number o)) fits.running ∙ by_own s.running runs
+  where
+    by_own : (own : Option OwnTransaction) → is_some own ≡ true → Some (begun number (running_in s.phase own)) ≡ running_in s.phase own
+    by_own None h = absurd (cc)
+    by_own (Some t) h = refl
+
+-- a lock that is made clear is held still
+has_lock-cleared : (locks : List OwnLock) (rel : Oid) (mode : Mode) → has_lock (map cleared locks) rel mode ≡ has_lock locks rel mode
+has_lock-cleared [] rel mode = refl
+has_lock-cleared (lock ∷ locks) rel mode = ap (λ t. is_own rel mode lock || t) (has_lock-cleared locks rel mode)
+
+is_locked-cleared : (locks : List OwnLock) (mode : Mode) (given : List Row) → is_locked (map cleared locks) mode given ≡ is_locked locks mode given
+is_locked-cleared locks mode (rows.Class oid name kind fill ∷ more) = has_lock-cleared locks oid mode
+is_locked-cleared locks mode given = refl
+
+pub is_locked-accepted : (p : Phase) (locks : List OwnLock) (mode : Mode) (given : List Row) → is_locked (locks_accepted p locks) mode given ≡ is_locked locks mode given
+is_locked-accepted p locks mode given = by_test (is_accepting p)
+  where
+    by_test : (t : Bool) → is_locked (elim t as (λ x. List OwnLock) [ true ↦ locks | false ↦ map cleared locks ]) mode given ≡ is_locked locks mode given
+    by_test true = refl
+    by_test false = is_locked-cleared locks mode given
+
+-- the rows of a lookup serve on, where the same locks are held
+pub rows_fit-more : (facts after : Facts) (locks now : List OwnLock) (p : Plan) (given : List Row) → ((name : List ℕ) → after.rows (scans.RelName name) ≡ facts.rows (scans.RelName name)) → ((name : List ℕ) → after.usable (scans.RelName name) ≡ facts.usable (scans.RelName name))
+    → ((mode : Mode) → is_locked now mode given ≡ is_locked locks mode given) → RowsFit facts locks p given → RowsFit after now p given
+rows_fit-more facts after locks now (Do (Lookup name mode) rest) given same usable held fits = (same name ∙ fits.0, ap (λ t. t || is_locked now mode given) (usable name) ∙ ap (λ t. facts.usable (scans.RelName name) || t) (held mode) ∙ fits.1)
+rows_fit-more facts after locks now (Do act rest) given same usable held fits = tt
+rows_fit-more facts after locks now p given same usable held fits = tt
+
+-- and where the relation that they name is locked
+pub rows_fit-locked : (facts after : Facts) (locks now : List OwnLock) (p : Plan) (given : List Row) → ((name : List ℕ) → after.rows (scans.RelName name) ≡ facts.rows (scans.RelName name)) → IsFoundLocked now p given → RowsFit facts locks p given → RowsFit after now p given
+rows_fit-locked facts after locks now (Do (Lookup name mode) rest) given same held fits = (same name ∙ fits.0, or_right (after.usable (scans.RelName name)) (is_locked now mode given) held)
+rows_fit-locked facts after locks now (Do act rest) given same held fits = tt
+rows_fit-locked facts after locks now p given same held fits = tt
+
+-- the relation that they name stays locked
+pub found_locked-more : (locks now : List OwnLock) (p : Plan) (given : List Row) → ((mode : Mode) → is_locked now mode given ≡ is_locked locks mode given) → IsFoundLocked locks p given → IsFoundLocked now p given
+found_locked-more locks now (Do (Lookup name mode) rest) given held locked = held mode ∙ locked
+found_locked-more locks now (Do act rest) given held locked = tt
+found_locked-more locks now p given held locked = tt

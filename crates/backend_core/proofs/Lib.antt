@@ -7,6 +7,7 @@ pub mod CanFollow
 pub mod Stages
 pub mod Stepping
 pub mod Carry
+pub mod Sparing
 pub mod Ending
 pub mod Nexting
 pub mod Passing
@@ -14,6 +15,7 @@ pub mod Unsent
 pub mod Sparing
 pub mod Played
 pub mod Looks
+pub mod Fetching
 pub mod Acting
 pub mod Scanning
 pub mod Locking
@@ -26,6 +28,7 @@ pub mod Releasing
 pub mod Leaving
 pub mod Beginning
 pub mod NewTable
+pub mod Registering
 pub mod Writing
 pub mod Clashing
 pub mod Finding
