@@ -5,7 +5,7 @@ use Rattle.std.specs.List.{AllByRecursion}
 use Rattle.std.proofs.lemmas.Bool.{ltb-true, false_from_ne_true}
 use Rattle.std.proofs.lemmas.List.{take_min, take_rest, length-append, length-drop}
 use Rattle.std.proofs.Math.Seq.{drop-append-add}
-use Rattle.inval_messages.specs.Lists.{Written, lists_from, cats_in, rels_in, sent_in, rest_of_parts, unsent_after}
+use Rattle.inval_messages.specs.Lists.{Written, lists_from, cats_in, rels_in, sent_in, rest_of_parts, left_after, unsent_after}
 use Rattle.command_lists.proofs.Writes.{from-first}
 use Rattle.backend_core.specs.Types.{Message, Backend}
 use Rattle.backend_core.specs.State.{lists_at}
@@ -44,3 +44,11 @@ pub unpublished_is : (s : Backend) (published : ℕ) (cats rels rest : List Mess
 unpublished_is s published cats rels rest n cats_are rels_are rest_is n_is =
     ap (λ k. take k rest) n_is ∙ take_min 64 rest
     ∙ ap (take 64) (rest_is ∙ ap (λ l. rest_of_parts published l rels) (cats_are ∙ ap cats_in (all_lists_from (lists_at s))) ∙ ap (rest_of_parts published (cats_in (lists_at s))) (rels_are ∙ ap rels_in (all_lists_from (lists_at s))))
+
+-- where a publish would send nothing, all is published
+pub left_none : (published : ℕ) (lists : List Written) → unsent_after published lists ≡ [] → left_after published lists ≡ []
+left_none published lists none = by_test (nat_lt published (length (cats_in lists))) refl none
+  where
+    by_test : (t : Bool) → nat_lt published (length (cats_in lists)) ≡ t → cond t (drop published (cats_in lists)) (drop published (sent_in lists)) ≡ [] → left_after published lists ≡ []
+    by_test true before empty = absurd (omega (arith, ltb-true published (length (cats_in lists)) before, length-drop published (cats_in lists), ap length empty))
+    by_test false after empty = empty
