@@ -11,6 +11,8 @@ pub mod Sparing
 pub mod Ending
 pub mod Nexting
 pub mod Passing
+pub mod Unsent
+pub mod Sparing
 pub mod Played
 pub mod Looks
 pub mod Fetching
@@ -20,6 +22,7 @@ pub mod Locking
 pub mod Others
 pub mod EndEntries
 pub mod Committing
+pub mod Publishing
 pub mod TakingBack
 pub mod Releasing
 pub mod Leaving
