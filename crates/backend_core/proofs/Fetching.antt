@@ -84,7 +84,7 @@ fetched_to : (scenario : Scenario) (old new : List Entry) (had has : ℕ → ℕ
 fetched_to scenario old new had has was count locks agrees played phase items appends =
     own_enters scenario old new had has was now event agrees
     (waits_at scenario old was agrees at (λ rest. waits-owed (facts_of old was.id) at.command rest (session_at was agrees.rest)
-        (not_empty-after (owed_at_start (facts_of old was.id) at.command (session_at was agrees.rest)) (owed_after (facts_of old was.id).last) (ap is_empty (agrees.facts.owed ∙ ap owed_at phase)))))
+    (not_empty-after (owed_at_start (facts_of old was.id) at.command (session_at was agrees.rest)) (owed_after (facts_of old was.id).last) (ap is_empty (agrees.facts.owed ∙ ap owed_at phase)))))
     (record { session = λ _ _ _ _ _ _. refl; finished = λ s. same_finished s.left s; life = λ _. refl })
     (record {
       plays = subst (λ o. MayPlayIn (next_oid old) (facts_of old was.id) o (session_at was agrees.rest) event) (sym at.at) tt;
@@ -187,7 +187,7 @@ fetched_to scenario old new had has was count locks agrees played phase items ap
     counts : later.tally ≡ record (tally_by event agrees.rest.tally) { full = agrees.rest.tally.full + one_if (count == 32) }
     counts =
         ap (λ t. elim ((count == 32) && not t) as (λ x. Tally) [ true ↦ record (tally_by event agrees.rest.tally) { full = agrees.rest.tally.full + 1 } | false ↦ tally_by event agrees.rest.tally ])
-            (owes_none (facts_after old was event) (placed_at (length old + 1) (was.finished + 1) event (session_at was agrees.rest)) opened)
+        (owes_none (facts_after old was event) (placed_at (length old + 1) (was.finished + 1) event (session_at was agrees.rest)) opened)
         ∙ ap (λ t. elim t as (λ x. Tally) [ true ↦ record (tally_by event agrees.rest.tally) { full = agrees.rest.tally.full + 1 } | false ↦ tally_by event agrees.rest.tally ]) (and-true (count == 32))
         ∙ full_more (count == 32) (tally_by event agrees.rest.tally)
 

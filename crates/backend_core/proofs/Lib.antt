@@ -29,6 +29,8 @@ pub mod Leaving
 pub mod Beginning
 pub mod NewTable
 pub mod Registering
+pub mod WriteMessages
+pub mod Sparing
 pub mod Writing
 pub mod Clashing
 pub mod Finding

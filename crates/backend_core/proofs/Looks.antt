@@ -147,7 +147,7 @@ pub locks_after : (facts : Facts) (was : Backend) (s : Session) (p : Phase) (loc
     → elim (owes_accept facts (first_of (drop was.finished was.commands)) s) as (λ x. List OwnLock) [ true ↦ s.locks | false ↦ map cleared s.locks ] ≡ locks
 locks_after facts was s p locks has is runs owed none items =
     ap (λ t. elim t as (λ x. List OwnLock) [ true ↦ s.locks | false ↦ map cleared s.locks ])
-        (ap (λ l. owes_accept facts (first_of l) s) (left_command was.commands was.finished has.command has.at) ∙ accepts facts has.command s p is runs owed none) ∙ sym items
+    (ap (λ l. owes_accept facts (first_of l) s) (left_command was.commands was.finished has.command has.at) ∙ accepts facts has.command s p is runs owed none) ∙ sym items
 
 written_xid : (number : ℕ) (own : Option OwnTransaction) → option_map_or (λ t. is_some t.xid) own false ≡ true → is_some (begun_own number own).xid ≡ true
 written_xid number None xid = absurd (cc)

@@ -153,7 +153,7 @@ columns_covered : (before : List Entry) (b : ℕ) (rel : Oid) (messages : List M
 columns_covered before b rel messages [] has relation = refl
 columns_covered before b rel messages ((num, column) ∷ numbered) has relation =
     λ i. has (covers (scans.AttName rel column.name)) (first_has (covers (scans.AttName rel column.name)) own later (same_message-itself own)) i
-        && (has (covers (scans.AttList rel)) (first_has (covers (scans.AttList rel)) own later refl) i && (relation i && columns_covered before b rel messages numbered (λ p is. has p (or_right (p own) (list_any p later) is)) relation i))
+    && (has (covers (scans.AttList rel)) (first_has (covers (scans.AttList rel)) own later refl) i && (relation i && columns_covered before b rel messages numbered (λ p is. has p (or_right (p own) (list_any p later) is)) relation i))
   where
     own : Message
     own = message_for AttName (parts.Oid rel ∷ parts.Name column.name ∷ [])
@@ -165,8 +165,8 @@ columns_covered before b rel messages ((num, column) ∷ numbered) has relation 
 table_covered : (before : List Entry) (b : ℕ) (rel : Oid) (name : List ℕ) (numbered : List (ℕ × NewColumn)) → covers_named before b (table_items rel name numbered) ≡ true
 table_covered before b rel name numbered =
     λ i. in_cats (covers (scans.RelName name)) (first_has (covers (scans.RelName name)) by_name (by_oid ∷ later) (same_message-itself by_name)) i
-        && (in_cats (covers (scans.RelOid rel)) (or_right (covers (scans.RelOid rel) by_name) (list_any (covers (scans.RelOid rel)) (by_oid ∷ later)) (first_has (covers (scans.RelOid rel)) by_oid later (same_message-itself by_oid))) i
-        && (relation i && columns_covered before b rel (messages_written before b items) numbered (λ p is. in_cats p (or_right (p by_name) (list_any p (by_oid ∷ later)) (or_right (p by_oid) (list_any p later) is))) relation i))
+    && (in_cats (covers (scans.RelOid rel)) (or_right (covers (scans.RelOid rel) by_name) (list_any (covers (scans.RelOid rel)) (by_oid ∷ later)) (first_has (covers (scans.RelOid rel)) by_oid later (same_message-itself by_oid))) i
+    && (relation i && columns_covered before b rel (messages_written before b items) numbered (λ p is. in_cats p (or_right (p by_name) (list_any p (by_oid ∷ later)) (or_right (p by_oid) (list_any p later) is))) relation i))
   where
     items : List Item
     items = table_items rel name numbered

@@ -170,8 +170,8 @@ looked_up_to scenario old new had has was name given at agrees played works next
         usable = λ scan build. ap (λ t. t || (facts_of old was.id).usable scan) (no_build name scan build) ∙ agrees.facts.usable scan build;
         kept = λ i d within. let k = agrees.facts.kept i d within in record { build = k.build; rows_are = k.rows_are ∙ sym (rows_by-others old was.id (scans.RelName name) (get_or was.kept i d).scan count ((facts_of old was.id).rows (get_or was.kept i d).scan) (no_build name (get_or was.kept i d).scan k.build)) };
         given = λ read. subst (λ p. RowsFit (facts_after old was event) was.locks.items p given.items) (sym next.at) (
-            rows_by-own old was.id (scans.RelName name) count ((facts_of old was.id).rows (scans.RelName name)) ∙ sym rows_are,
-            or_left ((facts_after old was event).usable (scans.RelName name)) (is_locked was.locks.items next.mode given.items) (or_left (same_scan (scans.RelName name) (scans.RelName name)) ((facts_of old was.id).usable (scans.RelName name)) (same_scan-itself (scans.RelName name))),
+          rows_by-own old was.id (scans.RelName name) count ((facts_of old was.id).rows (scans.RelName name)) ∙ sym rows_are,
+          or_left ((facts_after old was event).usable (scans.RelName name)) (is_locked was.locks.items next.mode given.items) (or_left (same_scan (scans.RelName name) (scans.RelName name)) ((facts_of old was.id).usable (scans.RelName name)) (same_scan-itself (scans.RelName name))),
         );
       };
       tally = λ _. (omega (arith, (agrees.tally (ap is_ended works.phase)).0, ap one_if looked), (agrees.tally (ap is_ended works.phase)).1);

@@ -1,14 +1,17 @@
 -- What is kept once messages are executed.
-use Rattle.std.proofs.Common.{◌≡◌, ◌∙◌, Bool, true, false, not, List, [], ◌∷◌, ◌++◌, ◌&&◌, ◌||◌, refl, sym, ap, subst, cond, All}
+use Rattle.std.proofs.Common.{◌≡◌, ◌∙◌, Bool, true, false, not, List, [], ◌∷◌, ◌++◌, ◌&&◌, ◌||◌, refl, sym, ap, cond, filter, All, suc, arith}
+use Rattle.std.specs.List.{list_any}
 use Rattle.std.proofs.Math.Bool.{and-false}
 use Rattle.std.proofs.lemmas.List.Elements.{All-filter}
 use Rattle.std.proofs.lemmas.List.Folds.{list_any-append}
 use Rattle.base_types.specs.Scans.{same_scan, is_build_scan}
+use Rattle.base_types.specs.declared.scan.Purpose.TheVariants as scans
 use Rattle.base_types.proofs.SameScan.{same_scan-true}
 use Rattle.inval_messages.specs.declared.message.Message.{Message}
+use Rattle.inval_messages.specs.declared.message.Message.TheVariants.{Cat, Rel}
 use Rattle.inval_messages.specs.Messages.{covers, is_spared}
 use Rattle.backend_core.specs.Types.{Row, Purpose, KeptScan}
-use Rattle.backend_core.specs.State.{is_kept, kept_spared}
+use Rattle.backend_core.specs.State.{covers_relation, is_kept, kept_spared}
 use Rattle.backend_core.specs.Agrees.{ReadRight}
 
 -- a scan is kept still where it was kept and no message covers it
@@ -60,3 +63,39 @@ spared_twice first later (k ∷ kept) = by_first (is_spared k.scan first) (is_sp
         → kept_spared later (cond t (k ∷ kept_spared first kept) (kept_spared first kept)) ≡ cond (is_spared k.scan (first ++ later)) (k ∷ kept_spared (first ++ later) kept) (kept_spared (first ++ later) kept)
     by_first true both rest = ap (λ l. cond (is_spared k.scan later) (k ∷ l) l) rest ∙ sym (ap (λ t. cond t (k ∷ kept_spared (first ++ later) kept) (kept_spared (first ++ later) kept)) both)
     by_first false both rest = rest ∙ sym (ap (λ t. cond t (k ∷ kept_spared (first ++ later) kept) (kept_spared (first ++ later) kept)) both)
+
+-- a scan for a descriptor is covered by the messages for its relation
+covers-relation : (scan : Purpose) (message : Message) → is_build_scan scan ≡ true → covers scan message ≡ covers_relation scan message
+covers-relation scan (Cat cache hash) build = by_scan scan build
+  where
+    by_scan : (p : Purpose) → is_build_scan p ≡ true → covers p (Cat cache hash) ≡ false
+    by_scan (scans.Class rel) is = refl
+    by_scan (scans.Attribute rel) is = refl
+    by_scan (scans.AttrDef rel) is = refl
+    by_scan (scans.Constraint rel) is = refl
+    by_scan (scans.Index rel) is = refl
+    by_scan (scans.Trigger rel) is = refl
+    by_scan (scans.IndexRow rel) is = refl
+    by_scan p is = absurd (cc)
+covers-relation scan (Rel own) build = by_scan scan build
+  where
+    by_scan : (p : Purpose) → is_build_scan p ≡ true → covers p (Rel own) ≡ covers_relation p (Rel own)
+    by_scan (scans.Class rel) is = refl
+    by_scan (scans.Attribute rel) is = refl
+    by_scan (scans.AttrDef rel) is = refl
+    by_scan (scans.Constraint rel) is = refl
+    by_scan (scans.Index rel) is = refl
+    by_scan (scans.Trigger rel) is = refl
+    by_scan (scans.IndexRow rel) is = refl
+    by_scan p is = absurd (cc)
+
+spared-relation : (scan : Purpose) (messages : List Message) → is_build_scan scan ≡ true → list_any (covers_relation scan) messages ≡ list_any (covers scan) messages
+spared-relation scan [] build = refl
+spared-relation scan (message ∷ messages) build = ap (λ t. t || list_any (covers_relation scan) messages) (sym (covers-relation scan message build)) ∙ ap (λ t. covers scan message || t) (spared-relation scan messages build)
+
+-- so what the messages for their relations leave of such scans is what they spare
+pub kept-relation : (messages : List Message) (kept : List KeptScan) → All (λ k. is_build_scan k.scan ≡ true) kept → filter (λ k. not (list_any (covers_relation k.scan) messages)) kept ≡ kept_spared messages kept
+kept-relation messages [] builds = refl
+kept-relation messages (k ∷ kept) builds =
+    ap (λ t. cond (not t) (k ∷ filter (λ x. not (list_any (covers_relation x.scan) messages)) kept) (filter (λ x. not (list_any (covers_relation x.scan) messages)) kept)) (spared-relation k.scan messages (builds 0 k (omega arith)))
+    ∙ ap (λ l. cond (is_spared k.scan messages) (k ∷ l) l) (kept-relation messages kept (λ i d within. builds (suc i) d (omega (arith, within))))
