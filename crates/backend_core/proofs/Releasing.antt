@@ -234,9 +234,10 @@ release_call scenario seen s from agrees next = record {
     shows false = tt
 
     by_sent : IsShown s from ⊎ IsBare s from → MayRelease (is_visible (running_transaction_of seen s.id)) seen s.id from
-    by_sent (inl shown) = subst (λ v. MayRelease v seen s.id from) (sym (ap is_visible agrees.facts.running ∙ shown_running s.phase s.running from shown.runs (ap is_visible_at shown.phase)))
-        (ap (option_map (λ t. t.first)) agrees.facts.running ∙ first_running s.phase s.running from shown.runs,
-        ap (left_in (facts_of seen s.id).lists) agrees.facts.running ∙ ap (λ l. left_in l (running_in s.phase s.running)) agrees.facts.lists ∙ left_running (lists_at s) s.phase s.running shown.published from shown.runs shown.phase shown.unsent)
+    by_sent (inl shown) = subst (λ v. MayRelease v seen s.id from) (sym (ap is_visible agrees.facts.running ∙ shown_running s.phase s.running from shown.runs (ap is_visible_at shown.phase))) (
+      ap (option_map (λ t. t.first)) agrees.facts.running ∙ first_running s.phase s.running from shown.runs,
+      ap (left_in (facts_of seen s.id).lists) agrees.facts.running ∙ ap (λ l. left_in l (running_in s.phase s.running)) agrees.facts.lists ∙ left_running (lists_at s) s.phase s.running shown.published from shown.runs shown.phase shown.unsent,
+    )
     by_sent (inr bare) = subst (λ v. MayRelease v seen s.id from) (sym (ap is_visible agrees.facts.running ∙ hidden_running s.phase s.running bare.hidden)) (ap (has_write_from from) agrees.facts.lists ∙ bare.none)
 
 ended_own : (p : Phase) (own : Option OwnTransaction) (n from : ℕ) → option_map_or (λ t. t.first) own n ≡ from → after_release from (begun n (running_in p own)) ≡ None

@@ -101,7 +101,7 @@ ends_taken s command from is = absurd (by_block s.blocks.block is)
 none_taken : (s : Backend) (from : ℕ) → Well s → NextTakeBack s from → outcome_of (plan_at s.exec) ≡ CameWell → s.opened ≡ []
 none_taken s from well next is = elim (has_or_none s) [
   | inl has ↦ (well.plain has.command has.at
-        (ends_taken s has.command from (sym (ap (λ o. elim o as (λ x. End) [ CameWell ↦ end_in_well s has.command | Badly ↦ end_in_badly s | Unsettled ↦ Ends ]) is) ∙ (next.end.0 has).2)) (well_unblocked s well is)).1
+      (ends_taken s has.command from (sym (ap (λ o. elim o as (λ x. End) [ CameWell ↦ end_in_well s has.command | Badly ↦ end_in_badly s | Unsettled ↦ Ends ]) is) ∙ (next.end.0 has).2)) (well_unblocked s well is)).1
   | inr none ↦ (well.past none).1
 ]
 
