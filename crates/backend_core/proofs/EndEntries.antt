@@ -1,16 +1,20 @@
 -- What the entries of a command's end leave as it was.
 use Rattle.std.proofs.Common.{◌≡◌, ◌+◌, ◌∙◌, ◌&&◌, ◌++◌, ◌∷◌, ◌⊎◌, ◌≢◌, inl, inr, ℕ, Bool, true, false, not, Option, Some, None, List, [], refl, sym, ap, length, drop, map, filter, cond, All, is_none, is_some, slice_get}
 use Rattle.std.specs.Prelude.{nat_lt}
+use Rattle.std.specs.Option.{option_map_or}
 use Rattle.std.proofs.Math.Bool.{and-false}
 use Rattle.base_types.specs.declared.scan.Purpose.TheVariants as scans
 use Rattle.lock_modes.specs.Own.{cleared}
 use Rattle.lock_modes.specs.Rooms.{Roomy}
 use Rattle.command_lists.specs.Lists.{Held}
+use Rattle.inval_messages.specs.Lists.{Written, unsent_after}
 use Rattle.ddl_effect.specs.Plans.{Plan, Done, Fails, Absent, Do, NotBuilt}
 use Rattle.ddl_effect.specs.Blocks.{Block, Outside, Inside, Failed, no_block, ends_block, refused_by}
 use Rattle.ddl_effect.specs.Stages.{plan_at}
 use Rattle.history_model.specs.Orderly.{MayComeNext}
 use Rattle.history_model.specs.Read.{is_scan_of}
+use Rattle.history_model.specs.Sent.{unsent_in}
+use Rattle.history_model.specs.Transactions.{is_visible}
 use Rattle.history_model.specs.Writes.{is_write}
 use Rattle.seg_calls.specs.Calls.{entry_of}
 use Rattle.cacheless.specs.Facts.{Facts}
@@ -20,7 +24,7 @@ use Rattle.cacheless.specs.Sessions.{placed_at, counted}
 use Rattle.backend_core.specs.Types.{Row, Purpose, Command, Scenario, Entry, Event, OwnLock, KeptScan, Phase, OwnTransaction, Backend}
 use Rattle.backend_core.specs.declared.phase.Phase.TheVariants as phases
 use Rattle.backend_core.specs.NewTables.{AddsTables}
-use Rattle.backend_core.specs.State.{is_accepting, is_out, is_ended, builds_missing, begins_in, owed_first, Rest, session_at, HasCommand}
+use Rattle.backend_core.specs.State.{is_accepting, is_visible_at, published_at, running_in, is_out, is_ended, builds_missing, begins_in, owed_first, Rest, session_at, HasCommand}
 use Rattle.backend_core.specs.Agrees.{IsPlayed, RowsFit, RunsBy, HasOpened, OpensLast, Well, GivenSeen, KeptFits, Agrees}
 use Rattle.backend_core.proofs.Stepping.{facts_after, session_after, rest_after, Follows}
 use Rattle.backend_core.proofs.Carry.{may_come, place_read-more, has_written-quiet, kept-more, SameCommand, later-more, place-more, answer-more, accepted-clear}
@@ -113,6 +117,19 @@ filter-cleared from (lock ∷ locks) = by_test (nat_lt lock.command from) (filte
         → map cleared (cond t (lock ∷ filter (λ l. nat_lt l.command from) locks) (filter (λ l. nat_lt l.command from) locks)) ≡ cond t (cleared lock ∷ filter (λ l. nat_lt l.command from) (map cleared locks)) (filter (λ l. nat_lt l.command from) (map cleared locks))
     by_test true rest = ap (λ ls. cleared lock ∷ ls) rest
     by_test false rest = rest
+
+-- a transaction that is visible, and what of it is unsent
+pub unsent_own : (lists : List Written) (p : Phase) (own : Option OwnTransaction) (published first : ℕ) → p ≡ phases.Visible published → option_map_or (λ t. Some t.first) own None ≡ Some first → unsent_in lists (running_in p own) ≡ unsent_after published lists
+unsent_own lists p None published first at runs = absurd (cc)
+unsent_own lists p (Some t) published first at runs = ap (λ q. unsent_after (published_at q) lists) at
+
+pub visible_own : (p : Phase) (own : Option OwnTransaction) (first : ℕ) → is_visible_at p ≡ true → option_map_or (λ t. Some t.first) own None ≡ Some first → is_visible (running_in p own) ≡ true
+visible_own p None first shown runs = absurd (cc)
+visible_own p (Some t) first shown runs = shown
+
+pub runs_own : (own : Option OwnTransaction) (first : ℕ) → option_map_or (λ t. Some t.first) own None ≡ Some first → is_none own ≡ false
+runs_own None first runs = absurd (cc)
+runs_own (Some t) first runs = refl
 
 -- a descriptor stays open
 pub opens_on : (was : Backend) (phase : Phase) (running : Option OwnTransaction) (lists : Held) (locks : Roomy OwnLock) (kept : List KeptScan) → OpensLast was → is_accepting phase ≡ false

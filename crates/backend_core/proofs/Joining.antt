@@ -81,7 +81,7 @@ new_well s built few new = record {
   past = past_at (joined s) begins new.opened;
   free = λ some. absurd (both_ways _ (ap (λ o. is_some o) new.answer) some);
   starts = starts_at (joined s) begins built new.read;
-  accepting = λ is. absurd (cc (is, ap is_accepting new.phase));
+  accepting = λ is. absurd (both_ways _ (ap is_accepting new.phase) is);
   clear = inr (ap (map cleared) new.locks ∙ sym new.locks);
 }
   where

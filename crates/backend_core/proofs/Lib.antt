@@ -12,7 +12,6 @@ pub mod Ending
 pub mod Nexting
 pub mod Passing
 pub mod Unsent
-pub mod Sparing
 pub mod Played
 pub mod Looks
 pub mod Fetching
@@ -30,7 +29,6 @@ pub mod Beginning
 pub mod NewTable
 pub mod Registering
 pub mod WriteMessages
-pub mod Sparing
 pub mod Writing
 pub mod Clashing
 pub mod Finding

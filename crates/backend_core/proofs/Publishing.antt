@@ -26,7 +26,7 @@ use Rattle.backend_core.specs.Steps.{NextPublish, Enters}
 use Rattle.backend_core.proofs.Stepping.{own_enters}
 use Rattle.backend_core.proofs.Carry.{number_short, clear_at}
 use Rattle.backend_core.proofs.Ending.{owed_by_end, is_end, waits_to_end, runs_unless}
-use Rattle.backend_core.proofs.EndEntries.{IsAnswered, answered_in, session_clear, end_follows, opens_on, runs_on, free_running}
+use Rattle.backend_core.proofs.EndEntries.{IsAnswered, visible_own, unsent_own, runs_own, answered_in, session_clear, end_follows, opens_on, runs_on, free_running}
 use Rattle.backend_core.proofs.Unsent.{rest_short}
 
 -- the phase of a publish that comes next
@@ -44,23 +44,11 @@ shown_at scenario seen s published messages agrees next phase is = record {
   fits = subst (EndFits s) phase agrees.well.end;
 }
 
-unsent_own : (lists : List Written) (p : Phase) (own : Option OwnTransaction) (published first : ℕ) → p ≡ phases.Visible published → option_map_or (λ t. Some t.first) own None ≡ Some first → unsent_in lists (running_in p own) ≡ unsent_after published lists
-unsent_own lists p None published first at runs = absurd (cc)
-unsent_own lists p (Some t) published first at runs = ap (λ q. unsent_after (published_at q) lists) at
-
 -- what isn't published yet, by the history
 unsent_same : (scenario : Scenario) (seen : List Entry) (s : Backend) (published : ℕ) (messages : List Message) → Agrees scenario seen s → IsShown s published messages → unsent_of seen s.id ≡ unsent_after published (lists_at s)
 unsent_same scenario seen s published messages agrees shown =
     ap (unsent_in (facts_of seen s.id).lists) agrees.facts.running ∙ ap (λ l. unsent_in l (running_in s.phase s.running)) agrees.facts.lists
     ∙ unsent_own (lists_at s) s.phase s.running published shown.fits.first shown.phase shown.fits.runs
-
-visible_own : (p : Phase) (own : Option OwnTransaction) (first : ℕ) → is_visible_at p ≡ true → option_map_or (λ t. Some t.first) own None ≡ Some first → is_visible (running_in p own) ≡ true
-visible_own p None first shown runs = absurd (cc)
-visible_own p (Some t) first shown runs = shown
-
-runs_own : (own : Option OwnTransaction) (first : ℕ) → option_map_or (λ t. Some t.first) own None ≡ Some first → is_none own ≡ false
-runs_own None first runs = absurd (cc)
-runs_own (Some t) first runs = refl
 
 -- the transaction is visible
 visible_now : (scenario : Scenario) (seen : List Entry) (s : Backend) (published : ℕ) (messages : List Message) → Agrees scenario seen s → IsShown s published messages → is_visible (running_transaction_of seen s.id) ≡ true

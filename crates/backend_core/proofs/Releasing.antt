@@ -28,7 +28,7 @@ use Rattle.backend_core.specs.Steps.{NextRelease, AfterCommit, AfterTakingBack, 
 use Rattle.backend_core.proofs.Stepping.{facts_after, own_enters}
 use Rattle.backend_core.proofs.Carry.{number_short, clear_at}
 use Rattle.backend_core.proofs.Ending.{owed_by_end, end_from, first_begun, is_end, end_of_all-same, has_or_none, first_of_end, over_after, waits_to_end, waits_after_all}
-use Rattle.backend_core.proofs.EndEntries.{IsAnswered, answered_in, rows_out, out_at_end, session_clear, end_follows, opens_on, free_running, free_ended, filter-cleared}
+use Rattle.backend_core.proofs.EndEntries.{IsAnswered, visible_own, unsent_own, runs_own, answered_in, rows_out, out_at_end, session_clear, end_follows, opens_on, free_running, free_ended, filter-cleared}
 use Rattle.backend_core.proofs.Unsent.{left_none}
 
 -- a commit that is visible, with its writes, all of whose messages are published
@@ -70,10 +70,6 @@ first_of_all : (own : Option OwnTransaction) (n from : ℕ) → end_of_running o
 first_of_all None n from is = absurd (cc)
 first_of_all (Some t) n from is = cc
 
-runs_first : (own : Option OwnTransaction) (from : ℕ) → option_map_or (λ t. Some t.first) own None ≡ Some from → is_none own ≡ false
-runs_first None from is = absurd (cc)
-runs_first (Some t) from is = refl
-
 -- in each of the four cases
 pub releases : (s : Backend) (from : ℕ) → Well s → NextRelease s from → Releases s from
 releases s from well (AfterCommit published phase sent is) = record {
@@ -82,7 +78,7 @@ releases s from well (AfterCommit published phase sent is) = record {
   free_after = ap owed_at phase;
   answered = answered_in s well (λ at. absurd (cc (at, phase))) (ap is_accepting phase);
   first = first_is s.running (s.finished + 1) from is;
-  free = λ has. ap (owed_by_end [] (owed_first s has.command)) (ends has) ∙ free_running s has.command (runs_first s.running from is);
+  free = λ has. ap (owed_by_end [] (owed_first s has.command)) (ends has) ∙ free_running s has.command (runs_own s.running from is);
   end = λ has. ap end_from (ends has);
   past = λ none. absurd (cc (none, fits.has.at));
   gone = λ at. absurd (both_ways _ (ap is_taken_back phase) at);
@@ -146,10 +142,6 @@ releases s from well (AtTheEnd phase past end none) = record {
   sent = inr (record { hidden = ap is_visible_at phase; none = none });
 }
 
-shown_running : (p : Phase) (own : Option OwnTransaction) (from : ℕ) → option_map_or (λ t. Some t.first) own None ≡ Some from → is_visible_at p ≡ true → is_visible (running_in p own) ≡ true
-shown_running p None from is visible = absurd (cc)
-shown_running p (Some t) from is visible = visible
-
 hidden_running : (p : Phase) (own : Option OwnTransaction) → is_visible_at p ≡ false → is_visible (running_in p own) ≡ false
 hidden_running p None hidden = refl
 hidden_running p (Some t) hidden = hidden
@@ -157,11 +149,6 @@ hidden_running p (Some t) hidden = hidden
 first_running : (p : Phase) (own : Option OwnTransaction) (from : ℕ) → option_map_or (λ t. Some t.first) own None ≡ Some from → option_map (λ t. t.first) (running_in p own) ≡ Some from
 first_running p None from is = absurd (cc)
 first_running p (Some t) from is = is
-
--- what is unsent by the running transaction
-unsent_running : (lists : List Written) (p : Phase) (own : Option OwnTransaction) (published from : ℕ) → option_map_or (λ t. Some t.first) own None ≡ Some from → p ≡ phases.Visible published → unsent_in lists (running_in p own) ≡ unsent_after published lists
-unsent_running lists p None published from is at = absurd (cc)
-unsent_running lists p (Some t) published from is at = ap (λ q. unsent_after (published_at q) lists) at
 
 left_running : (lists : List Written) (p : Phase) (own : Option OwnTransaction) (published from : ℕ) → option_map_or (λ t. Some t.first) own None ≡ Some from → p ≡ phases.Visible published → unsent_after published lists ≡ [] → left_in lists (running_in p own) ≡ []
 left_running lists p None published from is at none = absurd (cc)
@@ -186,8 +173,8 @@ release_next scenario seen s from agrees rel has = by_sent rel.sent
   where
     by_sent : IsShown s from ⊎ IsBare s from → next_of_end (facts_of seen s.id) (end_at s has.command) ≡ Some (events.Release from)
     by_sent (inl shown) = ap (next_of_end (facts_of seen s.id)) (ap (end_at s) (same_command s has shown.has) ∙ shown.end)
-        ∙ shown_next (facts_of seen s.id) from (ap (has_write_from from) agrees.facts.lists ∙ shown.written) (ap is_visible agrees.facts.running ∙ shown_running s.phase s.running from shown.runs (ap is_visible_at shown.phase))
-        (ap (unsent_in (facts_of seen s.id).lists) agrees.facts.running ∙ ap (λ l. unsent_in l (running_in s.phase s.running)) agrees.facts.lists ∙ unsent_running (lists_at s) s.phase s.running shown.published from shown.runs shown.phase ∙ shown.unsent)
+        ∙ shown_next (facts_of seen s.id) from (ap (has_write_from from) agrees.facts.lists ∙ shown.written) (ap is_visible agrees.facts.running ∙ visible_own s.phase s.running from (ap is_visible_at shown.phase) shown.runs)
+        (ap (unsent_in (facts_of seen s.id).lists) agrees.facts.running ∙ ap (λ l. unsent_in l (running_in s.phase s.running)) agrees.facts.lists ∙ unsent_own (lists_at s) s.phase s.running shown.published from shown.phase shown.runs ∙ shown.unsent)
     by_sent (inr bare) = bare_next (facts_of seen s.id) from (end_at s has.command) (rel.end has) (ap (has_write_from from) agrees.facts.lists ∙ bare.none)
 
 -- and after the last command the next entry of taking back
@@ -234,7 +221,7 @@ release_call scenario seen s from agrees next = record {
     shows false = tt
 
     by_sent : IsShown s from ⊎ IsBare s from → MayRelease (is_visible (running_transaction_of seen s.id)) seen s.id from
-    by_sent (inl shown) = subst (λ v. MayRelease v seen s.id from) (sym (ap is_visible agrees.facts.running ∙ shown_running s.phase s.running from shown.runs (ap is_visible_at shown.phase))) (
+    by_sent (inl shown) = subst (λ v. MayRelease v seen s.id from) (sym (ap is_visible agrees.facts.running ∙ visible_own s.phase s.running from (ap is_visible_at shown.phase) shown.runs)) (
       ap (option_map (λ t. t.first)) agrees.facts.running ∙ first_running s.phase s.running from shown.runs,
       ap (left_in (facts_of seen s.id).lists) agrees.facts.running ∙ ap (λ l. left_in l (running_in s.phase s.running)) agrees.facts.lists ∙ left_running (lists_at s) s.phase s.running shown.published from shown.runs shown.phase shown.unsent,
     )

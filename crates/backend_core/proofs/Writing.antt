@@ -101,7 +101,7 @@ asked_well was exec opened read running lists locks kept phase ran unblocked non
   ended = settles.ended;
   written = settles.written;
   end = subst (EndFits now) (sym phase) tt;
-  past = λ none. settles.out;
+  past = λ none. (settles.out, settles.closed);
   answered = λ has is. inl phase;
   come_out = λ is. settles.out;
   free = λ is has. let no : true ≡ false = sym is ∙ none in absurd (cc no);
