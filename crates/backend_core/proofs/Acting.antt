@@ -1,5 +1,5 @@
 -- A backend that is about to do an act of its command's plan.
-use Rattle.std.proofs.Common.{◌≡◌, ◌≢◌, inl, inr, ◌∙◌, Bool, true, false, not, Option, Some, None, List, [], ◌∷◌, ◌&&◌, refl, sym, ap, subst, is_none, is_some, slice_get}
+use Rattle.std.proofs.Common.{◌≡◌, ◌≢◌, inl, inr, ◌∙◌, Bool, true, false, not, Option, Some, None, List, [], ◌∷◌, ◌++◌, ◌&&◌, refl, sym, ap, subst, is_none, is_some, slice_get}
 use Rattle.base_types.specs.Scenario.{Scenario}
 use Rattle.base_types.specs.declared.command.Command.TheVariants as commands
 use Rattle.ddl_effect.specs.Plans.{Plan, Done, Fails, Absent, NotBuilt, Do, is_built}
@@ -10,12 +10,12 @@ use Rattle.cacheless.specs.Owed.{Owes, OwesLook}
 use Rattle.cacheless.specs.Session.{Badly, outcome_of, is_settled, none_open, refused_first, plan_admitted, plan_first}
 use Rattle.backend_core.specs.Types.{Oid, Kind, Command, CommandError, Purpose, Entry, Backend}
 use Rattle.backend_core.specs.NewTables.{SeesRelation}
-use Rattle.backend_core.specs.State.{is_ended, begins_in, act_missing, scans_missing, Rest, HasCommand}
+use Rattle.backend_core.specs.State.{is_ended, begins_in, builds_missing, act_missing, scans_missing, Rest, HasCommand}
 use Rattle.backend_core.specs.Agrees.{Well, RunsBy, TransactionFits, Agrees}
 use Rattle.backend_core.specs.Steps.{IsWorking}
 use Rattle.backend_core.specs.Way.{OnItsWay, Way}
 use Rattle.backend_core.proofs.CanFollow.{CanGoOn, can_go_on, can_follow, can_reach}
-use Rattle.backend_core.proofs.Carry.{missing_at}
+use Rattle.backend_core.proofs.Carry.{none_missing, none_missing_well, missing_at}
 use Rattle.backend_core.proofs.Ending.{built_at}
 use Rattle.backend_core.proofs.Ways.{acts, acts_before}
 
@@ -149,11 +149,14 @@ is_acting scenario seen s agrees works acting = record {
 
 -- an act is left where a scan is missing
 pub missing_acts : (s : Backend) → Well s → scans_missing s ≢ [] → acts (plan_at s.exec) ≡ true
-missing_acts s well some = by_plan (plan_at s.exec) (subst (λ l. l ≢ []) (missing_at s (plan_at s.exec) well.builds refl) some)
+missing_acts s well some = by_plan (plan_at s.exec) refl
   where
-    by_plan : (p : Plan) → elim (outcome_of p) as (λ x. List Purpose) [ Badly ↦ [] | other ↦ act_missing s.kept s.read p ] ≢ [] → acts p ≡ true
-    by_plan Done some' = absurd (some' refl)
-    by_plan (Fails error) some' = absurd (some' refl)
-    by_plan (Absent name) some' = absurd (some' refl)
-    by_plan NotBuilt some' = absurd (some' refl)
-    by_plan (Do act more) some' = refl
+    badly : (p : Plan) → plan_at s.exec ≡ p → outcome_of p ≡ Badly → scans_missing s ≡ []
+    badly p at is = ap (λ o. elim o as (λ x. List Purpose) [ Badly ↦ [] | other ↦ builds_missing s.kept s.opened ++ act_missing s.kept s.read (plan_at s.exec) ]) (ap outcome_of at ∙ is)
+
+    by_plan : (p : Plan) → plan_at s.exec ≡ p → acts p ≡ true
+    by_plan (Do act more) at = refl
+    by_plan Done at = absurd (some (missing_at s Done (none_missing_well s well (ap outcome_of at)) at))
+    by_plan (Fails error) at = absurd (some (badly (Fails error) at refl))
+    by_plan (Absent name) at = absurd (some (badly (Absent name) at refl))
+    by_plan NotBuilt at = absurd (some (missing_at s NotBuilt (none_missing s well (ap (λ p. is_settled (outcome_of p)) at)) at))

@@ -17,8 +17,8 @@ use Rattle.cacheless.specs.Session.{none_open, outcome_of, is_settled}
 use Rattle.cacheless.specs.Settled.{found_by}
 use Rattle.backend_core.specs.Types.{Row, Purpose, Command, CommandError, Entry, Backend}
 use Rattle.backend_core.specs.declared.phase.Phase.TheVariants as phases
-use Rattle.backend_core.specs.State.{is_out, owed_first, Rest}
-use Rattle.backend_core.specs.Agrees.{RunsBy, TransactionFits, EndFits, Well, PlaceFits, CommandFits, Agrees}
+use Rattle.backend_core.specs.State.{is_accepting, is_out, owed_first, Rest}
+use Rattle.backend_core.specs.Agrees.{OpensLast, RunsBy, TransactionFits, EndFits, Well, PlaceFits, CommandFits, Agrees}
 use Rattle.backend_core.specs.Steps.{AgreesNow, IsWorking}
 use Rattle.backend_core.specs.NewTables.{SeesRelation}
 use Rattle.backend_core.specs.Way.{made_in, OnItsWay, HasWritten, Way}
@@ -96,12 +96,17 @@ runs_answered was text Outside (inr alone) = inr (record { has = record { comman
 runs_answered was text Inside runs = record { runs = runs.runs; first = runs.first }
 runs_answered was text Failed none = none
 
+-- and so is what it has opened
+opens_answered : (was : Backend) (text : List ℕ) → OpensLast was → OpensLast (answered was text)
+opens_answered was text (inl none) = inl none
+opens_answered was text (inr has) = inr (record { out = has.out; quiet = has.quiet; free = λ command. has.free (record { command = command.command; at = command.at }); builds = has.builds })
+
 answered_well : (was : Backend) (text : List ℕ) → Well was → IsWorking was → is_out was ≡ true → Well (answered was text)
 answered_well was text well work out = record {
   built = well.built;
   few = well.few;
   most = well.most;
-  builds = well.builds;
+  opened = opens_answered was text well.opened;
   blocked = well.blocked;
   refused = well.refused;
   plain = well.plain;
@@ -109,13 +114,15 @@ answered_well was text well work out = record {
   levels = well.levels;
   first = well.first;
   transaction = subst (TransactionFits (answered was text)) (sym work.phase) (runs_answered was text was.blocks.block (subst (TransactionFits was) work.phase well.transaction));
+  ended = well.ended;
   written = well.written;
   end = subst (EndFits (answered was text)) (sym work.phase) tt;
   answered = λ has none. inl work.phase;
   come_out = λ is. out;
   past = well.past;
   free = λ is has. subst (λ c. owed_first was c ≡ []) (the_command was work.has has.command has.at) work.free;
-  granted = λ is. absurd (let both : phases.Working ≡ phases.Granted = sym work.phase ∙ is in cc);
+  starts = λ has some. absurd (some (subst (λ c. owed_first was c ≡ []) (the_command was work.has has.command has.at) work.free));
+  accepting = λ is. let no : false ≡ true = sym (ap is_accepting work.phase) ∙ is in absurd (cc no);
   clear = well.clear;
 }
 

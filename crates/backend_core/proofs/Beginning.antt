@@ -1,17 +1,17 @@
 -- A command at its beginning.
-use Rattle.std.proofs.Common.{All, ◌≡◌, ◌<◌, ◌+◌, ◌∙◌, inl, ℕ, true, false, Option, Some, None, List, [], refl, sym, ap, subst, is_some, slice_get, arith}
+use Rattle.std.proofs.Common.{All, ◌≡◌, ◌≢◌, ◌<◌, ◌+◌, ◌∙◌, inl, ℕ, true, false, Option, Some, None, List, [], refl, sym, ap, subst, is_some, slice_get, arith}
 use Rattle.std.specs.Prelude.{⊤}
 use Rattle.base_types.specs.declared.command.Command.TheVariants as commands
-use Rattle.ddl_effect.specs.Plans.{Plan, Done, Fails, Do, Lookup, is_built}
+use Rattle.ddl_effect.specs.Plans.{Plan, Done, Fails, Absent, Do, Lookup, is_built}
 use Rattle.ddl_effect.specs.Commands.{plan_of}
 use Rattle.ddl_effect.specs.Blocks.{Blocks, ends_block, refused_by}
 use Rattle.ddl_effect.specs.Stages.{plan_at}
 use Rattle.history_model.specs.Writes.{has_written}
 use Rattle.cacheless.specs.Session.{none_open, plan_admitted, plan_first, refused_first, outcome_of, is_settled}
-use Rattle.backend_core.specs.Types.{Row, Command, CommandError, Entry, Backend}
-use Rattle.backend_core.specs.State.{is_out, Rest}
+use Rattle.backend_core.specs.Types.{Oid, Kind, Row, Command, CommandError, Entry, Backend}
+use Rattle.backend_core.specs.State.{is_out, is_absent, owed_first, Rest, HasCommand}
 use Rattle.backend_core.specs.Agrees.{PlaceFits, GivenSeen, EndsAlone, CommandFits}
-use Rattle.backend_core.proofs.CanFollow.{can_follow, place_unread}
+use Rattle.backend_core.proofs.CanFollow.{CanFollow, can_follow, place_unread}
 use Rattle.backend_core.proofs.Ending.{built_at}
 
 -- what is left of a command at its beginning, and whether the blocks refuse it
@@ -50,12 +50,28 @@ given_unread seen b (Do (Lookup name mode) rest) given = tt
 given_unread seen b p given = tt
 
 -- after the last command nothing is left
-pub past_at : (s : Backend) → Begins s → slice_get s.commands s.finished ≡ None → is_out s ≡ true
-past_at s begins past = ap (λ p. is_settled (outcome_of p)) (begins.plan ∙ ap (plan_first s.blocks) past)
+pub past_at : (s : Backend) → Begins s → s.opened ≡ [] → slice_get s.commands s.finished ≡ None → (is_out s ≡ true) × (s.opened ≡ [])
+past_at s begins nothing past = (ap (λ p. is_settled (outcome_of p)) (begins.plan ∙ ap (plan_first s.blocks) past), nothing)
 
 -- a command that ends blocks has nothing to do
-pub plain_at : (s : Backend) → Begins s → EndsAlone s
-plain_at s begins command at ends admitted = begins.plan ∙ admitted_plan s.blocks (slice_get s.commands s.finished) command at (unrefused (refused_first s.blocks (slice_get s.commands s.finished)) (sym begins.blocked ∙ admitted)) ∙ ends_done command ends
+pub plain_at : (s : Backend) → Begins s → s.opened ≡ [] → EndsAlone s
+plain_at s begins nothing command at ends admitted = (begins.plan ∙ admitted_plan s.blocks (slice_get s.commands s.finished) command at (unrefused (refused_first s.blocks (slice_get s.commands s.finished)) (sym begins.blocked ∙ admitted)) ∙ ends_done command ends, nothing)
+
+not_absent : (P : Oid → Kind → Type 0) (plan : Plan) → CanFollow P plan → is_absent plan ≡ false
+not_absent P (Absent name) can = absurd can
+not_absent P plan can = refl
+
+absent_admitted : (r : Option CommandError) (command : Command) → is_built (plan_of none_open command) ≡ true → is_absent (plan_admitted r command) ≡ false
+absent_admitted (Some error) command built = refl
+absent_admitted None command built = not_absent (λ rel kind. ⊤) (plan_of none_open command) (can_follow (λ rel kind. ⊤) command built)
+
+absent_first : (s : Backend) (o : Option Command) → All (λ c. is_built (plan_of none_open c) ≡ true) s.commands → slice_get s.commands s.finished ≡ o → is_absent (plan_first s.blocks o) ≡ false
+absent_first s None built here = refl
+absent_first s (Some command) built here = absent_admitted (refused_by s.blocks command) command (built_at s.commands s.finished command built here)
+
+-- no lookup has found nothing
+pub starts_at : (s : Backend) → Begins s → All (λ c. is_built (plan_of none_open c) ≡ true) s.commands → s.read ≡ false → (has : HasCommand s) → owed_first s has.command ≢ [] → (is_absent (plan_at s.exec) ≡ false) × (s.read ≡ false)
+starts_at s begins built unread has some = (ap is_absent begins.plan ∙ absent_first s (slice_get s.commands s.finished) built refl, unread)
 
 -- nothing of it is in the history
 pub command_at : (seen : List Entry) (s : Backend) (rest : Rest) → Begins s → All (λ c. is_built (plan_of none_open c) ≡ true) s.commands → rest.refused ≡ refused_first s.blocks (slice_get s.commands s.finished) → rest.found ≡ [] → s.opened ≡ [] → s.read ≡ false

@@ -1,6 +1,8 @@
 -- What stays with one more entry, and what each entry of a backend needs.
-use Rattle.std.proofs.Common.{cond, not, ◌≡◌, ◌≢◌, ◌≤◌, ◌<◌, ◌+◌, ◌⊎◌, inl, inr, ◌∙◌, ℕ, Bool, true, false, Option, Some, None, List, [], ◌∷◌, ◌++◌, ◌==◌, ◌&&◌, ◌||◌, refl, sym, ap, subst, length, drop, take, map, All, get_or, is_none, is_some, slice_get, unwrap_or, arith, Fits, w32}
+use Rattle.std.proofs.Common.{cond, not, ◌≡◌, ◌≢◌, ◌≤◌, ◌<◌, ◌+◌, ◌⊎◌, inl, inr, ◌∙◌, ℕ, Bool, true, false, Option, Some, None, List, [], ◌∷◌, ◌++◌, ◌==◌, ◌&&◌, ◌||◌, refl, sym, ap, subst, length, drop, take, map, All, get_or, is_none, is_some, slice_get, unwrap_or, arith, Fits, w32, if◌then◌else◌}
+use Rattle.std.specs.Option.{option_map_or}
 use Rattle.std.proofs.Math.Bool.{and-false, or-false}
+use Rattle.std.proofs.lemmas.Bool.{or_right}
 use Rattle.std.proofs.lemmas.List.{drop_more, take-append-le}
 use Rattle.std.proofs.lemmas.Option.{slice_get_within, get_or_from_slice_get}
 use Rattle.base_types.specs.Scans.{build_scans, is_build_scan}
@@ -10,35 +12,39 @@ use Rattle.base_types.specs.declared.row.Row.TheVariants as rows
 use Rattle.base_types.specs.declared.scan.Purpose.TheVariants as scans
 use Rattle.event_kinds.specs.declared.entry.Event.TheVariants as events
 use Rattle.rel_desc.specs.Answers.{answer_text}
-use Rattle.lock_modes.specs.Own.{cleared}
+use Rattle.lock_modes.specs.Own.{is_own, has_lock, cleared}
 use Rattle.ddl_effect.specs.Plans.{Plan, Absent, Do, Lookup, Open, Column, Read, Lock, Write}
 use Rattle.ddl_effect.specs.Commands.{plan_of, commands_of}
+use Rattle.ddl_effect.specs.Blocks.{Block, Outside, Inside, Failed, innermost, ends_block, refused_by, no_block}
 use Rattle.ddl_effect.specs.Stages.{plan_at}
 use Rattle.history_model.specs.Legal.{AllowsEvent}
 use Rattle.history_model.specs.Orderly.{MayComeNext, IsSound}
 use Rattle.history_model.specs.Read.{is_scan_of, read_at, place_read}
-use Rattle.history_model.specs.Transactions.{is_visible}
+use Rattle.history_model.specs.Transactions.{begun, is_visible}
 use Rattle.history_model.specs.Writes.{has_written, is_write, is_empty}
 use Rattle.history_model.proofs.Every.{every-weaker}
 use Rattle.history_model.proofs.Reading.{read_at-own, place_read-other, has_written-more}
 use Rattle.history_model.proofs.Sound.{sound_is_legal}
+use Rattle.history_model.proofs.Waiting.{not_waited}
+use Rattle.history_model.specs.Log.{is_waiting}
 use Rattle.seg_calls.specs.Calls.{entry_of, MayCall, MayRequest}
 use Rattle.seg_calls.proofs.Allowed.{is_start, request_follows}
-use Rattle.seg_calls.proofs.Quiet.{log_of-none, none_waits, none_waited}
 use Rattle.cacheless.specs.Facts.{Facts, facts_of}
-use Rattle.cacheless.specs.Session.{Session, Badly, none_open, outcome_of}
-use Rattle.cacheless.specs.Owed.{OwesLook, OwesScan, owed_at_start, owed_after, unusable, builds_owed, act_owed, scans_owed, owed_of, owes_accept}
+use Rattle.cacheless.specs.Locks.{is_locked}
+use Rattle.cacheless.specs.Session.{Session, Outcome, Unsettled, Well as CameOutWell, Badly, none_open, outcome_of, is_settled}
+use Rattle.cacheless.specs.Owed.{Owes, OwesLook, OwesScan, owed_at_start, owed_after, unusable, builds_owed, act_owed, scans_owed, owed_of, owes_build, owes_accept}
 use Rattle.cacheless.specs.Settled.{settled, finished_as}
 use Rattle.cacheless.specs.Sessions.{accepted}
 use Rattle.cacheless.specs.Lines.{answer_judged}
 use Rattle.cacheless.specs.Schedule.{LooksTruly}
-use Rattle.backend_core.specs.Types.{Oid, Kind, Command, Row, Purpose, Entry, Event, Opening, OwnLock, KeptScan, Phase, OwnTransaction, Backend}
+use Rattle.backend_core.specs.Types.{Oid, Mode, Kind, Command, Row, Purpose, Entry, Event, Opening, OwnLock, KeptScan, Phase, OwnTransaction, Backend}
 use Rattle.backend_core.specs.declared.phase.Phase.TheVariants as phases
 use Rattle.backend_core.specs.NewTables.{AddsTables, HasTables, SeesRelation, is_own_gone}
-use Rattle.backend_core.specs.State.{owed_at, is_visible_at, is_taken_back, running_in, is_kept, missing, builds_missing, act_missing, scans_missing, begins_in, owed_first, Rest, session_at, HasCommand}
-use Rattle.backend_core.specs.Agrees.{IsPlayed, FactsFit, Well, PlaceFits, GivenSeen, CommandFits, KeptFits, AnswerFits, Agrees}
+use Rattle.backend_core.specs.State.{owed_at, is_accepting, locks_accepted, is_out, is_visible_at, is_taken_back, is_ended, running_in, running_at, is_kept, missing, builds_missing, act_missing, scans_missing, begins_in, owed_first, Rest, session_at, HasCommand}
+use Rattle.backend_core.specs.Agrees.{IsPlayed, RowsFit, FactsFit, OpensLast, IsFoundLocked, RunsBy, TransactionFits, EndFits, Well, PlaceFits, GivenSeen, CommandFits, KeptFits, AnswerFits, Agrees}
 use Rattle.backend_core.specs.Steps.{IsWorking}
 use Rattle.backend_core.specs.Way.{made_in, relation_by, SeesAll, Way}
+use Rattle.cacheless.proofs.Settling.{waits-scans}
 use Rattle.backend_core.proofs.SeesRelation.{other_not_gone, SeesRelation-more}
 use Rattle.backend_core.proofs.StaysRead.{StaysRead-more}
 use Rattle.backend_core.proofs.Stages.{ReadsBuilds, stage_reads}
@@ -246,16 +252,19 @@ may_call scenario seen s event agrees hidden standing other allows = record {
   follows = request_follows scenario seen s.id (s.finished + 1) event (may_request scenario seen s agrees hidden standing) other allows;
 }
 
--- a look says that nothing waits, and that is true
-pub look_allowed : (scenario : Scenario) (seen : List Entry) (b c : ℕ) → IsPlayed scenario seen → AllowsEvent seen b c (events.Look false)
-look_allowed scenario seen b c played = none_waited seen b (sound_is_legal seen played.sound)
+-- a look says what is so: whether messages wait
+look_allowed : (scenario : Scenario) (seen : List Entry) (b c : ℕ) (some_wait : Bool) → IsPlayed scenario seen → is_waiting seen b ≡ some_wait → AllowsEvent seen b c (events.Look some_wait)
+look_allowed scenario seen b c true played is = is
+look_allowed scenario seen b c false played is = not_waited seen b (sound_is_legal seen played.sound) is
 
-pub look_true : (scenario : Scenario) (seen : List Entry) (b : ℕ) → IsPlayed scenario seen → LooksTruly seen b (events.Look false)
-look_true scenario seen b played = none_waits seen b (log_of-none seen (sound_is_legal seen played.sound))
+pub look_true : (seen : List Entry) (b : ℕ) (some_wait : Bool) → is_waiting seen b ≡ some_wait → LooksTruly seen b (events.Look some_wait)
+look_true seen b true is = tt
+look_true seen b false is = is
 
--- so it may look, where it works
-pub look_call : (scenario : Scenario) (seen : List Entry) (s : Backend) → Agrees scenario seen s → IsPlayed scenario seen → s.phase ≡ phases.Working → MayCall scenario seen (entry_of s.id (s.finished + 1) (events.Look false))
-look_call scenario seen s agrees played phase = may_call scenario seen s (events.Look false) agrees (ap is_visible_at phase) (ap is_taken_back phase) refl (look_allowed scenario seen s.id (s.finished + 1) played)
+-- so it may look, but in the midst of a commit or of taking back
+pub look_call : (scenario : Scenario) (seen : List Entry) (s : Backend) (some_wait : Bool) → Agrees scenario seen s → IsPlayed scenario seen → is_visible_at s.phase ≡ false → is_taken_back s.phase ≡ false → is_waiting seen s.id ≡ some_wait
+    → MayCall scenario seen (entry_of s.id (s.finished + 1) (events.Look some_wait))
+look_call scenario seen s some_wait agrees played hidden standing is = may_call scenario seen s (events.Look some_wait) agrees hidden standing refl (look_allowed scenario seen s.id (s.finished + 1) some_wait played is)
 
 -- the running command is the first of those that are left
 pub left_command : {X : Type 0} (xs : List X) (n : ℕ) (x : X) → slice_get xs n ≡ Some x → drop n xs ≡ x ∷ drop (n + 1) xs
@@ -282,24 +291,59 @@ builds-missing facts kept usable [] = refl
 builds-missing facts kept usable (o ∷ opened) = ap (λ l. l ++ builds_owed facts opened) (unusable-missing facts kept usable o.kind o.rel) ∙ ap (λ l. missing kept (build_scans o.kind o.rel) ++ l) (builds-missing facts kept usable opened)
 
 -- the same of the next act
-act-missing : (facts : Facts) (kept : List KeptScan) → ((scan : Purpose) → is_build_scan scan ≡ true → facts.usable scan ≡ is_kept kept scan) → (read : Bool) (p : Plan) → ReadsBuilds p → act_owed facts read p ≡ act_missing kept read p
-act-missing facts kept usable read (Do (Lookup name mode) rest) reads = refl
-act-missing facts kept usable read (Do (Open rel kind) rest) reads = unusable-missing facts kept usable kind rel
-act-missing facts kept usable read (Do (Column rel name) rest) reads = refl
-act-missing facts kept usable read (Do (Read scan) rest) reads = ap (λ t. cond (not t) (scan ∷ []) []) (usable scan reads)
-act-missing facts kept usable read (Do (Lock rel mode) rest) reads = refl
-act-missing facts kept usable read (Do (Write draft) rest) reads = refl
-act-missing facts kept usable read p reads = refl
+act-missing : (facts : Facts) (kept : List KeptScan) (locks : List OwnLock) → ((scan : Purpose) → is_build_scan scan ≡ true → facts.usable scan ≡ is_kept kept scan) → (read : Bool) (p : Plan) (given : List Row) → ReadsBuilds p → (read ≡ true → RowsFit facts locks p given)
+    → act_owed facts locks read p ≡ act_missing kept read p
+act-missing facts kept locks usable true (Do (Lookup name mode) rest) given reads fits =
+    ap (λ t. if t then [] else scans.RelName name ∷ []) (ap (λ l. facts.usable (scans.RelName name) || is_locked locks mode l) (fits refl).0 ∙ (fits refl).1)
+act-missing facts kept locks usable false (Do (Lookup name mode) rest) given reads fits = refl
+act-missing facts kept locks usable read (Do (Open rel kind) rest) given reads fits = unusable-missing facts kept usable kind rel
+act-missing facts kept locks usable read (Do (Column rel name) rest) given reads fits = absurd reads
+act-missing facts kept locks usable read (Do (Read scan) rest) given reads fits = ap (λ t. cond (not t) (scan ∷ []) []) (usable scan reads)
+act-missing facts kept locks usable read (Do (Lock rel mode) rest) given reads fits = refl
+act-missing facts kept locks usable read (Do (Write draft) rest) given reads fits = refl
+act-missing facts kept locks usable read p given reads fits = refl
 
 pub builds_same : (facts : Facts) (s : Backend) → FactsFit facts s → builds_owed facts s.opened ≡ builds_missing s.kept s.opened
 builds_same facts s fits = builds-missing facts s.kept fits.usable s.opened
 
-pub act_same : (facts : Facts) (s : Backend) → FactsFit facts s → act_owed facts s.read (plan_at s.exec) ≡ act_missing s.kept s.read (plan_at s.exec)
-act_same facts s fits = act-missing facts s.kept fits.usable s.read (plan_at s.exec) (stage_reads s.exec)
+pub act_same : (facts : Facts) (s : Backend) → FactsFit facts s → act_owed facts s.locks.items s.read (plan_at s.exec) ≡ act_missing s.kept s.read (plan_at s.exec)
+act_same facts s fits = act-missing facts s.kept s.locks.items fits.usable s.read (plan_at s.exec) s.given.items (stage_reads s.exec) fits.given
 
 pub scans_same : (facts : Facts) (s : Backend) (rest : Rest) → FactsFit facts s → scans_owed facts (session_at s rest) ≡ scans_missing s
 scans_same facts s rest fits = ap (λ l. elim (outcome_of (plan_at s.exec)) as (λ x. List Purpose) [ Badly ↦ [] | other ↦ l ])
-    (ap (λ l. l ++ act_owed facts s.read (plan_at s.exec)) (builds_same facts s fits) ∙ ap (λ l. builds_missing s.kept s.opened ++ l) (act_same facts s fits))
+    (ap (λ l. l ++ act_owed facts s.locks.items s.read (plan_at s.exec)) (builds_same facts s fits) ∙ ap (λ l. builds_missing s.kept s.opened ++ l) (act_same facts s fits))
+
+-- a command that hasn't come out has opened nothing
+pub none_opened : (s : Backend) → Well s → is_out s ≡ false → s.opened ≡ []
+none_opened s well inside = by_side well.opened
+  where
+    by_side : OpensLast s → s.opened ≡ []
+    by_side (inl none) = none
+    by_side (inr has) = absurd (cc (has.out, inside))
+
+-- so no scan is missing for a descriptor
+pub none_missing : (s : Backend) → Well s → is_out s ≡ false → builds_missing s.kept s.opened ≡ []
+none_missing s well inside = ap (builds_missing s.kept) (none_opened s well inside)
+
+-- nor is one where the command has come out well
+pub none_missing_well : (s : Backend) → Well s → outcome_of (plan_at s.exec) ≡ CameOutWell → builds_missing s.kept s.opened ≡ []
+none_missing_well s well is = by_side well.opened
+  where
+    by_side : OpensLast s → builds_missing s.kept s.opened ≡ []
+    by_side (inl none) = ap (builds_missing s.kept) none
+    by_side (inr has) = has.builds is
+
+-- so none is owed
+pub owes_no_build : (facts : Facts) (s : Backend) (rest : Rest) → FactsFit facts s → Well s → owes_build facts (session_at s rest) ≡ false
+owes_no_build facts s rest fits well = by_outcome (outcome_of (plan_at s.exec)) refl
+  where
+    owes : Outcome → List Purpose → Bool
+    owes outcome builds = elim outcome [ Badly ↦ false | other ↦ not (is_empty builds) ]
+
+    by_outcome : (o : Outcome) → outcome_of (plan_at s.exec) ≡ o → owes (outcome_of (plan_at s.exec)) (builds_owed facts s.opened) ≡ false
+    by_outcome Badly is = ap (λ o. owes o (builds_owed facts s.opened)) is
+    by_outcome CameOutWell is = ap (λ o. owes o (builds_owed facts s.opened)) is ∙ ap (λ l. not (is_empty l)) (builds_same facts s fits ∙ none_missing_well s well is)
+    by_outcome Unsettled is = ap (λ o. owes o (builds_owed facts s.opened)) is ∙ ap (λ l. not (is_empty l)) (builds_same facts s fits ∙ none_missing s well (ap is_settled is))
 
 -- where no scan is missing for an opened descriptor, the next act decides
 pub missing_at : (s : Backend) (p : Plan) → builds_missing s.kept s.opened ≡ [] → plan_at s.exec ≡ p → scans_missing s ≡ elim (outcome_of p) as (λ x. List Purpose) [ Badly ↦ [] | other ↦ act_missing s.kept s.read p ]
@@ -323,12 +367,12 @@ pub nothing_first : (scenario : Scenario) (seen : List Entry) (s : Backend) (agr
 nothing_first scenario seen s agrees works =
     ap (λ l. is_empty (l ++ owed_after (facts_of seen s.id).last)) (start_owed (facts_of seen s.id) works.has.command s agrees.rest agrees.facts ∙ works.free) ∙ ap is_empty (owed_free scenario seen s agrees works.phase)
 
--- the locks are clear outside a grant
-pub clear_at : (s : Backend) → Well s → s.phase ≢ phases.Granted → map cleared s.locks.items ≡ s.locks.items
+-- the locks are clear where no messages are accepted
+pub clear_at : (s : Backend) → Well s → is_accepting s.phase ≡ false → map cleared s.locks.items ≡ s.locks.items
 clear_at s well outside = by_side well.clear
   where
-    by_side : (s.phase ≡ phases.Granted) ⊎ (map cleared s.locks.items ≡ s.locks.items) → map cleared s.locks.items ≡ s.locks.items
-    by_side (inl is) = absurd (outside is)
+    by_side : (is_accepting s.phase ≡ true) ⊎ (map cleared s.locks.items ≡ s.locks.items) → map cleared s.locks.items ≡ s.locks.items
+    by_side (inl is) = absurd (cc (is, outside))
     by_side (inr clear) = clear
 
 -- clear locks stay as they are
@@ -338,3 +382,104 @@ accepted-clear facts command s clear = λ i. record s { locks = by_owed (owes_ac
     by_owed : (t : Bool) → elim t as (λ x. List OwnLock) [ true ↦ s.locks | false ↦ map cleared s.locks ] ≡ s.locks
     by_owed true = refl
     by_owed false = clear
+
+-- a transaction fits in another state, if its release isn't made in either
+pub transaction-more : (was now : Backend) → is_ended was.phase ≡ false → is_ended now.phase ≡ false → now.blocks ≡ was.blocks → now.running ≡ was.running → now.finished ≡ was.finished → now.commands ≡ was.commands
+    → TransactionFits was was.phase → TransactionFits now now.phase
+transaction-more was now going goes blocks running finished commands fits = to_phase now.phase goes (subst (RunsBy now) (ap (λ x. x.block) (sym blocks)) (by_block was.blocks.block (from_phase was.phase going fits)))
+  where
+    from_phase : (p : Phase) → is_ended p ≡ false → TransactionFits was p → RunsBy was was.blocks.block
+    from_phase phases.Working h f = f
+    from_phase phases.Looking h f = f
+    from_phase phases.Fetching h f = f
+    from_phase (phases.Visible published) h f = f
+    from_phase (phases.TakenBack from) h f = f
+    from_phase phases.Ended h f = absurd (cc)
+
+    to_phase : (p : Phase) → is_ended p ≡ false → RunsBy now now.blocks.block → TransactionFits now p
+    to_phase phases.Working h f = f
+    to_phase phases.Looking h f = f
+    to_phase phases.Fetching h f = f
+    to_phase (phases.Visible published) h f = f
+    to_phase (phases.TakenBack from) h f = f
+    to_phase phases.Ended h f = absurd (cc)
+
+    first : option_map_or (λ t. t.first) now.running 0 ≡ option_map_or (λ t. t.first) was.running 0
+    first = ap (λ o. option_map_or (λ t. t.first) o 0) running
+
+    same_begins : (command : Command) → begins_in now.blocks now.phase command ≡ begins_in was.blocks was.phase command
+    same_begins command = ap (λ b. begins_in b now.phase command) blocks ∙ ap (λ t. elim was.blocks.block as (λ x. Bool) [ Outside ↦ not (ends_block command) && not t && is_none (refused_by no_block command) | block ↦ false ]) (goes ∙ sym going)
+
+    by_block : (b : Block) → RunsBy was b → RunsBy now b
+    by_block Outside (inl none) = inl (running ∙ none)
+    by_block Outside (inr alone) = inr (record {
+      has = record { command = alone.has.command; at = ap (λ l. slice_get l now.finished) commands ∙ ap (slice_get was.commands) finished ∙ alone.has.at };
+      begins = same_begins alone.has.command ∙ alone.begins;
+      first = first ∙ alone.first ∙ ap (λ n. n + 1) (sym finished);
+    })
+    by_block Inside block = record { runs = ap is_some running ∙ block.runs; first = λ command. first ∙ block.first command ∙ ap (λ b. innermost command b.levels) (sym blocks) }
+    by_block Failed none = running ∙ none
+
+-- the end isn't on its way
+pub end_free : (s : Backend) → s.phase ≡ phases.Working → EndFits s s.phase
+end_free s phase = subst (EndFits s) (sym phase) tt
+
+-- a scan is missing: the backend waits for it
+not_empty_list : {X : Type 0} (xs : List X) → xs ≢ [] → is_empty xs ≡ false
+not_empty_list [] some = absurd (some refl)
+not_empty_list (x ∷ xs) some = refl
+
+pub waits_scan : (scenario : Scenario) (seen : List Entry) (s : Backend) (agrees : Agrees scenario seen s) (has : HasCommand s) → scans_missing s ≢ [] → Waits agrees
+waits_scan scenario seen s agrees has some = waits_at scenario seen s agrees has (λ rest. waits-scans (facts_of seen s.id) has.command rest (session_at s agrees.rest)
+    (ap is_empty (scans_same (facts_of seen s.id) s agrees.rest agrees.facts) ∙ not_empty_list (scans_missing s) some))
+
+-- its transaction goes on
+pub runs_on : (number : ℕ) (s : Backend) (facts : Facts) → FactsFit facts s → is_some s.running ≡ true → Some (begun number facts.running) ≡ running_at s
+runs_on number s facts fits runs = ap (λ o. Some (begun number o)) fits.running ∙ by_own s.running runs
+  where
+    by_own : (own : Option OwnTransaction) → is_some own ≡ true → Some (begun number (running_in s.phase own)) ≡ running_in s.phase own
+    by_own None h = absurd (cc)
+    by_own (Some t) h = refl
+
+-- a lock that is made clear is held still
+has_lock-cleared : (locks : List OwnLock) (rel : Oid) (mode : Mode) → has_lock (map cleared locks) rel mode ≡ has_lock locks rel mode
+has_lock-cleared [] rel mode = refl
+has_lock-cleared (lock ∷ locks) rel mode = ap (λ t. is_own rel mode lock || t) (has_lock-cleared locks rel mode)
+
+is_locked-cleared : (locks : List OwnLock) (mode : Mode) (given : List Row) → is_locked (map cleared locks) mode given ≡ is_locked locks mode given
+is_locked-cleared locks mode (rows.Class oid name kind fill ∷ more) = has_lock-cleared locks oid mode
+is_locked-cleared locks mode given = refl
+
+pub is_locked-accepted : (p : Phase) (locks : List OwnLock) (mode : Mode) (given : List Row) → is_locked (locks_accepted p locks) mode given ≡ is_locked locks mode given
+is_locked-accepted p locks mode given = by_test (is_accepting p)
+  where
+    by_test : (t : Bool) → is_locked (elim t as (λ x. List OwnLock) [ true ↦ locks | false ↦ map cleared locks ]) mode given ≡ is_locked locks mode given
+    by_test true = refl
+    by_test false = is_locked-cleared locks mode given
+
+-- the rows of a lookup serve on, where the same locks are held
+pub rows_fit-more : (facts after : Facts) (locks now : List OwnLock) (p : Plan) (given : List Row) → ((name : List ℕ) → after.rows (scans.RelName name) ≡ facts.rows (scans.RelName name)) → ((name : List ℕ) → after.usable (scans.RelName name) ≡ facts.usable (scans.RelName name))
+    → ((mode : Mode) → is_locked now mode given ≡ is_locked locks mode given) → RowsFit facts locks p given → RowsFit after now p given
+rows_fit-more facts after locks now (Do (Lookup name mode) rest) given same usable held fits = (same name ∙ fits.0, ap (λ t. t || is_locked now mode given) (usable name) ∙ ap (λ t. facts.usable (scans.RelName name) || t) (held mode) ∙ fits.1)
+rows_fit-more facts after locks now (Do act rest) given same usable held fits = tt
+rows_fit-more facts after locks now p given same usable held fits = tt
+
+-- and where the relation that they name is locked
+pub rows_fit-locked : (facts after : Facts) (locks now : List OwnLock) (p : Plan) (given : List Row) → ((name : List ℕ) → after.rows (scans.RelName name) ≡ facts.rows (scans.RelName name)) → IsFoundLocked now p given → RowsFit facts locks p given → RowsFit after now p given
+rows_fit-locked facts after locks now (Do (Lookup name mode) rest) given same held fits = (same name ∙ fits.0, or_right (after.usable (scans.RelName name)) (is_locked now mode given) held)
+rows_fit-locked facts after locks now (Do act rest) given same held fits = tt
+rows_fit-locked facts after locks now p given same held fits = tt
+
+-- the relation that they name stays locked
+pub found_locked-more : (locks now : List OwnLock) (p : Plan) (given : List Row) → ((mode : Mode) → is_locked now mode given ≡ is_locked locks mode given) → IsFoundLocked locks p given → IsFoundLocked now p given
+found_locked-more locks now (Do (Lookup name mode) rest) given held locked = held mode ∙ locked
+found_locked-more locks now (Do act rest) given held locked = tt
+found_locked-more locks now p given held locked = tt
+
+-- no look is owed at the start where a transaction runs
+pub runs_unowed : (s : Backend) (command : Command) → is_some s.running ≡ true → owed_first s command ≡ []
+runs_unowed s command runs = by_own s.running runs
+  where
+    by_own : (own : Option OwnTransaction) → is_some own ≡ true → elim (begins_in s.blocks s.phase command && is_none own) as (λ t. List Owes) [ true ↦ OwesLook ∷ [] | false ↦ [] ] ≡ []
+    by_own None runs = absurd (cc)
+    by_own (Some t) runs = ap (λ u. elim u as (λ x. List Owes) [ true ↦ OwesLook ∷ [] | false ↦ [] ]) (and-false (begins_in s.blocks s.phase command))

@@ -2,10 +2,9 @@
 use Rattle.std.proofs.Common.{◌≡◌, ◌+◌, ◌∙◌, ℕ, true, false, Option, Some, None, Err, List, [], ◌∷◌, ◌++◌, refl, sym, ap, subst, length, drop, map, is_some}
 use Rattle.std.specs.List.{list_any}
 use Rattle.std.specs.Str.{bytes_eq}
-use Rattle.std.specs.declared.alloc.Global.{Global}
-use Rattle.std.specs.declared.vec.Vec.{Vec}
 use Rattle.event_kinds.specs.declared.entry.Event.TheVariants as events
 use Rattle.lock_modes.specs.Own.{cleared}
+use Rattle.lock_modes.specs.Rooms.{Roomy}
 use Rattle.ddl_effect.specs.declared.exec.Exec.TheVariants as stages
 use Rattle.ddl_effect.specs.Plans.{Fails}
 use Rattle.ddl_effect.specs.Commands.{writing}
@@ -14,7 +13,6 @@ use Rattle.history_model.specs.Drawn.{next_oid}
 use Rattle.history_model.specs.Names.{new_names}
 use Rattle.history_model.specs.Orderly.{MayComeNext}
 use Rattle.history_model.specs.Read.{ScansOnlyIfNeeded, is_scan_of}
-use Rattle.history_model.specs.Sent.{has_write_from}
 use Rattle.history_model.specs.Transactions.{Running, begun}
 use Rattle.history_model.specs.Writes.{is_write}
 use Rattle.row_visibility.specs.declared.clash.Clash.{Clash}
@@ -25,20 +23,20 @@ use Rattle.seg_calls.specs.Calls.{Clashes, Writes, items_drawn, entry_of, took_b
 use Rattle.cacheless.specs.Facts.{Facts, facts_of}
 use Rattle.cacheless.specs.Session.{Session, first_of, outcome_of, is_settled}
 use Rattle.cacheless.specs.Owed.{owed_after, owed_of}
-use Rattle.cacheless.specs.Sessions.{placed_at, tally_by, ends_command, accepted}
+use Rattle.cacheless.specs.Sessions.{placed_at, counted, ends_command, accepted}
 use Rattle.cacheless.specs.Plays.{IsClash, MayPlay, MayPlayIn}
 use Rattle.cacheless.specs.Schedule.{LooksTruly}
 use Rattle.backend_core.specs.Types.{Purpose, Command, CommandError, Scenario, Entry, Event, Draft, OwnLock, Phase, OwnTransaction, Backend}
 use Rattle.backend_core.specs.declared.phase.Phase.TheVariants as phases
 use Rattle.backend_core.specs.NewTables.{AddsTables}
 use Rattle.backend_core.specs.Refusals.{clash_error, error_of}
-use Rattle.backend_core.specs.State.{is_ended, written_in, running_in, is_taken_back, owed_at, Rest, rest_of, session_at}
+use Rattle.backend_core.specs.State.{is_ended, running_in, is_taken_back, owed_at, Rest, rest_of, session_at}
 use Rattle.backend_core.specs.Agrees.{IsPlayed, FactsFit, TallyFits, Agrees}
 use Rattle.backend_core.specs.Steps.{IsWorking, Enters}
 use Rattle.backend_core.proofs.Stepping.{facts_after, session_after, rest_after, Keeps, Follows, Suits, GoesOn, own_enters}
-use Rattle.backend_core.proofs.Carry.{accepted-clear, has_written-quiet, may_come, kept-more, no_answer}
+use Rattle.backend_core.proofs.Carry.{none_opened, accepted-clear, has_written-quiet, may_come, kept-more, no_answer}
 use Rattle.backend_core.proofs.NewTable.{new_table_names}
-use Rattle.backend_core.proofs.Writing.{after_asking, asked_well, is_unanswered, is_unblocked, runs, makes_table, locks_clear, waits, nothing_owed}
+use Rattle.backend_core.proofs.Writing.{after_asking, asked_well, is_unanswered, is_unblocked, runs, makes_table, locks_clear, is_inside, waits, nothing_owed}
 
 -- the entry that shows what has the name
 abbrev pub clash_event : List ℕ → Clash → Event
@@ -55,11 +53,10 @@ facts_begun facts c event = record facts { last = Some event; running = Some (be
 
 -- an entry that ends its command with an error, and changes nothing else
 pub record FailsWith (old : List Entry) (was : Backend) (rest : Rest) (name : List ℕ) (event : Event) (error : CommandError) : Type 0 where
-  pub placed : placed_at (length old + 1) (was.finished + 1) event (session_at was rest) ≡ failed_at was rest (length old + 1) error
+  pub placed : (facts : Facts) → counted facts event (placed_at (length old + 1) (was.finished + 1) event (session_at was rest)) ≡ failed_at was rest (length old + 1) error
   pub facts : facts_after old was event ≡ facts_begun (facts_of old was.id) (was.finished + 1) event
   pub owes : owed_after (Some event) ≡ []
   pub took : took_back (Some event) ≡ false
-  pub tally : tally_by event rest.tally ≡ rest.tally
   pub on : GoesOn event
   pub ends : ends_command event ≡ false
   pub unwritten : is_write event ≡ false
@@ -71,11 +68,10 @@ pub record FailsWith (old : List Entry) (was : Backend) (rest : Rest) (name : Li
 
 fails_with : (old : List Entry) (was : Backend) (rest : Rest) (name : List ℕ) (clash : Clash) → FailsWith old was rest name (clash_event name clash) (clash_error name clash)
 fails_with old was rest name (clashes.Row rel) = record {
-  placed = refl;
+  placed = λ facts. refl;
   facts = refl;
   owes = refl;
   took = refl;
-  tally = refl;
   on = record { session = λ scenario facts b at command s. refl; finished = λ s. refl; life = λ c. refl };
   ends = refl;
   unwritten = refl;
@@ -86,11 +82,10 @@ fails_with old was rest name (clashes.Row rel) = record {
   plays = λ facts command s owed clash. (owed, clash);
 }
 fails_with old was rest name (clashes.Running xid) = record {
-  placed = refl;
+  placed = λ facts. refl;
   facts = refl;
   owes = refl;
   took = refl;
-  tally = refl;
   on = record { session = λ scenario facts b at command s. refl; finished = λ s. refl; life = λ c. refl };
   ends = refl;
   unwritten = refl;
@@ -107,10 +102,10 @@ begun_same p (Some t) c runs = refl
 
 module _ (scenario : Scenario) (old : List Entry) (was : Backend) (agrees : Agrees scenario old was) (works : IsWorking was) (draft : Draft) (at : plan_at was.exec ≡ writing draft)
     (name : List ℕ) (event : Event) (error : CommandError) (with : FailsWith old was agrees.rest name event error)
-    (writes : Vec ℕ Global) (locks : Vec OwnLock Global) (wrote : writes.items ≡ was.writes.items) (locked : locks.items ≡ was.locks.items) where
+    (locks : Roomy OwnLock) (locked : locks.items ≡ was.locks.items) where
   -- the backend after it
   abbrev failed : Backend
-  failed = after_asking was (stages.Failing error) was.opened was.read was.running writes locks
+  failed = after_asking was (stages.Failing error) was.opened was.read was.running was.lists locks was.kept
 
   runs_still : is_some was.running ≡ true
   runs_still = runs scenario old was agrees works draft at
@@ -119,12 +114,12 @@ module _ (scenario : Scenario) (old : List Entry) (was : Backend) (agrees : Agre
   clear_still = locks_clear scenario old was agrees works draft at
 
   session_is : session_after old was event agrees.rest ≡ failed_at was agrees.rest (length old + 1) error
-  session_is = ap (accepted (facts_after old was event) (first_of (drop was.finished was.commands))) with.placed ∙ accepted-clear (facts_after old was event) (first_of (drop was.finished was.commands)) (failed_at was agrees.rest (length old + 1) error) clear_still
+  session_is = ap (accepted (facts_after old was event) (first_of (drop was.finished was.commands))) (with.placed (facts_after old was event)) ∙ accepted-clear (facts_after old was event) (first_of (drop was.finished was.commands)) (failed_at was agrees.rest (length old + 1) error) clear_still
 
   facts_still : FactsFit (facts_begun (facts_of old was.id) (was.finished + 1) event) failed
   facts_still = record {
     running = ap (λ o. Some (begun (was.finished + 1) o)) agrees.facts.running ∙ begun_same was.phase was.running (was.finished + 1) runs_still;
-    lists = agrees.facts.lists ∙ ap (map written_in) (sym wrote);
+    lists = agrees.facts.lists;
     owed = with.owes ∙ sym (ap owed_at works.phase);
     took = with.took ∙ sym (ap is_taken_back works.phase);
     taken = λ from is. let no : phases.Working ≡ phases.TakenBack from = sym works.phase ∙ is in absurd (cc no);
@@ -138,14 +133,15 @@ module _ (scenario : Scenario) (old : List Entry) (was : Backend) (agrees : Agre
     moves = record { id = refl; commands = refl; finished = refl; life = refl; lines = refl };
     session = session_is ∙ (λ i. record (failed_at was agrees.rest (length old + 1) error) { locks = sym locked i }) ∙ ap (λ s. session_at failed (rest_of s)) (sym session_is);
     facts = subst (λ f. FactsFit f failed) (sym with.facts) facts_still;
-    tally = λ _. subst (λ t. TallyFits t failed) (sym with.tally) (agrees.tally (ap is_ended works.phase));
-    well = asked_well was (stages.Failing error) was.opened was.read was.running writes locks works.phase runs_still (is_unblocked scenario old was agrees works draft at) (is_unanswered scenario old was agrees works draft at) (ap (λ p. is_settled (outcome_of p)) at)
+    tally = λ _. subst (λ t. TallyFits t failed) (sym (ap (λ s. s.tally) session_is)) (agrees.tally (ap is_ended works.phase));
+    well = asked_well was (stages.Failing error) was.opened was.read was.running was.lists locks was.kept works.phase runs_still (is_unblocked scenario old was agrees works draft at) (is_unanswered scenario old was agrees works draft at) (ap (λ p. is_settled (outcome_of p)) at)
         (record {
           out = refl;
-          builds = agrees.well.builds;
+          closed = none_opened was agrees.well (is_inside scenario old was agrees works draft at);
           runs = runs_still;
           first = refl;
-          written = λ is. agrees.well.written (subst (λ l. has_write_from 0 (map written_in l) ≡ true) wrote is);
+          ended = agrees.well.ended;
+          written = agrees.well.written;
           clear = subst (λ l. map cleared l ≡ l) (sym locked) clear_still;
         }) agrees.well;
   }
@@ -179,21 +175,21 @@ module _ (scenario : Scenario) (old : List Entry) (was : Backend) (agrees : Agre
   fails_enters new had has played clashes = own_enters scenario old new had has was failed event agrees (waits scenario old was agrees works draft at) with.on (suits clashes.is_new) keeps (follows played clashes.appends.comes) clashes.appends
 
 -- the name of a new table is taken
-clash_enters : (scenario : Scenario) (old new : List Entry) (had has : ℕ → ℕ) (was : Backend) (agrees : Agrees scenario old was) (works : IsWorking was) (draft : Draft) (at : plan_at was.exec ≡ writing draft) (name : List ℕ) (clash : Clash) (writes : Vec ℕ Global) (locks : Vec OwnLock Global) → writes.items ≡ was.writes.items → locks.items ≡ was.locks.items → IsPlayed scenario old
-    → Clashes old new had has was.id draft name (entry_of was.id (was.finished + 1) (clash_event name clash)) → Enters scenario old new was (record was { exec = stages.Failing (clash_error name clash); writes = writes; locks = locks })
-clash_enters scenario old new had has was agrees works draft at name clash writes locks wrote locked played clashes =
-    fails_enters scenario old was agrees works draft at name (clash_event name clash) (clash_error name clash) (fails_with old was agrees.rest name clash) writes locks wrote locked new had has played clashes
+clash_enters : (scenario : Scenario) (old new : List Entry) (had has : ℕ → ℕ) (was : Backend) (agrees : Agrees scenario old was) (works : IsWorking was) (draft : Draft) (at : plan_at was.exec ≡ writing draft) (name : List ℕ) (clash : Clash) (locks : Roomy OwnLock) → locks.items ≡ was.locks.items → IsPlayed scenario old
+    → Clashes old new had has was.id draft name (entry_of was.id (was.finished + 1) (clash_event name clash)) → Enters scenario old new was (record was { exec = stages.Failing (clash_error name clash); locks = locks })
+clash_enters scenario old new had has was agrees works draft at name clash locks locked played clashes =
+    fails_enters scenario old was agrees works draft at name (clash_event name clash) (clash_error name clash) (fails_with old was agrees.rest name clash) locks locked new had has played clashes
 
 -- the entry of a write that is refused
 refused_entry : (old new : List Entry) (had has : ℕ → ℕ) (b c : ℕ) (draft : Draft) (name : List ℕ) (clash : Clash) → Writes old new had has b c draft (Err (refusals.Clash name clash)) → Clashes old new had has b draft name (entry_of b c (clash_event name clash))
 refused_entry old new had has b c draft name (clashes.Row rel) writes = writes
 refused_entry old new had has b c draft name (clashes.Running xid) writes = writes
 
--- a write that is refused, but for want of memory
+-- a write that is refused, but not for lack of memory
 pub refusal_enters : (scenario : Scenario) (old new : List Entry) (had has : ℕ → ℕ) (was : Backend) (agrees : Agrees scenario old was) (works : IsWorking was) (draft : Draft) (at : plan_at was.exec ≡ writing draft) (refusal : WriteRefusal) (error : CommandError)
-    (writes : Vec ℕ Global) (locks : Vec OwnLock Global) → writes.items ≡ was.writes.items → locks.items ≡ was.locks.items → IsPlayed scenario old → error_of refusal ≡ Some error → Writes old new had has was.id (was.finished + 1) draft (Err refusal)
-    → Enters scenario old new was (record was { exec = stages.Failing error; writes = writes; locks = locks })
-refusal_enters scenario old new had has was agrees works draft at (refusals.Clash name clash) error writes locks wrote locked played is refused =
-    subst (λ x. Enters scenario old new was (record was { exec = stages.Failing x; writes = writes; locks = locks })) (let same : clash_error name clash ≡ error = cc is in same)
-    (clash_enters scenario old new had has was agrees works draft at name clash writes locks wrote locked played (refused_entry old new had has was.id (was.finished + 1) draft name clash refused))
-refusal_enters scenario old new had has was agrees works draft at refusals.NoMemory error writes locks wrote locked played is refused = absurd (cc)
+    (locks : Roomy OwnLock) → locks.items ≡ was.locks.items → IsPlayed scenario old → error_of refusal ≡ Some error → Writes old new had has was.id (was.finished + 1) draft (Err refusal)
+    → Enters scenario old new was (record was { exec = stages.Failing error; locks = locks })
+refusal_enters scenario old new had has was agrees works draft at (refusals.Clash name clash) error locks locked played is refused =
+    subst (λ x. Enters scenario old new was (record was { exec = stages.Failing x; locks = locks })) (let same : clash_error name clash ≡ error = cc is in same)
+    (clash_enters scenario old new had has was agrees works draft at name clash locks locked played (refused_entry old new had has was.id (was.finished + 1) draft name clash refused))
+refusal_enters scenario old new had has was agrees works draft at refusals.NoMemory error locks locked played is refused = absurd (cc)

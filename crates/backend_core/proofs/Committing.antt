@@ -1,14 +1,13 @@
 -- A commit becomes visible.
 use Rattle.std.proofs.Common.{◌≡◌, ◌+◌, ◌∙◌, ◌==◌, inr, ℕ, true, false, not, arith, Option, Some, None, List, [], refl, sym, ap, subst, length, map, is_none, is_some, unwrap_or}
-use Rattle.std.specs.Prelude.{nat_le}
 use Rattle.std.specs.Option.{option_map, option_map_or}
-use Rattle.std.proofs.lemmas.Bool.{le-leb, eq-eqb}
+use Rattle.std.proofs.lemmas.Bool.{eq-eqb}
 use Rattle.event_kinds.specs.declared.entry.Event.TheVariants as events
 use Rattle.lock_modes.specs.Own.{cleared}
 use Rattle.history_model.specs.Drawn.{next_oid}
-use Rattle.history_model.specs.Sent.{Written, has_write_from, unsent_in}
+use Rattle.inval_messages.specs.Lists.{has_write_from}
+use Rattle.history_model.specs.Sent.{unsent_in}
 use Rattle.history_model.specs.Transactions.{begun, has_xid, is_visible}
-use Rattle.history_model.proofs.Every.{any-weaker}
 use Rattle.seg_calls.specs.Calls.{entry_of, MayCall, Appends}
 use Rattle.cacheless.specs.Facts.{Facts, facts_of}
 use Rattle.cacheless.specs.Ends.{Commits, xid_of, next_sent, next_of_end}
@@ -16,13 +15,14 @@ use Rattle.cacheless.specs.Plays.{MayPlayIn, IsEnd}
 use Rattle.cacheless.specs.Sessions.{placed_at}
 use Rattle.backend_core.specs.Types.{Xid, Scenario, Entry, OwnTransaction, Phase, Backend}
 use Rattle.backend_core.specs.declared.phase.Phase.TheVariants as phases
-use Rattle.backend_core.specs.State.{owed_at, granted, is_visible_at, is_taken_back, is_ended, is_out, running_in, owed_first, session_at, HasCommand}
+use Rattle.backend_core.specs.State.{owed_at, is_accepting, looks_due, published_at, is_visible_at, is_taken_back, is_ended, is_out, running_in, owed_first, session_at, HasCommand}
 use Rattle.backend_core.specs.Agrees.{IsPlayed, Agrees}
 use Rattle.backend_core.specs.Steps.{NextCommit, Enters}
 use Rattle.backend_core.proofs.Stepping.{own_enters}
 use Rattle.backend_core.proofs.Carry.{may_call, clear_at}
 use Rattle.backend_core.proofs.Ending.{owed_by_end, end_from, is_end, first_of_end, waits_to_end, runs_unless}
-use Rattle.backend_core.proofs.EndEntries.{session_clear, end_follows, runs_on, free_running}
+use Rattle.backend_core.proofs.EndEntries.{session_clear, end_follows, opens_on, runs_on, free_running}
+use Rattle.backend_core.proofs.Nexting.{write_from_first}
 
 -- the Xid of its transaction
 abbrev pub xid_own : Option OwnTransaction → Option ℕ
@@ -48,10 +48,6 @@ runs_xid : (own : Option OwnTransaction) (xid : ℕ) → xid_own own ≡ Some xi
 runs_xid None xid is = absurd (cc)
 runs_xid (Some t) xid is = refl
 
--- a write of some command is one of a command from 0 on
-pub write_from_first : (from : ℕ) (lists : List Written) → has_write_from from lists ≡ true → has_write_from 0 lists ≡ true
-write_from_first from lists is = any-weaker (λ w. nat_le from w.command) (λ w. nat_le 0 w.command) (λ w at. le-leb 0 w.command (omega arith)) lists is
-
 hidden_at : (p : Phase) (own : Option OwnTransaction) → is_visible_at p ≡ false → is_visible (running_in p own) ≡ false
 hidden_at p None hidden = refl
 hidden_at p (Some t) hidden = hidden
@@ -70,9 +66,9 @@ visible_next facts first xid written hidden is =
     ∙ ap (λ t. Some (elim t [ true ↦ next_sent first (length (unsent_in facts.lists facts.running)) | false ↦ events.Visible (record { 0 = xid_of facts }) ])) hidden
     ∙ ap (λ x. Some (events.Visible (record { 0 = x }))) is
 
-shown : (p : Phase) (own : Option OwnTransaction) (command : ℕ) → is_some own ≡ true → Some (record (begun command (running_in p own)) { visible = true }) ≡ running_in phases.Visible own
-shown p None command runs = absurd (cc)
-shown p (Some t) command runs = refl
+shown : (p : Phase) (own : Option OwnTransaction) (command : ℕ) → published_at p ≡ 0 → is_some own ≡ true → Some (record (begun command (running_in p own)) { visible = true }) ≡ running_in (phases.Visible 0) own
+shown p None command hidden runs = absurd (cc)
+shown p (Some t) command hidden runs = ap (λ n. Some (record { first = t.first; xid = option_map (λ x. x.0) t.xid; published = n; visible = true })) hidden
 
 some_first : (own : Option OwnTransaction) (n first : ℕ) → is_some own ≡ true → option_map_or (λ t. t.first) own n ≡ first → option_map_or (λ t. Some t.first) own None ≡ Some first
 some_first None n first runs is = absurd (cc)
@@ -80,7 +76,7 @@ some_first (Some t) n first runs is = ap Some is
 
 -- the state after it
 pub commit_enters : (scenario : Scenario) (old new : List Entry) (had has : ℕ → ℕ) (was : Backend) (xid : Xid) (agrees : Agrees scenario old was) → IsPlayed scenario old → NextCommit was xid.0
-    → Appends old new had has (entry_of was.id (was.finished + 1) (events.Visible xid)) → Enters scenario old new was (record was { phase = phases.Visible })
+    → Appends old new had has (entry_of was.id (was.finished + 1) (events.Visible xid)) → Enters scenario old new was (record was { phase = phases.Visible 0 })
 commit_enters scenario old new had has was xid agrees played next appends =
     own_enters scenario old new had has was now (events.Visible xid) agrees
     (waits_to_end scenario old was agrees works (events.Visible xid) out (ends.1))
@@ -91,7 +87,7 @@ commit_enters scenario old new had has was xid agrees played next appends =
       session = session_clear old was (events.Visible xid) agrees.rest clear
           ∙ (λ i. record (placed_at (length old + 1) (was.finished + 1) (events.Visible xid) (session_at was agrees.rest)) { ended = ap is_ended next.working.phase i });
       facts = record {
-        running = ap (λ o. Some (record (begun (was.finished + 1) o) { visible = true })) agrees.facts.running ∙ shown was.phase was.running (was.finished + 1) runs;
+        running = ap (λ o. Some (record (begun (was.finished + 1) o) { visible = true })) agrees.facts.running ∙ shown was.phase was.running (was.finished + 1) (ap published_at next.working.phase) runs;
         lists = agrees.facts.lists;
         owed = refl;
         took = refl;
@@ -100,35 +96,37 @@ commit_enters scenario old new had has was xid agrees played next appends =
         kept = agrees.facts.kept;
         given = agrees.facts.given;
       };
-      tally = λ _. ap (λ n. agrees.rest.tally.looks + n) (sym (ap granted next.working.phase)) ∙ agrees.tally (ap is_ended next.working.phase);
+      tally = λ _. (ap (λ n. agrees.rest.tally.looks + n) (sym (ap looks_due next.working.phase)) ∙ (agrees.tally (ap is_ended next.working.phase)).0, (agrees.tally (ap is_ended next.working.phase)).1);
       well = record {
         built = agrees.well.built;
         few = agrees.well.few;
         most = agrees.well.most;
-        builds = agrees.well.builds;
+        opened = opens_on was (phases.Visible 0) was.running was.lists was.locks was.kept agrees.well.opened refl (λ command. free_running now command hidden) (λ opens. opens.builds);
         blocked = agrees.well.blocked;
         refused = agrees.well.refused;
         plain = agrees.well.plain;
         opens = agrees.well.opens;
         levels = agrees.well.levels;
         first = agrees.well.first;
-        transaction = runs_on was phases.Visible was.writes was.locks was.blocks.block (ap is_ended next.working.phase) refl (runs_unless was was.phase agrees.well.transaction (ap is_ended next.working.phase));
+        transaction = runs_on was (phases.Visible 0) was.lists was.locks was.kept was.blocks.block (ap is_ended next.working.phase) refl (runs_unless was was.phase agrees.well.transaction (ap is_ended next.working.phase));
+        ended = agrees.well.ended;
         written = agrees.well.written;
-        end = record { has = record { command = works.command; at = works.at }; out = out; first = next.first; end = next.end; runs = first_runs; written = next.written };
+        end = record { has = record { command = works.command; at = works.at }; out = out; first = next.first; end = next.end; runs = first_runs; written = next.written; published = omega arith };
         answered = λ _ none. absurd (cc (none, next.answered));
         come_out = agrees.well.come_out;
         past = agrees.well.past;
         free = λ _ command. free_running now command.command hidden;
-        granted = λ is. absurd (cc);
+        starts = λ command some. absurd (some (free_running now command.command hidden));
+        accepting = λ is. absurd (cc);
         clear = inr clear;
       };
     })
-    (end_follows scenario old was phases.Visible was.running was.writes was.locks (events.Visible xid) agrees played appends.comes tt
-    (record { id = refl; commands = refl; finished = refl; answer = refl; plan = refl; opened = refl; block = refl; refused = refl; found = refl }) refl refl (λ _. refl) (λ _. next.answered))
+    (end_follows scenario old was (phases.Visible 0) was.running was.lists was.locks was.kept (events.Visible xid) agrees played appends.comes tt
+    (record { id = refl; commands = refl; finished = refl; answer = refl; plan = refl; opened = refl; block = refl; refused = refl; found = refl }) refl refl (λ _. refl) (λ _. next.answered) agrees.kept)
     appends
   where
     now : Backend
-    now = record was { phase = phases.Visible }
+    now = record was { phase = phases.Visible 0 }
 
     works : HasCommand was
     works = next.working.has
@@ -146,7 +144,7 @@ commit_enters scenario old new had has was xid agrees played next appends =
     hidden = ap (λ t. not t) runs
 
     clear : map cleared was.locks.items ≡ was.locks.items
-    clear = clear_at was agrees.well (λ is. absurd (cc (is, next.working.phase)))
+    clear = clear_at was agrees.well (ap is_accepting next.working.phase)
 
     first_runs : option_map_or (λ t. Some t.first) was.running None ≡ Some next.first
     first_runs = some_first was.running (was.finished + 1) next.first runs (first_of_end was agrees.well works next.first (ap is_ended next.working.phase) (ap end_from next.end))

@@ -15,7 +15,8 @@ use Rattle.history_model.specs.Drawn.{next_oid, next_oid_by}
 use Rattle.history_model.specs.Legal.{FollowsVisible, MayRelease, MayFollow}
 use Rattle.history_model.specs.Lives.{Life, Unstarted, Alive, Stopped, life_of, FollowsLife}
 use Rattle.history_model.specs.Orderly.{main_rel, MayComeNext, IsSound}
-use Rattle.history_model.specs.Sent.{Written, lists_of, ends_transaction, has_write_from}
+use Rattle.history_model.specs.Sent.{lists_of, ends_transaction}
+use Rattle.inval_messages.specs.Lists.{Written, has_write_from}
 use Rattle.history_model.specs.Transactions.{Running, running_transaction_of, is_visible, runs_as, is_committed}
 use Rattle.history_model.specs.Versions.{versions_of, counts, ends}
 use Rattle.history_model.proofs.Every.{every, every-weaker, every-append, every-filter, every-both}

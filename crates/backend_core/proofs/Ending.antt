@@ -22,7 +22,7 @@ use Rattle.backend_core.specs.State.{running_in, running_at, builds_missing, act
 use Rattle.backend_core.specs.declared.phase.Phase.TheVariants as phases
 use Rattle.backend_core.specs.Agrees.{FactsFit, RunsBy, TransactionFits, Well, Agrees}
 use Rattle.backend_core.proofs.Stepping.{Waits}
-use Rattle.backend_core.proofs.Carry.{start_owed, scans_same, waits_at}
+use Rattle.backend_core.proofs.Carry.{start_owed, scans_same, none_missing_well, waits_at}
 
 -- the end of the running transaction as a whole
 pub end_of_all-same : (facts : Facts) (s : Backend) → facts.running ≡ running_at s → end_of_all facts ≡ end_of_running s.running
@@ -72,23 +72,23 @@ left_same facts command s r running count going =
     ap (λ t. elim t [ true ↦ None | false ↦ next_of_end facts (end_of facts command (session_at s r)) ]) going ∙ ap (next_of_end facts) (end_same facts command s r running count)
 
 -- a command that has come out misses no scan
-out_none : (s : Backend) → builds_missing s.kept s.opened ≡ [] → is_out s ≡ true → scans_missing s ≡ []
-out_none s builds out = by_plan (plan_at s.exec) out
+out_none : (s : Backend) → Well s → is_out s ≡ true → scans_missing s ≡ []
+out_none s well out = by_plan (plan_at s.exec) refl out
   where
-    by_plan : (p : Plan) → is_settled (outcome_of p) ≡ true → ◌≡◌ {A = List Purpose} (elim (outcome_of p) [ Badly ↦ [] | other ↦ builds_missing s.kept s.opened ++ act_missing s.kept s.read p ]) []
-    by_plan Done is = ap (λ l. l ++ []) builds
-    by_plan (Fails error) is = refl
-    by_plan (Absent name) is = refl
-    by_plan (Do act rest) is = absurd (cc)
-    by_plan NotBuilt is = absurd (cc)
+    by_plan : (p : Plan) → plan_at s.exec ≡ p → is_settled (outcome_of p) ≡ true → ◌≡◌ {A = List Purpose} (elim (outcome_of p) [ Badly ↦ [] | other ↦ builds_missing s.kept s.opened ++ act_missing s.kept s.read p ]) []
+    by_plan Done at is = ap (λ l. l ++ []) (none_missing_well s well (ap outcome_of at))
+    by_plan (Fails error) at is = refl
+    by_plan (Absent name) at is = refl
+    by_plan (Do act rest) at is = absurd (cc)
+    by_plan NotBuilt at is = absurd (cc)
 
 -- nothing is owed any more
-pub owed_none : (facts : Facts) (command : Command) (s : Backend) (r : Rest) → FactsFit facts s → builds_missing s.kept s.opened ≡ [] → is_out s ≡ true → owed_after facts.last ≡ [] → owed_first s command ≡ []
+pub owed_none : (facts : Facts) (command : Command) (s : Backend) (r : Rest) → FactsFit facts s → Well s → is_out s ≡ true → owed_after facts.last ≡ [] → owed_first s command ≡ []
     → owed_of facts command (session_at s r) ≡ []
-owed_none facts command s r fits builds out after first =
+owed_none facts command s r fits well out after first =
     ap (λ l. l ++ owed_after facts.last ++ map OwesScan (scans_owed facts (session_at s r))) (start_owed facts command s r fits ∙ first)
     ∙ ap (λ l. l ++ map OwesScan (scans_owed facts (session_at s r))) after
-    ∙ ap (map OwesScan) (scans_same facts s r fits ∙ out_none s builds out)
+    ∙ ap (map OwesScan) (scans_same facts s r fits ∙ out_none s well out)
 
 -- what is owed before the end, by the end
 abbrev pub owed_by_end : List Owes → List Owes → End → List Owes
@@ -106,8 +106,8 @@ pub is_end : (facts : Facts) (s : Backend) (r : Rest) (has : HasCommand s) (even
 is_end facts s r has event fits well count out going after free next = (owed, left_same facts has.command s r fits.running count going ∙ next)
   where
     by_end : (end : End) → owed_by_end [] (owed_first s has.command) end ≡ [] → owed_by_end [] (owed_of facts has.command (session_at s r)) end ≡ []
-    by_end Ends none = owed_none facts has.command s r fits well.builds out after none
-    by_end (Commits first) none = owed_none facts has.command s r fits well.builds out after none
+    by_end Ends none = owed_none facts has.command s r fits well out after none
+    by_end (Commits first) none = owed_none facts has.command s r fits well out after none
     by_end (TakesBack from) none = refl
 
     owed : owed_at_end facts has.command (session_at s r) ≡ []
@@ -210,9 +210,9 @@ ends_failed (commands.RollbackTo name) admitted built = absurd (cc)
 ends_failed command admitted built = absurd (cc)
 
 pub failed_done : (s : Backend) → Well s → (has : HasCommand s) → s.blocks.block ≡ Failed → s.blocked ≡ false → plan_at s.exec ≡ Done
-failed_done s well has failed admitted = well.plain has.command has.at (ends_failed has.command
+failed_done s well has failed admitted = (well.plain has.command has.at (ends_failed has.command
     (ap (λ block. is_some (refused_in block has.command)) (sym failed) ∙ ap (λ o. is_some (refused_first s.blocks o)) (sym has.at) ∙ sym well.blocked ∙ admitted)
-    (built_at s.commands s.finished has.command well.built has.at)) admitted
+    (built_at s.commands s.finished has.command well.built has.at)) admitted).0
 
 -- what a command that failed takes back
 from_badly : (s : Backend) → Well s → (has : HasCommand s) (from : ℕ) → outcome_of (plan_at s.exec) ≡ Badly → RunsBy s s.blocks.block → end_from (end_in_badly s) ≡ Some from → first_begun s ≡ from

@@ -1,5 +1,5 @@
 -- What a backend does without an entry: it goes on by its lookup's rows, and it opens a descriptor.
-use Rattle.std.proofs.Common.{◌≡◌, ◌+◌, inl, inr, ◌∙◌, ℕ, true, false, Option, Some, None, List, [], ◌∷◌, ◌++◌, refl, sym, ap, subst, drop, is_some, if◌then◌else◌}
+use Rattle.std.proofs.Common.{◌≡◌, ◌+◌, inl, inr, ◌∙◌, ℕ, true, false, Option, Some, None, List, [], ◌∷◌, ◌++◌, refl, sym, ap, subst, drop, is_some, slice_get, if◌then◌else◌}
 use Rattle.std.proofs.lemmas.List.{append-nil}
 use Rattle.std.proofs.lemmas.List.Concat.{flat_map-append}
 use Rattle.base_types.specs.Scans.{build_scans}
@@ -14,22 +14,23 @@ use Rattle.ddl_effect.specs.Stages.{plan_at}
 use Rattle.history_model.specs.Writes.{is_empty}
 use Rattle.history_model.proofs.Every.{every-append}
 use Rattle.cacheless.specs.Facts.{Facts, facts_of}
-use Rattle.cacheless.specs.Session.{none_open}
+use Rattle.cacheless.specs.Session.{none_open, outcome_of, is_settled}
 use Rattle.cacheless.specs.Owed.{act_owed}
-use Rattle.cacheless.specs.Settled.{if_locked, looked_up, gives, opened_by, found_by, act_done, done_here, settled}
+use Rattle.cacheless.specs.Settled.{if_locked, looked_up, gives, opened_by, found_by, sought_by, act_done, done_here, settled}
 use Rattle.cacheless.proofs.Settling.{settled-act}
 use Rattle.backend_core.specs.Types.{Oid, Mode, Kind, Row, Command, Entry, Opening, OwnLock, Exec, KeptScan, Backend}
 use Rattle.backend_core.specs.declared.phase.Phase.TheVariants as phases
 use Rattle.backend_core.specs.NewTables.{SeesRelation}
-use Rattle.backend_core.specs.State.{missing, builds_missing, act_missing, unlocked_of, Rest, session_at}
-use Rattle.backend_core.specs.Agrees.{RowsFit, FactsFit, RunsBy, TransactionFits, EndFits, Well, PlaceFits, GivenSeen, Agrees}
+use Rattle.backend_core.specs.State.{is_accepting, missing, builds_missing, act_missing, is_out, owed_first, unlocked_of, Rest, session_at}
+use Rattle.backend_core.specs.Agrees.{RowsFit, FactsFit, RunsBy, TransactionFits, EndFits, HasOpened, OpensLast, Well, PlaceFits, GivenSeen, Agrees}
 use Rattle.backend_core.specs.Steps.{AgreesNow, IsWorking, NextFind, NextOpen}
 use Rattle.backend_core.specs.Way.{after_given, made_first, made_in, opening_by, relation_by, SeesAll, OnItsWay}
 use Rattle.backend_core.proofs.Acting.{IsActing, is_acting}
 use Rattle.backend_core.proofs.Beginning.{given_unread}
 use Rattle.backend_core.proofs.CanFollow.{CanGoOn, place_unread, place_found}
-use Rattle.backend_core.proofs.Carry.{no_answer, left_command, builds_same, act_same, nothing_first}
+use Rattle.backend_core.proofs.Carry.{no_answer, left_command, builds_same, act_same, nothing_first, none_opened, none_missing}
 use Rattle.backend_core.proofs.Nexting.{the_command}
+use Rattle.backend_core.proofs.Stages.{opens_last}
 use Rattle.backend_core.proofs.Ways.{acts, reached-push, made_in-push}
 
 -- the backend after a silent act
@@ -43,43 +44,52 @@ runs_kept was exec opened Outside (inr alone) = inr (record { has = record { com
 runs_kept was exec opened Inside runs = record { runs = runs.runs; first = runs.first }
 runs_kept was exec opened Failed none = none
 
+-- no look is owed before the act
+free_here : (s : Backend) (work : IsWorking s) (command : Command) → slice_get s.commands s.finished ≡ Some command → owed_first s command ≡ []
+free_here s work command at = ap (owed_first s) (sym (the_command s work.has command at)) ∙ work.free
+
 -- what the code keeps by itself, after an act that needs no entry
-act_well : (was : Backend) (exec : Exec) (opened : List Opening) (act : Act) (plan : List Row → Plan) → Well was → IsWorking was → plan_at was.exec ≡ Do act plan → was.blocked ≡ false → is_some was.answer ≡ false → builds_missing was.kept opened ≡ [] → Well (silent was exec opened)
-act_well was exec opened act plan well work at unblocked unanswered builds = record {
+act_well : (was : Backend) (exec : Exec) (opened : List Opening) (act : Act) (plan : List Row → Plan) → Well was → IsWorking was → plan_at was.exec ≡ Do act plan → was.blocked ≡ false → is_some was.answer ≡ false → OpensLast (silent was exec opened) → Well (silent was exec opened)
+act_well was exec opened act plan well work at unblocked unanswered opens = record {
   built = well.built;
   few = well.few;
   most = well.most;
-  builds = builds;
+  opened = opens;
   blocked = well.blocked;
   refused = λ is. absurd (let both : true ≡ false = sym is ∙ unblocked in cc);
-  plain = λ command here ends admitted. absurd (let both : Done ≡ Do act plan = sym (well.plain command here ends admitted) ∙ at in cc);
+  plain = λ command here ends admitted. absurd (let both : Done ≡ Do act plan = sym (well.plain command here ends admitted).0 ∙ at in cc);
   opens = well.opens;
   levels = well.levels;
   first = well.first;
   transaction = subst (TransactionFits (silent was exec opened)) (sym work.phase) (runs_kept was exec opened was.blocks.block (subst (TransactionFits was) work.phase well.transaction));
+  ended = well.ended;
   written = well.written;
   end = subst (EndFits (silent was exec opened)) (sym work.phase) tt;
   answered = λ has none. inl work.phase;
   come_out = λ is. absurd (let both : true ≡ false = sym is ∙ unanswered in cc);
   past = λ none. absurd (let both : Some work.has.command ≡ None = sym work.has.at ∙ none in cc);
   free = λ is. absurd (let both : true ≡ false = sym is ∙ unanswered in cc);
-  granted = λ is. absurd (let both : phases.Working ≡ phases.Granted = sym work.phase ∙ is in cc);
+  starts = λ has some. absurd (some (free_here was work has.command has.at));
+  accepting = λ is. absurd (let both : false ≡ true = sym (ap is_accepting work.phase) ∙ is in cc);
   clear = well.clear;
 }
 
+acts_on : (s : Backend) (act : Act) (plan : List Row → Plan) → plan_at s.exec ≡ Do act plan → is_out s ≡ false
+acts_on s act plan at = ap (λ p. is_settled (outcome_of p)) at
+
 -- an act that needs no entry gives what it gives
-here : (facts : Facts) (s : Backend) (rest : Rest) (act : Act) (plan : List Row → Plan) → FactsFit facts s → builds_missing s.kept s.opened ≡ [] → plan_at s.exec ≡ Do act plan → act_missing s.kept s.read (Do act plan) ≡ []
+here : (facts : Facts) (s : Backend) (rest : Rest) (act : Act) (plan : List Row → Plan) → FactsFit facts s → Well s → plan_at s.exec ≡ Do act plan → act_missing s.kept s.read (Do act plan) ≡ []
     → done_here facts (session_at s rest) act (Do act plan) ≡ gives facts s.locks.items act
-here facts s rest act plan fits builds at none = ap (λ l. elim (is_empty l) [ true ↦ gives facts s.locks.items act | false ↦ None ])
-    (ap (λ l. l ++ act_owed facts s.read (Do act plan)) (builds_same facts s fits ∙ builds) ∙ ap (act_owed facts s.read) (sym at) ∙ act_same facts s fits ∙ ap (act_missing s.kept s.read) at ∙ none)
+here facts s rest act plan fits well at none = ap (λ l. elim (is_empty l) [ true ↦ gives facts s.locks.items act | false ↦ None ])
+    (ap (λ l. l ++ act_owed facts s.locks.items s.read (Do act plan)) (builds_same facts s fits ∙ none_missing s well (acts_on s act plan at)) ∙ ap (act_owed facts s.locks.items s.read) (sym at) ∙ act_same facts s fits ∙ ap (act_missing s.kept s.read) at ∙ none)
 
 -- the rest of a session after an act
-abbrev pub rest_done : Act → List Row → Rest → Rest
-rest_done act given rest = record rest { found = rest.found ++ found_by act given }
+abbrev pub rest_done : Backend → Act → List Row → Rest → Rest
+rest_done was act given rest = record rest { found = rest.found ++ found_by act given; sought = sought_by act (session_at was rest) }
 
 -- one more act on its way
 way_on : (seen : List Entry) (was : Backend) (exec : Exec) (opened : List Opening) (act : Act) (plan : List Row → Plan) (gave : List Row) (rest : Rest) (command : Command) → OnItsWay seen was rest command → plan_at was.exec ≡ Do act plan
-    → after_given gave (Do act plan) ≡ plan gave → plan_at exec ≡ plan gave → opened ≡ was.opened ++ opened_by act → SeesAll seen was.id (relation_by act gave) → OnItsWay seen (silent was exec opened) (rest_done act gave rest) command
+    → after_given gave (Do act plan) ≡ plan gave → plan_at exec ≡ plan gave → opened ≡ was.opened ++ opened_by act → SeesAll seen was.id (relation_by act gave) → OnItsWay seen (silent was exec opened) (rest_done was act gave rest) command
 way_on seen was exec opened act plan gave rest command way at passes on pushed sees = record {
   gave = way.gave ++ gave ∷ [];
   plan = on ∙ sym passes ∙ ap (after_given gave) (sym at ∙ way.plan) ∙ sym (reached-push way.gave gave (plan_of none_open command));
@@ -94,21 +104,21 @@ way_on seen was exec opened act plan gave rest command way at passes on pushed s
 
 -- an act that needs no entry, whichever it is
 act_keeps : (scenario : Scenario) (seen : List Entry) (was : Backend) (exec : Exec) (opened : List Opening) (act : Act) (plan : List Row → Plan) (gave : List Row) → (now : AgreesNow scenario seen was) → IsWorking was → plan_at was.exec ≡ Do act plan
-    → act_missing was.kept was.read (Do act plan) ≡ [] → gives (facts_of seen was.id) was.locks.items act ≡ Some gave → after_given gave (Do act plan) ≡ plan gave → plan_at exec ≡ plan gave → opened ≡ was.opened ++ opened_by act → builds_missing was.kept opened ≡ []
+    → act_missing was.kept was.read (Do act plan) ≡ [] → gives (facts_of seen was.id) was.locks.items act ≡ Some gave → after_given gave (Do act plan) ≡ plan gave → plan_at exec ≡ plan gave → opened ≡ was.opened ++ opened_by act → OpensLast (silent was exec opened)
     → SeesAll seen was.id (relation_by act gave) → PlaceFits seen was.id (plan gave) false was.given_at → AgreesNow scenario seen (silent was exec opened)
-act_keeps scenario seen was exec opened act plan gave now work at none gives_it passes on opens builds sees place = record {
+act_keeps scenario seen was exec opened act plan gave now work at none gives_it passes on pushed opens sees place = record {
   agrees = record {
     number = agrees.number;
     commands = agrees.commands;
     alive = agrees.alive;
-    rest = rest_done act gave agrees.rest;
+    rest = rest_done was act gave agrees.rest;
     count = agrees.count;
     is = agrees.is ∙ ap Some (
         ap (λ l. settled facts l (session_at was agrees.rest)) left
         ∙ settled-act facts work.has.command (drop (was.finished + 1) was.commands) (session_at was agrees.rest) act plan gave at (nothing_first scenario seen was agrees work)
-        (here facts was agrees.rest act plan agrees.facts agrees.well.builds at none ∙ gives_it)
+        (here facts was agrees.rest act plan agrees.facts agrees.well at none ∙ gives_it)
         ∙ ap (λ l. settled facts l (act_done act gave (plan gave) (session_at was agrees.rest))) (sym left)
-        ∙ ap (settled facts (drop was.finished was.commands)) (λ i. record (act_done act gave (plan gave) (session_at was agrees.rest)) { left = sym on i; opened = sym opens i })
+        ∙ ap (settled facts (drop was.finished was.commands)) (λ i. record (act_done act gave (plan gave) (session_at was agrees.rest)) { left = sym on i; opened = sym pushed i })
         );
     facts = record {
       running = agrees.facts.running;
@@ -122,18 +132,18 @@ act_keeps scenario seen was exec opened act plan gave now work at none gives_it 
     };
     tally = agrees.tally;
     life = record { last = agrees.life.last; alive = agrees.life.alive; most = agrees.life.most };
-    well = act_well was exec opened act plan agrees.well work at acting.unblocked acting.unanswered builds;
+    well = act_well was exec opened act plan agrees.well work at acting.unblocked acting.unanswered opens;
     command = record {
       refused = λ error is. absurd (let both : None ≡ Some error = sym acting.unrefused ∙ is in cc);
-      way = λ _ _ command here. inl (subst (OnItsWay seen (silent was exec opened) (rest_done act gave agrees.rest)) (the_command was work.has command here)
-          (way_on seen was exec opened act plan gave agrees.rest work.has.command acting.way at passes on opens sees));
+      way = λ _ _ command here. inl (subst (OnItsWay seen (silent was exec opened) (rest_done was act gave agrees.rest)) (the_command was work.has command here)
+          (way_on seen was exec opened act plan gave agrees.rest work.has.command acting.way at passes on pushed sees));
       later = agrees.command.later;
       given_at = subst (λ p. PlaceFits seen was.id p false was.given_at) (sym on) place;
       given_seen = given_unread seen was.id (plan_at exec) was.given.items;
     };
     kept = agrees.kept;
     places = record { finished = agrees.places.finished; judged = agrees.places.judged; last = agrees.places.last };
-    answer = no_answer scenario seen (silent was exec opened) (rest_done act gave agrees.rest) acting.unanswered;
+    answer = no_answer scenario seen (silent was exec opened) (rest_done was act gave agrees.rest) acting.unanswered;
     lines = agrees.lines;
   };
   now = record { last = now.now.last; judged = λ has is. now.now.judged (record { command = has.command; at = has.at }) is };
@@ -171,8 +181,8 @@ given_sees seen b name mode plan (row ∷ more) sees = tt
 pub found_keeps : (scenario : Scenario) (seen : List Entry) (was : Backend) (exec : Exec) → AgreesNow scenario seen was → IsWorking was → NextFind was → plan_at exec ≡ after_act was.given.items (plan_at was.exec) → AgreesNow scenario seen (silent was exec was.opened)
 found_keeps scenario seen was exec now work next on =
     act_keeps scenario seen was exec was.opened (Lookup next.name next.mode) next.rest was.given.items now work next.at (ap (λ r. if r then [] else scans.RelName next.name ∷ []) next.read)
-    (ap (looked_up was.locks.items next.mode) (subst (λ p. RowsFit (facts_of seen was.id).rows p was.given.items) next.at (agrees.facts.given next.read)) ∙ given_rows was.locks.items next.mode was.given.items next.locked)
-    refl (on ∙ ap (after_act was.given.items) next.at) (sym (append-nil was.opened)) agrees.well.builds sees
+    (ap (looked_up was.locks.items next.mode) (subst (λ p. RowsFit (facts_of seen was.id) was.locks.items p was.given.items) next.at (agrees.facts.given next.read)).0 ∙ given_rows was.locks.items next.mode was.given.items next.locked)
+    refl (on ∙ ap (after_act was.given.items) next.at) (sym (append-nil was.opened)) (inl (none_opened was agrees.well (acts_on was (Lookup next.name next.mode) next.rest next.at))) sees
     (place_found (SeesRelation seen was.id) seen was.id next.name next.mode next.rest was.given.items was.given_at (subst (CanGoOn (SeesRelation seen was.id)) next.at acting.can) sees
     (subst (λ r. PlaceFits seen was.id looks r was.given_at) next.read (subst (λ p. PlaceFits seen was.id p was.read was.given_at) next.at agrees.command.given_at)))
   where
@@ -198,5 +208,10 @@ pub open_keeps : (scenario : Scenario) (seen : List Entry) (was : Backend) (exec
     → opened ≡ was.opened ++ record { rel = rel; kind = kind } ∷ [] → AgreesNow scenario seen (silent was exec opened)
 open_keeps scenario seen was exec opened rel kind now work next on pushed =
     act_keeps scenario seen was exec opened (Open rel kind) next.rest [] now work next.at next.none refl refl (on ∙ ap (after_act []) next.at) pushed
-    (ap (builds_missing was.kept) pushed ∙ builds_push was.kept was.opened (record { rel = rel; kind = kind }) now.agrees.well.builds next.none) tt
+    (inr (record {
+      out = ap (λ p. is_settled (outcome_of p)) (on ∙ opens_last was.exec rel kind next.rest next.at);
+      quiet = ap is_accepting work.phase;
+      free = λ has. free_here was work has.command has.at;
+      builds = λ _. ap (builds_missing was.kept) pushed ∙ builds_push was.kept was.opened (record { rel = rel; kind = kind }) (none_missing was now.agrees.well (acts_on was (Open rel kind) next.rest next.at)) next.none;
+    })) tt
     (place_unread (SeesRelation seen was.id) seen was.id (next.rest []) was.given_at (subst (CanGoOn (SeesRelation seen was.id)) next.at (is_acting scenario seen was now.agrees work (ap acts next.at)).can).2)

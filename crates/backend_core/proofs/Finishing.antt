@@ -20,13 +20,13 @@ use Rattle.cacheless.specs.Lines.{line_of, lines_from}
 use Rattle.cacheless.proofs.Settling.{finishes}
 use Rattle.backend_core.specs.Types.{Command, CommandError, Scenario, Entry, Event, Line, Exec, Opening, OwnTransaction, Phase, Backend}
 use Rattle.backend_core.specs.declared.phase.Phase.TheVariants as phases
-use Rattle.backend_core.specs.State.{owed_at, is_visible_at, is_taken_back, is_ended, is_out, one_if, running_in, builds_missing, begins_in, owed_first, end_in_block, end_in_well, end_in_badly, end_at, blocks_passed, blocks_next, rest_of, session_at, HasCommand}
+use Rattle.backend_core.specs.State.{owed_at, is_accepting, published_at, is_visible_at, is_taken_back, is_ended, is_out, one_if, running_in, begins_in, owed_first, end_in_block, end_in_well, end_in_badly, end_at, blocks_passed, blocks_next, rest_of, session_at, HasCommand}
 use Rattle.backend_core.specs.Agrees.{RunsBy, TransactionFits, IsOver, EndFits, Well, Agrees}
 use Rattle.backend_core.specs.Steps.{NextFinish, AgreesNow}
 use Rattle.backend_core.proofs.Carry.{left_command, clear_at, no_answer}
 use Rattle.backend_core.proofs.Ending.{left_same, owed_none, runs_unless}
 use Rattle.backend_core.proofs.EndEntries.{free_ended}
-use Rattle.backend_core.proofs.Beginning.{Begins, past_at, plain_at, command_at}
+use Rattle.backend_core.proofs.Beginning.{Begins, past_at, plain_at, starts_at, command_at}
 
 -- the transaction before the next command: that of a block, or none
 abbrev pub NextBy : Option OwnTransaction → List Level → Block → Type 0
@@ -195,9 +195,9 @@ not_started : (own : Option OwnTransaction) (n : ℕ) → option_map_or (λ t. t
 not_started None n low = refl
 not_started (Some t) n low = ap one_if (ne_eqb t.first (n + 1) (λ is. absurd (omega (arith, is, low))))
 
-hidden_next : (p : Phase) (own : Option OwnTransaction) → is_visible_at p ≡ false → running_in p own ≡ running_in phases.Working own
-hidden_next p None hidden = refl
-hidden_next p (Some t) hidden = ap (λ v. Some (record (begun 0 (running_in p (Some t))) { visible = v })) hidden
+hidden_next : (p : Phase) (own : Option OwnTransaction) → published_at p ≡ 0 → is_visible_at p ≡ false → running_in p own ≡ running_in phases.Working own
+hidden_next p None none hidden = refl
+hidden_next p (Some t) none hidden = λ i. Some (record (begun 0 (running_in p (Some t))) { published = none i; visible = hidden i })
 
 runs_now : (s : Backend) (block : Block) → NextBy s.running s.blocks.levels block → RunsBy s block
 runs_now s Outside none = inl none
@@ -207,7 +207,8 @@ runs_now s Failed none = none
 -- how a command comes to its end with no entry left
 pub record Finishes (s : Backend) (has : HasCommand s) : Type 0 where
   pub out : is_out s ≡ true
-  pub outside : s.phase ≢ phases.Granted
+  pub quiet : is_accepting s.phase ≡ false
+  pub published : published_at s.phase ≡ 0
   pub hidden : is_visible_at s.phase ≡ false
   pub standing : is_taken_back s.phase ≡ false
   pub after : owed_at s.phase ≡ []
@@ -234,7 +235,8 @@ finishes_at s well next = by_end next.ended
     by_end : (s.phase ≡ phases.Ended) ⊎ ((s.phase ≡ phases.Working) × (owed_first s next.has.command ≡ []) × (end_at s next.has.command ≡ Ends)) → Finishes s next.has
     by_end (inl phase) = record {
       out = out;
-      outside = λ is. absurd (cc (is, phase));
+      quiet = ap is_accepting phase;
+      published = ap published_at phase;
       hidden = ap is_visible_at phase;
       standing = ap is_taken_back phase;
       after = ap owed_at phase;
@@ -244,7 +246,8 @@ finishes_at s well next = by_end next.ended
     }
     by_end (inr working) = record {
       out = out;
-      outside = λ is. absurd (cc (is, working.0));
+      quiet = ap is_accepting working.0;
+      published = ap published_at working.0;
       hidden = ap is_visible_at working.0;
       standing = ap is_taken_back working.0;
       after = ap owed_at working.0;
@@ -275,7 +278,7 @@ finish_keeps scenario seen was exec blocked blocks opened lines text agrees_now 
         ∙ finishes facts command (drop (was.finished + 1) was.commands) session fin.out ended owed
         ∙ ap (settled facts (drop (was.finished + 1) was.commands)) (λ i. record begun_session { blocks = same_blocks i; left = left_is i; blocked = blocked_is i; opened = sym nothing i }));
     facts = record {
-      running = agrees.facts.running ∙ hidden_next was.phase was.running fin.hidden;
+      running = agrees.facts.running ∙ hidden_next was.phase was.running fin.published fin.hidden;
       lists = agrees.facts.lists;
       owed = agrees.facts.owed ∙ fin.after;
       took = agrees.facts.took ∙ fin.standing;
@@ -284,28 +287,30 @@ finish_keeps scenario seen was exec blocked blocks opened lines text agrees_now 
       kept = agrees.facts.kept;
       given = λ read. absurd (cc);
     };
-    tally = λ _. omega (arith, not_started was.running (was.finished + 1) agrees.well.first);
+    tally = λ _. (omega (arith, not_started was.running (was.finished + 1) agrees.well.first), omega arith);
     life = record { last = agrees.life.last; alive = agrees.life.alive; most = omega (arith, agrees.life.most) };
     well = record {
       built = agrees.well.built;
       few = agrees.well.few;
       most = omega (arith, slice_get_within was.commands was.finished command has.at);
-      builds = ap (builds_missing was.kept) nothing;
+      opened = inl nothing;
       blocked = refused;
       refused = λ _. plan;
-      plain = plain_at now begins;
+      plain = plain_at now begins nothing;
       opens = levels.opens;
       levels = levels.low;
       first = omega (arith, agrees.well.first);
       transaction = runs_now now blocks.block (subst (λ b. NextBy was.running b.levels b.block) (sym blocks_are) fin.next);
+      ended = agrees.well.ended;
       written = agrees.well.written;
       end = tt;
       answered = λ _ _. inl refl;
       come_out = λ some. absurd (cc);
-      past = past_at now begins;
+      past = past_at now begins nothing;
       free = λ some. absurd (cc);
-      granted = λ is. absurd (cc);
-      clear = inr (clear_at was agrees.well fin.outside);
+      starts = starts_at now begins agrees.well.built refl;
+      accepting = λ is. absurd (cc);
+      clear = inr (clear_at was agrees.well fin.quiet);
     };
     command = command_at seen now (rest_of begun_session) begins agrees.well.built refused_is refl nothing refl agrees.command.later;
     kept = agrees.kept;
@@ -371,7 +376,7 @@ finish_keeps scenario seen was exec blocked blocks opened lines text agrees_now 
     ]
 
     owed : is_empty (owed_of facts command session) ≡ true
-    owed = ap is_empty (owed_none facts command was agrees.rest agrees.facts agrees.well.builds fin.out (agrees.facts.owed ∙ fin.after) fin.free)
+    owed = ap is_empty (owed_none facts command was agrees.rest agrees.facts agrees.well fin.out (agrees.facts.owed ∙ fin.after) fin.free)
 
     number : was.finished + 1 ≡ 1 + length agrees.rest.finished
     number = omega (arith, agrees.count)

@@ -11,7 +11,8 @@ use Rattle.ddl_effect.specs.Commands.{plan_of}
 use Rattle.ddl_effect.specs.Blocks.{no_block, is_open, innermost}
 use Rattle.history_model.specs.Legal.{FollowsVisible, FollowsGone}
 use Rattle.history_model.specs.Lives.{FollowsLife}
-use Rattle.history_model.specs.Sent.{has_write_from}
+use Rattle.inval_messages.specs.Lists.{has_write_from}
+use Rattle.command_lists.specs.Lists.{all_lists}
 use Rattle.history_model.specs.Transactions.{is_visible}
 use Rattle.history_model.specs.Writes.{is_empty}
 use Rattle.history_model.proofs.Reading.{life_of-own}
@@ -23,12 +24,12 @@ use Rattle.cacheless.specs.Settled.{settled}
 use Rattle.cacheless.proofs.Reading.{facts_of-own, session_of-own}
 use Rattle.backend_core.specs.Types.{Command, Scenario, Entry, KeptScan, Backend}
 use Rattle.backend_core.specs.declared.phase.Life.TheVariants as lives
-use Rattle.backend_core.specs.State.{owed_at, granted, is_taken_back, is_ended, one_if, running_in, written_in, is_kept, builds_missing, rest_of}
+use Rattle.backend_core.specs.State.{owed_at, is_accepting, looks_due, is_taken_back, is_ended, one_if, running_in, is_kept, rest_of}
 use Rattle.backend_core.specs.Agrees.{ReadRight, FactsFit, RunsBy, EndFits, Well, KeptFits, IsNew, HasNotJoined}
 use Rattle.backend_core.specs.Steps.{AgreesNow, Enters}
 use Rattle.backend_core.proofs.Carry.{has_written-quiet, no_answer}
 use Rattle.backend_core.proofs.Ending.{fits_unless}
-use Rattle.backend_core.proofs.Beginning.{Begins, past_at, plain_at, command_at}
+use Rattle.backend_core.proofs.Beginning.{Begins, past_at, plain_at, starts_at, command_at}
 
 -- it may be entered
 pub join_call : (scenario : Scenario) (seen : List Entry) (s : Backend) → HasNotJoined scenario seen s → MayCall scenario seen (entry_of s.id 0 events.Start)
@@ -64,21 +65,23 @@ new_well s built few new = record {
   built = built;
   few = few;
   most = omega (arith, new.finished);
-  builds = ap (builds_missing s.kept) new.opened;
+  opened = inl new.opened;
   blocked = begins.blocked;
   refused = λ _. begins.plan;
-  plain = plain_at (joined s) begins;
+  plain = plain_at (joined s) begins new.opened;
   opens = subst (λ b. is_open b ≡ not (is_empty b.levels)) (sym new.blocks) refl;
   levels = subst (λ b. innermost (s.finished + 1) b.levels ≤ s.finished + 1) (sym new.blocks) (omega arith);
   first = subst (λ o. option_map_or (λ t. t.first) o 0 ≤ s.finished + 1) (sym new.running) (omega arith);
   transaction = fits_unless (joined s) s.phase (subst (λ b. RunsBy (joined s) b.block) (sym new.blocks) (inl new.running)) (ap is_ended new.phase);
-  written = λ some. absurd (both_ways _ (ap (λ ws. has_write_from 0 (map written_in ws)) new.writes) some);
+  ended = ap (λ l. l.running) new.lists;
+  written = λ some. absurd (both_ways _ (ap (λ l. has_write_from 0 (all_lists l)) new.lists) some);
   end = subst (EndFits (joined s)) (sym new.phase) tt;
   answered = λ _ _. inl new.phase;
   come_out = λ some. absurd (both_ways _ (ap (λ o. is_some o) new.answer) some);
-  past = past_at (joined s) begins;
+  past = past_at (joined s) begins new.opened;
   free = λ some. absurd (both_ways _ (ap (λ o. is_some o) new.answer) some);
-  granted = λ is. absurd (cc (is, new.phase));
+  starts = starts_at (joined s) begins built new.read;
+  accepting = λ is. absurd (both_ways _ (ap is_accepting new.phase) is);
   clear = inr (ap (map cleared) new.locks ∙ sym new.locks);
 }
   where
@@ -89,7 +92,7 @@ new_well s built few new = record {
 new_facts : (old : List Entry) (s : Backend) → IsNew s s.id s.commands → FactsFit (facts_by old s.id 0 events.Start (facts_of [] s.id)) (joined s)
 new_facts old s new = record {
   running = sym (ap (running_in s.phase) new.running);
-  lists = sym (ap (map written_in) new.writes);
+  lists = sym (ap all_lists new.lists);
   owed = sym (ap owed_at new.phase);
   took = sym (ap is_taken_back new.phase);
   taken = λ from is. absurd (cc (is, new.phase));
@@ -130,7 +133,7 @@ join_enters scenario old new had has was before appends = record {
             locks = sym before.new.locks i;
           })));
       facts = subst (λ f. FactsFit f now) (sym (facts_of-own old e was.id own ∙ ap (facts_by old was.id 0 events.Start) before.facts)) (new_facts old was before.new);
-      tally = λ _. omega (arith, ap granted before.new.phase, ap (λ o. option_map_or (λ t. one_if (t.first == was.finished + 1)) o 0) before.new.running, ap one_if before.new.looked);
+      tally = λ _. (omega (arith, ap looks_due before.new.phase, ap (λ o. option_map_or (λ t. one_if (t.first == was.finished + 1)) o 0) before.new.running, ap one_if before.new.looked), omega arith);
       life = record { last = 0; alive = life_of-own old e was.id own; most = omega arith };
       well = new_well was before.built before.few before.new;
       command = command_at (old ++ e ∷ []) now (rest_of first) (new_begins was before.new) before.built refused refl before.new.opened before.new.read (λ c _. has_written-quiet old e was.id c refl ∙ before.unwritten c);

@@ -27,15 +27,17 @@ use Rattle.backend_core.proofs.Ending.{left_none, waits_after_all}
 -- no end is on its way
 hidden : (s : Backend) (p : Phase) → EndFits s p → slice_get s.commands s.finished ≡ None → is_visible_at p ≡ false
 hidden s phases.Working fits past = refl
-hidden s phases.Granted fits past = refl
-hidden s phases.Visible fits past = absurd (cc (past, fits.has.at))
+hidden s phases.Looking fits past = refl
+hidden s phases.Fetching fits past = refl
+hidden s (phases.Visible published) fits past = absurd (cc (past, fits.has.at))
 hidden s (phases.TakenBack from) fits past = refl
 hidden s phases.Ended fits past = refl
 
 standing : (s : Backend) (p : Phase) → EndFits s p → slice_get s.commands s.finished ≡ None → s.running ≡ None → is_taken_back p ≡ false
 standing s phases.Working fits past none = refl
-standing s phases.Granted fits past none = refl
-standing s phases.Visible fits past none = refl
+standing s phases.Looking fits past none = refl
+standing s phases.Fetching fits past none = refl
+standing s (phases.Visible published) fits past none = refl
 standing s (phases.TakenBack from) fits past none = absurd (cc (none, fits.end.1 past))
 standing s phases.Ended fits past none = refl
 

@@ -1,144 +1,276 @@
--- The looks of a backend: at its transaction's start, after a grant, and before a scan.
-use Rattle.std.proofs.Common.{◌≡◌, ◌≢◌, ◌≤◌, ◌<◌, ◌+◌, ◌⊎◌, inl, inr, ◌∙◌, ℕ, Bool, true, false, not, Option, Some, None, List, [], ◌∷◌, ◌++◌, ◌==◌, ◌&&◌, ◌||◌, refl, sym, ap, subst, length, drop, take, set, get_or, map, is_none, is_some, arith}
-use Rattle.std.specs.Prelude.{nat_le}
+-- The looks of a backend: at its transaction's start, in an accept of messages, and before a scan.
+use Rattle.std.proofs.Common.{◌≡◌, ◌≢◌, ◌≤◌, ◌<◌, ◌+◌, ◌⊎◌, inl, inr, ◌∙◌, ℕ, Bool, true, false, not, Option, Some, None, List, [], ◌∷◌, ◌++◌, ◌==◌, ◌&&◌, ◌||◌, if◌then◌else◌, refl, sym, ap, subst, length, drop, map, is_none, is_some, arith}
+use Rattle.std.specs.Prelude.{nat_le, ◌*◌}
 use Rattle.std.specs.Option.{option_map, option_map_or}
-use Rattle.std.specs.declared.alloc.Global.{Global}
-use Rattle.std.specs.declared.vec.Vec.{Vec}
 use Rattle.std.proofs.Math.Bool.{and-false}
 use Rattle.std.proofs.lemmas.Bool.{eq-eqb, le-leb}
-use Rattle.std.proofs.lemmas.List.{get_or_default}
-use Rattle.std.proofs.lemmas.List.Edits.{map_over_more}
 use Rattle.base_types.specs.Scenario.{Scenario}
+use Rattle.base_types.specs.declared.scan.Purpose.TheVariants as scans
 use Rattle.event_kinds.specs.declared.entry.Event.TheVariants as events
 use Rattle.lock_modes.specs.Own.{cleared}
+use Rattle.lock_modes.specs.Rooms.{Roomy}
 use Rattle.ddl_effect.specs.Blocks.{Block, Outside, Inside, Failed, ends_block, refused_by, no_block}
+use Rattle.ddl_effect.specs.Plans.{Plan, Do, Lookup}
+use Rattle.ddl_effect.specs.Stages.{plan_at}
 use Rattle.history_model.specs.Drawn.{next_oid}
+use Rattle.history_model.specs.Log.{is_waiting}
 use Rattle.history_model.specs.Transactions.{begun}
 use Rattle.history_model.specs.Writes.{is_empty}
 use Rattle.seg_calls.specs.Calls.{entry_of, Appends, MayCall}
 use Rattle.cacheless.specs.Facts.{Facts, facts_of}
-use Rattle.cacheless.specs.Session.{Session, Badly, outcome_of, first_of}
-use Rattle.cacheless.specs.Owed.{Owes, OwesFetch, OwesLook, begins, owed_at_start, owed_after, builds_owed, owes_accept}
+use Rattle.cacheless.specs.Locks.{is_locked}
+use Rattle.cacheless.specs.Session.{Session, Badly, outcome_of, is_settled, first_of}
+use Rattle.cacheless.specs.Owed.{Owes, OwesFetch, OwesLook, begins, owed_at_start, owed_after, builds_owed, owes_build, owes_accept}
 use Rattle.cacheless.specs.Sessions.{placed_at}
 use Rattle.cacheless.specs.Plays.{may_look, MayPlayIn}
 use Rattle.cacheless.proofs.Settling.{waits-owed}
-use Rattle.backend_core.specs.Types.{Command, OwnLock, Entry, Phase, OwnTransaction, Backend}
+use Rattle.backend_core.specs.Types.{Command, Mode, OwnLock, Row, Purpose, Entry, KeptScan, Phase, OwnTransaction, Backend}
 use Rattle.backend_core.specs.declared.phase.Phase.TheVariants as phases
-use Rattle.backend_core.specs.State.{owed_at, granted, is_visible_at, is_taken_back, is_ended, one_if, running_in, begun_own, begins_in, owed_first, Rest, session_at, HasCommand}
-use Rattle.backend_core.specs.Agrees.{IsPlayed, FactsFit, TallyFits, Well, RunsBy, TransactionFits, Agrees}
-use Rattle.backend_core.specs.Steps.{OwesLookNow, Enters}
-use Rattle.backend_core.proofs.Stepping.{facts_after, session_after, rest_after, own_enters}
-use Rattle.backend_core.proofs.Carry.{MayCome, may_come, Leaves, own_leaves, kept-more, command-more, no_answer, look_true, look_allowed, may_call, waits_at, left_command, start_owed, builds_same, clear_at, accepted-clear}
+use Rattle.backend_core.specs.State.{owed_at, is_accepting, looks_due, phase_looked, locks_accepted, published_at, is_absent, is_visible_at, is_taken_back, is_ended, one_if, running_in, begun_own, begins_in, has_write_since, owed_first, act_missing, scans_missing, Rest, session_at, HasCommand}
+use Rattle.backend_core.specs.Agrees.{IsPlayed, FactsFit, TallyFits, Well, RunsBy, TransactionFits, EndFits, OpensLast, IsFoundLocked, IsAccepting, Agrees}
+use Rattle.backend_core.specs.Steps.{OwesLookNow, IsWorking, Enters}
+use Rattle.backend_core.proofs.Stepping.{Waits, facts_after, session_after, rest_after, own_enters}
+use Rattle.backend_core.proofs.Carry.{MayCome, may_come, Leaves, own_leaves, kept-more, command-more, no_answer, look_true, look_call, waits_at, waits_scan, left_command, start_owed, clear_at, transaction-more, none_opened, none_missing, missing_at, is_locked-accepted, rows_fit-more, found_locked-more, runs_unowed}
+use Rattle.backend_core.proofs.Acting.{IsActing, is_acting, missing_acts}
+use Rattle.backend_core.proofs.Ways.{acts}
 
 one_at_most : (t : Bool) → one_if t ≤ 1
 one_at_most true = omega arith
 one_at_most false = omega arith
 
 -- a look stays within its bound
-pub may_look_at : (facts : Facts) (s : Backend) (rest : Rest) → FactsFit facts s → TallyFits rest.tally s → may_look facts (session_at s rest) ≡ true
-may_look_at facts s rest fits tally = ap (λ l. elim l [ OwesFetch ∷ owed ↦ false | owed ↦ nat_le (rest.tally.looks + 1) (rest.tally.scans + rest.tally.grants + 3) ]) fits.owed ∙ at_phase s.phase
+pub may_look_at : (facts : Facts) (s : Backend) (rest : Rest) → FactsFit facts s → TallyFits rest.tally s → s.phase ≢ phases.Fetching → may_look facts (session_at s rest) ≡ true
+may_look_at facts s rest fits tally unfetched = ap (λ l. elim l [ OwesFetch ∷ owed ↦ false | owed ↦ nat_le (rest.tally.looks + 1) (rest.tally.scans + rest.tally.grants + 2 * rest.tally.fetches + 3) ]) fits.owed ∙ at_phase s.phase unfetched
   where
-    within : nat_le (rest.tally.looks + 1) (rest.tally.scans + rest.tally.grants + 3) ≡ true
-    within = le-leb _ _ (omega (arith, tally, one_at_most s.looked, at_most s.running))
+    within : nat_le (rest.tally.looks + 1) (rest.tally.scans + rest.tally.grants + 2 * rest.tally.fetches + 3) ≡ true
+    within = le-leb _ _ (omega (arith, tally.0, tally.1, one_at_most s.looked, at_most s.running))
       where
         at_most : (own : Option OwnTransaction) → option_map_or (λ t. one_if (t.first == s.finished + 1)) own 0 ≤ 1
         at_most None = omega arith
         at_most (Some t) = one_at_most (t.first == s.finished + 1)
 
-    at_phase : (p : Phase) → elim (owed_at p) [ OwesFetch ∷ owed ↦ false | owed ↦ nat_le (rest.tally.looks + 1) (rest.tally.scans + rest.tally.grants + 3) ] ≡ true
-    at_phase phases.Working = within
-    at_phase phases.Granted = within
-    at_phase phases.Visible = within
-    at_phase (phases.TakenBack from) = within
-    at_phase phases.Ended = within
+    at_phase : (p : Phase) → p ≢ phases.Fetching → elim (owed_at p) [ OwesFetch ∷ owed ↦ false | owed ↦ nat_le (rest.tally.looks + 1) (rest.tally.scans + rest.tally.grants + 2 * rest.tally.fetches + 3) ] ≡ true
+    at_phase phases.Working un = within
+    at_phase phases.Looking un = within
+    at_phase phases.Fetching un = absurd (un refl)
+    at_phase (phases.Visible published) un = within
+    at_phase (phases.TakenBack from) un = within
+    at_phase phases.Ended un = within
 
-begun_is : (number : ℕ) (p : Phase) (own : Option OwnTransaction) → is_visible_at p ≡ false → Some (begun number (running_in p own)) ≡ running_in phases.Working (Some (begun_own number own))
-begun_is number p None hidden = refl
-begun_is number p (Some t) hidden = λ i. Some (record { first = t.first; xid = option_map (λ x. x.0) t.xid; published = 0; visible = hidden i })
+-- a command does what its plan says, or accepts messages
+abbrev pub in_command : Phase → Bool
+in_command phases.Working = true
+in_command phases.Looking = true
+in_command phases.Fetching = true
+in_command phase = false
 
--- a look at the transaction's start, or after a grant: what both owe
-record OwedLook (scenario : Scenario) (old : List Entry) (was : Backend) (agrees : Agrees scenario old was) (now : Backend) : Type 0 where
-  has : HasCommand was
-  owed : is_empty (owed_at_start (facts_of old was.id) has.command (session_at was agrees.rest) ++ owed_after (facts_of old was.id).last) ≡ false
-  hidden : is_visible_at was.phase ≡ false
-  going : is_ended was.phase ≡ false
-  unanswered : is_some was.answer ≡ false
-  counted : agrees.rest.tally.looks + 1 ≡ agrees.rest.tally.scans + agrees.rest.tally.grants + option_map_or (λ t. one_if (t.first == was.finished + 1)) now.running 0 + one_if was.looked
-  first : option_map_or (λ t. t.first) now.running 0 ≤ was.finished + 1
-  transaction : TransactionFits now phases.Working
-  locks : (session_after old was (events.Look false) agrees.rest).locks ≡ now.locks.items
-  clear : map cleared now.locks.items ≡ now.locks.items
+-- then no end is on its way
+pub record Quiet (p : Phase) : Type 0 where
+  pub published : published_at p ≡ 0
+  pub hidden : is_visible_at p ≡ false
+  pub standing : is_taken_back p ≡ false
+  pub going : is_ended p ≡ false
+  pub works : (p ≡ phases.Working) ⊎ (is_accepting p ≡ true)
+
+pub quiet : (p : Phase) → in_command p ≡ true → Quiet p
+quiet phases.Working is = record { published = refl; hidden = refl; standing = refl; going = refl; works = inl refl }
+quiet phases.Looking is = record { published = refl; hidden = refl; standing = refl; going = refl; works = inr refl }
+quiet phases.Fetching is = record { published = refl; hidden = refl; standing = refl; going = refl; works = inr refl }
+quiet (phases.Visible published) is = absurd (cc)
+quiet (phases.TakenBack from) is = absurd (cc)
+quiet phases.Ended is = absurd (cc)
+
+end_in : (s : Backend) (p : Phase) → in_command p ≡ true → HasCommand s → EndFits s p
+end_in s phases.Working is has = tt
+end_in s phases.Looking is has = has
+end_in s phases.Fetching is has = has
+end_in s (phases.Visible published) is has = absurd (cc)
+end_in s (phases.TakenBack from) is has = absurd (cc)
+end_in s phases.Ended is has = absurd (cc)
+
+transaction_in : (s : Backend) (p : Phase) → in_command p ≡ true → RunsBy s s.blocks.block → TransactionFits s p
+transaction_in s phases.Working is runs = runs
+transaction_in s phases.Looking is runs = runs
+transaction_in s phases.Fetching is runs = runs
+transaction_in s (phases.Visible published) is runs = absurd (cc)
+transaction_in s (phases.TakenBack from) is runs = absurd (cc)
+transaction_in s phases.Ended is runs = absurd (cc)
+
+-- the transaction of the entry runs
+pub runs_begun : (number : ℕ) (p after : Phase) (own : Option OwnTransaction) → Quiet p → Quiet after → Some (begun number (running_in p own)) ≡ running_in after (Some (begun_own number own))
+runs_begun number p after None was now = λ i. Some (record { first = number; xid = None; published = sym now.published i; visible = sym now.hidden i })
+runs_begun number p after (Some t) was now = λ i. Some (record { first = t.first; xid = option_map (λ x. x.0) t.xid; published = (was.published ∙ sym now.published) i; visible = (was.hidden ∙ sym now.hidden) i })
+
+cleared_twice : (locks : List OwnLock) → map cleared (map cleared locks) ≡ map cleared locks
+cleared_twice [] = refl
+cleared_twice (lock ∷ locks) = ap (λ l. cleared lock ∷ l) (cleared_twice locks)
+
+-- where the accept is over, the locks are clear
+clears : (p : Phase) (locks : List OwnLock) → (is_accepting p ≡ true) ⊎ (map cleared (locks_accepted p locks) ≡ locks_accepted p locks)
+clears p locks = by_test (is_accepting p) refl
+  where
+    by_test : (t : Bool) → is_accepting p ≡ t → (is_accepting p ≡ true) ⊎ (map cleared (locks_accepted p locks) ≡ locks_accepted p locks)
+    by_test true is = inl is
+    by_test false is = inr (ap (map cleared) same ∙ cleared_twice locks ∙ sym same)
+      where
+        same : locks_accepted p locks ≡ map cleared locks
+        same = ap (λ t. elim t as (λ x. List OwnLock) [ true ↦ locks | false ↦ map cleared locks ]) is
+
+-- the same locks are held after an entry of an accept
+pub same_locks : (p : Phase) (locks now : List OwnLock) (given : List Row) → now ≡ locks_accepted p locks → (mode : Mode) → is_locked now mode given ≡ is_locked locks mode given
+same_locks p locks now given items mode = ap (λ l. is_locked l mode given) items ∙ is_locked-accepted p locks mode given
+
+-- an accept isn't over where a look or a fetch is owed
+accepts_at : (p : Phase) → in_command p ≡ true → (not (is_empty (owed_at p)) || false) ≡ is_accepting p
+accepts_at phases.Working is = refl
+accepts_at phases.Looking is = refl
+accepts_at phases.Fetching is = refl
+accepts_at (phases.Visible published) is = absurd (cc)
+accepts_at (phases.TakenBack from) is = absurd (cc)
+accepts_at phases.Ended is = absurd (cc)
+
+-- no scan for a descriptor is owed where none is opened
+pub owes_none : (facts : Facts) (s : Session) → s.opened ≡ [] → owes_build facts s ≡ false
+owes_none facts s none = ap (λ l. elim (outcome_of s.left) as (λ x. Bool) [ Badly ↦ false | other ↦ not (is_empty (builds_owed facts l)) ]) none
+    ∙ elim (outcome_of s.left) as (λ o. elim o as (λ x. Bool) [ Badly ↦ false | other ↦ false ] ≡ false) [ Badly ↦ refl | other ↦ refl ]
+
+accepts : (facts : Facts) (command : Command) (s : Session) (p : Phase) → in_command p ≡ true → is_none facts.running ≡ false → owed_after facts.last ≡ owed_at p → s.opened ≡ [] → owes_accept facts (Some command) s ≡ is_accepting p
+accepts facts command s p is runs owed none =
+    ap (λ t. not (is_empty (elim (begins command s && t) as (λ x. List Owes) [ true ↦ OwesLook ∷ [] | false ↦ [] ] ++ owed_after facts.last)) || owes_build facts s) runs
+    ∙ ap (λ t. not (is_empty (elim t as (λ x. List Owes) [ true ↦ OwesLook ∷ [] | false ↦ [] ] ++ owed_after facts.last)) || owes_build facts s) (and-false (begins command s))
+    ∙ ap (λ l. not (is_empty l) || owes_build facts s) owed
+    ∙ ap (λ t. not (is_empty (owed_at p)) || t) (owes_none facts s none)
+    ∙ accepts_at p is
+
+-- the locks of the session after an entry of an accept
+pub locks_after : (facts : Facts) (was : Backend) (s : Session) (p : Phase) (locks : List OwnLock) → HasCommand was → in_command p ≡ true → is_none facts.running ≡ false → owed_after facts.last ≡ owed_at p → s.opened ≡ [] → locks ≡ locks_accepted p s.locks
+    → elim (owes_accept facts (first_of (drop was.finished was.commands)) s) as (λ x. List OwnLock) [ true ↦ s.locks | false ↦ map cleared s.locks ] ≡ locks
+locks_after facts was s p locks has is runs owed none items =
+    ap (λ t. elim t as (λ x. List OwnLock) [ true ↦ s.locks | false ↦ map cleared s.locks ])
+    (ap (λ l. owes_accept facts (first_of l) s) (left_command was.commands was.finished has.command has.at) ∙ accepts facts has.command s p is runs owed none) ∙ sym items
 
 written_xid : (number : ℕ) (own : Option OwnTransaction) → option_map_or (λ t. is_some t.xid) own false ≡ true → is_some (begun_own number own).xid ≡ true
 written_xid number None xid = absurd (cc)
 written_xid number (Some t) xid = xid
 
-owed_look : (scenario : Scenario) (old new : List Entry) (had has : ℕ → ℕ) (was : Backend) (locks : Vec OwnLock Global) → (agrees : Agrees scenario old was) → IsPlayed scenario old
-    → OwedLook scenario old was agrees (record was { phase = phases.Working; running = Some (begun_own (was.finished + 1) was.running); locks = locks })
-    → Appends old new had has (entry_of was.id (was.finished + 1) (events.Look false)) → Enters scenario old new was (record was { phase = phases.Working; running = Some (begun_own (was.finished + 1) was.running); locks = locks })
-owed_look scenario old new had has was locks agrees played owes appends =
-    own_enters scenario old new had has was now (events.Look false) agrees
-    (waits_at scenario old was agrees owes.has (λ rest. waits-owed (facts_of old was.id) owes.has.command rest (session_at was agrees.rest) owes.owed))
+-- the state after an entry of an accept
+abbrev pub accepted_state : Backend → Phase → Bool → Roomy OwnLock → List KeptScan → Backend
+accepted_state was p looked locks kept = record was { phase = p; running = Some (begun_own (was.finished + 1) was.running); looked = looked; locks = locks; kept = kept }
+
+-- what it needs to stay well
+pub record Accepts (was : Backend) (p : Phase) (looked : Bool) (locks : Roomy OwnLock) (kept : List KeptScan) : Type 0 where
+  pub has : HasCommand was
+  pub before : in_command was.phase ≡ true
+  pub after : in_command p ≡ true
+  pub opened : was.opened ≡ []
+  pub unanswered : is_some was.answer ≡ false
+  pub unsettled : is_absent (plan_at was.exec) ≡ false
+  pub found : was.read ≡ true → IsFoundLocked was.locks.items (plan_at was.exec) was.given.items
+  pub first : (begun_own (was.finished + 1) was.running).first ≤ was.finished + 1
+  pub transaction : TransactionFits (accepted_state was p looked locks kept) p
+  pub items : locks.items ≡ locks_accepted p was.locks.items
+
+pub accept_well : (was : Backend) (p : Phase) (looked : Bool) (locks : Roomy OwnLock) (kept : List KeptScan) → Accepts was p looked locks kept → Well was → Well (accepted_state was p looked locks kept)
+accept_well was p looked locks kept accepts well = record {
+  built = well.built;
+  few = well.few;
+  most = well.most;
+  opened = inl accepts.opened;
+  blocked = well.blocked;
+  refused = well.refused;
+  plain = well.plain;
+  opens = well.opens;
+  levels = well.levels;
+  first = accepts.first;
+  transaction = accepts.transaction;
+  ended = well.ended;
+  written = λ some. written_xid (was.finished + 1) was.running (well.written some);
+  end = end_in (accepted_state was p looked locks kept) p accepts.after (record { command = accepts.has.command; at = accepts.has.at });
+  answered = λ _ _. (quiet p accepts.after).works;
+  come_out = well.come_out;
+  past = well.past;
+  free = λ some. absurd (cc (some, accepts.unanswered));
+  starts = λ has some. absurd (some (runs_unowed (accepted_state was p looked locks kept) has.command refl));
+  accepting = λ is. record { runs = refl; unanswered = accepts.unanswered; unsettled = accepts.unsettled; locked = λ read. found_locked-more was.locks.items locks.items (plan_at was.exec) was.given.items (same_locks p was.locks.items locks.items was.given.items accepts.items) (accepts.found read) };
+  clear = subst (λ l. (is_accepting p ≡ true) ⊎ (map cleared l ≡ l)) (sym accepts.items) (clears p was.locks.items);
+}
+
+looked_in : (some_wait : Bool) → in_command (phase_looked some_wait) ≡ true
+looked_in true = refl
+looked_in false = refl
+
+owed_looked : (some_wait : Bool) → owed_after (Some (events.Look some_wait)) ≡ owed_at (phase_looked some_wait)
+owed_looked true = refl
+owed_looked false = refl
+
+none_due : (some_wait : Bool) → looks_due (phase_looked some_wait) ≡ 0
+none_due true = refl
+none_due false = refl
+
+-- a look: what all that a backend makes owe
+record Looks (scenario : Scenario) (old : List Entry) (was : Backend) (some_wait : Bool) (agrees : Agrees scenario old was) (looked : Bool) (locks : Roomy OwnLock) : Type 0 where
+  waits : Waits agrees
+  unfetched : was.phase ≢ phases.Fetching
+  accepts : Accepts was (phase_looked some_wait) looked locks was.kept
+  counted : agrees.rest.tally.looks + 1 ≡ agrees.rest.tally.full + agrees.rest.tally.scans + agrees.rest.tally.grants + one_if ((begun_own (was.finished + 1) was.running).first == was.finished + 1) + one_if looked
+
+looks_enter : (scenario : Scenario) (old new : List Entry) (had has : ℕ → ℕ) (was : Backend) (some_wait looked : Bool) (locks : Roomy OwnLock) → (agrees : Agrees scenario old was) → IsPlayed scenario old → is_waiting old was.id ≡ some_wait
+    → Looks scenario old was some_wait agrees looked locks → Appends old new had has (entry_of was.id (was.finished + 1) (events.Look some_wait)) → Enters scenario old new was (accepted_state was (phase_looked some_wait) looked locks was.kept)
+looks_enter scenario old new had has was some_wait looked locks agrees played true_is looks appends =
+    own_enters scenario old new had has was now (events.Look some_wait) agrees looks.waits
     (record { session = λ _ _ _ _ _ _. refl; finished = λ _. refl; life = λ _. refl })
     (record {
-      plays = subst (λ o. MayPlayIn (next_oid old) (facts_of old was.id) o (session_at was agrees.rest) (events.Look false)) (sym owes.has.at) (may_look_at (facts_of old was.id) was agrees.rest agrees.facts (agrees.tally owes.going));
+      plays = subst (λ o. MayPlayIn (next_oid old) (facts_of old was.id) o (session_at was agrees.rest) (events.Look some_wait)) (sym accepts.has.at) (may_look_at (facts_of old was.id) was agrees.rest agrees.facts (agrees.tally before.going) looks.unfetched);
       needed = tt;
-      truly = look_true scenario old was.id played;
+      truly = look_true old was.id some_wait true_is;
       tables = tt;
     })
     (record {
       moves = record { id = refl; commands = refl; finished = refl; life = refl; lines = refl };
-      session = λ i. record (session_after old was (events.Look false) agrees.rest) { ended = owes.going i; locks = owes.locks i };
+      session = λ i. record (session_after old was (events.Look some_wait) agrees.rest) { ended = (before.going ∙ sym after.going) i; locks = same i };
       facts = record {
-        running = ap (λ o. Some (begun (was.finished + 1) o)) agrees.facts.running ∙ begun_is (was.finished + 1) was.phase was.running owes.hidden;
+        running = ap (λ o. Some (begun (was.finished + 1) o)) agrees.facts.running ∙ runs_begun (was.finished + 1) was.phase (phase_looked some_wait) was.running before after;
         lists = agrees.facts.lists;
-        owed = refl;
-        took = refl;
-        taken = λ from is. absurd (cc);
+        owed = owed_looked some_wait;
+        took = sym after.standing;
+        taken = λ from is. absurd (cc (after.standing, ap is_taken_back is));
         usable = agrees.facts.usable;
         kept = agrees.facts.kept;
-        given = agrees.facts.given;
+        given = λ read. rows_fit-more (facts_of old was.id) (facts_after old was (events.Look some_wait)) was.locks.items locks.items (plan_at was.exec) was.given.items (λ name. refl) (λ name. refl)
+            (same_locks (phase_looked some_wait) was.locks.items locks.items was.given.items accepts.items) (agrees.facts.given read);
       };
-      tally = λ _. omega (arith, owes.counted);
-      well = record {
-        built = agrees.well.built;
-        few = agrees.well.few;
-        most = agrees.well.most;
-        builds = agrees.well.builds;
-        blocked = agrees.well.blocked;
-        refused = agrees.well.refused;
-        plain = agrees.well.plain;
-        opens = agrees.well.opens;
-        levels = agrees.well.levels;
-        first = owes.first;
-        transaction = owes.transaction;
-        written = λ some. written_xid (was.finished + 1) was.running (agrees.well.written some);
-        end = tt;
-        answered = λ _ _. inl refl;
-        come_out = agrees.well.come_out;
-        past = agrees.well.past;
-        free = λ some. absurd (cc (some, owes.unanswered));
-        granted = λ is. absurd (cc);
-        clear = inr owes.clear;
-      };
+      tally = λ _. (omega (arith, looks.counted, none_due some_wait), (agrees.tally before.going).1);
+      well = accept_well was (phase_looked some_wait) looked locks was.kept accepts agrees.well;
     })
     (record {
       command = command-more old e was now agrees.rest later (record { id = refl; commands = refl; finished = refl; answer = refl; plan = refl; opened = refl; block = refl; refused = refl; found = refl }) (record { read = refl; given = refl; given_at = refl })
           leaves.writes leaves.places leaves.relations agrees.command;
       kept = kept-more old e was.id was.kept may (λ i d within. refl) agrees.kept;
-      answer = no_answer scenario (old ++ e ∷ []) now later owes.unanswered;
+      answer = no_answer scenario (old ++ e ∷ []) now later accepts.unanswered;
       judged = λ _ _. refl;
     })
     appends
   where
+    accepts : Accepts was (phase_looked some_wait) looked locks was.kept
+    accepts = looks.accepts
+
+    before : Quiet was.phase
+    before = quiet was.phase accepts.before
+
+    after : Quiet (phase_looked some_wait)
+    after = quiet (phase_looked some_wait) accepts.after
+
     now : Backend
-    now = record was { phase = phases.Working; running = Some (begun_own (was.finished + 1) was.running); locks = locks }
+    now = accepted_state was (phase_looked some_wait) looked locks was.kept
+
+    same : (session_after old was (events.Look some_wait) agrees.rest).locks ≡ locks.items
+    same = locks_after (facts_after old was (events.Look some_wait)) was (placed_at (length old + 1) (was.finished + 1) (events.Look some_wait) (session_at was agrees.rest)) (phase_looked some_wait) locks.items accepts.has accepts.after refl (owed_looked some_wait) accepts.opened accepts.items
 
     e : Entry
-    e = entry_of was.id (was.finished + 1) (events.Look false)
+    e = entry_of was.id (was.finished + 1) (events.Look some_wait)
 
     later : Rest
-    later = rest_after old was (events.Look false) agrees.rest
+    later = rest_after old was (events.Look some_wait) agrees.rest
 
     may : MayCome old e
     may = may_come scenario old e played appends.comes tt
@@ -154,15 +286,6 @@ pub not_empty-after : {X : Type 0} (xs ys : List X) → is_empty ys ≡ false �
 not_empty-after [] ys some = some
 not_empty-after (x ∷ xs) ys some = refl
 
-cleared_twice : (locks : List OwnLock) → map cleared (map cleared locks) ≡ map cleared locks
-cleared_twice [] = refl
-cleared_twice (lock ∷ locks) = ap (λ l. cleared lock ∷ l) (cleared_twice locks)
-
--- one more lock is made clear
-pub clears_more : (locks now : List OwnLock) (given : List OwnLock) (i : ℕ) (d : OwnLock) → i < length given → given ≡ locks → length now ≡ length given → now ≡ map cleared (take i locks) ++ drop i locks
-    → set now i (cleared (get_or now i d)) ≡ map cleared (take (i + 1) locks) ++ drop (i + 1) locks
-clears_more locks now given i d within same long done = map_over_more cleared locks now i (get_or now i d) (omega (arith, within, ap length same)) done (get_or_default now i d (get_or now i d) (omega (arith, within, long)))
-
 -- where a look is owed at the start, no transaction runs, and the command begins one
 first_owed : (begins none : Bool) → elim (begins && none) as (λ t. List Owes) [ true ↦ OwesLook ∷ [] | false ↦ [] ] ≢ [] → (begins ≡ true) × (none ≡ true)
 first_owed true true some = (refl, refl)
@@ -173,24 +296,30 @@ none_is : {X : Type 0} (o : Option X) → is_none o ≡ true → o ≡ None
 none_is None none = refl
 none_is (Some x) none = absurd (cc)
 
-first_look : (scenario : Scenario) (old new : List Entry) (had has : ℕ → ℕ) (was : Backend) (locks : Vec OwnLock Global) → (agrees : Agrees scenario old was) → IsPlayed scenario old
-    → (at : HasCommand was) → owed_first was at.command ≢ [] → was.phase ≡ phases.Working → is_some was.answer ≡ false → locks.items ≡ map cleared was.locks.items
-    → Appends old new had has (entry_of was.id (was.finished + 1) (events.Look false)) → Enters scenario old new was (record was { phase = phases.Working; running = Some (begun_own (was.finished + 1) was.running); locks = locks })
-first_look scenario old new had has was locks agrees played at some phase unanswered items appends = owed_look scenario old new had has was locks agrees played (record {
-  has = at;
-  owed = not_empty _ (owed_after (facts_of old was.id).last) (subst (λ l. l ≢ []) (sym (start_owed (facts_of old was.id) at.command was agrees.rest agrees.facts)) some);
-  hidden = ap is_visible_at phase;
-  going = ap is_ended phase;
-  unanswered = unanswered;
-  counted = omega (arith, agrees.tally (ap is_ended phase), ap granted phase, ap (λ o. option_map_or (λ t. one_if (t.first == was.finished + 1)) o 0) none, ap (λ o. one_if ((begun_own (was.finished + 1) o).first == was.finished + 1)) none, ap one_if (eq-eqb (was.finished + 1) (was.finished + 1) refl));
-  first = omega (arith, ap (λ o. (begun_own (was.finished + 1) o).first) none);
-  transaction = by_block was.blocks.block begun;
-  locks = ap (λ s. s.locks) (accepted-clear (facts_after old was (events.Look false)) (first_of (drop was.finished was.commands)) (placed_at (length old + 1) (was.finished + 1) (events.Look false) (session_at was agrees.rest)) clear) ∙ sym clear ∙ sym items;
-  clear = ap (map cleared) items ∙ cleared_twice was.locks.items ∙ sym items;
+first_look : (scenario : Scenario) (old new : List Entry) (had has : ℕ → ℕ) (was : Backend) (some_wait : Bool) (locks : Roomy OwnLock) → (agrees : Agrees scenario old was) → IsPlayed scenario old → is_waiting old was.id ≡ some_wait
+    → (at : HasCommand was) → owed_first was at.command ≢ [] → was.phase ≡ phases.Working → is_some was.answer ≡ false → locks.items ≡ locks_accepted (phase_looked some_wait) was.locks.items
+    → Appends old new had has (entry_of was.id (was.finished + 1) (events.Look some_wait)) → Enters scenario old new was (accepted_state was (phase_looked some_wait) was.looked locks was.kept)
+first_look scenario old new had has was some_wait locks agrees played true_is at some phase unanswered items appends = looks_enter scenario old new had has was some_wait was.looked locks agrees played true_is (record {
+  waits = waits_at scenario old was agrees at (λ rest. waits-owed (facts_of old was.id) at.command rest (session_at was agrees.rest)
+      (not_empty _ (owed_after (facts_of old was.id).last) (subst (λ l. l ≢ []) (sym (start_owed (facts_of old was.id) at.command was agrees.rest agrees.facts)) some)));
+  unfetched = λ is. absurd (cc (is, phase));
+  accepts = record {
+    has = at;
+    before = ap in_command phase;
+    after = looked_in some_wait;
+    opened = by_side agrees.well.opened;
+    unanswered = unanswered;
+    unsettled = (agrees.well.starts at some).0;
+    found = λ read. absurd (cc (read, (agrees.well.starts at some).1));
+    first = omega (arith, ap (λ o. (begun_own (was.finished + 1) o).first) none);
+    transaction = transaction_in now (phase_looked some_wait) (looked_in some_wait) (by_block was.blocks.block begun);
+    items = items;
+  };
+  counted = omega (arith, (agrees.tally (ap is_ended phase)).0, ap looks_due phase, ap (λ o. option_map_or (λ t. one_if (t.first == was.finished + 1)) o 0) none, ap (λ o. one_if ((begun_own (was.finished + 1) o).first == was.finished + 1)) none, ap one_if (eq-eqb (was.finished + 1) (was.finished + 1) refl));
 }) appends
   where
     now : Backend
-    now = record was { phase = phases.Working; running = Some (begun_own (was.finished + 1) was.running); locks = locks }
+    now = accepted_state was (phase_looked some_wait) was.looked locks was.kept
 
     begun : begins_in was.blocks was.phase at.command ≡ true
     begun = (first_owed (begins_in was.blocks was.phase at.command) (is_none was.running) some).0
@@ -198,100 +327,151 @@ first_look scenario old new had has was locks agrees played at some phase unansw
     none : was.running ≡ None
     none = none_is was.running (first_owed (begins_in was.blocks was.phase at.command) (is_none was.running) some).1
 
-    clear : map cleared was.locks.items ≡ was.locks.items
-    clear = clear_at was agrees.well (λ is. absurd (cc (is, phase)))
+    by_side : OpensLast was → was.opened ≡ []
+    by_side (inl closed) = closed
+    by_side (inr opened) = absurd (some (opened.free at))
 
     by_block : (b : Block) → elim b as (λ x. Bool) [ Outside ↦ not (ends_block at.command) && not (is_ended was.phase) && is_none (refused_by no_block at.command) | block ↦ false ] ≡ true
         → RunsBy now b
-    by_block Outside first = inr (record { has = record { command = at.command; at = at.at }; begins = subst (λ p. begins_in was.blocks p at.command ≡ true) phase begun; first = ap (λ o. (begun_own (was.finished + 1) o).first) none })
+    by_block Outside first = inr (record {
+      has = record { command = at.command; at = at.at };
+      begins = ap (λ t. elim was.blocks.block as (λ x. Bool) [ Outside ↦ not (ends_block at.command) && not t && is_none (refused_by no_block at.command) | block ↦ false ]) ((quiet (phase_looked some_wait) (looked_in some_wait)).going ∙ sym (ap is_ended phase)) ∙ begun;
+      first = ap (λ o. (begun_own (was.finished + 1) o).first) none;
+    })
     by_block Inside first = absurd (cc)
     by_block Failed first = absurd (cc)
 
-runs_same : (number : ℕ) (own : Option OwnTransaction) → is_some own ≡ true → Some (begun_own number own) ≡ own
+pub runs_same : (number : ℕ) (own : Option OwnTransaction) → is_some own ≡ true → Some (begun_own number own) ≡ own
 runs_same number None runs = absurd (cc)
 runs_same number (Some t) runs = refl
 
--- after the look of a grant the locks are clear
-accepts : (facts : Facts) (command : Command) (s : Session) → is_none facts.running ≡ false → owed_after facts.last ≡ [] → builds_owed facts s.opened ≡ [] → owes_accept facts (Some command) s ≡ false
-accepts facts command s runs free built =
-    ap (λ t. not (is_empty (elim (begins command s && t) as (λ x. List Owes) [ true ↦ OwesLook ∷ [] | false ↦ [] ] ++ owed_after facts.last)) || elim (outcome_of s.left) [ Badly ↦ false | other ↦ not (is_empty (builds_owed facts s.opened)) ]) runs
-    ∙ ap (λ t. not (is_empty (elim t as (λ x. List Owes) [ true ↦ OwesLook ∷ [] | false ↦ [] ] ++ owed_after facts.last)) || elim (outcome_of s.left) [ Badly ↦ false | other ↦ not (is_empty (builds_owed facts s.opened)) ]) (and-false (begins command s))
-    ∙ ap (λ l. not (is_empty l) || elim (outcome_of s.left) [ Badly ↦ false | other ↦ not (is_empty (builds_owed facts s.opened)) ]) free
-    ∙ ap (λ l. elim (outcome_of s.left) [ Badly ↦ false | other ↦ not (is_empty l) ]) built
-    ∙ elim (outcome_of s.left) as (λ o. elim o as (λ x. Bool) [ Badly ↦ false | other ↦ false ] ≡ false) [ Badly ↦ refl | other ↦ refl ]
+-- the transaction goes on in an accept
+pub accepts_in : (was : Backend) (p : Phase) (looked : Bool) (locks : Roomy OwnLock) (kept : List KeptScan) → in_command was.phase ≡ true → in_command p ≡ true → is_some was.running ≡ true → Well was → TransactionFits (accepted_state was p looked locks kept) p
+accepts_in was p looked locks kept before after runs well =
+    transaction-more was (accepted_state was p looked locks kept) (quiet was.phase before).going (quiet p after).going refl (runs_same (was.finished + 1) was.running runs) refl refl well.transaction
 
-granted_look : (scenario : Scenario) (old new : List Entry) (had has : ℕ → ℕ) (was : Backend) (locks : Vec OwnLock Global) → (agrees : Agrees scenario old was) → IsPlayed scenario old
-    → (at : HasCommand was) → was.phase ≡ phases.Granted → locks.items ≡ map cleared was.locks.items
-    → Appends old new had has (entry_of was.id (was.finished + 1) (events.Look false)) → Enters scenario old new was (record was { phase = phases.Working; running = Some (begun_own (was.finished + 1) was.running); locks = locks })
-granted_look scenario old new had has was locks agrees played at phase items appends = owed_look scenario old new had has was locks agrees played (record {
-  has = at;
-  owed = not_empty-after (owed_at_start (facts_of old was.id) at.command (session_at was agrees.rest)) (owed_after (facts_of old was.id).last) (ap is_empty (agrees.facts.owed ∙ ap owed_at phase));
-  hidden = ap is_visible_at phase;
-  going = ap is_ended phase;
-  unanswered = (agrees.well.granted phase).unanswered;
-  counted = omega (arith, agrees.tally (ap is_ended phase), ap granted phase, ap (λ o. option_map_or (λ t. one_if (t.first == was.finished + 1)) o 0) same);
-  first = omega (arith, agrees.well.first, ap (λ o. option_map_or (λ t. t.first) o 0) same);
-  transaction = by_block was.blocks.block (subst (TransactionFits was) phase agrees.well.transaction);
-  locks = ap (λ t. elim t as (λ x. List OwnLock) [ true ↦ was.locks.items | false ↦ map cleared was.locks.items ])
-      (ap (λ l. owes_accept (facts_after old was (events.Look false)) (first_of l) placed) (left_command was.commands was.finished at.command at.at) ∙ accepts (facts_after old was (events.Look false)) at.command placed refl refl (builds_same (facts_of old was.id) was agrees.facts ∙ agrees.well.builds)) ∙ sym items;
-  clear = ap (map cleared) items ∙ cleared_twice was.locks.items ∙ sym items;
+-- its first command is none after the running one
+pub first_begun : (was : Backend) → is_some was.running ≡ true → Well was → (begun_own (was.finished + 1) was.running).first ≤ was.finished + 1
+first_begun was runs well = omega (arith, well.first, ap (λ o. option_map_or (λ t. t.first) o 0) (runs_same (was.finished + 1) was.running runs))
+
+-- a command that accepts messages has opened nothing
+pub accepting_opened : (s : Backend) → Well s → is_accepting s.phase ≡ true → s.opened ≡ []
+accepting_opened s well accepting = by_side well.opened
+  where
+    by_side : OpensLast s → s.opened ≡ []
+    by_side (inl closed) = closed
+    by_side (inr opened) = absurd (cc (opened.quiet, accepting))
+
+next_look : (scenario : Scenario) (old new : List Entry) (had has : ℕ → ℕ) (was : Backend) (some_wait : Bool) (locks : Roomy OwnLock) → (agrees : Agrees scenario old was) → IsPlayed scenario old → is_waiting old was.id ≡ some_wait
+    → (at : HasCommand was) → was.phase ≡ phases.Looking → locks.items ≡ locks_accepted (phase_looked some_wait) was.locks.items
+    → Appends old new had has (entry_of was.id (was.finished + 1) (events.Look some_wait)) → Enters scenario old new was (accepted_state was (phase_looked some_wait) was.looked locks was.kept)
+next_look scenario old new had has was some_wait locks agrees played true_is at phase items appends = looks_enter scenario old new had has was some_wait was.looked locks agrees played true_is (record {
+  waits = waits_at scenario old was agrees at (λ rest. waits-owed (facts_of old was.id) at.command rest (session_at was agrees.rest)
+      (not_empty-after (owed_at_start (facts_of old was.id) at.command (session_at was agrees.rest)) (owed_after (facts_of old was.id).last) (ap is_empty (agrees.facts.owed ∙ ap owed_at phase))));
+  unfetched = λ is. absurd (cc (is, phase));
+  accepts = record {
+    has = at;
+    before = ap in_command phase;
+    after = looked_in some_wait;
+    opened = accepting_opened was agrees.well (ap is_accepting phase);
+    unanswered = accepting.unanswered;
+    unsettled = accepting.unsettled;
+    found = accepting.locked;
+    first = first_begun was accepting.runs agrees.well;
+    transaction = accepts_in was (phase_looked some_wait) was.looked locks was.kept (ap in_command phase) (looked_in some_wait) accepting.runs agrees.well;
+    items = items;
+  };
+  counted = omega (arith, (agrees.tally (ap is_ended phase)).0, ap looks_due phase, ap (λ o. option_map_or (λ t. one_if (t.first == was.finished + 1)) o 0) (runs_same (was.finished + 1) was.running accepting.runs));
 }) appends
   where
-    now : Backend
-    now = record was { phase = phases.Working; running = Some (begun_own (was.finished + 1) was.running); locks = locks }
+    accepting : IsAccepting was
+    accepting = agrees.well.accepting (ap is_accepting phase)
 
-    same : now.running ≡ was.running
-    same = runs_same (was.finished + 1) was.running (agrees.well.granted phase).runs
-
-    placed : Session
-    placed = placed_at (length old + 1) (was.finished + 1) (events.Look false) (session_at was agrees.rest)
-
-    by_block : (b : Block) → RunsBy was b → RunsBy now b
-    by_block Outside (inl none) = inl (same ∙ none)
-    by_block Outside (inr alone) = inr (record {
-      has = record { command = alone.has.command; at = alone.has.at };
-      begins = subst (λ p. begins_in was.blocks p alone.has.command ≡ true) phase alone.begins;
-      first = ap (λ o. option_map_or (λ t. t.first) o 0) same ∙ alone.first;
-    })
-    by_block Inside block = record { runs = refl; first = λ command. ap (λ o. option_map_or (λ t. t.first) o 0) same ∙ block.first command }
-    by_block Failed none = same ∙ none
-
--- where a look is owed, the command works or a lock was granted
-owed_phase : (s : Backend) → Well s → OwesLookNow s → ((s.phase ≡ phases.Working) × (is_some s.answer ≡ false)) ⊎ (s.phase ≡ phases.Granted)
+-- where a look is owed, the command works or accepts messages
+owed_phase : (s : Backend) → Well s → OwesLookNow s → ((s.phase ≡ phases.Working) × (is_some s.answer ≡ false)) ⊎ (s.phase ≡ phases.Looking)
 owed_phase s well owes = by_owed owes.1
   where
     by_answer : (t : Bool) → is_some s.answer ≡ t → owed_first s owes.0.command ≢ [] → is_some s.answer ≡ false
     by_answer true answered some = absurd (some (well.free answered owes.0))
     by_answer false none some = none
 
-    by_phase : is_some s.answer ≡ false → (s.phase ≡ phases.Working) ⊎ (s.phase ≡ phases.Granted) → ((s.phase ≡ phases.Working) × (is_some s.answer ≡ false)) ⊎ (s.phase ≡ phases.Granted)
-    by_phase none (inl working) = inl (working, none)
-    by_phase none (inr granted) = inr granted
-
-    by_owed : (owed_first s owes.0.command ≢ []) ⊎ (s.phase ≡ phases.Granted) → ((s.phase ≡ phases.Working) × (is_some s.answer ≡ false)) ⊎ (s.phase ≡ phases.Granted)
-    by_owed (inr granted) = inr granted
-    by_owed (inl some) = let none = by_answer (is_some s.answer) refl some in by_phase none (well.answered owes.0 none)
+    by_owed : ((owed_first s owes.0.command ≢ []) × (s.phase ≡ phases.Working)) ⊎ (s.phase ≡ phases.Looking) → ((s.phase ≡ phases.Working) × (is_some s.answer ≡ false)) ⊎ (s.phase ≡ phases.Looking)
+    by_owed (inr looking) = inr looking
+    by_owed (inl some) = inl (some.1, by_answer (is_some s.answer) refl some.0)
 
 -- so the look may be made
-pub owed_call : (scenario : Scenario) (seen : List Entry) (s : Backend) → Agrees scenario seen s → IsPlayed scenario seen → OwesLookNow s → MayCall scenario seen (entry_of s.id (s.finished + 1) (events.Look false))
-owed_call scenario seen s agrees played owes = by_phase (owed_phase s agrees.well owes)
+pub owed_call : (scenario : Scenario) (seen : List Entry) (s : Backend) (some_wait : Bool) → Agrees scenario seen s → IsPlayed scenario seen → OwesLookNow s → some_wait ≡ is_waiting seen s.id → MayCall scenario seen (entry_of s.id (s.finished + 1) (events.Look some_wait))
+owed_call scenario seen s some_wait agrees played owes is = by_phase owes.1
   where
-    at_phase : is_visible_at s.phase ≡ false → is_taken_back s.phase ≡ false → MayCall scenario seen (entry_of s.id (s.finished + 1) (events.Look false))
-    at_phase hidden standing = may_call scenario seen s (events.Look false) agrees hidden standing refl (look_allowed scenario seen s.id (s.finished + 1) played)
+    at_phase : in_command s.phase ≡ true → MayCall scenario seen (entry_of s.id (s.finished + 1) (events.Look some_wait))
+    at_phase inside = look_call scenario seen s some_wait agrees played (quiet s.phase inside).hidden (quiet s.phase inside).standing (sym is)
 
-    by_phase : ((s.phase ≡ phases.Working) × (is_some s.answer ≡ false)) ⊎ (s.phase ≡ phases.Granted) → MayCall scenario seen (entry_of s.id (s.finished + 1) (events.Look false))
-    by_phase (inl working) = at_phase (ap is_visible_at working.0) (ap is_taken_back working.0)
-    by_phase (inr granted) = at_phase (ap is_visible_at granted) (ap is_taken_back granted)
+    by_phase : ((owed_first s owes.0.command ≢ []) × (s.phase ≡ phases.Working)) ⊎ (s.phase ≡ phases.Looking) → MayCall scenario seen (entry_of s.id (s.finished + 1) (events.Look some_wait))
+    by_phase (inl working) = at_phase (ap in_command working.1)
+    by_phase (inr looking) = at_phase (ap in_command looking)
 
--- the look that is owed, at the transaction's start or after a grant
-pub look_enters : (scenario : Scenario) (old new : List Entry) (had has : ℕ → ℕ) (was : Backend) (own : OwnTransaction) (locks : Vec OwnLock Global) → Agrees scenario old was → IsPlayed scenario old → OwesLookNow was
-    → own ≡ begun_own (was.finished + 1) was.running → locks.items ≡ map cleared was.locks.items
-    → Appends old new had has (entry_of was.id (was.finished + 1) (events.Look false)) → Enters scenario old new was (record was { phase = phases.Working; running = Some own; locks = locks })
-look_enters scenario old new had has was own locks agrees played owes is items appends =
-    subst (λ t. Enters scenario old new was (record was { phase = phases.Working; running = Some t; locks = locks })) (sym is) (by_owed owes.1 (owed_phase was agrees.well owes))
+-- the look that is owed, at the transaction's start or in an accept
+pub look_enters : (scenario : Scenario) (old new : List Entry) (had has : ℕ → ℕ) (was : Backend) (some_wait : Bool) (own : OwnTransaction) (phase : Phase) (locks : Roomy OwnLock) → Agrees scenario old was → IsPlayed scenario old → OwesLookNow was
+    → some_wait ≡ is_waiting old was.id → own ≡ begun_own (was.finished + 1) was.running → phase ≡ phase_looked some_wait → locks.items ≡ locks_accepted phase was.locks.items
+    → Appends old new had has (entry_of was.id (was.finished + 1) (events.Look some_wait)) → Enters scenario old new was (record was { phase = phase; running = Some own; locks = locks })
+look_enters scenario old new had has was some_wait own phase locks agrees played owes is own_is phase_is items appends =
+    subst (λ t. Enters scenario old new was (record was { phase = phase; running = Some t; locks = locks })) (sym own_is)
+    (subst (λ p. Enters scenario old new was (record was { phase = p; running = Some (begun_own (was.finished + 1) was.running); locks = locks })) (sym phase_is) (by_owed (owed_phase was agrees.well owes) owes.1))
   where
-    by_owed : (owed_first was owes.0.command ≢ []) ⊎ (was.phase ≡ phases.Granted) → ((was.phase ≡ phases.Working) × (is_some was.answer ≡ false)) ⊎ (was.phase ≡ phases.Granted)
-        → Enters scenario old new was (record was { phase = phases.Working; running = Some (begun_own (was.finished + 1) was.running); locks = locks })
-    by_owed (inl some) (inl working) = first_look scenario old new had has was locks agrees played owes.0 some working.0 working.1 items appends
-    by_owed (inr granted) p = granted_look scenario old new had has was locks agrees played owes.0 granted items appends
-    by_owed (inl some) (inr granted) = granted_look scenario old new had has was locks agrees played owes.0 granted items appends
+    held : locks.items ≡ locks_accepted (phase_looked some_wait) was.locks.items
+    held = items ∙ ap (λ p. locks_accepted p was.locks.items) phase_is
+
+    by_owed : ((was.phase ≡ phases.Working) × (is_some was.answer ≡ false)) ⊎ (was.phase ≡ phases.Looking) → ((owed_first was owes.0.command ≢ []) × (was.phase ≡ phases.Working)) ⊎ (was.phase ≡ phases.Looking)
+        → Enters scenario old new was (accepted_state was (phase_looked some_wait) was.looked locks was.kept)
+    by_owed (inr looking) how = next_look scenario old new had has was some_wait locks agrees played (sym is) owes.0 looking held appends
+    by_owed (inl working) (inl some) = first_look scenario old new had has was some_wait locks agrees played (sym is) owes.0 some.0 working.0 working.1 held appends
+    by_owed (inl working) (inr looking) = next_look scenario old new had has was some_wait locks agrees played (sym is) owes.0 looking held appends
+
+-- where a scan is missing, it is not that of a lookup whose rows are there
+missing_found : (s : Backend) → Well s → is_settled (outcome_of (plan_at s.exec)) ≡ false → scans_missing s ≢ [] → s.read ≡ true → IsFoundLocked s.locks.items (plan_at s.exec) s.given.items
+missing_found s well unsettled some read = by_plan (plan_at s.exec) refl
+  where
+    by_plan : (p : Plan) → plan_at s.exec ≡ p → IsFoundLocked s.locks.items p s.given.items
+    by_plan (Do (Lookup name mode) rest) at = absurd (some (missing_at s (Do (Lookup name mode) rest) (none_missing s well unsettled) at ∙ ap (λ r. if r then [] else scans.RelName name ∷ []) read))
+    by_plan (Do act rest) at = tt
+    by_plan p at = tt
+
+-- the plan of a command that is about to act hasn't come out
+acts_unsettled : (p : Plan) → acts p ≡ true → (is_settled (outcome_of p) ≡ false) × (is_absent p ≡ false)
+acts_unsettled (Do act rest) acting = (refl, refl)
+acts_unsettled p acting = absurd (cc)
+
+-- the look before a scan
+pub scan_look_enters : (scenario : Scenario) (old new : List Entry) (had has : ℕ → ℕ) (was : Backend) (some_wait : Bool) (phase : Phase) → Agrees scenario old was → IsPlayed scenario old → IsWorking was → scans_missing was ≢ [] → was.looked ≡ false
+    → some_wait ≡ is_waiting old was.id → phase ≡ phase_looked some_wait
+    → Appends old new had has (entry_of was.id (was.finished + 1) (events.Look some_wait)) → Enters scenario old new was (record was { looked = true; phase = phase })
+scan_look_enters scenario old new had has was some_wait phase agrees played works some unlooked is phase_is appends =
+    subst (λ p. Enters scenario old new was (record was { looked = true; phase = p })) (sym phase_is)
+    (subst (λ r. Enters scenario old new was (record was { phase = phase_looked some_wait; running = r; looked = true })) (runs_same (was.finished + 1) was.running acting.runs)
+    (looks_enter scenario old new had has was some_wait true was.locks agrees played (sym is) (record {
+      waits = waits_scan scenario old was agrees works.has some;
+      unfetched = λ fetches. absurd (cc (fetches, works.phase));
+      accepts = record {
+        has = works.has;
+        before = ap in_command works.phase;
+        after = looked_in some_wait;
+        opened = none_opened was agrees.well unsettled.0;
+        unanswered = acting.unanswered;
+        unsettled = unsettled.1;
+        found = missing_found was agrees.well unsettled.0 some;
+        first = first_begun was acting.runs agrees.well;
+        transaction = accepts_in was (phase_looked some_wait) true was.locks was.kept (ap in_command works.phase) (looked_in some_wait) acting.runs agrees.well;
+        items = by_test (is_accepting (phase_looked some_wait));
+      };
+      counted = omega (arith, (agrees.tally (ap is_ended works.phase)).0, ap looks_due works.phase, ap one_if unlooked, ap (λ o. option_map_or (λ t. one_if (t.first == was.finished + 1)) o 0) (runs_same (was.finished + 1) was.running acting.runs));
+    }) appends))
+  where
+    acting : IsActing old was agrees.rest works.has.command
+    acting = is_acting scenario old was agrees works (missing_acts was agrees.well some)
+
+    unsettled : (is_settled (outcome_of (plan_at was.exec)) ≡ false) × (is_absent (plan_at was.exec) ≡ false)
+    unsettled = acts_unsettled (plan_at was.exec) (missing_acts was agrees.well some)
+
+    by_test : (t : Bool) → was.locks.items ≡ elim t as (λ x. List OwnLock) [ true ↦ was.locks.items | false ↦ map cleared was.locks.items ]
+    by_test true = refl
+    by_test false = sym (clear_at was agrees.well (ap is_accepting works.phase))

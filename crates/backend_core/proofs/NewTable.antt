@@ -1,14 +1,18 @@
 -- A new table may always be written, but for its name: its rows are new, and nobody else knows its oid.
-use Rattle.std.proofs.Common.{◌≡◌, ◌<◌, ◌+◌, ◌-◌, ◌∙◌, ℕ, negsuc, Bool, true, false, not, None, List, [], ◌∷◌, ◌==◌, ◌&&◌, ◌||◌, refl, sym, ap, subst, map, arith, append-nil}
+use Rattle.std.proofs.Common.{◌≡◌, ◌<◌, ◌+◌, ◌-◌, ◌∙◌, ℕ, negsuc, Bool, true, false, not, None, List, [], ◌∷◌, ◌++◌, ◌==◌, ◌&&◌, ◌||◌, refl, sym, ap, subst, fold, map, cond, arith, append-nil}
 use Rattle.std.specs.List.{AllByRecursion, flat_map, filter_map, list_any, list_all, enumerate_from, range_with_len}
-use Rattle.std.proofs.lemmas.Bool.{ne_eqb, eq-eqb}
+use Rattle.std.proofs.lemmas.Bool.{ne_eqb, eq-eqb, or_left, or_right}
+use Rattle.std.proofs.lemmas.List.Folds.{list_any-append}
 use Rattle.base_types.specs.RowKeys.{key_of, same_key, are_distinct_keys}
 use Rattle.base_types.specs.declared.ids.Oid.{Oid}
 use Rattle.base_types.specs.declared.kind.Kind.TheVariants.{Table}
 use Rattle.base_types.specs.declared.mode.Mode.TheVariants.{AccessExclusive}
+use Rattle.base_types.specs.declared.key.CacheId.TheVariants.{RelName, RelOid, AttName}
+use Rattle.base_types.specs.declared.key.KeyPart.TheVariants as parts
 use Rattle.base_types.specs.declared.row.Row.{Row}
 use Rattle.base_types.specs.declared.row.Row.TheVariants as rows
 use Rattle.base_types.specs.declared.row_key.RowKey.TheVariants as keys
+use Rattle.base_types.specs.declared.scan.Purpose.TheVariants as scans
 use Rattle.base_types.specs.declared.command.NewColumn.{NewColumn}
 use Rattle.event_kinds.specs.declared.entry.Entry.{Entry}
 use Rattle.event_kinds.specs.declared.entry.Item.{Item}
@@ -17,15 +21,22 @@ use Rattle.row_visibility.specs.declared.version.Stamp.{Stamp}
 use Rattle.row_visibility.specs.declared.version.Version.{Version}
 use Rattle.lock_modes.specs.Grants.{holds}
 use Rattle.lock_modes.specs.declared.own_lock.OwnLock.{OwnLock}
+use Rattle.inval_messages.specs.declared.message.Message.{Message}
+use Rattle.inval_messages.specs.declared.message.Message.TheVariants.{Rel}
+use Rattle.inval_messages.specs.Messages.{message_for, same_message, covers}
+use Rattle.inval_messages.specs.Lists.{once_more}
+use Rattle.inval_messages.proofs.Covers.{same_message-itself}
 use Rattle.ddl_effect.specs.declared.draft.Draft.{Draft}
 use Rattle.ddl_effect.specs.Commands.{new_table, new_column}
 use Rattle.ddl_effect.specs.Drawing.{drawn_change}
 use Rattle.history_model.specs.Changes.{item_of}
+use Rattle.history_model.specs.Covered.{scans_of, is_covered}
 use Rattle.history_model.specs.Drawn.{drawn_by, made_by, next_oid}
 use Rattle.history_model.specs.Names.{new_names}
-use Rattle.history_model.specs.Orderly.{main_rel, is_fresh, keeps_relation}
-use Rattle.history_model.specs.Versions.{versions_of, ended_key}
-use Rattle.history_model.specs.Writes.{changed_key, has_row, has_written, is_guarded, keeps_kind}
+use Rattle.history_model.specs.Orderly.{main_rel, is_fresh, keeps_relation, covers_named}
+use Rattle.history_model.specs.Sent.{cats_by, rels_by, messages_written}
+use Rattle.history_model.specs.Versions.{versions_of, ended_key, old_row}
+use Rattle.history_model.specs.Writes.{changed_key, has_row, has_written, is_guarded, keeps_kind, rows_named}
 use Rattle.history_model.specs.Held.{held_of}
 use Rattle.seg_calls.specs.Calls.{MayWrite, items_drawn}
 use Rattle.cacheless.specs.Facts.{Facts}
@@ -123,6 +134,67 @@ columns_fresh : (before : List Entry) (rel : Oid) (numbered : List (ℕ × NewCo
 columns_fresh before rel [] drawn = refl
 columns_fresh before rel ((num, column) ∷ numbered) drawn = λ i. elim (no_column rel num (versions_of before) drawn i) [ true ↦ false | false ↦ true ] && columns_fresh before rel numbered drawn i
 
+-- a message that is there stays with more messages, each of them once
+once_keeps : (p : Message → Bool) (old messages : List Message) → list_any p old ≡ true → list_any p (fold once_more old messages) ≡ true
+once_keeps p old [] has = has
+once_keeps p old (m ∷ messages) has = once_keeps p (once_more old m) messages (by_test (list_any (same_message m) old))
+  where
+    by_test : (t : Bool) → list_any p (cond t old (old ++ m ∷ [])) ≡ true
+    by_test true = has
+    by_test false = list_any-append p old (m ∷ []) ∙ or_left (list_any p old) (list_any p (m ∷ [])) has
+
+first_has : (p : Message → Bool) (m : Message) (messages : List Message) → p m ≡ true → list_any p (m ∷ messages) ≡ true
+first_has p m messages is = or_left (p m) (list_any p messages) is
+
+-- each column's row is covered by its own message, and its descriptor by the relation's
+columns_covered : (before : List Entry) (b : ℕ) (rel : Oid) (messages : List Message) (numbered : List (ℕ × NewColumn))
+    → ((p : Message → Bool) → list_any p (flat_map (cats_by before b) (map (column_item rel) numbered)) ≡ true → list_any p messages ≡ true) → list_any (covers (scans.Attribute rel)) messages ≡ true
+    → list_all (is_covered messages) (flat_map scans_of (flat_map (λ item. rows_named item (old_row before b item)) (map (column_item rel) numbered))) ≡ true
+columns_covered before b rel messages [] has relation = refl
+columns_covered before b rel messages ((num, column) ∷ numbered) has relation =
+    λ i. has (covers (scans.AttName rel column.name)) (first_has (covers (scans.AttName rel column.name)) own later (same_message-itself own)) i
+    && (has (covers (scans.AttList rel)) (first_has (covers (scans.AttList rel)) own later refl) i && (relation i && columns_covered before b rel messages numbered (λ p is. has p (or_right (p own) (list_any p later) is)) relation i))
+  where
+    own : Message
+    own = message_for AttName (parts.Oid rel ∷ parts.Name column.name ∷ [])
+
+    later : List Message
+    later = flat_map (cats_by before b) (map (column_item rel) numbered)
+
+-- and so each row of a table
+table_covered : (before : List Entry) (b : ℕ) (rel : Oid) (name : List ℕ) (numbered : List (ℕ × NewColumn)) → covers_named before b (table_items rel name numbered) ≡ true
+table_covered before b rel name numbered =
+    λ i. in_cats (covers (scans.RelName name)) (first_has (covers (scans.RelName name)) by_name (by_oid ∷ later) (same_message-itself by_name)) i
+    && (in_cats (covers (scans.RelOid rel)) (or_right (covers (scans.RelOid rel) by_name) (list_any (covers (scans.RelOid rel)) (by_oid ∷ later)) (first_has (covers (scans.RelOid rel)) by_oid later (same_message-itself by_oid))) i
+    && (relation i && columns_covered before b rel (messages_written before b items) numbered (λ p is. in_cats p (or_right (p by_name) (list_any p (by_oid ∷ later)) (or_right (p by_oid) (list_any p later) is))) relation i))
+  where
+    items : List Item
+    items = table_items rel name numbered
+
+    by_name : Message
+    by_name = message_for RelName (parts.Name name ∷ [])
+
+    by_oid : Message
+    by_oid = message_for RelOid (parts.Oid rel ∷ [])
+
+    later : List Message
+    later = flat_map (cats_by before b) (map (column_item rel) numbered)
+
+    cats : List Message
+    cats = flat_map (cats_by before b) items
+
+    rels : List Message
+    rels = fold once_more [] (flat_map (rels_by before b) items)
+
+    in_cats : (p : Message → Bool) → list_any p cats ≡ true → list_any p (cats ++ rels) ≡ true
+    in_cats p is = list_any-append p cats rels ∙ or_left (list_any p cats) (list_any p rels) is
+
+    of_rel : (p : Message → Bool) → p (Rel rel) ≡ true → list_any p rels ≡ true
+    of_rel p is = once_keeps p (Rel rel ∷ []) (flat_map (rels_by before b) (map (column_item rel) numbered)) (or_left (p (Rel rel)) false is)
+
+    relation : list_any (covers (scans.Class rel)) (cats ++ rels) ≡ true
+    relation = list_any-append (covers (scans.Class rel)) cats rels ∙ or_right (list_any (covers (scans.Class rel)) cats) (list_any (covers (scans.Class rel)) rels) (of_rel (covers (scans.Class rel)) (same_message-itself (Rel rel)))
+
 -- what a write asks of its items, but for their names
 record MayAdd (before : List Entry) (b next count : ℕ) (items : List Item) : Type 0 where
   oids : flat_map drawn_by items ≡ range_with_len next count
@@ -132,6 +204,7 @@ record MayAdd (before : List Entry) (b next count : ℕ) (items : List Item) : T
   guarded : list_all (is_guarded before b (flat_map made_by items)) items ≡ true
   fresh : list_all (is_fresh before) items ≡ true
   keeps : list_all (keeps_relation before b) items ≡ true
+  named : covers_named before b items ≡ true
 
 may_add : (before : List Entry) (b : ℕ) (rel : Oid) (name : List ℕ) (columns : List NewColumn) → AreDrawn rel.0 (versions_of before) → MayAdd before b rel.0 1 (table_items rel name (enumerate_from 1 columns))
 may_add before b rel name columns drawn = record {
@@ -142,6 +215,7 @@ may_add before b rel name columns drawn = record {
   guarded = ap (λ l. list_all (is_guarded before b (rel ∷ l)) (table_items rel name numbered)) (columns_draw rel numbered).1 ∙ (λ i. (guards rel (holds (held_of before) b rel AccessExclusive) i && true) && columns_guarded before b rel numbered i);
   fresh = λ i. elim (no_table rel (versions_of before) drawn i) [ true ↦ false | false ↦ true ] && columns_fresh before rel numbered drawn i;
   keeps = (columns_keep before b rel numbered).1;
+  named = table_covered before b rel name numbered;
 }
   where
     numbered : List (ℕ × NewColumn)
@@ -156,7 +230,7 @@ new_table_may_write history b c draft tables table only = subst (MayWrite histor
   kinds = may.kinds;
   only = only;
   guarded = may.guarded;
-  orderly = record { fresh = may.fresh; keeps = may.keeps };
+  orderly = record { fresh = may.fresh; keeps = may.keeps; named = may.named };
 })
   where
     may : MayAdd history b (next_oid history) 1 (items_drawn history (new_table table.name table.columns))

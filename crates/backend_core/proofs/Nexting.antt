@@ -1,21 +1,24 @@
 -- What a backend does next.
-use Rattle.std.proofs.Common.{◌≡◌, ◌∙◌, ℕ, Bool, true, false, not, ◌&&◌, ◌||◌, Option, Some, None, List, [], ◌∷◌, refl, sym, ap, subst, filter, map, is_none, is_some, slice_get, ◌⊎◌, inl, inr, arith}
+use Rattle.std.proofs.Common.{◌≡◌, ◌≢◌, ◌≤◌, ◌∙◌, ℕ, Bool, true, false, not, ◌&&◌, ◌==◌, Option, Some, None, List, [], ◌∷◌, ◌++◌, refl, sym, ap, subst, length, take, filter, if◌then◌else◌, is_none, is_some, slice_get, ◌⊎◌, inl, inr, arith}
 use Rattle.std.specs.Prelude.{nat_le}
-use Rattle.std.specs.List.{find, list_any}
-use Rattle.std.proofs.lemmas.Bool.{le-leb}
+use Rattle.std.specs.List.{find}
+use Rattle.std.proofs.lemmas.Bool.{le-leb, eqb-true}
 use Rattle.std.specs.Option.{option_map_or}
 use Rattle.base_types.specs.Scans.{build_scans}
+use Rattle.base_types.specs.declared.scan.Purpose.TheVariants as scans
 use Rattle.ddl_effect.specs.Plans.{Plan, Do, Lookup, Open, Write}
 use Rattle.ddl_effect.specs.Stages.{plan_at, want_of}
 use Rattle.ddl_effect.specs.declared.want.Want.TheVariants as wants
-use Rattle.history_model.specs.Sent.{has_write_from}
+use Rattle.inval_messages.specs.Lists.{Written, has_write_from, sent_in, unsent_after}
+use Rattle.history_model.proofs.Every.{any-weaker}
 use Rattle.cacheless.specs.Ends.{Ends, Commits, TakesBack}
 use Rattle.cacheless.specs.Owed.{OwesLook}
-use Rattle.backend_core.specs.Types.{Oid, Mode, Kind, Row, Purpose, Command, Draft, Xid, OwnTransaction, Backend}
+use Rattle.cacheless.specs.Session.{Badly, outcome_of}
+use Rattle.backend_core.specs.Types.{Oid, Mode, Kind, Row, Purpose, Message, Command, Draft, Xid, OwnTransaction, Backend}
 use Rattle.backend_core.specs.declared.phase.Phase.TheVariants as phases
-use Rattle.backend_core.specs.State.{is_kept, begins_in, end_at, has_write_since, written_in, unlocked_of, HasCommand}
+use Rattle.backend_core.specs.State.{is_kept, missing, builds_missing, act_missing, scans_missing, begins_in, end_at, has_write_since, lists_at, unsent_at, published_at, unlocked_of, HasCommand}
 use Rattle.backend_core.specs.Agrees.{Well, EndFits, CommitFits}
-use Rattle.backend_core.specs.Steps.{OwesLookNow, IsWorking, NextLookUp, NextBuild, NextLock, NextFind, NextOpen, NextWrite, NextCommit, NextRelease, WithoutWrite, NextFinish}
+use Rattle.backend_core.specs.Steps.{OwesLookNow, IsWorking, NextLookUp, NextBuild, NextLock, NextFind, NextOpen, NextWrite, NextCommit, NextPublish, NextRelease, AfterCommit, WithoutWrite, NextFinish}
 
 -- the plan that wants a lookup
 wants_lookup : (p : Plan) (name : List ℕ) (mode : Mode) → want_of p ≡ wants.Lookup name mode → (rest : List Row → Plan) × (p ≡ Do (Lookup name mode) rest)
@@ -72,23 +75,20 @@ the_command s has command at = let both : Some has.command ≡ Some command = sy
 pub working : (s : Backend) (command : Command) → slice_get s.commands s.finished ≡ Some command → s.phase ≡ phases.Working → (begins_in s.blocks s.phase command && is_none s.running) ≡ false → IsWorking s
 working s command at phase free = record { has = record { command = command; at = at }; phase = phase; free = ap (λ t. elim t [ true ↦ OwesLook ∷ [] | false ↦ [] ]) free }
 
-pub owes_look : (s : Backend) (command : Command) → slice_get s.commands s.finished ≡ Some command → (begins_in s.blocks s.phase command && is_none s.running) ≡ true → OwesLookNow s
-owes_look s command at owes = (record { command = command; at = at }, inl (λ none. absurd (let both : OwesLook ∷ [] ≡ [] = sym (ap (λ t. elim t [ true ↦ OwesLook ∷ [] | false ↦ [] ]) owes) ∙ none in cc)))
+pub owes_look : (s : Backend) (command : Command) → slice_get s.commands s.finished ≡ Some command → s.phase ≡ phases.Working → (begins_in s.blocks s.phase command && is_none s.running) ≡ true → OwesLookNow s
+owes_look s command at phase owes = (record { command = command; at = at }, inl (λ none. absurd (let both : OwesLook ∷ [] ≡ [] = sym (ap (λ t. elim t [ true ↦ OwesLook ∷ [] | false ↦ [] ]) owes) ∙ none in cc), phase))
 
--- writes since a command, by the commands alone
-pub writes_since : (from : ℕ) (commands : List ℕ) → list_any (λ c. nat_le from c) commands ≡ has_write_from from (map written_in commands)
-writes_since from [] = refl
-writes_since from (c ∷ commands) = ap (λ t. nat_le from c || t) (writes_since from commands)
+take_none : (messages : List Message) → (length (take 64 messages) == 0) ≡ true → messages ≡ []
+take_none [] none = refl
+take_none (m ∷ messages) none = absurd (omega (arith, eqb-true (length (take 64 (m ∷ messages))) 0 none))
 
-no_command : (s : Backend) → HasCommand s → slice_get s.commands s.finished ≡ None → ⊥
-no_command s has none = let both : Some has.command ≡ None = sym has.at ∙ none in absurd (cc)
+first_running : (own : Option OwnTransaction) (t : OwnTransaction) → own ≡ Some t → option_map_or (λ o. Some o.first) own None ≡ Some t.first
+first_running own t is = ap (λ o. option_map_or (λ (x : OwnTransaction). Some x.first) o None) is
 
--- after the last command nothing but a taking back is on its way
-pub not_granted : (s : Backend) → Well s → slice_get s.commands s.finished ≡ None → s.phase ≡ phases.Granted → ⊥
-not_granted s well none is = no_command s (subst (EndFits s) is well.end) none
-
-pub not_visible : (s : Backend) → Well s → slice_get s.commands s.finished ≡ None → s.phase ≡ phases.Visible → ⊥
-not_visible s well none is = let end : CommitFits s = subst (EndFits s) is well.end in no_command s end.has none
+-- where nothing is left to be published, the release comes next
+pub releases_shown : (s : Backend) (published : ℕ) (next : List Message) (own : OwnTransaction) → s.phase ≡ phases.Visible published → next ≡ take 64 (unsent_after published (lists_at s)) → (length next == 0) ≡ true → s.running ≡ Some own → NextRelease s own.first
+releases_shown s published next own is are none runs =
+    AfterCommit published is (ap (λ p. unsent_after (published_at p) (lists_at s)) is ∙ take_none (unsent_after published (lists_at s)) (ap (λ l. length l == 0) (sym are) ∙ none)) (first_running s.running own runs)
 
 pub finishes_now : (s : Backend) (command : Command) → slice_get s.commands s.finished ≡ Some command → IsWorking s → is_some s.answer ≡ true → end_at s command ≡ Ends → NextFinish s
 finishes_now s command at work answered end = record {
@@ -101,13 +101,12 @@ pub releases_now : (s : Backend) (command : Command) (from : ℕ) → slice_get 
     → (end_at s command ≡ Commits from) ⊎ (end_at s command ≡ TakesBack from) → NextRelease s from
 releases_now s command from at work answered none end = WithoutWrite work answered (subst (λ c. (end_at s c ≡ Commits from) ⊎ (end_at s c ≡ TakesBack from)) (sym (the_command s work.has command at)) end) none
 
--- a write since a command is a write
-some_write : (from : ℕ) (commands : List ℕ) → has_write_from from (map written_in commands) ≡ true → has_write_from 0 (map written_in commands) ≡ true
-some_write from [] is = is
-some_write from (c ∷ commands) is = ap (λ t. t || has_write_from 0 (map written_in commands)) (le-leb 0 c (omega arith))
+-- a write of some command is one of a command from 0 on
+pub write_from_first : (from : ℕ) (lists : List Written) → has_write_from from lists ≡ true → has_write_from 0 lists ≡ true
+write_from_first from lists is = any-weaker (λ w. nat_le from w.command) (λ w. nat_le 0 w.command) (λ w at. le-leb 0 w.command (omega arith)) lists is
 
 has_xid : (s : Backend) (from : ℕ) → Well s → has_write_since from s ≡ true → option_map_or (λ t. is_some t.xid) s.running false ≡ true
-has_xid s from well written = well.written (some_write from s.writes.items written)
+has_xid s from well written = well.written (write_from_first from (lists_at s) written)
 
 -- a transaction that has written has its Xid
 pub not_without_xid : (s : Backend) (from : ℕ) (own : OwnTransaction) → Well s → has_write_since from s ≡ true → s.running ≡ Some own → own.xid ≡ None → ⊥

@@ -1,22 +1,22 @@
 -- What comes next says whether a backend goes on without an entry.
-use Rattle.std.proofs.Common.{◌≡◌, ◌≢◌, ◌∙◌, ◌⊎◌, inl, inr, ℕ, Bool, true, false, not, ◌&&◌, ◌||◌, Option, Some, None, List, [], ◌∷◌, ◌++◌, if◌then◌else◌, refl, ap, is_none, is_some, slice_get}
+use Rattle.std.proofs.Common.{◌≡◌, ◌≢◌, ◌∙◌, ◌⊎◌, inl, inr, ℕ, Bool, true, false, not, ◌&&◌, ◌||◌, Option, Some, None, List, [], ◌∷◌, ◌++◌, if◌then◌else◌, refl, sym, ap, is_none, is_some, slice_get}
 use Rattle.std.specs.Option.{option_map_or}
 use Rattle.base_types.specs.Scans.{build_scans}
 use Rattle.base_types.specs.declared.scan.Purpose.TheVariants as scans
 use Rattle.ddl_effect.specs.Plans.{Plan, Act, Done, Fails, Absent, NotBuilt, Do, Lookup, Open, Column, Read, Lock, Write}
-use Rattle.ddl_effect.specs.Blocks.{ends_block, no_block, refused_by, Block, Outside, Inside, Failed}
 use Rattle.ddl_effect.specs.Stages.{plan_at}
 use Rattle.history_model.specs.Writes.{is_empty}
 use Rattle.cacheless.specs.Ends.{End, Ends, Commits, TakesBack}
-use Rattle.cacheless.specs.Owed.{Owes, OwesLook}
+use Rattle.cacheless.specs.Owed.{Owes}
 use Rattle.cacheless.specs.Session.{Badly, outcome_of, is_settled}
-use Rattle.backend_core.specs.Types.{Oid, Mode, Row, Purpose, Command, Phase, Next, Backend}
+use Rattle.backend_core.specs.Types.{Oid, Mode, Row, Purpose, Command, Next, Backend}
 use Rattle.backend_core.specs.declared.next.Next.TheVariants as nexts
 use Rattle.backend_core.specs.declared.phase.Phase.TheVariants as phases
-use Rattle.backend_core.specs.State.{begins_in, owed_first, missing, builds_missing, act_missing, scans_missing, is_out, end_at, unlocked_of, HasCommand}
+use Rattle.backend_core.specs.State.{owed_first, missing, builds_missing, act_missing, scans_missing, is_out, end_at, unlocked_of, HasCommand}
 use Rattle.backend_core.specs.Agrees.{Well}
 use Rattle.backend_core.specs.Steps.{OwesLookNow, IsWorking, NextTakeBack, NextRelease, AfterCommit, AfterTakingBack, WithoutWrite, AtTheEnd, NextFinish, IsNextOf, makes_entry}
 use Rattle.backend_core.specs.Passing.{is_ends, is_done_here, passes_on, passes_in, is_silent}
+use Rattle.backend_core.proofs.Carry.{none_missing, none_missing_well}
 
 -- in a command
 in_command : (s : Backend) (has : HasCommand s) (t : Bool) → passes_in s has.command s.phase ≡ t → is_silent s ≡ t
@@ -53,58 +53,47 @@ by_command s never = by_option (slice_get s.commands s.finished)
     by_option (Some command) = never command
 
 -- a look at the start of a transaction
-first_look : (s : Backend) (command : Command) → owed_first s command ≢ [] → (phase : Phase) → s.phase ≡ phase → passes_in s command phase ≡ false
-first_look s command owed phases.Working at = by_list (owed_first s command) owed
+first_look : (s : Backend) (command : Command) → owed_first s command ≢ [] → s.phase ≡ phases.Working → passes_in s command s.phase ≡ false
+first_look s command owed at = ap (passes_in s command) at ∙ by_list (owed_first s command) owed
   where
     by_list : (l : List Owes) → l ≢ [] → elim (is_empty l) as (λ x. Bool) [ true ↦ passes_on s command | false ↦ false ] ≡ false
     by_list [] some = absurd (some refl)
     by_list (x ∷ xs) some = refl
-first_look s command owed phases.Ended at = absurd (owed (ap (λ t. elim t as (λ x. List Owes) [ true ↦ OwesLook ∷ [] | false ↦ [] ]) (ap (λ p. begins_in s.blocks p command && is_none s.running) at ∙ ap (λ t. t && is_none s.running) (ended_begins s.blocks.block))))
-  where
-    and_no : (t u : Bool) → (t && false && u) ≡ false
-    and_no true u = refl
-    and_no false u = refl
-
-    ended_begins : (b : Block) → elim b as (λ x. Bool) [ Outside ↦ not (ends_block command) && false && is_none (refused_by no_block command) | block ↦ false ] ≡ false
-    ended_begins Outside = and_no (not (ends_block command)) (is_none (refused_by no_block command))
-    ended_begins Inside = refl
-    ended_begins Failed = refl
-first_look s command owed phase at = refl
 
 look_now : (s : Backend) → OwesLookNow s → is_silent s ≡ false
-look_now s (has, inl owed) = in_command s has false (first_look s has.command owed s.phase refl)
-look_now s (has, inr granted) = in_command s has false (ap (passes_in s has.command) granted)
+look_now s (has, inl (owed, phase)) = in_command s has false (first_look s has.command owed phase)
+look_now s (has, inr looking) = in_command s has false (ap (passes_in s has.command) looking)
 
 -- a scan is missing
-missing_now : (s : Backend) → Well s → (p : Plan) → plan_at s.exec ≡ p → scans_missing s ≢ [] → (is_settled (outcome_of p) ≡ false) × (is_done_here s p ≡ false)
-missing_now s well p at some = by_plan p (λ none. some (ap (λ q. elim (outcome_of q) as (λ x. List Purpose) [ Badly ↦ [] | other ↦ builds_missing s.kept s.opened ++ act_missing s.kept s.read q ]) at ∙ none))
+missing_now : (s : Backend) → Well s → scans_missing s ≢ [] → (is_settled (outcome_of (plan_at s.exec)) ≡ false) × (is_done_here s (plan_at s.exec) ≡ false)
+missing_now s well some = by_plan (plan_at s.exec) refl some
   where
-    builds : (l : List Purpose) → builds_missing s.kept s.opened ++ l ≡ l
-    builds l = ap (λ b. b ++ l) well.builds
+    act : (p : Plan) → plan_at s.exec ≡ p → is_settled (outcome_of p) ≡ false → (l : List Purpose) → (builds_missing s.kept s.opened ++ l ≡ [] → ⊥) → l ≡ [] → ⊥
+    act p at inside l never none = never (ap (λ b. b ++ l) (none_missing s well (ap (λ q. is_settled (outcome_of q)) at ∙ inside)) ∙ none)
 
-    by_read : (t u : Bool) (scan : Purpose) → (builds_missing s.kept s.opened ++ (if t then [] else scan ∷ []) ≡ [] → ⊥) → (t && u) ≡ false
-    by_read true u scan never = absurd (never (builds []))
+    by_read : (t u : Bool) (scan : Purpose) → ((if t then [] else scan ∷ []) ≡ [] → ⊥) → (t && u) ≡ false
+    by_read true u scan never = absurd (never refl)
     by_read false u scan never = refl
 
-    by_list : (l : List Purpose) → (builds_missing s.kept s.opened ++ l ≡ [] → ⊥) → is_empty l ≡ false
-    by_list [] never = absurd (never (builds []))
+    by_list : (l : List Purpose) → (l ≡ [] → ⊥) → is_empty l ≡ false
+    by_list [] never = absurd (never refl)
     by_list (x ∷ xs) never = refl
 
-    by_plan : (q : Plan) → (elim (outcome_of q) as (λ x. List Purpose) [ Badly ↦ [] | other ↦ builds_missing s.kept s.opened ++ act_missing s.kept s.read q ] ≡ [] → ⊥) → (is_settled (outcome_of q) ≡ false) × (is_done_here s q ≡ false)
-    by_plan Done never = absurd (never (builds []))
-    by_plan (Fails error) never = absurd (never refl)
-    by_plan (Absent name) never = absurd (never refl)
-    by_plan NotBuilt never = (refl, refl)
-    by_plan (Do (Lookup name mode) rest) never = (refl, by_read s.read _ (scans.RelName name) never)
-    by_plan (Do (Open rel kind) rest) never = (refl, by_list (missing s.kept (build_scans kind rel)) never)
-    by_plan (Do (Column rel name) rest) never = (refl, refl)
-    by_plan (Do (Read scan) rest) never = (refl, refl)
-    by_plan (Do (Lock rel mode) rest) never = (refl, refl)
-    by_plan (Do (Write draft) rest) never = (refl, refl)
+    by_plan : (q : Plan) → plan_at s.exec ≡ q → (elim (outcome_of q) as (λ x. List Purpose) [ Badly ↦ [] | other ↦ builds_missing s.kept s.opened ++ act_missing s.kept s.read q ] ≡ [] → ⊥) → (is_settled (outcome_of q) ≡ false) × (is_done_here s q ≡ false)
+    by_plan Done at never = absurd (never (ap (λ b. b ++ []) (none_missing_well s well (ap outcome_of at))))
+    by_plan (Fails error) at never = absurd (never refl)
+    by_plan (Absent name) at never = absurd (never refl)
+    by_plan NotBuilt at never = (refl, refl)
+    by_plan (Do (Lookup name mode) rest) at never = (refl, by_read s.read _ (scans.RelName name) (act (Do (Lookup name mode) rest) at refl _ never))
+    by_plan (Do (Open rel kind) rest) at never = (refl, by_list (missing s.kept (build_scans kind rel)) (act (Do (Open rel kind) rest) at refl _ never))
+    by_plan (Do (Column rel name) rest) at never = (refl, refl)
+    by_plan (Do (Read scan) rest) at never = (refl, refl)
+    by_plan (Do (Lock rel mode) rest) at never = (refl, refl)
+    by_plan (Do (Write draft) rest) at never = (refl, refl)
 
 look_before_scan : (s : Backend) → Well s → IsWorking s → scans_missing s ≢ [] → is_silent s ≡ false
 look_before_scan s well work some =
-    let here = missing_now s well (plan_at s.exec) refl some in
+    let here = missing_now s well some in
     in_work s work false (ap (λ o. elim o as (λ x. Bool) [ true ↦ is_none s.answer || is_ends (end_at s work.has.command) | false ↦ is_done_here s (plan_at s.exec) ]) here.0 ∙ here.1)
 
 -- an end with an entry
@@ -122,7 +111,7 @@ take_back_now s from well next = by_option (slice_get s.commands s.finished) ref
         ends_later s well (record { has = has; phase = next.phase; free = end.0 }) end.1 (TakesBack from) end.2 refl
 
 release_now : (s : Backend) (from : ℕ) → Well s → NextRelease s from → is_silent s ≡ false
-release_now s from well (AfterCommit phase runs) = by_command s (λ command. ap (passes_in s command) phase)
+release_now s from well (AfterCommit published phase sent runs) = by_command s (λ command. ap (passes_in s command) phase)
 release_now s from well (AfterTakingBack phase) = by_command s (λ command. ap (passes_in s command) phase)
 release_now s from well (WithoutWrite work answered (inl end) none) = ends_later s well work answered (Commits from) end refl
 release_now s from well (WithoutWrite work answered (inr end) none) = ends_later s well work answered (TakesBack from) end refl
@@ -154,11 +143,13 @@ read_lock s mode rel unlocked = ap (λ o. s.read && is_none o) unlocked ∙ and_
 pub silent_is : (s : Backend) → Well s → (next : Next) → IsNextOf s next → is_silent s ≡ not (makes_entry next)
 silent_is s well nexts.Look is = look_now s is
 silent_is s well nexts.LookBeforeScan (work, some, unlooked) = look_before_scan s well work some
+silent_is s well nexts.Fetch is = by_command s (λ command. ap (passes_in s command) is)
 silent_is s well (nexts.LookUp name) (work, next, looked) = in_act s work false (Lookup name next.mode) next.rest next.at (ap (λ t. t && is_none (unlocked_of s.locks.items next.mode s.given.items)) next.unread)
 silent_is s well (nexts.Build scan) (work, next, looked) = in_act s work false (Open next.rel next.kind) next.rest next.at (ap is_empty next.first)
 silent_is s well (nexts.Lock rel mode) (work, next) = in_act s work false (Lookup next.name mode) next.rest next.at (read_lock s mode rel next.unlocked)
 silent_is s well nexts.Write (work, next) = in_act s work false (Write next.draft) next.rest next.at refl
 silent_is s well (nexts.Commit xid) next = ends_later s well next.working next.answered (Commits next.first) next.end refl
+silent_is s well nexts.Publish next = by_command s (λ command. ap (passes_in s command) next.phase)
 silent_is s well (nexts.TakeBack from) next = take_back_now s from well next
 silent_is s well (nexts.Release from) next = release_now s from well next
 silent_is s well nexts.Leave next = past_all s next.0

@@ -3,16 +3,17 @@ use Rattle.std.proofs.Common.{◌≡◌, ◌≢◌, ◌≤◌, ◌+◌, ◌∙�
 use Rattle.std.specs.Prelude.{nat_le, nat_lt}
 use Rattle.std.specs.Option.{option_map, option_map_or}
 use Rattle.std.proofs.lemmas.Bool.{eq-eqb, le-leb, both_ways, false_from_ne_true}
-use Rattle.std.specs.declared.vec.Vec.{Vec}
-use Rattle.std.specs.declared.alloc.Global.{Global}
 use Rattle.event_kinds.specs.declared.entry.Event.TheVariants as events
 use Rattle.lock_modes.specs.Own.{cleared}
+use Rattle.lock_modes.specs.Rooms.{Roomy}
+use Rattle.inval_messages.specs.Lists.{Written, has_write_from, unsent_after}
+use Rattle.command_lists.specs.Lists.{Held, no_lists, all_lists}
+use Rattle.ddl_effect.specs.Stages.{plan_at}
 use Rattle.history_model.specs.Drawn.{next_oid}
 use Rattle.history_model.specs.Legal.{FollowsVisible, FollowsGone, MayRelease}
 use Rattle.history_model.specs.Lives.{FollowsLife}
-use Rattle.history_model.specs.Sent.{Written, has_write_from, ends_transaction, unsent_in}
+use Rattle.history_model.specs.Sent.{ends_transaction, left_in, unsent_in}
 use Rattle.history_model.specs.Transactions.{begun, after_release, is_visible, running_transaction_of}
-use Rattle.history_model.proofs.NoMessages.{left_none, unsent_none}
 use Rattle.seg_calls.specs.Calls.{entry_of, took_back, MayCall, Appends}
 use Rattle.cacheless.specs.Facts.{Facts, facts_of}
 use Rattle.cacheless.specs.Owed.{Owes, owed_after}
@@ -21,20 +22,23 @@ use Rattle.cacheless.specs.Plays.{MayPlayIn, IsEnd}
 use Rattle.cacheless.specs.Sessions.{placed_at}
 use Rattle.backend_core.specs.Types.{Scenario, Entry, Event, OwnLock, OwnTransaction, Phase, Backend}
 use Rattle.backend_core.specs.declared.phase.Phase.TheVariants as phases
-use Rattle.backend_core.specs.State.{owed_at, granted, is_visible_at, is_taken_back, is_ended, is_out, running_in, running_at, lists_at, written_in, end_of_running, end_at, has_write_since, owed_first, session_at, HasCommand}
+use Rattle.backend_core.specs.State.{owed_at, is_accepting, published_at, is_visible_at, is_taken_back, is_ended, is_out, running_in, running_at, lists_at, unsent_at, end_of_running, end_at, has_write_since, owed_first, session_at, HasCommand}
 use Rattle.backend_core.specs.Agrees.{IsPlayed, CommitFits, TakeBackFits, EndFits, Well, Agrees}
 use Rattle.backend_core.specs.Steps.{NextRelease, AfterCommit, AfterTakingBack, WithoutWrite, AtTheEnd, Enters}
-use Rattle.backend_core.proofs.Stepping.{own_enters}
+use Rattle.backend_core.proofs.Stepping.{facts_after, own_enters}
 use Rattle.backend_core.proofs.Carry.{number_short, clear_at}
 use Rattle.backend_core.proofs.Ending.{owed_by_end, end_from, first_begun, is_end, end_of_all-same, has_or_none, first_of_end, over_after, waits_to_end, waits_after_all}
-use Rattle.backend_core.proofs.EndEntries.{IsAnswered, out_at_end, session_clear, end_follows, free_running, free_ended, filter-cleared}
+use Rattle.backend_core.proofs.EndEntries.{IsAnswered, visible_own, unsent_own, runs_own, answered_in, rows_out, out_at_end, session_clear, end_follows, opens_on, free_running, free_ended, filter-cleared}
+use Rattle.backend_core.proofs.Unsent.{left_none}
 
--- a commit that is visible, with its writes
+-- a commit that is visible, with its writes, all of whose messages are published
 pub record IsShown (s : Backend) (from : ℕ) : Type 0 where
   pub has : HasCommand s
   pub end : end_at s has.command ≡ Commits from
   pub runs : option_map_or (λ t. Some t.first) s.running None ≡ Some from
-  pub visible : is_visible_at s.phase ≡ true
+  pub published : ℕ
+  pub phase : s.phase ≡ phases.Visible published
+  pub unsent : unsent_after published (lists_at s) ≡ []
   pub written : has_write_since from s ≡ true
 
 -- or nothing is written
@@ -45,7 +49,7 @@ pub record IsBare (s : Backend) (from : ℕ) : Type 0 where
 -- all that a release rests on
 pub record Releases (s : Backend) (from : ℕ) : Type 0 where
   pub going : is_ended s.phase ≡ false
-  pub outside : s.phase ≢ phases.Granted
+  pub quiet : is_accepting s.phase ≡ false
   pub free_after : owed_at s.phase ≡ []
   pub answered : IsAnswered s
   pub first : first_begun s ≡ from
@@ -58,13 +62,6 @@ pub record Releases (s : Backend) (from : ℕ) : Type 0 where
 same_command : (s : Backend) (a b : HasCommand s) → a.command ≡ b.command
 same_command s a b = cc (a.at, b.at)
 
-answered_in : (s : Backend) → Well s → s.phase ≢ phases.Working → s.phase ≢ phases.Granted → IsAnswered s
-answered_in s well working granted has = by_answer (is_some s.answer) refl
-  where
-    by_answer : (t : Bool) → is_some s.answer ≡ t → t ≡ true
-    by_answer true is = refl
-    by_answer false is = absurd (elim (well.answered has is) [ inl at ↦ working at | inr at ↦ granted at ])
-
 first_is : (own : Option OwnTransaction) (n from : ℕ) → option_map_or (λ t. Some t.first) own None ≡ Some from → option_map_or (λ t. t.first) own n ≡ from
 first_is None n from is = absurd (cc)
 first_is (Some t) n from is = cc
@@ -73,23 +70,19 @@ first_of_all : (own : Option OwnTransaction) (n from : ℕ) → end_of_running o
 first_of_all None n from is = absurd (cc)
 first_of_all (Some t) n from is = cc
 
-runs_first : (own : Option OwnTransaction) (from : ℕ) → option_map_or (λ t. Some t.first) own None ≡ Some from → is_none own ≡ false
-runs_first None from is = absurd (cc)
-runs_first (Some t) from is = refl
-
 -- in each of the four cases
 pub releases : (s : Backend) (from : ℕ) → Well s → NextRelease s from → Releases s from
-releases s from well (AfterCommit phase is) = record {
+releases s from well (AfterCommit published phase sent is) = record {
   going = ap is_ended phase;
-  outside = λ at. absurd (cc (at, phase));
+  quiet = ap is_accepting phase;
   free_after = ap owed_at phase;
-  answered = answered_in s well (λ at. absurd (cc (at, phase))) (λ at. absurd (cc (at, phase)));
+  answered = answered_in s well (λ at. absurd (cc (at, phase))) (ap is_accepting phase);
   first = first_is s.running (s.finished + 1) from is;
-  free = λ has. ap (owed_by_end [] (owed_first s has.command)) (ends has) ∙ free_running s has.command (runs_first s.running from is);
+  free = λ has. ap (owed_by_end [] (owed_first s has.command)) (ends has) ∙ free_running s has.command (runs_own s.running from is);
   end = λ has. ap end_from (ends has);
   past = λ none. absurd (cc (none, fits.has.at));
   gone = λ at. absurd (both_ways _ (ap is_taken_back phase) at);
-  sent = inl (record { has = fits.has; end = ends fits.has; runs = is; visible = ap is_visible_at phase; written = subst (λ n. has_write_since n s ≡ true) same fits.written });
+  sent = inl (record { has = fits.has; end = ends fits.has; runs = is; published = published; phase = phase; unsent = ap (λ p. unsent_after (published_at p) (lists_at s)) (sym phase) ∙ sent; written = subst (λ n. has_write_since n s ≡ true) same fits.written });
 }
   where
     fits : CommitFits s
@@ -102,9 +95,9 @@ releases s from well (AfterCommit phase is) = record {
     ends has = ap (end_at s) (same_command s has fits.has) ∙ fits.end ∙ ap Commits same
 releases s from well (AfterTakingBack phase) = record {
   going = ap is_ended phase;
-  outside = λ at. absurd (cc (at, phase));
+  quiet = ap is_accepting phase;
   free_after = ap owed_at phase;
-  answered = answered_in s well (λ at. absurd (cc (at, phase))) (λ at. absurd (cc (at, phase)));
+  answered = answered_in s well (λ at. absurd (cc (at, phase))) (ap is_accepting phase);
   first = elim (has_or_none s) [ inl has ↦ first_of_end s well has from (ap is_ended phase) (ap end_from (fits.end.0 has).1) | inr none ↦ first_of_all s.running (s.finished + 1) from (fits.end.1 none) ];
   free = λ has. ap (owed_by_end [] (owed_first s has.command)) (fits.end.0 has).1;
   end = λ has. ap end_from (fits.end.0 has).1;
@@ -117,7 +110,7 @@ releases s from well (AfterTakingBack phase) = record {
     fits = subst (EndFits s) phase well.end
 releases s from well (WithoutWrite working answered end none) = record {
   going = ap is_ended working.phase;
-  outside = λ at. absurd (cc (at, working.phase));
+  quiet = ap is_accepting working.phase;
   free_after = ap owed_at working.phase;
   answered = λ _. answered;
   first = first_of_end s well working.has from (ap is_ended working.phase) (from_either end);
@@ -138,7 +131,7 @@ releases s from well (WithoutWrite working answered end none) = record {
     free_at (TakesBack first) owed free = refl
 releases s from well (AtTheEnd phase past end none) = record {
   going = ap is_ended phase;
-  outside = λ at. absurd (cc (at, phase));
+  quiet = ap is_accepting phase;
   free_after = ap owed_at phase;
   answered = λ has. absurd (cc (past, has.at));
   first = first_of_all s.running (s.finished + 1) from end;
@@ -149,10 +142,6 @@ releases s from well (AtTheEnd phase past end none) = record {
   sent = inr (record { hidden = ap is_visible_at phase; none = none });
 }
 
-shown_running : (p : Phase) (own : Option OwnTransaction) (from : ℕ) → option_map_or (λ t. Some t.first) own None ≡ Some from → is_visible_at p ≡ true → is_visible (running_in p own) ≡ true
-shown_running p None from is visible = absurd (cc)
-shown_running p (Some t) from is visible = visible
-
 hidden_running : (p : Phase) (own : Option OwnTransaction) → is_visible_at p ≡ false → is_visible (running_in p own) ≡ false
 hidden_running p None hidden = refl
 hidden_running p (Some t) hidden = hidden
@@ -160,6 +149,10 @@ hidden_running p (Some t) hidden = hidden
 first_running : (p : Phase) (own : Option OwnTransaction) (from : ℕ) → option_map_or (λ t. Some t.first) own None ≡ Some from → option_map (λ t. t.first) (running_in p own) ≡ Some from
 first_running p None from is = absurd (cc)
 first_running p (Some t) from is = is
+
+left_running : (lists : List Written) (p : Phase) (own : Option OwnTransaction) (published from : ℕ) → option_map_or (λ t. Some t.first) own None ≡ Some from → p ≡ phases.Visible published → unsent_after published lists ≡ [] → left_in lists (running_in p own) ≡ []
+left_running lists p None published from is at none = absurd (cc)
+left_running lists p (Some t) published from is at none = left_none (published_at p) lists (ap (λ q. unsent_after (published_at q) lists) at ∙ none)
 
 bare_next : (facts : Facts) (from : ℕ) (e : End) → end_from e ≡ Some from → has_write_from from facts.lists ≡ false → next_of_end facts e ≡ Some (events.Release from)
 bare_next facts from Ends is none = absurd (cc)
@@ -180,7 +173,8 @@ release_next scenario seen s from agrees rel has = by_sent rel.sent
   where
     by_sent : IsShown s from ⊎ IsBare s from → next_of_end (facts_of seen s.id) (end_at s has.command) ≡ Some (events.Release from)
     by_sent (inl shown) = ap (next_of_end (facts_of seen s.id)) (ap (end_at s) (same_command s has shown.has) ∙ shown.end)
-        ∙ shown_next (facts_of seen s.id) from (ap (has_write_from from) agrees.facts.lists ∙ shown.written) (ap is_visible agrees.facts.running ∙ shown_running s.phase s.running from shown.runs shown.visible) (unsent_none seen s.id)
+        ∙ shown_next (facts_of seen s.id) from (ap (has_write_from from) agrees.facts.lists ∙ shown.written) (ap is_visible agrees.facts.running ∙ visible_own s.phase s.running from (ap is_visible_at shown.phase) shown.runs)
+        (ap (unsent_in (facts_of seen s.id).lists) agrees.facts.running ∙ ap (λ l. unsent_in l (running_in s.phase s.running)) agrees.facts.lists ∙ unsent_own (lists_at s) s.phase s.running shown.published from shown.phase shown.runs ∙ shown.unsent)
     by_sent (inr bare) = bare_next (facts_of seen s.id) from (end_at s has.command) (rel.end has) (ap (has_write_from from) agrees.facts.lists ∙ bare.none)
 
 -- and after the last command the next entry of taking back
@@ -227,31 +221,33 @@ release_call scenario seen s from agrees next = record {
     shows false = tt
 
     by_sent : IsShown s from ⊎ IsBare s from → MayRelease (is_visible (running_transaction_of seen s.id)) seen s.id from
-    by_sent (inl shown) = subst (λ v. MayRelease v seen s.id from) (sym (ap is_visible agrees.facts.running ∙ shown_running s.phase s.running from shown.runs shown.visible))
-        (ap (option_map (λ t. t.first)) agrees.facts.running ∙ first_running s.phase s.running from shown.runs, left_none seen s.id)
+    by_sent (inl shown) = subst (λ v. MayRelease v seen s.id from) (sym (ap is_visible agrees.facts.running ∙ visible_own s.phase s.running from (ap is_visible_at shown.phase) shown.runs)) (
+      ap (option_map (λ t. t.first)) agrees.facts.running ∙ first_running s.phase s.running from shown.runs,
+      ap (left_in (facts_of seen s.id).lists) agrees.facts.running ∙ ap (λ l. left_in l (running_in s.phase s.running)) agrees.facts.lists ∙ left_running (lists_at s) s.phase s.running shown.published from shown.runs shown.phase shown.unsent,
+    )
     by_sent (inr bare) = subst (λ v. MayRelease v seen s.id from) (sym (ap is_visible agrees.facts.running ∙ hidden_running s.phase s.running bare.hidden)) (ap (has_write_from from) agrees.facts.lists ∙ bare.none)
 
 ended_own : (p : Phase) (own : Option OwnTransaction) (n from : ℕ) → option_map_or (λ t. t.first) own n ≡ from → after_release from (begun n (running_in p own)) ≡ None
 ended_own p None n from is = ap (λ t. if t then None else Some (begun n None)) (eq-eqb n from is)
 ended_own p (Some t) n from is = ap (λ f. if f then None else Some (begun n (running_in p (Some t)))) (eq-eqb t.first from is)
 
-no_writes : (writes : List ℕ) → has_write_from 0 (map written_in writes) ≡ false → writes ≡ []
+no_writes : (lists : List Written) → has_write_from 0 lists ≡ false → lists ≡ []
 no_writes [] none = refl
-no_writes (c ∷ writes) none = let some : nat_le 0 c ≡ true = le-leb 0 c (omega arith) in absurd (cc (none, some))
+no_writes (w ∷ lists) none = let some : nat_le 0 w.command ≡ true = le-leb 0 w.command (omega arith) in absurd (cc (none, some))
 
 -- no write is left
 none_left : (s : Backend) (from : ℕ) → Well s → first_begun s ≡ from → ◌≡◌ {A = List Written} (elim (ends_transaction from (running_at s)) [ true ↦ [] | false ↦ lists_at s ]) []
 none_left s from well first = by_own s.running refl first
   where
     by_own : (own : Option OwnTransaction) → s.running ≡ own → option_map_or (λ t. t.first) own (s.finished + 1) ≡ from → ◌≡◌ {A = List Written} (elim (ends_transaction from (running_in s.phase own)) [ true ↦ [] | false ↦ lists_at s ]) []
-    by_own None at is = ap (map written_in) (no_writes s.writes.items (false_from_ne_true (has_write_since 0 s) (λ some. let one : option_map_or (λ t. is_some t.xid) s.running false ≡ true = well.written some in absurd (both_ways _ (ap (λ o. option_map_or (λ t. is_some t.xid) o false) at) one))))
+    by_own None at is = no_writes (lists_at s) (false_from_ne_true (has_write_since 0 s) (λ some. let one : option_map_or (λ t. is_some t.xid) s.running false ≡ true = well.written some in absurd (both_ways _ (ap (λ o. option_map_or (λ t. is_some t.xid) o false) at) one)))
     by_own (Some t) at is = ap (λ f. elim f [ true ↦ [] | false ↦ lists_at s ]) (eq-eqb t.first from is)
 
 -- the state after it
-pub release_enters : (scenario : Scenario) (old new : List Entry) (had has : ℕ → ℕ) (was : Backend) (from : ℕ) (writes : Vec ℕ Global) (locks : Vec OwnLock Global) (agrees : Agrees scenario old was) → IsPlayed scenario old → NextRelease was from
-    → writes.items ≡ [] → locks.items ≡ filter (λ lock. nat_lt lock.command from) was.locks.items → Appends old new had has (entry_of was.id (was.finished + 1) (events.Release from))
-    → Enters scenario old new was (record was { phase = phases.Ended; running = None; writes = writes; locks = locks })
-release_enters scenario old new had has was from writes locks agrees played next none kept appends =
+pub release_enters : (scenario : Scenario) (old new : List Entry) (had has : ℕ → ℕ) (was : Backend) (from : ℕ) (lists : Held) (locks : Roomy OwnLock) (agrees : Agrees scenario old was) → IsPlayed scenario old → NextRelease was from
+    → lists.lists ≡ no_lists → locks.items ≡ filter (λ lock. nat_lt lock.command from) was.locks.items → Appends old new had has (entry_of was.id (was.finished + 1) (events.Release from))
+    → Enters scenario old new was (record was { phase = phases.Ended; running = None; lists = lists; locks = locks })
+release_enters scenario old new had has was from lists locks agrees played next none kept appends =
     own_enters scenario old new had has was now (events.Release from) agrees
     (elim (has_or_none was) [ inl command ↦ waits_to_end scenario old was agrees command (events.Release from) out (ends command).1 | inr past ↦ waits_after_all scenario old was agrees past ])
     (record { session = λ _ _ _ _ _ _. refl; finished = λ _. refl; life = λ _. refl })
@@ -263,20 +259,20 @@ release_enters scenario old new had has was from writes locks agrees played next
       facts = record {
         running = ap (λ o. after_release from (begun (was.finished + 1) o)) agrees.facts.running ∙ ended_own was.phase was.running (was.finished + 1) from rel.first;
         lists = ap (λ o. elim (ends_transaction from o) [ true ↦ [] | false ↦ facts.lists ]) agrees.facts.running
-            ∙ ap (λ l. elim (ends_transaction from (running_at was)) [ true ↦ [] | false ↦ l ]) agrees.facts.lists ∙ none_left was from agrees.well rel.first ∙ ap (map written_in) (sym none);
+            ∙ ap (λ l. elim (ends_transaction from (running_at was)) [ true ↦ [] | false ↦ l ]) agrees.facts.lists ∙ none_left was from agrees.well rel.first ∙ ap all_lists (sym none);
         owed = refl;
         took = refl;
         taken = λ n is. absurd (cc);
         usable = agrees.facts.usable;
         kept = agrees.facts.kept;
-        given = agrees.facts.given;
+        given = λ _. rows_out (facts_after old was (events.Release from)) locks.items (plan_at was.exec) was.given.items out;
       };
       tally = λ going. absurd (cc);
       well = record {
         built = agrees.well.built;
         few = agrees.well.few;
         most = agrees.well.most;
-        builds = agrees.well.builds;
+        opened = opens_on was phases.Ended None lists locks was.kept agrees.well.opened refl (λ command. free_ended now command refl) (λ opens. opens.builds);
         blocked = agrees.well.blocked;
         refused = agrees.well.refused;
         plain = agrees.well.plain;
@@ -284,22 +280,24 @@ release_enters scenario old new had has was from writes locks agrees played next
         levels = agrees.well.levels;
         first = omega arith;
         transaction = refl;
-        written = λ some. absurd (both_ways _ (ap (λ ws. has_write_from 0 (map written_in ws)) none) some);
+        ended = ap (λ l. l.running) none;
+        written = λ some. absurd (both_ways _ (ap (λ l. has_write_from 0 (all_lists l)) none) some);
         end = λ command. (out, over_after was command.command from (rel.end (record { command = command.command; at = command.at })));
         answered = λ command free. let some : is_some was.answer ≡ true = rel.answered (record { command = command.command; at = command.at }) in absurd (cc (free, some));
         come_out = agrees.well.come_out;
         past = agrees.well.past;
         free = λ _ command. free_ended now command.command refl;
-        granted = λ is. absurd (cc);
+        starts = λ command some. absurd (some (free_ended now command.command refl));
+        accepting = λ is. absurd (cc);
         clear = inr (ap (map cleared) kept ∙ filter-cleared from was.locks.items ∙ ap (filter (λ lock. nat_lt lock.command from)) clear ∙ sym kept);
       };
     })
-    (end_follows scenario old was phases.Ended None writes locks (events.Release from) agrees played appends.comes tt
-    (record { id = refl; commands = refl; finished = refl; answer = refl; plan = refl; opened = refl; block = refl; refused = refl; found = refl }) refl refl (λ _. refl) rel.answered)
+    (end_follows scenario old was phases.Ended None lists locks was.kept (events.Release from) agrees played appends.comes tt
+    (record { id = refl; commands = refl; finished = refl; answer = refl; plan = refl; opened = refl; block = refl; refused = refl; found = refl }) refl refl (λ _. refl) rel.answered agrees.kept)
     appends
   where
     now : Backend
-    now = record was { phase = phases.Ended; running = None; writes = writes; locks = locks }
+    now = record was { phase = phases.Ended; running = None; lists = lists; locks = locks }
 
     facts : Facts
     facts = facts_of old was.id
@@ -311,7 +309,7 @@ release_enters scenario old new had has was from writes locks agrees played next
     out = out_at_end was agrees.well rel.answered
 
     clear : map cleared was.locks.items ≡ was.locks.items
-    clear = clear_at was agrees.well rel.outside
+    clear = clear_at was agrees.well rel.quiet
 
     after : owed_after facts.last ≡ []
     after = agrees.facts.owed ∙ rel.free_after

@@ -1,9 +1,9 @@
--- The scans of a backend, and the look before each.
+-- The scans of a backend.
 use Rattle.std.proofs.Common.{◌≡◌, ◌≢◌, ◌<◌, ◌+◌, inl, inr, ◌∙◌, ℕ, Bool, true, false, not, Option, Some, None, List, [], ◌∷◌, ◌++◌, ◌==◌, ◌&&◌, ◌||◌, if◌then◌else◌, refl, sym, ap, subst, length, get_or, cond, filter, take, drop, All, is_none, is_some, slice_get, lt-ltb, arith}
 use Rattle.std.specs.List.{list_any, flat_map, AllByRecursion}
 use Rattle.std.specs.Option.{option_map_or}
 use Rattle.std.proofs.Math.Bool.{or_comm}
-use Rattle.std.proofs.lemmas.Bool.{eq-eqb}
+use Rattle.std.proofs.lemmas.Bool.{eq-eqb, or_left}
 use Rattle.std.proofs.lemmas.List.Folds.{list_any-append, list_any_at}
 use Rattle.std.proofs.lemmas.List.Elements.{All-push}
 use Rattle.std.specs.declared.alloc.Global.{Global}
@@ -28,168 +28,59 @@ use Rattle.seg_calls.specs.Calls.{entry_of, Appends, GivesRows}
 use Rattle.cacheless.specs.Facts.{Facts, facts_of}
 use Rattle.cacheless.specs.Session.{Session, Unsettled, Well as Goes, Badly, Outcome, outcome_of, is_settled, first_of}
 use Rattle.cacheless.specs.Owed.{unusable, builds_owed, act_owed, act_next, is_next_scan}
+use Rattle.cacheless.specs.Locks.{is_locked}
 use Rattle.cacheless.specs.Sessions.{placed_at, is_wanted}
 use Rattle.cacheless.specs.Plays.{MayPlayIn, started_in, has_looked}
 use Rattle.cacheless.proofs.Settling.{waits-scans}
 use Rattle.backend_core.specs.Types.{Oid, Kind, Command, Row, Purpose, Mode, Entry, Event, Opening, KeptScan, Exec, Phase, OwnTransaction, Backend}
 use Rattle.backend_core.specs.declared.phase.Phase.TheVariants as phases
 use Rattle.backend_core.specs.NewTables.{StaysRead, SeesRelation, relation_of}
-use Rattle.backend_core.specs.State.{owed_at, granted, is_taken_back, is_ended, one_if, running_in, running_at, begins_in, is_kept, missing, builds_missing, act_missing, scans_missing, Rest, session_at, HasCommand}
+use Rattle.backend_core.specs.State.{owed_at, is_accepting, looks_due, is_taken_back, is_ended, is_out, owed_first, one_if, running_in, running_at, begins_in, is_kept, missing, builds_missing, act_missing, scans_missing, Rest, session_at, HasCommand}
 use Rattle.backend_core.specs.Agrees.{IsPlayed, FactsFit, TallyFits, RowsFit, ReadRight, Well, RunsBy, TransactionFits, EndFits, PlaceFits, KeptFits, GivenSeen, Agrees}
 use Rattle.backend_core.specs.Steps.{IsWorking, NextLookUp, NextBuild, Enters}
 use Rattle.backend_core.proofs.SeesRelation.{found_seen, read_stays-after}
 use Rattle.backend_core.proofs.Stepping.{Waits, facts_after, rest_after, own_enters}
-use Rattle.backend_core.proofs.Carry.{MayCome, may_come, Leaves, own_leaves, LeavesWrites, LeavesRelations, leaves_relations, has_written-quiet, place_read-scan, kept-more, SameCommand, way-more, later-more, command-more, no_answer, look_true, waits_at, scans_same, builds_same, act_same, missing_at, owed_free, clear_at, accepted-clear}
-use Rattle.backend_core.proofs.Looks.{may_look_at}
+use Rattle.backend_core.proofs.Carry.{transaction-more, end_free, waits_scan, runs_on, MayCome, may_come, Leaves, own_leaves, LeavesWrites, LeavesRelations, leaves_relations, has_written-quiet, place_read-scan, kept-more, SameCommand, way-more, later-more, command-more, no_answer, waits_at, scans_same, act_same, none_opened, none_missing, missing_at, owed_free, clear_at, accepted-clear}
 use Rattle.backend_core.proofs.Acting.{IsActing, is_acting, missing_acts}
 use Rattle.backend_core.proofs.CanFollow.{CanGoOn}
+use Rattle.backend_core.proofs.Nexting.{the_command}
 use Rattle.backend_core.proofs.Ways.{acts}
 
--- a transaction fits in another state, if its release isn't made in either
-pub transaction-more : (was now : Backend) → is_ended was.phase ≡ false → is_ended now.phase ≡ false → now.blocks ≡ was.blocks → now.running ≡ was.running → now.finished ≡ was.finished → now.commands ≡ was.commands
-    → TransactionFits was was.phase → TransactionFits now now.phase
-transaction-more was now going goes blocks running finished commands fits = to_phase now.phase goes (subst (RunsBy now) (ap (λ x. x.block) (sym blocks)) (by_block was.blocks.block (from_phase was.phase going fits)))
-  where
-    from_phase : (p : Phase) → is_ended p ≡ false → TransactionFits was p → RunsBy was was.blocks.block
-    from_phase phases.Working h f = f
-    from_phase phases.Granted h f = f
-    from_phase phases.Visible h f = f
-    from_phase (phases.TakenBack from) h f = f
-    from_phase phases.Ended h f = absurd (cc)
-
-    to_phase : (p : Phase) → is_ended p ≡ false → RunsBy now now.blocks.block → TransactionFits now p
-    to_phase phases.Working h f = f
-    to_phase phases.Granted h f = f
-    to_phase phases.Visible h f = f
-    to_phase (phases.TakenBack from) h f = f
-    to_phase phases.Ended h f = absurd (cc)
-
-    first : option_map_or (λ t. t.first) now.running 0 ≡ option_map_or (λ t. t.first) was.running 0
-    first = ap (λ o. option_map_or (λ t. t.first) o 0) running
-
-    same_begins : (command : Command) → begins_in now.blocks now.phase command ≡ begins_in was.blocks was.phase command
-    same_begins command = ap (λ b. begins_in b now.phase command) blocks ∙ ap (λ t. elim was.blocks.block as (λ x. Bool) [ Outside ↦ not (ends_block command) && not t && is_none (refused_by no_block command) | block ↦ false ]) (goes ∙ sym going)
-
-    by_block : (b : Block) → RunsBy was b → RunsBy now b
-    by_block Outside (inl none) = inl (running ∙ none)
-    by_block Outside (inr alone) = inr (record {
-      has = record { command = alone.has.command; at = ap (λ l. slice_get l now.finished) commands ∙ ap (slice_get was.commands) finished ∙ alone.has.at };
-      begins = same_begins alone.has.command ∙ alone.begins;
-      first = first ∙ alone.first ∙ ap (λ n. n + 1) (sym finished);
-    })
-    by_block Inside block = record { runs = ap is_some running ∙ block.runs; first = λ command. first ∙ block.first command ∙ ap (λ b. innermost command b.levels) (sym blocks) }
-    by_block Failed none = running ∙ none
-
--- the end isn't on its way
-pub end_free : (s : Backend) → s.phase ≡ phases.Working → EndFits s s.phase
-end_free s phase = subst (EndFits s) (sym phase) tt
-
 -- the same state but for its reading: where it works, it stays well
-pub reads_well : (was : Backend) (exec : Exec) (looked read : Bool) (given : Vec Row Global) (given_at : ℕ) (kept : List KeptScan) → was.phase ≡ phases.Working → builds_missing kept was.opened ≡ [] → plan_at exec ≡ plan_at was.exec
-    → Well was → Well (record was { exec = exec; looked = looked; read = read; given = given; given_at = given_at; kept = kept })
-reads_well was exec looked read given given_at kept phase builds plan well = record {
+pub reads_well : (was : Backend) (looked read : Bool) (given : Vec Row Global) (given_at : ℕ) (kept : List KeptScan) → IsWorking was → is_out was ≡ false → Well was
+    → Well (record was { looked = looked; read = read; given = given; given_at = given_at; kept = kept })
+reads_well was looked read given given_at kept works inside well = record {
   built = well.built;
   few = well.few;
   most = well.most;
-  builds = builds;
+  opened = inl (none_opened was well inside);
   blocked = well.blocked;
-  refused = λ blocked. plan ∙ well.refused blocked;
-  plain = λ command at ends unblocked. plan ∙ well.plain command at ends unblocked;
+  refused = well.refused;
+  plain = well.plain;
   opens = well.opens;
-  past = λ none. ap (λ p. is_settled (outcome_of p)) plan ∙ well.past none;
+  past = well.past;
   levels = well.levels;
   first = well.first;
-  transaction = transaction-more was (record was { exec = exec; looked = looked; read = read; given = given; given_at = given_at; kept = kept }) (ap is_ended phase) (ap is_ended phase) refl refl refl refl well.transaction;
+  transaction = transaction-more was now (ap is_ended works.phase) (ap is_ended works.phase) refl refl refl refl well.transaction;
+  ended = well.ended;
   written = well.written;
-  end = end_free (record was { exec = exec; looked = looked; read = read; given = given; given_at = given_at; kept = kept }) phase;
-  answered = λ has none. inl phase;
-  come_out = λ some. ap (λ p. is_settled (outcome_of p)) plan ∙ well.come_out some;
+  end = end_free now works.phase;
+  answered = λ has none. inl works.phase;
+  come_out = well.come_out;
   free = λ some has. well.free some (record { command = has.command; at = has.at });
-  granted = λ is. absurd (cc (is, phase));
-  clear = inr (clear_at was well (λ is. absurd (cc (is, phase))));
+  starts = λ has some. absurd (some (subst (λ c. owed_first was c ≡ []) (the_command was works.has has.command has.at) works.free));
+  accepting = λ is. absurd (cc (is, ap is_accepting works.phase));
+  clear = inr (clear_at was well (ap is_accepting works.phase));
 }
-
--- a scan is missing: the backend waits for it
-is_empty-not : {X : Type 0} (xs : List X) → xs ≢ [] → is_empty xs ≡ false
-is_empty-not [] some = absurd (some refl)
-is_empty-not (x ∷ xs) some = refl
-
-pub waits_scan : (scenario : Scenario) (seen : List Entry) (s : Backend) (agrees : Agrees scenario seen s) (has : HasCommand s) → scans_missing s ≢ [] → Waits agrees
-waits_scan scenario seen s agrees has some = waits_at scenario seen s agrees has (λ rest. waits-scans (facts_of seen s.id) has.command rest (session_at s agrees.rest)
-    (ap is_empty (scans_same (facts_of seen s.id) s agrees.rest agrees.facts) ∙ is_empty-not (scans_missing s) some))
-
--- its transaction goes on
-pub runs_on : (number : ℕ) (s : Backend) (facts : Facts) → FactsFit facts s → is_some s.running ≡ true → Some (begun number facts.running) ≡ running_at s
-runs_on number s facts fits runs = ap (λ o. Some (begun number o)) fits.running ∙ by_own s.running runs
-  where
-    by_own : (own : Option OwnTransaction) → is_some own ≡ true → Some (begun number (running_in s.phase own)) ≡ running_in s.phase own
-    by_own None h = absurd (cc)
-    by_own (Some t) h = refl
-
-both_none : {X : Type 0} (xs ys : List X) → xs ++ ys ≡ [] → (xs ≡ []) × (ys ≡ [])
-both_none [] ys none = (refl, none)
-both_none (x ∷ xs) ys none = absurd (cc)
-
--- the look before a scan
-pub scan_look_enters : (scenario : Scenario) (old new : List Entry) (had has : ℕ → ℕ) (was : Backend) → Agrees scenario old was → IsPlayed scenario old → IsWorking was → scans_missing was ≢ [] → was.looked ≡ false
-    → Appends old new had has (entry_of was.id (was.finished + 1) (events.Look false)) → Enters scenario old new was (record was { looked = true })
-scan_look_enters scenario old new had has was agrees played works some unlooked appends =
-    own_enters scenario old new had has was now (events.Look false) agrees (waits_scan scenario old was agrees works.has some)
-    (record { session = λ _ _ _ _ _ _. refl; finished = λ _. refl; life = λ _. refl })
-    (record {
-      plays = subst (λ o. MayPlayIn (next_oid old) (facts_of old was.id) o (session_at was agrees.rest) (events.Look false)) (sym works.has.at) (may_look_at (facts_of old was.id) was agrees.rest agrees.facts (agrees.tally (ap is_ended works.phase)));
-      needed = tt;
-      truly = look_true scenario old was.id played;
-      tables = tt;
-    })
-    (record {
-      moves = record { id = refl; commands = refl; finished = refl; life = refl; lines = refl };
-      session = accepted-clear (facts_after old was (events.Look false)) (first_of (drop was.finished was.commands)) (placed_at (length old + 1) (was.finished + 1) (events.Look false) (session_at was agrees.rest)) (clear_at was agrees.well (λ is. absurd (cc (is, works.phase))));
-      facts = record {
-        running = runs_on (was.finished + 1) was (facts_of old was.id) agrees.facts acting.runs;
-        lists = agrees.facts.lists;
-        owed = sym (ap owed_at works.phase);
-        took = sym (ap is_taken_back works.phase);
-        taken = λ from is. absurd (cc (is, works.phase));
-        usable = agrees.facts.usable;
-        kept = agrees.facts.kept;
-        given = agrees.facts.given;
-      };
-      tally = λ _. omega (arith, agrees.tally (ap is_ended works.phase), ap one_if unlooked);
-      well = reads_well was was.exec true was.read was.given was.given_at was.kept works.phase agrees.well.builds refl agrees.well;
-    })
-    (record {
-      command = command-more old e was now agrees.rest later (record { id = refl; commands = refl; finished = refl; answer = refl; plan = refl; opened = refl; block = refl; refused = refl; found = refl }) (record { read = refl; given = refl; given_at = refl })
-          leaves.writes leaves.places leaves.relations agrees.command;
-      kept = kept-more old e was.id was.kept may (λ i d within. refl) agrees.kept;
-      answer = no_answer scenario (old ++ e ∷ []) now later acting.unanswered;
-      judged = λ _ _. refl;
-    })
-    appends
   where
     now : Backend
-    now = record was { looked = true }
-
-    acting : IsActing old was agrees.rest works.has.command
-    acting = is_acting scenario old was agrees works (missing_acts was agrees.well some)
-
-    e : Entry
-    e = entry_of was.id (was.finished + 1) (events.Look false)
-
-    later : Rest
-    later = rest_after old was (events.Look false) agrees.rest
-
-    may : MayCome old e
-    may = may_come scenario old e played appends.comes tt
-
-    leaves : Leaves old e was.id
-    leaves = own_leaves old e was.id may refl (λ name. refl) refl
+    now = record was { looked = looked; read = read; given = given; given_at = given_at; kept = kept }
 
 -- the count of looks is enough for one more scan
 pub looked_enough : (facts : Facts) (s : Backend) (rest : Rest) → FactsFit facts s → TallyFits rest.tally s → length rest.finished ≡ s.finished → s.phase ≡ phases.Working → s.looked ≡ true → has_looked facts (session_at s rest) ≡ true
 looked_enough facts s rest fits tally count phase looked =
-    lt-ltb (rest.tally.scans + rest.tally.grants + started_in (length rest.finished + 1) facts) rest.tally.looks
-    (omega (arith, tally, ap granted phase, ap one_if looked, ap (λ o. option_map_or (λ t. elim (t.first == length rest.finished + 1) as (λ x. ℕ) [ true ↦ 1 | false ↦ 0 ]) o 0) fits.running, same s.running))
+    lt-ltb (rest.tally.scans + rest.tally.grants + started_in (length rest.finished + 1) facts + rest.tally.full) rest.tally.looks
+    (omega (arith, tally.0, ap looks_due phase, ap one_if looked, ap (λ o. option_map_or (λ t. elim (t.first == length rest.finished + 1) as (λ x. ℕ) [ true ↦ 1 | false ↦ 0 ]) o 0) fits.running, same s.running))
   where
     one : (t : Bool) → elim t as (λ x. ℕ) [ true ↦ 1 | false ↦ 0 ] ≡ one_if t
     one true = refl
@@ -200,32 +91,27 @@ looked_enough facts s rest fits tally count phase looked =
     same (Some t) = one (t.first == length rest.finished + 1) ∙ ap (λ n. one_if (t.first == n + 1)) count
 
 -- the first scan that the next act lacks may be made
-firsts_none : (facts : Facts) (opened : List Opening) → builds_owed facts opened ≡ [] → flat_map (λ o. take 1 (unusable facts (build_scans o.kind o.rel))) opened ≡ []
-firsts_none facts [] none = refl
-firsts_none facts (o ∷ opened) none = let parts = both_none (unusable facts (build_scans o.kind o.rel)) (builds_owed facts opened) none in
-    ap (λ l. take 1 l ++ flat_map (λ o. take 1 (unusable facts (build_scans o.kind o.rel))) opened) parts.0 ∙ firsts_none facts opened parts.1
-
-next_scan : (facts : Facts) (s : Session) (scan : Purpose) → is_settled (outcome_of s.left) ≡ false → builds_owed facts s.opened ≡ [] → act_next facts s.read s.left ≡ scan ∷ [] → is_next_scan scan facts s ≡ true
-next_scan facts s scan unsettled builds first = by_outcome (outcome_of s.left) unsettled
+next_scan : (facts : Facts) (s : Session) (scan : Purpose) → is_settled (outcome_of s.left) ≡ false → s.opened ≡ [] → act_next facts s.locks s.read s.left ≡ scan ∷ [] → is_next_scan scan facts s ≡ true
+next_scan facts s scan unsettled closed first = by_outcome (outcome_of s.left) unsettled
   where
-    nexts : List Purpose
-    nexts = flat_map (λ o. take 1 (unusable facts (build_scans o.kind o.rel))) s.opened ++ act_next facts s.read s.left
+    nexts : List Opening → List Purpose
+    nexts opened = flat_map (λ o. take 1 (unusable facts (build_scans o.kind o.rel))) opened ++ act_next facts s.locks s.read s.left
 
-    here : list_any (same_scan scan) nexts ≡ true
-    here = ap (λ l. list_any (same_scan scan) (l ++ act_next facts s.read s.left)) (firsts_none facts s.opened builds) ∙ ap (list_any (same_scan scan)) first ∙ ap (λ t. t || false) (same_scan-itself scan)
+    here : list_any (same_scan scan) (nexts s.opened) ≡ true
+    here = ap (λ l. list_any (same_scan scan) (nexts l)) closed ∙ ap (list_any (same_scan scan)) first ∙ ap (λ t. t || false) (same_scan-itself scan)
 
-    by_outcome : (o : Outcome) → is_settled o ≡ false → list_any (same_scan scan) (elim o as (λ x. List Purpose) [ Badly ↦ [] | other ↦ nexts ]) ≡ true
+    by_outcome : (o : Outcome) → is_settled o ≡ false → list_any (same_scan scan) (elim o as (λ x. List Purpose) [ Badly ↦ [] | other ↦ nexts s.opened ]) ≡ true
     by_outcome Unsettled un = here
     by_outcome Goes un = absurd (cc)
     by_outcome Badly un = absurd (cc)
 
 -- what a scan needs: it comes next, and a look was made for it
 pub may_scan : (scenario : Scenario) (seen : List Entry) (s : Backend) (agrees : Agrees scenario seen s) (works : IsWorking s) (scan : Purpose) (count : ℕ) → s.looked ≡ true → is_settled (outcome_of (plan_at s.exec)) ≡ false
-    → act_next (facts_of seen s.id) s.read (plan_at s.exec) ≡ scan ∷ [] → MayPlayIn (next_oid seen) (facts_of seen s.id) (slice_get s.commands s.finished) (session_at s agrees.rest) (events.Scan scan count)
+    → act_next (facts_of seen s.id) s.locks.items s.read (plan_at s.exec) ≡ scan ∷ [] → MayPlayIn (next_oid seen) (facts_of seen s.id) (slice_get s.commands s.finished) (session_at s agrees.rest) (events.Scan scan count)
 may_scan scenario seen s agrees works scan count looked unsettled first =
     subst (λ o. MayPlayIn (next_oid seen) (facts_of seen s.id) o (session_at s agrees.rest) (events.Scan scan count)) (sym works.has.at) (
       owed_free scenario seen s agrees works.phase,
-      next_scan (facts_of seen s.id) (session_at s agrees.rest) scan unsettled (builds_same (facts_of seen s.id) s agrees.facts ∙ agrees.well.builds) first,
+      next_scan (facts_of seen s.id) (session_at s agrees.rest) scan unsettled (none_opened s agrees.well unsettled) first,
       looked_enough (facts_of seen s.id) s agrees.rest agrees.facts (agrees.tally (ap is_ended works.phase)) agrees.count works.phase looked,
     )
 
@@ -262,17 +148,18 @@ looked_up_to : (scenario : Scenario) (old new : List Entry) (had has : ℕ → �
     → Appends old new had has (entry_of was.id (was.finished + 1) (events.Scan (scans.RelName name) (length (answer_of old was.id (scans.RelName name)))))
     → Enters scenario old new was (record was { looked = false; read = true; given = given; given_at = at })
 looked_up_to scenario old new had has was name given at agrees played works next looked rows_are at_is appends =
-    own_enters scenario old new had has was now event agrees (waits_scan scenario old was agrees works.has (cons_not (scans.RelName name) [] (scans_missing was) (missing_at was plan agrees.well.builds next.at ∙ ap (λ r. if r then [] else scans.RelName name ∷ []) next.unread)))
+    own_enters scenario old new had has was now event agrees (waits_scan scenario old was agrees works.has (cons_not (scans.RelName name) [] (scans_missing was) (missing_at was plan (none_missing was agrees.well inside) next.at ∙ ap (λ r. if r then [] else scans.RelName name ∷ []) next.unread)))
     (record { session = λ _ _ _ _ _ _. refl; finished = λ _. refl; life = λ _. refl })
     (record {
-      plays = may_scan scenario old was agrees works (scans.RelName name) count looked (ap (λ p. is_settled (outcome_of p)) next.at) (ap (act_next (facts_of old was.id) was.read) next.at ∙ ap (λ r. take 1 (if r then [] else scans.RelName name ∷ [])) next.unread);
+      plays = may_scan scenario old was agrees works (scans.RelName name) count looked inside
+          (ap (act_next (facts_of old was.id) was.locks.items was.read) next.at ∙ ap (λ r. take 1 (if r && ((facts_of old was.id).usable (scans.RelName name) || is_locked was.locks.items next.mode ((facts_of old was.id).rows (scans.RelName name))) then [] else scans.RelName name ∷ [])) next.unread);
       needed = λ build. absurd (cc);
       truly = tt;
       tables = tt;
     })
     (record {
       moves = record { id = refl; commands = refl; finished = refl; life = refl; lines = refl };
-      session = accepted-clear (facts_after old was event) (first_of (drop was.finished was.commands)) placed (clear_at was agrees.well (λ is. absurd (cc (is, works.phase))))
+      session = accepted-clear (facts_after old was event) (first_of (drop was.finished was.commands)) placed (clear_at was agrees.well (ap is_accepting works.phase))
           ∙ (λ i. record placed { read = (ap (λ p. is_wanted (scans.RelName name) p || was.read) next.at ∙ ap (λ t. t || was.read) (same_scan-itself (scans.RelName name))) i });
       facts = record {
         running = runs_on (was.finished + 1) was (facts_of old was.id) agrees.facts acting.runs;
@@ -282,10 +169,13 @@ looked_up_to scenario old new had has was name given at agrees played works next
         taken = λ from is. absurd (cc (is, works.phase));
         usable = λ scan build. ap (λ t. t || (facts_of old was.id).usable scan) (no_build name scan build) ∙ agrees.facts.usable scan build;
         kept = λ i d within. let k = agrees.facts.kept i d within in record { build = k.build; rows_are = k.rows_are ∙ sym (rows_by-others old was.id (scans.RelName name) (get_or was.kept i d).scan count ((facts_of old was.id).rows (get_or was.kept i d).scan) (no_build name (get_or was.kept i d).scan k.build)) };
-        given = λ read. subst (λ p. RowsFit (facts_after old was event).rows p given.items) (sym next.at) (rows_by-own old was.id (scans.RelName name) count ((facts_of old was.id).rows (scans.RelName name)) ∙ sym rows_are);
+        given = λ read. subst (λ p. RowsFit (facts_after old was event) was.locks.items p given.items) (sym next.at) (
+          rows_by-own old was.id (scans.RelName name) count ((facts_of old was.id).rows (scans.RelName name)) ∙ sym rows_are,
+          or_left ((facts_after old was event).usable (scans.RelName name)) (is_locked was.locks.items next.mode given.items) (or_left (same_scan (scans.RelName name) (scans.RelName name)) ((facts_of old was.id).usable (scans.RelName name)) (same_scan-itself (scans.RelName name))),
+        );
       };
-      tally = λ _. omega (arith, agrees.tally (ap is_ended works.phase), ap one_if looked);
-      well = reads_well was was.exec false true given at was.kept works.phase agrees.well.builds refl agrees.well;
+      tally = λ _. (omega (arith, (agrees.tally (ap is_ended works.phase)).0, ap one_if looked), (agrees.tally (ap is_ended works.phase)).1);
+      well = reads_well was false true given at was.kept works inside agrees.well;
     })
     (record {
       command = record {
@@ -309,6 +199,9 @@ looked_up_to scenario old new had has was name given at agrees played works next
 
     plan : Plan
     plan = Do (Lookup name next.mode) next.rest
+
+    inside : is_out was ≡ false
+    inside = ap (λ p. is_settled (outcome_of p)) next.at
 
     now : Backend
     now = record was { looked = false; read = true; given = given; given_at = at }
@@ -371,47 +264,24 @@ none_at p xs i d within none = by_test (p (get_or xs i d)) refl
     by_test true is = absurd (cc (list_any_at p xs i d within is, none))
     by_test false is = is
 
-rows_fit : (old : List Entry) (b : ℕ) (made : Purpose) (count : ℕ) (given_of : Purpose → List Row) → is_build_scan made ≡ true → (p : Plan) (given : List Row) → RowsFit given_of p given → RowsFit (λ scan. rows_by old b scan (events.Scan made count) (given_of scan)) p given
-rows_fit old b made count given_of build (Do (Lookup name mode) rest) given fits = rows_by-others old b made (scans.RelName name) count (given_of (scans.RelName name)) (other_scan (scans.RelName name) made (no_build name made build)) ∙ fits
-rows_fit old b made count given_of build (Do act rest) given fits = tt
-rows_fit old b made count given_of build p given fits = tt
-
-kept_longer : (kept more : List KeptScan) (scan : Purpose) → is_kept kept scan ≡ true → is_kept (kept ++ more) scan ≡ true
-kept_longer kept more scan has = list_any-append (λ (k : KeptScan). same_scan k.scan scan) kept more ∙ ap (λ t. t || is_kept more scan) has
-
-missing_less : (kept more : List KeptScan) (wanted : List Purpose) → missing kept wanted ≡ [] → missing (kept ++ more) wanted ≡ []
-missing_less kept more [] none = refl
-missing_less kept more (scan ∷ wanted) none = by_test (is_kept kept scan) refl none (missing_less kept more wanted)
-  where
-    by_test : (t : Bool) → is_kept kept scan ≡ t → cond (not t) (scan ∷ missing kept wanted) (missing kept wanted) ≡ [] → (missing kept wanted ≡ [] → missing (kept ++ more) wanted ≡ []) → missing (kept ++ more) (scan ∷ wanted) ≡ []
-    by_test true is here rest = ap (λ t. cond (not t) (scan ∷ missing (kept ++ more) wanted) (missing (kept ++ more) wanted)) (kept_longer kept more scan is) ∙ rest here
-    by_test false is here rest = absurd (cc)
-
--- with more scans kept the opened descriptors lack none still
-pub builds_less : (kept more : List KeptScan) (opened : List Opening) → builds_missing kept opened ≡ [] → builds_missing (kept ++ more) opened ≡ []
-builds_less kept more [] none = refl
-builds_less kept more (o ∷ opened) none =
-    let parts = both_none (missing kept (build_scans o.kind o.rel)) (builds_missing kept opened) none in
-    ap (λ l. l ++ builds_missing (kept ++ more) opened) (missing_less kept more (build_scans o.kind o.rel) parts.0) ∙ builds_less kept more opened parts.1
-
 built_to : (scenario : Scenario) (old new : List Entry) (had has : ℕ → ℕ) (was : Backend) (scan : Purpose) (given : List Row) (at : ℕ) → Agrees scenario old was → IsPlayed scenario old → IsWorking was → NextBuild was scan → was.looked ≡ true
     → given ≡ answer_of old was.id scan → at ≡ length old + 1
     → Appends old new had has (entry_of was.id (was.finished + 1) (events.Scan scan (length (answer_of old was.id scan))))
     → Enters scenario old new was (record was { looked = false; kept = was.kept ++ record { scan = scan; rows = given; at = at } ∷ [] })
 built_to scenario old new had has was scan given at agrees played works next looked rows_are at_is appends =
-    own_enters scenario old new had has was now event agrees (waits_scan scenario old was agrees works.has (cons_not scan next.more (scans_missing was) (missing_at was plan agrees.well.builds next.at ∙ next.first)))
+    own_enters scenario old new had has was now event agrees (waits_scan scenario old was agrees works.has (cons_not scan next.more (scans_missing was) (missing_at was plan (none_missing was agrees.well inside) next.at ∙ next.first)))
     (record { session = λ _ _ _ _ _ _. refl; finished = λ _. refl; life = λ _. refl })
     (record {
-      plays = may_scan scenario old was agrees works scan count looked (ap (λ p. is_settled (outcome_of p)) next.at)
-          (ap (act_next (facts_of old was.id) was.read) next.at
-          ∙ ap (λ p. take 1 (act_owed (facts_of old was.id) was.read p)) (sym next.at) ∙ ap (take 1) (act_same (facts_of old was.id) was agrees.facts ∙ ap (act_missing was.kept was.read) next.at ∙ next.first));
+      plays = may_scan scenario old was agrees works scan count looked inside
+          (ap (act_next (facts_of old was.id) was.locks.items was.read) next.at
+          ∙ ap (λ p. take 1 (act_owed (facts_of old was.id) was.locks.items was.read p)) (sym next.at) ∙ ap (take 1) (act_same (facts_of old was.id) was agrees.facts ∙ ap (act_missing was.kept was.read) next.at ∙ next.first));
       needed = λ build. agrees.facts.usable scan build ∙ unkept;
       truly = tt;
       tables = tt;
     })
     (record {
       moves = record { id = refl; commands = refl; finished = refl; life = refl; lines = refl };
-      session = accepted-clear (facts_after old was event) (first_of (drop was.finished was.commands)) placed (clear_at was agrees.well (λ is. absurd (cc (is, works.phase))))
+      session = accepted-clear (facts_after old was event) (first_of (drop was.finished was.commands)) placed (clear_at was agrees.well (ap is_accepting works.phase))
           ∙ (λ i. record placed { read = ap (λ p. is_wanted scan p || was.read) next.at i });
       facts = record {
         running = runs_on (was.finished + 1) was (facts_of old was.id) agrees.facts acting.runs;
@@ -424,10 +294,10 @@ built_to scenario old new had has was scan given at agrees played works next loo
         kept = All-push (ReadRight (facts_after old was event).rows) was.kept made
             (λ i d within. let k = agrees.facts.kept i d within in record { build = k.build; rows_are = k.rows_are ∙ sym (rows_by-others old was.id scan (get_or was.kept i d).scan count ((facts_of old was.id).rows (get_or was.kept i d).scan) (others i d within)) })
             (record { build = first.1.0; rows_are = rows_are ∙ sym (rows_by-own old was.id scan count ((facts_of old was.id).rows scan)) });
-        given = λ read. rows_fit old was.id scan count (facts_of old was.id).rows first.1.0 (plan_at was.exec) was.given.items (agrees.facts.given read);
+        given = λ read. subst (λ p. RowsFit (facts_after old was event) was.locks.items p was.given.items) (sym next.at) tt;
       };
-      tally = λ _. omega (arith, agrees.tally (ap is_ended works.phase), ap one_if looked);
-      well = reads_well was was.exec false was.read was.given was.given_at now.kept works.phase (builds_less was.kept (made ∷ []) was.opened agrees.well.builds) refl agrees.well;
+      tally = λ _. (omega (arith, (agrees.tally (ap is_ended works.phase)).0, ap one_if looked), (agrees.tally (ap is_ended works.phase)).1);
+      well = reads_well was false was.read was.given was.given_at now.kept works inside agrees.well;
     })
     (record {
       command = command-more old e was now agrees.rest later (record { id = refl; commands = refl; finished = refl; answer = refl; plan = refl; opened = refl; block = refl; refused = refl; found = refl }) (record { read = refl; given = refl; given_at = refl })
@@ -451,6 +321,9 @@ built_to scenario old new had has was scan given at agrees played works next loo
 
     plan : Plan
     plan = Do (Open next.rel next.kind) next.rest
+
+    inside : is_out was ≡ false
+    inside = ap (λ p. is_settled (outcome_of p)) next.at
 
     made : KeptScan
     made = record { scan = scan; rows = given; at = at }

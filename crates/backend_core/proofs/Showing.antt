@@ -17,7 +17,7 @@ use Rattle.history_model.specs.Read.{rows_read}
 use Rattle.history_model.specs.Versions.{answer_of}
 use Rattle.cacheless.specs.Facts.{facts_of}
 use Rattle.cacheless.specs.Lines.{first_found, shown_row, answer_well}
-use Rattle.cacheless.specs.Session.{Finished, none_open}
+use Rattle.cacheless.specs.Session.{Finished, none_open, outcome_of}
 use Rattle.cacheless.specs.Settled.{settled, found_by, finished_as}
 use Rattle.cacheless.proofs.HeldLocks.{settled-locks}
 use Rattle.backend_core.specs.Types.{Oid, Mode, Kind, Field, Row, CommandError, Entry, Opening, Backend}
@@ -26,6 +26,7 @@ use Rattle.backend_core.specs.Agrees.{ReadRight, KeptFits, Agrees}
 use Rattle.backend_core.specs.NewTables.{SeesRelation}
 use Rattle.backend_core.specs.Way.{reached, made_in, opening_by, relation_by, SeesAll, Way}
 use Rattle.backend_core.specs.Answering.{shown_first, answer_done}
+use Rattle.backend_core.proofs.Carry.{none_missing_well}
 use Rattle.backend_core.proofs.Shown.{CanShow, HasAsked, fields_shown}
 use Rattle.backend_core.proofs.Ways.{NeverWrites, never_reaches, reached-over, made_in-over}
 
@@ -97,15 +98,15 @@ show_never name field (rows.Class rel own kind fill ∷ more) = by_field field
 show_never name field (row ∷ more) = tt
 
 -- the descriptor that is open can be shown
-can_show : (scenario : Scenario) (seen : List Entry) (s : Backend) (agrees : Agrees scenario seen s) (rel : Oid) (kind : Kind) → SeesRelation seen s.id rel kind → s.opened ≡ record { rel = rel; kind = kind } ∷ [] → CanShow scenario seen s.id s.kept s.locks.items rel kind
-can_show scenario seen s agrees rel kind sees opened = record {
+can_show : (scenario : Scenario) (seen : List Entry) (s : Backend) (agrees : Agrees scenario seen s) (rel : Oid) (kind : Kind) → SeesRelation seen s.id rel kind → s.opened ≡ record { rel = rel; kind = kind } ∷ [] → plan_at s.exec ≡ Done → CanShow scenario seen s.id s.kept s.locks.items rel kind
+can_show scenario seen s agrees rel kind sees opened done = record {
   session = settled (facts_of seen s.id) (drop s.finished s.commands) (session_at s agrees.rest);
   is = agrees.is;
   holds = settled-locks (facts_of seen s.id) (drop s.finished s.commands) (session_at s agrees.rest);
   sees = sees;
   fits = recursion_from_All (KeptFits seen s.id) s.kept agrees.kept;
   right = recursion_from_All (ReadRight (rows_read seen s.id)) s.kept agrees.facts.kept;
-  none = sym (append-nil (missing s.kept (build_scans kind rel))) ∙ sym (ap (builds_missing s.kept) opened) ∙ agrees.well.builds;
+  none = sym (append-nil (missing s.kept (build_scans kind rel))) ∙ sym (ap (builds_missing s.kept) opened) ∙ none_missing_well s agrees.well (ap outcome_of done);
 }
 
 -- what `show` answers
@@ -115,7 +116,7 @@ show_answers scenario seen s agrees name field (inr wrote) done = absurd (never_
 show_answers scenario seen s agrees name field (inl way) done =
     ap (λ l. shown_row scenario seen s.id field (row_found (answer_of seen s.id) (first_found l))) (way.found ∙ shown.found_is)
     ∙ ap (shown_row scenario seen s.id field) sees.row
-    ∙ fields_shown scenario seen s.id s.kept s.locks.items shown.rel shown.kind field (can_show scenario seen s agrees shown.rel shown.kind sees opened) shown.asked
+    ∙ fields_shown scenario seen s.id s.kept s.locks.items shown.rel shown.kind field (can_show scenario seen s agrees shown.rel shown.kind sees opened done) shown.asked
     ∙ ap (λ l. shown_first s.kept s.locks.items l field) (sym opened)
   where
     shown : ShownBy field way.gave (plan_of none_open (commands.Show name field))

@@ -26,19 +26,6 @@ use Rattle.backend_core.specs.Answering.{kept_for, shown_by, shown_kept, shown_o
 use Rattle.backend_core.proofs.ReadPlaces.{read_at_place}
 use Rattle.backend_core.proofs.SeesRelation.{still_there}
 
--- a clear lock on the relation conflicts with a mode
-pub clear_against : (writer : Mode) (rel : Oid) (locks : List OwnLock) → list_any (λ lock. (lock.clear && same_oid lock.rel rel) && conflicts writer lock.mode) locks ≡ list_any (conflicts writer) (clear_modes locks rel)
-clear_against writer rel [] = refl
-clear_against writer rel (lock ∷ locks) = by_test (lock.clear && same_oid lock.rel rel) (clear_against writer rel locks)
-  where
-    rest : List OwnLock
-    rest = filter (λ l. l.clear && same_oid l.rel rel) locks
-
-    by_test : (t : Bool) → list_any (λ l. (l.clear && same_oid l.rel rel) && conflicts writer l.mode) locks ≡ list_any (conflicts writer) (map (λ l. l.mode) rest)
-        → ((t && conflicts writer lock.mode) || list_any (λ l. (l.clear && same_oid l.rel rel) && conflicts writer l.mode) locks) ≡ list_any (conflicts writer) (map (λ l. l.mode) (cond t (lock ∷ rest) rest))
-    by_test true same = ap (λ u. conflicts writer lock.mode || u) same
-    by_test false same = same
-
 -- the scan that is kept for a purpose, and what holds of it
 pub record IsKeptFor (P Q : KeptScan → Type 0) (kept : List KeptScan) (scan : Purpose) : Type 0 where
   pub k : KeptScan

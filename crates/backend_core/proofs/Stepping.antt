@@ -12,7 +12,8 @@ use Rattle.seg_calls.specs.Calls.{entry_of, Appends}
 use Rattle.cacheless.specs.Facts.{Facts, facts_of, facts_by}
 use Rattle.cacheless.specs.Session.{Session, Finished}
 use Rattle.cacheless.specs.Settled.{settled}
-use Rattle.cacheless.specs.Sessions.{noted, tally_by, ends_command, entered, commands_left, session_by, session_of}
+use Rattle.event_kinds.specs.declared.entry.Event.TheVariants as events
+use Rattle.cacheless.specs.Sessions.{noted, ends_command, placed_at, counted, entered, commands_left, session_by, session_of}
 use Rattle.cacheless.specs.Plays.{IsNext, MayPlayIn, MayPlayAt}
 use Rattle.cacheless.specs.Schedule.{LooksTruly}
 use Rattle.rel_desc.specs.Answers.{answer_text}
@@ -59,7 +60,7 @@ pub record Keeps (old : List Entry) (was now : Backend) (event : Event) (rest : 
   pub moves : Moves was now
   pub session : session_after old was event rest ≡ session_at now (rest_after old was event rest)
   pub facts : FactsFit (facts_after old was event) now
-  pub tally : is_ended now.phase ≡ false → TallyFits (tally_by event rest.tally) now
+  pub tally : is_ended now.phase ≡ false → TallyFits (rest_after old was event rest).tally now
   pub well : Well now
 
 -- what it owes after its own entry of the history
@@ -85,6 +86,11 @@ lines-more scenario seen e b c (f ∷ finished) (command ∷ commands) places =
     ap (λ h. record { backend = b; command = c; text = answer_text (answer_judged scenario h b c f command f.refused) } ∷ lines_from scenario (seen ++ e ∷ []) b (c + 1) finished commands)
     (take-append-le f.judged seen (e ∷ []) (places 0 f (omega arith)))
     ∙ ap (λ l. line_of scenario seen b c f command ∷ l) (lines-more scenario seen e b (c + 1) finished commands (λ i d within. places (suc i) d (omega (arith, within))))
+
+-- a full fetch is counted in the tally alone
+counted_tally : (facts : Facts) (event : Event) (s : Session) → counted facts event s ≡ record s { tally = (counted facts event s).tally }
+counted_tally facts (events.Fetch count) s = refl
+counted_tally facts event s = refl
 
 -- so it agrees after its own entry
 pub own_agrees : (scenario : Scenario) (old : List Entry) (was now : Backend) (event : Event) (agrees : Agrees scenario old was) → Waits agrees → GoesOn event
@@ -112,8 +118,8 @@ own_agrees scenario old was now event agrees waits on keeps follows = record {
     kept = subst (λ b. All (KeptFits new b) now.kept) (sym keeps.moves.id) follows.kept;
     places = record {
       finished = subst (λ l. All (λ f. f.judged ≤ length new) l) (sym same) (λ i d within. omega (arith, agrees.places.finished i d within, longer));
-      judged = by_test (ends_command event);
-      last = omega (arith, longer);
+      judged = subst (λ n. n ≤ length new) (sym judged) (by_test (ends_command event));
+      last = subst (λ n. n ≤ length new) (sym last) (omega (arith, longer));
     };
     answer = follows.answer;
     lines = keeps.moves.lines ∙ agrees.lines
@@ -122,7 +128,7 @@ own_agrees scenario old was now event agrees waits on keeps follows = record {
         ∙ ap (λ b. lines_from scenario new b 1 rest.finished was.commands) (sym keeps.moves.id)
         ∙ ap (lines_from scenario new now.id 1 rest.finished) (sym keeps.moves.commands);
   };
-  now = record { last = sym longer; judged = λ has none. ap (λ t. if t then agrees.rest.judged else length old + 1) (follows.judged has none) ∙ sym longer };
+  now = record { last = last ∙ sym longer; judged = λ has none. judged ∙ ap (λ t. if t then agrees.rest.judged else length old + 1) (follows.judged has none) ∙ sym longer };
 }
   where
     e : Entry
@@ -143,8 +149,17 @@ own_agrees scenario old was now event agrees waits on keeps follows = record {
     facts : facts_of new now.id ≡ after
     facts = ap (facts_of new) keeps.moves.id ∙ facts_of-own old e was.id own
 
+    placed : Session
+    placed = placed_at (length old + 1) (was.finished + 1) event (session_at was agrees.rest)
+
     same : rest.finished ≡ agrees.rest.finished
-    same = on.finished (session_at was agrees.rest)
+    same = ap (λ t. t.finished) (counted_tally after event placed) ∙ on.finished (session_at was agrees.rest)
+
+    judged : rest.judged ≡ if ends_command event then agrees.rest.judged else length old + 1
+    judged = ap (λ t. t.judged) (counted_tally after event placed)
+
+    last : rest.last ≡ length old + 1
+    last = ap (λ t. t.last) (counted_tally after event placed)
 
     longer : length new ≡ length old + 1
     longer = length_push old e

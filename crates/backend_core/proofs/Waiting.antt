@@ -5,7 +5,7 @@ use Rattle.ddl_effect.specs.Plans.{Plan, Do, Lookup, Open, Write}
 use Rattle.ddl_effect.specs.Stages.{plan_at}
 use Rattle.history_model.specs.Writes.{is_empty}
 use Rattle.cacheless.specs.Facts.{facts_of}
-use Rattle.cacheless.specs.Session.{Badly, outcome_of}
+use Rattle.cacheless.specs.Session.{Badly, outcome_of, is_settled}
 use Rattle.cacheless.specs.Owed.{owed_at_start, owed_after, builds_owed}
 use Rattle.cacheless.specs.Ends.{End, Ends, Commits, TakesBack, next_of_end, end_left}
 use Rattle.cacheless.proofs.Settling.{waits-owed, waits-act}
@@ -17,10 +17,9 @@ use Rattle.backend_core.specs.Agrees.{EndFits, CommitFits, TakeBackFits, Agrees}
 use Rattle.backend_core.specs.Steps.{OwesLookNow, IsWorking, NextLookUp, NextBuild, NextTakeBack, NextRelease, AfterCommit, AfterTakingBack, WithoutWrite, AtTheEnd, IsNextOf, makes_entry}
 use Rattle.backend_core.specs.Passing.{is_ends}
 use Rattle.backend_core.proofs.Stepping.{Waits}
-use Rattle.backend_core.proofs.Carry.{waits_at, start_owed, missing_at}
+use Rattle.backend_core.proofs.Carry.{waits_at, waits_scan, start_owed, none_missing, missing_at}
 use Rattle.backend_core.proofs.Ending.{left_same, waits_to_end, waits_after_all, has_or_none}
 use Rattle.backend_core.proofs.Looks.{not_empty, not_empty-after}
-use Rattle.backend_core.proofs.Scanning.{waits_scan}
 use Rattle.backend_core.proofs.Locking.{waits_lock}
 
 module _ (scenario : Scenario) (seen : List Entry) (s : Backend) (agrees : Agrees scenario seen s) where
@@ -28,19 +27,27 @@ module _ (scenario : Scenario) (seen : List Entry) (s : Backend) (agrees : Agree
   waits_look : OwesLookNow s → Waits agrees
   waits_look (has, owes) = waits_at scenario seen s agrees has (λ rest. waits-owed (facts_of seen s.id) has.command rest (session_at s agrees.rest) (by_side owes))
     where
-      by_side : (owed_first s has.command ≢ []) ⊎ (s.phase ≡ phases.Granted) → is_empty (owed_at_start (facts_of seen s.id) has.command (session_at s agrees.rest) ++ owed_after (facts_of seen s.id).last) ≡ false
-      by_side (inl some) = not_empty _ (owed_after (facts_of seen s.id).last) (subst (λ l. l ≢ []) (sym (start_owed (facts_of seen s.id) has.command s agrees.rest agrees.facts)) some)
+      by_side : ((owed_first s has.command ≢ []) × (s.phase ≡ phases.Working)) ⊎ (s.phase ≡ phases.Looking) → is_empty (owed_at_start (facts_of seen s.id) has.command (session_at s agrees.rest) ++ owed_after (facts_of seen s.id).last) ≡ false
+      by_side (inl (some, working)) = not_empty _ (owed_after (facts_of seen s.id).last) (subst (λ l. l ≢ []) (sym (start_owed (facts_of seen s.id) has.command s agrees.rest agrees.facts)) some)
       by_side (inr phase) = not_empty-after (owed_at_start (facts_of seen s.id) has.command (session_at s agrees.rest)) (owed_after (facts_of seen s.id).last) (ap is_empty (agrees.facts.owed ∙ ap owed_at phase))
 
+  -- a fetch
+  waits_fetch : s.phase ≡ phases.Fetching → Waits agrees
+  waits_fetch phase = waits_at scenario seen s agrees has (λ rest. waits-owed (facts_of seen s.id) has.command rest (session_at s agrees.rest)
+      (not_empty-after (owed_at_start (facts_of seen s.id) has.command (session_at s agrees.rest)) (owed_after (facts_of seen s.id).last) (ap is_empty (agrees.facts.owed ∙ ap owed_at phase))))
+    where
+      has : HasCommand s
+      has = subst (EndFits s) phase agrees.well.end
+
   -- scans that are missing for the next act
-  scans_for : (p : Plan) (scan : Purpose) (more : List Purpose) → plan_at s.exec ≡ p → elim (outcome_of p) as (λ x. List Purpose) [ Badly ↦ [] | other ↦ act_missing s.kept s.read p ] ≡ scan ∷ more → scans_missing s ≢ []
-  scans_for p scan more at is none = let both : scan ∷ more ≡ [] = sym is ∙ sym (missing_at s p agrees.well.builds at) ∙ none in absurd (cc both)
+  scans_for : (p : Plan) (scan : Purpose) (more : List Purpose) → is_settled (outcome_of p) ≡ false → plan_at s.exec ≡ p → elim (outcome_of p) as (λ x. List Purpose) [ Badly ↦ [] | other ↦ act_missing s.kept s.read p ] ≡ scan ∷ more → scans_missing s ≢ []
+  scans_for p scan more inside at is none = let both : scan ∷ more ≡ [] = sym is ∙ sym (missing_at s p (none_missing s agrees.well (ap (λ q. is_settled (outcome_of q)) at ∙ inside)) at) ∙ none in absurd (cc both)
 
   waits_look_up : (work : IsWorking s) (name : List ℕ) → NextLookUp s name → Waits agrees
-  waits_look_up work name next = waits_scan scenario seen s agrees work.has (scans_for (Do (Lookup name next.mode) next.rest) (scans.RelName name) [] next.at (ap (λ r. if r then [] else scans.RelName name ∷ []) next.unread))
+  waits_look_up work name next = waits_scan scenario seen s agrees work.has (scans_for (Do (Lookup name next.mode) next.rest) (scans.RelName name) [] refl next.at (ap (λ r. if r then [] else scans.RelName name ∷ []) next.unread))
 
   waits_build : (work : IsWorking s) (scan : Purpose) → NextBuild s scan → Waits agrees
-  waits_build work scan next = waits_scan scenario seen s agrees work.has (scans_for (Do (Open next.rel next.kind) next.rest) scan next.more next.at next.first)
+  waits_build work scan next = waits_scan scenario seen s agrees work.has (scans_for (Do (Open next.rel next.kind) next.rest) scan next.more refl next.at next.first)
 
   -- a write
   waits_write : (work : IsWorking s) (draft : _) (rest : List Row → Plan) → plan_at s.exec ≡ Do (Write draft) rest → Waits agrees
@@ -70,8 +77,12 @@ module _ (scenario : Scenario) (seen : List Entry) (s : Backend) (agrees : Agree
       by_side (inr none) = waits_after_all scenario seen s agrees none
       by_side (inl has) = let end = next.end.0 has in waits_end has (TakesBack from) (agrees.well.come_out end.1) (ap is_ended next.phase) end.2 refl
 
+  -- a commit on its way
+  waits_visible : (published : ℕ) → s.phase ≡ phases.Visible published → Waits agrees
+  waits_visible published phase = let end : CommitFits s = subst (EndFits s) phase agrees.well.end in waits_end end.has (Commits end.first) end.out (ap is_ended phase) end.end refl
+
   waits_release : (from : ℕ) → NextRelease s from → Waits agrees
-  waits_release from (AfterCommit phase runs) = let end : CommitFits s = subst (EndFits s) phase agrees.well.end in waits_end end.has (Commits end.first) end.out (ap is_ended phase) end.end refl
+  waits_release from (AfterCommit published phase sent runs) = waits_visible published phase
   waits_release from (AfterTakingBack phase) = by_side (has_or_none s)
     where
       end : TakeBackFits s from
@@ -88,11 +99,13 @@ module _ (scenario : Scenario) (seen : List Entry) (s : Backend) (agrees : Agree
   pub waits_next : (next : Next) → IsNextOf s next → makes_entry next ≡ true → Waits agrees
   waits_next nexts.Look is makes = waits_look is
   waits_next nexts.LookBeforeScan (work, some, unlooked) makes = waits_scan scenario seen s agrees work.has some
+  waits_next nexts.Fetch is makes = waits_fetch is
   waits_next (nexts.LookUp name) (work, next, looked) makes = waits_look_up work name next
   waits_next (nexts.Build scan) (work, next, looked) makes = waits_build work scan next
   waits_next (nexts.Lock rel mode) (work, next) makes = waits_lock scenario seen s agrees work.has rel mode next
   waits_next nexts.Write (work, next) makes = waits_write work next.draft next.rest next.at
   waits_next (nexts.Commit xid) next makes = waits_end next.working.has (Commits next.first) (agrees.well.come_out next.answered) (ap is_ended next.working.phase) next.end refl
+  waits_next nexts.Publish next makes = waits_visible next.published next.phase
   waits_next (nexts.TakeBack from) next makes = waits_take_back from next
   waits_next (nexts.Release from) next makes = waits_release from next
   waits_next nexts.Leave next makes = waits_after_all scenario seen s agrees next.0

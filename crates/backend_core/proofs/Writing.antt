@@ -1,15 +1,19 @@
 -- A backend's write of a new table.
-use Rattle.std.proofs.Common.{◌≡◌, ◌<◌, ◌+◌, ◌∙◌, inl, inr, ℕ, Bool, true, false, Option, Some, None, List, [], ◌∷◌, ◌++◌, ◌==◌, ◌&&◌, ◌||◌, refl, sym, ap, subst, length, drop, fold, map, is_some, arith}
+use Rattle.std.proofs.Common.{◌≡◌, ◌≤◌, ◌<◌, ◌+◌, ◌∙◌, inl, inr, ℕ, Bool, true, false, Option, Some, None, List, [], ◌∷◌, ◌++◌, ◌==◌, ◌&&◌, ◌||◌, refl, sym, ap, subst, length, drop, fold, map, is_none, is_some, arith}
 use Rattle.std.specs.Option.{option_map_or}
-use Rattle.std.specs.List.{flat_map}
-use Rattle.std.specs.declared.alloc.Global.{Global}
-use Rattle.std.specs.declared.vec.Vec.{Vec}
+use Rattle.std.specs.List.{AllByRecursion, flat_map}
 use Rattle.std.proofs.Math.Bool.{and-false, or-true}
 use Rattle.std.proofs.lemmas.Bool.{ne_eqb, eq-eqb}
 use Rattle.std.proofs.lemmas.List.{map-append}
 use Rattle.base_types.specs.declared.mode.Mode.TheVariants.{AccessExclusive}
 use Rattle.event_kinds.specs.declared.entry.Event.TheVariants as events
-use Rattle.lock_modes.specs.Own.{cleared}
+use Rattle.base_types.specs.Modes.{same_mode}
+use Rattle.lock_modes.specs.declared.grant.Grant.{Grant}
+use Rattle.lock_modes.specs.Grants.{holds}
+use Rattle.lock_modes.specs.Own.{cleared, has_lock, new_lock}
+use Rattle.lock_modes.specs.Rooms.{Roomy}
+use Rattle.inval_messages.specs.Lists.{Written, has_write_from}
+use Rattle.command_lists.specs.Lists.{CommandLists, Held, all_lists, new_list, with_messages}
 use Rattle.ddl_effect.specs.declared.exec.Exec.TheVariants as stages
 use Rattle.ddl_effect.specs.Plans.{Plan, Done, Do, Write}
 use Rattle.ddl_effect.specs.Commands.{plan_of, writing}
@@ -17,116 +21,108 @@ use Rattle.ddl_effect.specs.Blocks.{Block, Outside, Inside, Failed}
 use Rattle.ddl_effect.specs.Stages.{plan_at}
 use Rattle.history_model.specs.Drawn.{next_oid}
 use Rattle.history_model.specs.Orderly.{MayComeNext}
-use Rattle.history_model.specs.Sent.{written_by, has_write_from, cats_by, rels_by, once_more}
-use Rattle.history_model.specs.Transactions.{Running, begun}
+use Rattle.history_model.specs.Held.{held_of}
+use Rattle.history_model.specs.Lives.{life_of}
+use Rattle.history_model.specs.Sent.{written_by, lists_of}
+use Rattle.history_model.specs.Transactions.{Running, begun, running_transaction_of}
 use Rattle.history_model.specs.Writes.{has_written, is_empty}
 use Rattle.history_model.proofs.Reading.{has_written-more}
-use Rattle.history_model.proofs.NoMessages.{usable_by-none}
+use Rattle.history_model.proofs.Every.{every-weaker}
+use Rattle.history_model.proofs.Lives.{Timely, command_of}
+use Rattle.history_model.proofs.Ordered.{sound_ordered, locks_exclude}
+use Rattle.history_model.proofs.Prefixes.{EachEntry-weaker}
 use Rattle.seg_calls.specs.declared.refusal.Written.{Written as Made}
-use Rattle.seg_calls.specs.Calls.{MakesWrite, MayRequest, MayWrite, Appends, items_drawn, entry_of}
+use Rattle.seg_calls.specs.Calls.{MakesWrite, MayRequest, MayWrite, Appends, items_drawn, messages_in, entry_of}
 use Rattle.cacheless.specs.Facts.{facts_of}
 use Rattle.cacheless.specs.Session.{Session, none_open, outcome_of, is_settled, first_of}
-use Rattle.cacheless.specs.Owed.{OwesScan, builds_owed, owed_of}
+use Rattle.cacheless.specs.Owed.{Owes, OwesLook, OwesScan, builds_owed, owed_of}
 use Rattle.cacheless.specs.Sessions.{written, placed_at}
 use Rattle.cacheless.specs.Plays.{IsWrite, MayPlayIn}
+use Rattle.cacheless.proofs.HeldLocks.{Follows as Follows', grant_of, locks_of, locks_are_held, lock_is_held}
 use Rattle.cacheless.proofs.Settling.{waits-act}
-use Rattle.backend_core.specs.Types.{Oid, Xid, Row, Scenario, Entry, Event, Item, Phase, Draft, Exec, Opening, OwnLock, OwnTransaction, Backend}
+use Rattle.backend_core.specs.Types.{Oid, Xid, Row, Command, Scenario, Entry, Event, Item, Message, Phase, Draft, Exec, Opening, OwnLock, OwnTransaction, KeptScan, Backend}
 use Rattle.backend_core.specs.declared.phase.Phase.TheVariants as phases
 use Rattle.backend_core.specs.NewTables.{IsNewTable, SeesRelation}
-use Rattle.backend_core.specs.State.{is_visible_at, is_taken_back, is_ended, is_out, running_in, written_in, builds_missing, owed_at, one_if, session_at}
-use Rattle.backend_core.specs.Agrees.{IsPlayed, FactsFit, RunsBy, TransactionFits, EndFits, Well, Agrees}
+use Rattle.backend_core.specs.State.{is_accepting, published_at, is_visible_at, is_taken_back, is_ended, is_out, begins_in, owed_first, running_in, lists_at, kept_spared, owed_at, one_if, session_at}
+use Rattle.backend_core.specs.Agrees.{IsPlayed, ReadRight, FactsFit, KeptFits, RunsBy, TransactionFits, EndFits, Well, Agrees}
 use Rattle.backend_core.specs.Steps.{IsWorking, Enters}
 use Rattle.backend_core.specs.Way.{reached, OnItsWay}
 use Rattle.backend_core.proofs.Acting.{IsActing, is_acting}
 use Rattle.backend_core.proofs.CanFollow.{CanGoOn}
 use Rattle.backend_core.proofs.Stepping.{Waits, facts_after, session_after, rest_after, Keeps, Follows, Suits, GoesOn, own_enters}
-use Rattle.backend_core.proofs.Carry.{may_request, waits_at, missing_at, owed_scans, clear_at, accepted-clear, may_come, kept-more, no_answer}
+use Rattle.backend_core.proofs.Carry.{may_request, waits_at, none_missing, missing_at, owed_scans, clear_at, accepted-clear, may_come, kept-more, no_answer}
 use Rattle.backend_core.proofs.NewTable.{new_table_may_write, new_table_locks}
 use Rattle.backend_core.proofs.Nexting.{the_command}
+use Rattle.backend_core.proofs.Sparing.{is_kept-spared, all-spared}
 use Rattle.backend_core.proofs.Ways.{acts}
+use Rattle.backend_core.proofs.WriteMessages.{registered_is, spared_alike}
 
 -- while a command works its transaction runs as the blocks say
 working_fits : (s : Backend) → s.phase ≡ phases.Working → TransactionFits s s.phase → RunsBy s s.blocks.block
 working_fits s phase fits = subst (TransactionFits s) phase fits
 
 -- the backend after it asked for a write
-abbrev pub after_asking : Backend → Exec → List Opening → Bool → Option OwnTransaction → Vec ℕ Global → Vec OwnLock Global → Backend
-after_asking was exec opened read running writes locks = record was { exec = exec; opened = opened; read = read; running = running; writes = writes; locks = locks }
+abbrev pub after_asking : Backend → Exec → List Opening → Bool → Option OwnTransaction → Held → Roomy OwnLock → List KeptScan → Backend
+after_asking was exec opened read running lists locks kept = record was { exec = exec; opened = opened; read = read; running = running; lists = lists; locks = locks; kept = kept }
 
 -- its command has come out, and its transaction has written at most
-pub record Settles (was : Backend) (exec : Exec) (opened : List Opening) (running : Option OwnTransaction) (writes : List ℕ) (locks : List OwnLock) : Type 0 where
+pub record Settles (was : Backend) (exec : Exec) (opened : List Opening) (running : Option OwnTransaction) (lists : CommandLists) (locks : List OwnLock) : Type 0 where
   pub out : is_settled (outcome_of (plan_at exec)) ≡ true
-  pub builds : builds_missing was.kept opened ≡ []
+  pub closed : opened ≡ []
   pub runs : is_some running ≡ true
   pub first : option_map_or (λ t. t.first) running 0 ≡ option_map_or (λ t. t.first) was.running 0
-  pub written : has_write_from 0 (map written_in writes) ≡ true → option_map_or (λ t. is_some t.xid) running false ≡ true
+  pub ended : lists.running ≡ None
+  pub written : has_write_from 0 (all_lists lists) ≡ true → option_map_or (λ t. is_some t.xid) running false ≡ true
   pub clear : map cleared locks ≡ locks
 
--- so its transaction is still as the blocks say
-asked_transaction : (was : Backend) (exec : Exec) (opened : List Opening) (read : Bool) (running : Option OwnTransaction) (writes : Vec ℕ Global) (locks : Vec OwnLock Global) → was.phase ≡ phases.Working → is_some was.running ≡ true
-    → is_some running ≡ true → option_map_or (λ t. t.first) running 0 ≡ option_map_or (λ t. t.first) was.running 0 → TransactionFits was was.phase → TransactionFits (after_asking was exec opened read running writes locks) was.phase
-asked_transaction was exec opened read running writes locks phase ran runs first fits =
-    subst (TransactionFits now) (sym phase)
-    (by_block was.blocks.block refl (working_fits was phase fits))
+-- where a transaction runs no look is owed at its start
+runs_owes : (s : Backend) (command : Command) → is_some s.running ≡ true → owed_first s command ≡ []
+runs_owes s command runs = by_own s.running runs
   where
-    now : Backend
-    now = after_asking was exec opened read running writes locks
-
-    by_block : (block : Block) → was.blocks.block ≡ block → RunsBy was block → RunsBy now block
-    by_block Outside is (inl none) = let no : true ≡ false = sym ran ∙ ap is_some none in absurd (cc no)
-    by_block Outside is (inr alone) = inr (record { has = record { command = alone.has.command; at = alone.has.at }; begins = alone.begins; first = first ∙ alone.first })
-    by_block Inside is block = record { runs = runs; first = λ command. first ∙ block.first command }
-    by_block Failed is none = let no : true ≡ false = sym ran ∙ ap is_some none in absurd (cc no)
+    by_own : (own : Option OwnTransaction) → is_some own ≡ true → elim (begins_in s.blocks s.phase command && is_none own) as (λ t. List Owes) [ true ↦ OwesLook ∷ [] | false ↦ [] ] ≡ []
+    by_own None none = absurd (cc)
+    by_own (Some t) some = ap (λ u. elim u as (λ t. List Owes) [ true ↦ OwesLook ∷ [] | false ↦ [] ]) (and-false (begins_in s.blocks s.phase command))
 
 -- and it is well
-pub asked_well : (was : Backend) (exec : Exec) (opened : List Opening) (read : Bool) (running : Option OwnTransaction) (writes : Vec ℕ Global) (locks : Vec OwnLock Global) → was.phase ≡ phases.Working → is_some was.running ≡ true → was.blocked ≡ false
-    → is_some was.answer ≡ false → is_out was ≡ false → Settles was exec opened running writes.items locks.items → Well was → Well (after_asking was exec opened read running writes locks)
-asked_well was exec opened read running writes locks phase ran unblocked none busy settles well = record {
+pub asked_well : (was : Backend) (exec : Exec) (opened : List Opening) (read : Bool) (running : Option OwnTransaction) (lists : Held) (locks : Roomy OwnLock) (kept : List KeptScan) → was.phase ≡ phases.Working → is_some was.running ≡ true → was.blocked ≡ false
+    → is_some was.answer ≡ false → is_out was ≡ false → Settles was exec opened running lists.lists locks.items → Well was → Well (after_asking was exec opened read running lists locks kept)
+asked_well was exec opened read running lists locks kept phase ran unblocked none busy settles well = record {
   built = well.built;
   few = well.few;
   most = well.most;
-  builds = settles.builds;
+  opened = inl settles.closed;
   blocked = well.blocked;
   refused = λ is. let no : true ≡ false = sym is ∙ unblocked in absurd (cc no);
-  plain = λ command here ends free. let no : false ≡ true = sym busy ∙ ap (λ p. is_settled (outcome_of p)) (well.plain command here ends free) in absurd (cc no);
+  plain = λ command here ends free. let no : false ≡ true = sym busy ∙ ap (λ p. is_settled (outcome_of p)) (well.plain command here ends free).0 in absurd (cc no);
   opens = well.opens;
   levels = well.levels;
   first = omega (arith, settles.first, well.first);
-  transaction = asked_transaction was exec opened read running writes locks phase ran settles.runs settles.first well.transaction;
+  transaction = subst (TransactionFits now) (sym phase) (by_block was.blocks.block refl (working_fits was phase well.transaction));
+  ended = settles.ended;
   written = settles.written;
   end = subst (EndFits now) (sym phase) tt;
-  past = λ none. settles.out;
+  past = λ none. (settles.out, settles.closed);
   answered = λ has is. inl phase;
   come_out = λ is. settles.out;
   free = λ is has. let no : true ≡ false = sym is ∙ none in absurd (cc no);
-  granted = λ is. let no : phases.Granted ≡ phases.Working = sym is ∙ phase in absurd (cc no);
+  starts = λ has some. absurd (some (runs_owes now has.command settles.runs));
+  accepting = λ is. let no : true ≡ false = sym is ∙ ap is_accepting phase in absurd (cc no);
   clear = inr settles.clear;
 }
   where
     now : Backend
-    now = after_asking was exec opened read running writes locks
+    now = after_asking was exec opened read running lists locks kept
+
+    by_block : (block : Block) → was.blocks.block ≡ block → RunsBy was block → RunsBy now block
+    by_block Outside is (inl none) = let no : true ≡ false = sym ran ∙ ap is_some none in absurd (cc no)
+    by_block Outside is (inr alone) = inr (record { has = record { command = alone.has.command; at = alone.has.at }; begins = alone.begins; first = settles.first ∙ alone.first })
+    by_block Inside is block = record { runs = settles.runs; first = λ command. settles.first ∙ block.first command }
+    by_block Failed is none = let no : true ≡ false = sym ran ∙ ap is_some none in absurd (cc no)
 
 begun_writes : (p : Phase) (c : ℕ) (xid : Xid) (o : Option OwnTransaction) → p ≡ phases.Working
     → ◌≡◌ {A = Option Running} (Some (record (begun c (running_in p o)) { xid = Some xid.0 })) (running_in p (Some (record { first = option_map_or (λ t. t.first) o c; xid = Some xid })))
-begun_writes p c xid None phase = λ i. Some (record { first = c; xid = Some xid.0; published = 0; visible = is_visible_at (sym phase i) })
+begun_writes p c xid None phase = λ i. Some (record { first = c; xid = Some xid.0; published = published_at (sym phase i); visible = is_visible_at (sym phase i) })
 begun_writes p c xid (Some t) phase = refl
-
--- a write has no messages
-no_messages : (before : List Entry) (b c : ℕ) (items : List Item) → written_by before b c items ≡ written_in c
-no_messages before b c items = λ i. record { command = c; cats = no_cats items i; rels = fold once_more [] (no_rels items i) }
-  where
-    no_cats : (is : List Item) → flat_map (cats_by before b) is ≡ []
-    no_cats [] = refl
-    no_cats (item ∷ is) = no_cats is
-
-    no_rels : (is : List Item) → flat_map (rels_by before b) is ≡ []
-    no_rels [] = refl
-    no_rels (item ∷ is) = no_rels is
-
--- what is pushed to a list of writes
-lists_pushed : (before : List Entry) (b c : ℕ) (items : List Item) (commands : List ℕ) → map written_in commands ++ written_by before b c items ∷ [] ≡ map written_in (commands ++ c ∷ [])
-lists_pushed before b c items [] = ap (λ w. w ∷ []) (no_messages before b c items)
-lists_pushed before b c items (command ∷ commands) = ap (λ l. written_in command ∷ l) (lists_pushed before b c items commands)
 
 cleared_pushed : (locks : List OwnLock) (lock : OwnLock) → lock.clear ≡ true → map cleared locks ≡ locks → map cleared (locks ++ lock ∷ []) ≡ locks ++ lock ∷ []
 cleared_pushed locks lock is clear = map-append cleared locks (lock ∷ []) ∙ ap (λ l. l ++ cleared lock ∷ []) clear ∙ (λ i. locks ++ record lock { clear = sym is i } ∷ [])
@@ -139,6 +135,13 @@ first_kept (Some t) c runs = refl
 starts_kept : (o : Option OwnTransaction) (c : ℕ) (xid : Option Xid) → is_some o ≡ true → one_if (option_map_or (λ t. t.first) o c == c) ≡ option_map_or (λ t. one_if (t.first == c)) o 0
 starts_kept None c xid runs = absurd (cc)
 starts_kept (Some t) c xid runs = refl
+
+-- on a relation that is still to be drawn there is no lock
+none_held : (b : ℕ) (rel : Oid) (next : ℕ) (held : List Grant) → rel.0 ≡ next → AllByRecursion (λ g. g.rel.0 < next) held → holds held b rel AccessExclusive ≡ false
+none_held b rel next [] new drawn = refl
+none_held b rel next (g ∷ held) new drawn =
+    (λ i. ((g.backend == b) && ne_eqb g.rel.0 rel.0 (λ same. absurd (omega (arith, same, new, drawn.0))) i && same_mode g.mode AccessExclusive) || none_held b rel next held new drawn.1 i)
+    ∙ ap (λ t. (t && same_mode g.mode AccessExclusive) || false) (and-false (g.backend == b))
 
 module _ (scenario : Scenario) (old : List Entry) (was : Backend) (agrees : Agrees scenario old was) (works : IsWorking was) (draft : Draft) (at : plan_at was.exec ≡ writing draft) where
   -- what is known of it
@@ -164,7 +167,10 @@ module _ (scenario : Scenario) (old : List Entry) (was : Backend) (agrees : Agre
   makes_table = (subst (CanGoOn (SeesRelation old was.id)) at acting.can).0
 
   pub locks_clear : map cleared was.locks.items ≡ was.locks.items
-  locks_clear = clear_at was agrees.well (λ is. let no : phases.Granted ≡ phases.Working = sym is ∙ works.phase in absurd (cc no))
+  locks_clear = clear_at was agrees.well (ap is_accepting works.phase)
+
+  pub is_inside : is_out was ≡ false
+  is_inside = ap (λ p. is_settled (outcome_of p)) at
 
   -- so it may write
   pub may_write : IsPlayed scenario old → MayWrite old was.id (was.finished + 1) draft
@@ -183,11 +189,21 @@ module _ (scenario : Scenario) (old : List Entry) (was : Backend) (agrees : Agre
       by_test false = refl
 
   pub nothing_owed : owed_of (facts_of old was.id) works.has.command (session_at was agrees.rest) ≡ []
-  nothing_owed = owed_scans scenario old was agrees works ∙ ap (map OwesScan) (missing_at was (writing draft) agrees.well.builds at)
+  nothing_owed = owed_scans scenario old was agrees works ∙ ap (map OwesScan) (missing_at was (writing draft) (none_missing was agrees.well is_inside) at)
 
--- the lock on a new relation
-abbrev pub new_lock : Oid → ℕ → OwnLock
-new_lock rel c = record { rel = rel; mode = AccessExclusive; command = c; clear = true }
+  -- no list is of a later command
+  pub lists_early : IsPlayed scenario old → AllByRecursion (λ list. list.command ≤ was.finished + 1) (lists_at was)
+  lists_early played = subst (AllByRecursion (λ (list : Written). list.command ≤ was.finished + 1)) agrees.facts.lists
+      (every-weaker (λ (list : Written). list.command ≤ command_of old was.id) (λ (list : Written). list.command ≤ was.finished + 1) (λ list low. omega (arith, low, timely.is agrees.life.last agrees.life.alive, agrees.life.most)) (lists_of old was.id) timely.low)
+    where
+      timely : Timely (life_of old was.id) (command_of old was.id) (running_transaction_of old was.id) (lists_of old was.id)
+      timely = (sound_ordered old played.sound).lives.timely was.id
+
+  -- nobody holds a lock on the new relation
+  pub new_unheld : (rel : Oid) → IsPlayed scenario old → rel.0 ≡ next_oid old → has_lock was.locks.items rel AccessExclusive ≡ false
+  new_unheld rel played new =
+      sym (lock_is_held was.id rel AccessExclusive (held_of old) was.locks.items (locks_are_held scenario old was.id (EachEntry-weaker MayComeNext Follows' (λ before e comes. comes.follows.life) old played.sound) ∙ ap (λ o. map (grant_of was.id) (locks_of o)) (agrees.is ∙ ap Some waits)))
+      ∙ none_held was.id rel (next_oid old) (held_of old) new (locks_exclude old played.sound).drawn
 
 -- the transaction that has written
 abbrev pub with_xid : Option OwnTransaction → ℕ → Xid → OwnTransaction
@@ -210,25 +226,30 @@ unwritten_later : (history : List Entry) (b c number : ℕ) (xid : Xid) (items :
 unwritten_later history b c number xid items later none = has_written-more history (entry_of b c (events.Write xid items)) b number
     ∙ (λ i. none i || ((b == b) && ne_eqb c number (λ same. absurd (omega (arith, same, later))) i && true)) ∙ ap (λ t. t && true) (and-false (b == b))
 
-module _ (scenario : Scenario) (old : List Entry) (was : Backend) (agrees : Agrees scenario old was) (works : IsWorking was) (draft : Draft) (at : plan_at was.exec ≡ writing draft) (xid : Xid) (rel : Oid) (writes : Vec ℕ Global) (locks : Vec OwnLock Global)
-    (first : rel.0 ≡ next_oid old) (wrote : writes.items ≡ was.writes.items ++ (was.finished + 1) ∷ []) (locked : locks.items ≡ was.locks.items ++ new_lock rel (was.finished + 1) ∷ []) where
+module _ (scenario : Scenario) (old : List Entry) (was : Backend) (agrees : Agrees scenario old was) (works : IsWorking was) (draft : Draft) (at : plan_at was.exec ≡ writing draft) (xid : Xid) (rel : Oid) (lists : Held) (locks : Roomy OwnLock)
+    (first : rel.0 ≡ next_oid old) (wrote : all_lists lists.lists ≡ lists_at was ++ written_by old was.id (was.finished + 1) (items_drawn old draft) ∷ []) (ended : lists.lists.running ≡ None) (locked : locks.items ≡ was.locks.items ++ new_lock rel (was.finished + 1) ∷ []) where
   abbrev own : OwnTransaction
   own = with_xid was.running (was.finished + 1) xid
 
   abbrev event : Event
   event = events.Write xid (items_drawn old draft)
 
+  -- the messages that are executed
+  abbrev messages : List Message
+  messages = messages_in old was.id (items_drawn old draft)
+
   abbrev now : Backend
-  now = after_asking was stages.Done [] false (Some own) writes locks
+  now = after_asking was stages.Done [] false (Some own) lists locks (kept_spared messages was.kept)
 
   running_now : is_some was.running ≡ true
   running_now = runs scenario old was agrees works draft at
 
-  settles : Settles was stages.Done [] (Some own) writes.items locks.items
+  settles : Settles was stages.Done [] (Some own) lists.lists locks.items
   settles = record {
     out = refl;
-    builds = refl;
+    closed = refl;
     runs = refl;
+    ended = ended;
     first = first_kept was.running (was.finished + 1) running_now;
     written = λ is. refl;
     clear = subst (λ l. map cleared l ≡ l) (sym locked) (cleared_pushed was.locks.items (new_lock rel (was.finished + 1)) refl (locks_clear scenario old was agrees works draft at));
@@ -261,6 +282,7 @@ module _ (scenario : Scenario) (old : List Entry) (was : Backend) (agrees : Agre
     opened = (left i).opened;
     read = (left i).read;
     found = after.found;
+    sought = after.sought;
     ended = (left i).ended;
     tally = after.tally;
     locks = locks_after i;
@@ -271,12 +293,12 @@ module _ (scenario : Scenario) (old : List Entry) (was : Backend) (agrees : Agre
   facts_now : FactsFit (facts_after old was event) now
   facts_now = record {
     running = ap (λ o. Some (record (begun (was.finished + 1) o) { xid = Some xid.0 })) agrees.facts.running ∙ begun_writes was.phase (was.finished + 1) xid was.running works.phase;
-    lists = ap (λ l. l ++ written_by old was.id (was.finished + 1) (items_drawn old draft) ∷ []) agrees.facts.lists ∙ lists_pushed old was.id (was.finished + 1) (items_drawn old draft) was.writes.items ∙ ap (map written_in) (sym wrote);
+    lists = ap (λ l. l ++ written_by old was.id (was.finished + 1) (items_drawn old draft) ∷ []) agrees.facts.lists ∙ sym wrote;
     owed = sym (ap owed_at works.phase);
     took = sym (ap is_taken_back works.phase);
     taken = λ from is. let no : phases.Working ≡ phases.TakenBack from = sym works.phase ∙ is in absurd (cc no);
-    usable = λ scan build. usable_by-none old was.id (was.finished + 1) scan event ((facts_of old was.id).usable scan) refl ∙ agrees.facts.usable scan build;
-    kept = agrees.facts.kept;
+    usable = λ scan build. (λ i. sym (spared_alike old was.id (items_drawn old draft) scan) i && agrees.facts.usable scan build i) ∙ sym (is_kept-spared messages was.kept scan);
+    kept = all-spared (ReadRight (facts_of old was.id).rows) messages was.kept agrees.facts.kept;
     given = λ is. absurd (cc is);
   }
 
@@ -285,8 +307,8 @@ module _ (scenario : Scenario) (old : List Entry) (was : Backend) (agrees : Agre
     moves = record { id = refl; commands = refl; finished = refl; life = refl; lines = refl };
     session = session_now;
     facts = facts_now;
-    tally = λ _. agrees.tally (ap is_ended works.phase) ∙ ap (λ n. agrees.rest.tally.scans + agrees.rest.tally.grants + n + one_if was.looked) (sym (starts_kept was.running (was.finished + 1) (Some xid) running_now));
-    well = asked_well was stages.Done [] false (Some own) writes locks works.phase running_now (is_unblocked scenario old was agrees works draft at) (is_unanswered scenario old was agrees works draft at) (ap (λ p. is_settled (outcome_of p)) at) settles agrees.well;
+    tally = λ _. ((agrees.tally (ap is_ended works.phase)).0 ∙ ap (λ n. agrees.rest.tally.full + agrees.rest.tally.scans + agrees.rest.tally.grants + n + one_if was.looked) (sym (starts_kept was.running (was.finished + 1) (Some xid) running_now)), (agrees.tally (ap is_ended works.phase)).1);
+    well = asked_well was stages.Done [] false (Some own) lists locks now.kept works.phase running_now (is_unblocked scenario old was agrees works draft at) (is_unanswered scenario old was agrees works draft at) (ap (λ p. is_settled (outcome_of p)) at) settles agrees.well;
   }
 
   suits : Suits scenario old was event agrees.rest
@@ -314,7 +336,8 @@ module _ (scenario : Scenario) (old : List Entry) (was : Backend) (agrees : Agre
       given_at = tt;
       given_seen = tt;
     };
-    kept = kept-more old (entry_of was.id (was.finished + 1) event) was.id was.kept (may_come scenario old (entry_of was.id (was.finished + 1) event) played comes suits.tables) (λ i d within. refl) agrees.kept;
+    kept = all-spared (KeptFits (old ++ entry_of was.id (was.finished + 1) event ∷ []) was.id) messages was.kept
+        (kept-more old (entry_of was.id (was.finished + 1) event) was.id was.kept (may_come scenario old (entry_of was.id (was.finished + 1) event) played comes suits.tables) (λ i d within. refl) agrees.kept);
     answer = no_answer scenario (old ++ entry_of was.id (was.finished + 1) event ∷ []) now (rest_after old was event agrees.rest) (is_unanswered scenario old was agrees works draft at);
     judged = λ has none. refl;
   }
@@ -327,9 +350,14 @@ module _ (scenario : Scenario) (old : List Entry) (was : Backend) (agrees : Agre
   write_enters new had has played appends = own_enters scenario old new had has was now event agrees (waits scenario old was agrees works draft at) (write_goes_on xid (items_drawn old draft)) suits keeps (follows played appends.comes) appends
 
 -- the same, for what a segment answers and what the backend keeps of it
-pub wrote_enters : (scenario : Scenario) (old new : List Entry) (had has : ℕ → ℕ) (was : Backend) (agrees : Agrees scenario old was) (works : IsWorking was) (draft : Draft) (at : plan_at was.exec ≡ writing draft) (made : Made) (exec : Exec) (opened : List Opening) (transaction : OwnTransaction) (writes : Vec ℕ Global) (locks : Vec OwnLock Global)
-    → exec ≡ stages.Done → opened ≡ [] → transaction ≡ with_xid was.running (was.finished + 1) made.xid → writes.items ≡ was.writes.items ++ (was.finished + 1) ∷ [] → locks.items ≡ was.locks.items ++ new_lock made.first_oid (was.finished + 1) ∷ []
-    → IsPlayed scenario old → MakesWrite old new had has was.id (was.finished + 1) draft made → Enters scenario old new was (after_asking was exec opened false (Some transaction) writes locks)
-wrote_enters scenario old new had has was agrees works draft at made exec opened transaction writes locks done closed runs_as wrote locked played makes =
-    subst (λ s. Enters scenario old new was s) (λ i. after_asking was (sym done i) (sym closed i) false (Some (sym runs_as i)) writes locks)
-    (write_enters scenario old was agrees works draft at made.xid made.first_oid writes locks makes.first wrote locked new had has played makes.appends)
+pub wrote_enters : (scenario : Scenario) (old new : List Entry) (had has : ℕ → ℕ) (was : Backend) (agrees : Agrees scenario old was) (works : IsWorking was) (draft : Draft) (at : plan_at was.exec ≡ writing draft) (made : Made) (exec : Exec) (opened : List Opening) (transaction : OwnTransaction) (lists : Held) (locks : Roomy OwnLock) (kept : List KeptScan)
+    → exec ≡ stages.Done → opened ≡ [] → transaction ≡ with_xid was.running (was.finished + 1) made.xid → all_lists lists.lists ≡ lists_at was ++ with_messages made.messages.items (new_list (was.finished + 1)) ∷ [] → lists.lists.running ≡ None
+    → locks.items ≡ was.locks.items ++ new_lock made.first_oid (was.finished + 1) ∷ [] → kept ≡ kept_spared made.messages.items was.kept
+    → IsPlayed scenario old → MakesWrite old new had has was.id (was.finished + 1) draft made → Enters scenario old new was (after_asking was exec opened false (Some transaction) lists locks kept)
+wrote_enters scenario old new had has was agrees works draft at made exec opened transaction lists locks kept done closed runs_as wrote ended locked spared played makes =
+    subst (λ s. Enters scenario old new was s) (λ i. after_asking was (sym done i) (sym closed i) false (Some (sym runs_as i)) lists locks (same_kept i))
+    (write_enters scenario old was agrees works draft at made.xid made.first_oid lists locks makes.first
+    (wrote ∙ ap (λ l. lists_at was ++ l ∷ []) (ap (λ l. with_messages l (new_list (was.finished + 1))) makes.messages ∙ registered_is old was.id (was.finished + 1) (items_drawn old draft))) ended locked new had has played makes.appends)
+  where
+    same_kept : kept_spared (messages_in old was.id (items_drawn old draft)) was.kept ≡ kept
+    same_kept = ap (λ l. kept_spared l was.kept) (sym makes.messages) ∙ sym spared

@@ -182,9 +182,9 @@ pub record Well (s : Backend) : Type 0 where
   pub end : EndFits s s.phase
   pub answered : HasCommand s → is_some s.answer ≡ false → (s.phase ≡ phases.Working) ⊎ (is_accepting s.phase ≡ true)
   pub come_out : is_some s.answer ≡ true → is_out s ≡ true
-  pub past : slice_get s.commands s.finished ≡ None → is_out s ≡ true
+  pub past : slice_get s.commands s.finished ≡ None → (is_out s ≡ true) × (s.opened ≡ [])
   pub free : is_some s.answer ≡ true → (has : HasCommand s) → owed_first s has.command ≡ []
-  pub starts : (has : HasCommand s) → owed_first s has.command ≢ [] → is_absent (plan_at s.exec) ≡ false
+  pub starts : (has : HasCommand s) → owed_first s has.command ≢ [] → (is_absent (plan_at s.exec) ≡ false) × (s.read ≡ false)
   pub accepting : is_accepting s.phase ≡ true → IsAccepting s
   pub clear : (is_accepting s.phase ≡ true) ⊎ (map cleared s.locks.items ≡ s.locks.items)
 

@@ -2,12 +2,13 @@
 use Rattle.std.specs.Prelude.{◌≡◌, ℕ, Bool, true, false, not, Option, Some, None, List, [], ◌∷◌, ◌++◌, ◌+◌, ◌==◌, ◌&&◌, map, filter, if◌then◌else◌, is_none, unwrap_or, slice_get}
 use Rattle.std.specs.Option.{option_map, option_map_or}
 use Rattle.std.specs.List.{list_any, flat_map}
-use Rattle.base_types.specs.Scans.{same_scan, build_scans}
+use Rattle.base_types.specs.Scans.{same_oid, same_scan, build_scans}
 use Rattle.base_types.specs.declared.row.Row.TheVariants as rows
 use Rattle.base_types.specs.declared.scan.Purpose.TheVariants as scans
 use Rattle.base_types.specs.declared.command.Command.TheVariants as commands
 use Rattle.lock_modes.specs.Own.{has_lock, cleared}
 use Rattle.inval_messages.specs.Lists.{Written, has_write_from, unsent_after}
+use Rattle.inval_messages.specs.declared.message.Message.TheVariants.{Cat, Rel}
 use Rattle.inval_messages.specs.Messages.{is_spared}
 use Rattle.command_lists.specs.Lists.{all_lists}
 use Rattle.ddl_effect.specs.Plans.{Plan, Absent, Do, Lookup, Column, rests_on}
@@ -20,6 +21,7 @@ use Rattle.cacheless.specs.Ends.{End, Ends, Commits, TakesBack}
 use Rattle.backend_core.specs.Types.{Oid, Mode, Message, Row, Purpose, Command, CommandError, Opening, OwnLock, KeptScan, Life, Phase, OwnTransaction, Backend}
 use Rattle.backend_core.specs.declared.phase.Life.TheVariants as lives
 use Rattle.backend_core.specs.declared.phase.Phase.TheVariants as phases
+use Rattle.backend_core.specs.NewTables.{relation_of}
 
 -- what an accept of messages owes: the look that comes next, or the fetch
 abbrev pub owed_at : Phase → List Owes
@@ -104,6 +106,11 @@ unsent_at s = unsent_after (published_at s.phase) (lists_at s)
 -- the scan is kept
 abbrev pub is_kept : List KeptScan → Purpose → Bool
 is_kept kept scan = list_any (λ k. same_scan k.scan scan) kept
+
+-- the message is for the relation that a scan for a descriptor is of
+abbrev pub covers_relation : Purpose → Message → Bool
+covers_relation scan (Rel rel) = option_map_or (λ own. same_oid rel own) (relation_of scan) false
+covers_relation scan (Cat cache hash) = false
 
 -- what is kept once messages are executed: what none of them covers
 abbrev pub kept_spared : List Message → List KeptScan → List KeptScan

@@ -15,8 +15,8 @@ ghost use Rattle.backend_core.specs.Measure.{left_of};
 
 use crate::{Backend, KeptScan};
 use base_types::{
-    Command, Field, Kind, Listed, NoMemory, Oid, Purpose, field_text, fields_of, read_by, same_scan,
-    writers,
+    Command, Field, Kind, Listed, NoMemory, Oid, Purpose, field_text, fields_of, read_by,
+    same_scan, writers,
 };
 use cacheless::Opening;
 use ddl_effect::Want;

@@ -1,5 +1,5 @@
-ghost use Rattle.std.specs.Prelude.{◌≡◌, ◌≤◌, length, take};
-ghost use Rattle.inval_messages.specs.Lists.{sent_in, unsent_after};
+ghost use Rattle.std.specs.Prelude.{◌≡◌, ◌≤◌, ◌<◌, ◌+◌, ◌^◌, length, take};
+ghost use Rattle.inval_messages.specs.Lists.{sent_in, unsent_after, rest_of_parts};
 ghost use Rattle.backend_core.specs.State.{lists_at};
 
 use crate::execute::execute;
@@ -57,16 +57,11 @@ impl Backend {
     // `SIInsertDataEntries` in `src/backend/storage/ipc/`).
     pub(crate) fn unpublished(&self, published: usize) -> &[Message]
         requires { published ≤ length (sent_in (lists_at self.now)) }
-        ensures { result.now ≡ take 64 (unsent_after published (lists_at self.now)) }
+        ensures next { result.now ≡ take 64 (unsent_after published (lists_at self.now)) }
+        ensures fits { published + length result.now < 2 ^ 64 }
     {
-        let cats = self.lists.cats_from(0);
-        let rels = self.lists.rels_from(0);
-        let rest = if published < cats.len() {
-            &cats[published..]
-        } else {
-            &rels[published - cats.len()..]
-        };
-        &rest[..rest.len().min(MOST_PUBLISHED)]
+        let rest = rest_of(self.lists.cats_from(0), self.lists.rels_from(0), published);
+        &rest[..MOST_PUBLISHED.min(rest.len())]
     }
 
     // What it wrote from this command on is taken back.
@@ -111,5 +106,19 @@ impl Backend {
     {
         seg.stop(self.id, self.finished + 1);
         self.life = Life::Stopped;
+    }
+}
+
+// Of two parts of messages, once so many are published: the rest of the first, or where that is all
+// published, of the second.
+fn rest_of<'a>(cats: &'a [Message], rels: &'a [Message], published: usize) -> &'a [Message]
+    requires { published ≤ length cats.now + length rels.now }
+    ensures rest { result.now ≡ rest_of_parts published cats.now rels.now }
+    ensures fits { published + length result.now < 2 ^ 64 }
+{
+    if published < cats.len() {
+        &cats[published..]
+    } else {
+        &rels[published - cats.len()..]
     }
 }

@@ -1,10 +1,10 @@
 // What messages take away of what a backend has read.
 
-ghost use Rattle.std.specs.Prelude.{◌≡◌, true, All};
+ghost use Rattle.std.specs.Prelude.{◌≡◌, true, not, All};
+ghost use Rattle.std.specs.List.{list_any};
 ghost use Rattle.base_types.specs.Scans.{is_build_scan};
-ghost use Rattle.inval_messages.specs.Messages.{covers as does_cover, is_spared};
 ghost use Rattle.backend_core.specs.NewTables.{relation_of as relation_read};
-ghost use Rattle.backend_core.specs.State.{kept_spared as spared};
+ghost use Rattle.backend_core.specs.State.{covers_relation, kept_spared as spared};
 
 use crate::KeptScan;
 use base_types::{Listed, Oid, Purpose};
@@ -24,18 +24,23 @@ pub(crate) fn execute(alloc: Global, kept: &mut Listed<KeptScan>, messages: &[Me
     *kept = Listed::from_vec(scans);
 }
 
-// Whether none of the messages covers the scan.
+// Whether none of the messages is for the relation that the scan is of.
 fn spares(messages: &[Message], scan: &Purpose) -> bool
-    requires { is_build_scan scan.now ≡ true }
-    ensures { result ≡ is_spared scan.now messages.now }
+    ensures { result ≡ not (list_any (covers_relation scan.now) messages.now) }
 {
-    !messages.iter().any(|message| covers(message, scan))
+    !is_covered(messages, scan)
 }
 
-// Whether a message covers a scan for a descriptor: whether it is for the relation.
+// Whether one of the messages is for the relation that the scan is of.
+fn is_covered(messages: &[Message], scan: &Purpose) -> bool
+    ensures { result ≡ list_any (covers_relation scan.now) messages.now }
+{
+    messages.iter().any(|message| covers(message, scan))
+}
+
+// Whether the message is for the relation that the scan is of: so it covers a scan for a descriptor.
 fn covers(message: &Message, scan: &Purpose) -> bool
-    requires { is_build_scan scan.now ≡ true }
-    ensures { result ≡ does_cover scan.now message.now }
+    ensures { result ≡ covers_relation scan.now message.now }
 {
     match (message, relation_of(scan)) {
         (Message::Rel { rel }, Some(own)) => rel.0 == own.0,

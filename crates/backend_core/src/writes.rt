@@ -1,4 +1,4 @@
-ghost use Rattle.std.specs.Prelude.{◌≡◌, ◌≤◌, ◌++◌, ◌∷◌, [], Some, OnOk};
+ghost use Rattle.std.specs.Prelude.{◌≡◌, ◌≤◌, ◌++◌, ◌∷◌, [], None, Some, OnOk};
 ghost use Rattle.std.specs.List.{AllByRecursion};
 ghost use Rattle.command_lists.specs.Lists.{all_lists, new_list, with_messages};
 ghost use Rattle.std.specs.Option.{option_map_or};
@@ -56,9 +56,12 @@ impl Backend {
 }
 
 // The messages of a command's write go to its list, which is done with them: a command writes last.
+// Condition: no list runs.
 fn register(lists: &mut InvalLists, command: u32, messages: &Vec<Message>) -> Result<(), NoMemory>
-    requires { AllByRecursion (λ list. list.command ≤ command) (all_lists lists.old.lists) }
-    ensures { OnOk result (all_lists lists.new.lists ≡ all_lists lists.old.lists ++ with_messages messages.now.items (new_list command) ∷ []) }
+    requires order { AllByRecursion (λ list. list.command ≤ command) (all_lists lists.old.lists) }
+    requires ended { lists.old.lists.running ≡ None }
+    ensures lists { OnOk result (all_lists lists.new.lists ≡ all_lists lists.old.lists ++ with_messages messages.now.items (new_list command) ∷ []) }
+    ensures ended { OnOk result (lists.new.lists.running ≡ None) }
 {
     lists.reserve(messages.len() + 1)?;
     lists.begin_command(command);
