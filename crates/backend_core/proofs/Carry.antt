@@ -32,7 +32,7 @@ use Rattle.seg_calls.proofs.Allowed.{is_start, request_follows}
 use Rattle.cacheless.specs.Facts.{Facts, facts_of}
 use Rattle.cacheless.specs.Locks.{is_locked}
 use Rattle.cacheless.specs.Session.{Session, Outcome, Unsettled, Well as CameOutWell, Badly, none_open, outcome_of, is_settled}
-use Rattle.cacheless.specs.Owed.{OwesLook, OwesScan, owed_at_start, owed_after, unusable, builds_owed, act_owed, scans_owed, owed_of, owes_build, owes_accept}
+use Rattle.cacheless.specs.Owed.{Owes, OwesLook, OwesScan, owed_at_start, owed_after, unusable, builds_owed, act_owed, scans_owed, owed_of, owes_build, owes_accept}
 use Rattle.cacheless.specs.Settled.{settled, finished_as}
 use Rattle.cacheless.specs.Sessions.{accepted}
 use Rattle.cacheless.specs.Lines.{answer_judged}
@@ -475,3 +475,11 @@ pub found_locked-more : (locks now : List OwnLock) (p : Plan) (given : List Row)
 found_locked-more locks now (Do (Lookup name mode) rest) given held locked = held mode ∙ locked
 found_locked-more locks now (Do act rest) given held locked = tt
 found_locked-more locks now p given held locked = tt
+
+-- no look is owed at the start where a transaction runs
+pub runs_unowed : (s : Backend) (command : Command) → is_some s.running ≡ true → owed_first s command ≡ []
+runs_unowed s command runs = by_own s.running runs
+  where
+    by_own : (own : Option OwnTransaction) → is_some own ≡ true → elim (begins_in s.blocks s.phase command && is_none own) as (λ t. List Owes) [ true ↦ OwesLook ∷ [] | false ↦ [] ] ≡ []
+    by_own None runs = absurd (cc)
+    by_own (Some t) runs = ap (λ u. elim u as (λ x. List Owes) [ true ↦ OwesLook ∷ [] | false ↦ [] ]) (and-false (begins_in s.blocks s.phase command))

@@ -30,7 +30,7 @@ use Rattle.backend_core.specs.State.{owed_at, is_accepting, looks_due, phase_loo
 use Rattle.backend_core.specs.Agrees.{IsPlayed, FactsFit, TallyFits, Well, RunsBy, TransactionFits, EndFits, OpensLast, IsFoundLocked, IsAccepting, Agrees}
 use Rattle.backend_core.specs.Steps.{OwesLookNow, IsWorking, Enters}
 use Rattle.backend_core.proofs.Stepping.{Waits, facts_after, session_after, rest_after, own_enters}
-use Rattle.backend_core.proofs.Carry.{MayCome, may_come, Leaves, own_leaves, kept-more, command-more, no_answer, look_true, look_call, waits_at, waits_scan, left_command, start_owed, clear_at, transaction-more, none_opened, none_missing, missing_at, is_locked-accepted, rows_fit-more, found_locked-more}
+use Rattle.backend_core.proofs.Carry.{MayCome, may_come, Leaves, own_leaves, kept-more, command-more, no_answer, look_true, look_call, waits_at, waits_scan, left_command, start_owed, clear_at, transaction-more, none_opened, none_missing, missing_at, is_locked-accepted, rows_fit-more, found_locked-more, runs_unowed}
 use Rattle.backend_core.proofs.Acting.{IsActing, is_acting, missing_acts}
 use Rattle.backend_core.proofs.Ways.{acts}
 
@@ -190,7 +190,7 @@ accept_well was p looked locks kept accepts well = record {
   come_out = well.come_out;
   past = well.past;
   free = λ some. absurd (cc (some, accepts.unanswered));
-  starts = λ has some. absurd (some (ap (λ t. elim t as (λ x. List Owes) [ true ↦ OwesLook ∷ [] | false ↦ [] ]) (and-false (begins_in was.blocks p has.command))));
+  starts = λ has some. absurd (some (runs_unowed (accepted_state was p looked locks kept) has.command refl));
   accepting = λ is. record { runs = refl; unanswered = accepts.unanswered; unsettled = accepts.unsettled; locked = λ read. found_locked-more was.locks.items locks.items (plan_at was.exec) was.given.items (same_locks p was.locks.items locks.items was.given.items accepts.items) (accepts.found read) };
   clear = subst (λ l. (is_accepting p ≡ true) ⊎ (map cleared l ≡ l)) (sym accepts.items) (clears p was.locks.items);
 }
