@@ -5,6 +5,7 @@ use Rattle.std.specs.Str.{bytes_eq}
 use Rattle.std.specs.declared.alloc.Global.{Global}
 use Rattle.std.specs.declared.vec.Vec.{Vec}
 use Rattle.event_kinds.specs.declared.entry.Event.TheVariants as events
+use Rattle.lock_modes.specs.Rooms.{Roomy}
 use Rattle.lock_modes.specs.Own.{cleared}
 use Rattle.ddl_effect.specs.declared.exec.Exec.TheVariants as stages
 use Rattle.ddl_effect.specs.Plans.{Fails}
@@ -107,7 +108,7 @@ begun_same p (Some t) c runs = refl
 
 module _ (scenario : Scenario) (old : List Entry) (was : Backend) (agrees : Agrees scenario old was) (works : IsWorking was) (draft : Draft) (at : plan_at was.exec ≡ writing draft)
     (name : List ℕ) (event : Event) (error : CommandError) (with : FailsWith old was agrees.rest name event error)
-    (writes : Vec ℕ Global) (locks : Vec OwnLock Global) (wrote : writes.items ≡ was.writes.items) (locked : locks.items ≡ was.locks.items) where
+    (writes : Vec ℕ Global) (locks : Roomy OwnLock) (wrote : writes.items ≡ was.writes.items) (locked : locks.items ≡ was.locks.items) where
   -- the backend after it
   abbrev failed : Backend
   failed = after_asking was (stages.Failing error) was.opened was.read was.running writes locks
@@ -179,7 +180,7 @@ module _ (scenario : Scenario) (old : List Entry) (was : Backend) (agrees : Agre
   fails_enters new had has played clashes = own_enters scenario old new had has was failed event agrees (waits scenario old was agrees works draft at) with.on (suits clashes.is_new) keeps (follows played clashes.appends.comes) clashes.appends
 
 -- the name of a new table is taken
-clash_enters : (scenario : Scenario) (old new : List Entry) (had has : ℕ → ℕ) (was : Backend) (agrees : Agrees scenario old was) (works : IsWorking was) (draft : Draft) (at : plan_at was.exec ≡ writing draft) (name : List ℕ) (clash : Clash) (writes : Vec ℕ Global) (locks : Vec OwnLock Global) → writes.items ≡ was.writes.items → locks.items ≡ was.locks.items → IsPlayed scenario old
+clash_enters : (scenario : Scenario) (old new : List Entry) (had has : ℕ → ℕ) (was : Backend) (agrees : Agrees scenario old was) (works : IsWorking was) (draft : Draft) (at : plan_at was.exec ≡ writing draft) (name : List ℕ) (clash : Clash) (writes : Vec ℕ Global) (locks : Roomy OwnLock) → writes.items ≡ was.writes.items → locks.items ≡ was.locks.items → IsPlayed scenario old
     → Clashes old new had has was.id draft name (entry_of was.id (was.finished + 1) (clash_event name clash)) → Enters scenario old new was (record was { exec = stages.Failing (clash_error name clash); writes = writes; locks = locks })
 clash_enters scenario old new had has was agrees works draft at name clash writes locks wrote locked played clashes =
     fails_enters scenario old was agrees works draft at name (clash_event name clash) (clash_error name clash) (fails_with old was agrees.rest name clash) writes locks wrote locked new had has played clashes
@@ -191,7 +192,7 @@ refused_entry old new had has b c draft name (clashes.Running xid) writes = writ
 
 -- a write that is refused, but for want of memory
 pub refusal_enters : (scenario : Scenario) (old new : List Entry) (had has : ℕ → ℕ) (was : Backend) (agrees : Agrees scenario old was) (works : IsWorking was) (draft : Draft) (at : plan_at was.exec ≡ writing draft) (refusal : WriteRefusal) (error : CommandError)
-    (writes : Vec ℕ Global) (locks : Vec OwnLock Global) → writes.items ≡ was.writes.items → locks.items ≡ was.locks.items → IsPlayed scenario old → error_of refusal ≡ Some error → Writes old new had has was.id (was.finished + 1) draft (Err refusal)
+    (writes : Vec ℕ Global) (locks : Roomy OwnLock) → writes.items ≡ was.writes.items → locks.items ≡ was.locks.items → IsPlayed scenario old → error_of refusal ≡ Some error → Writes old new had has was.id (was.finished + 1) draft (Err refusal)
     → Enters scenario old new was (record was { exec = stages.Failing error; writes = writes; locks = locks })
 refusal_enters scenario old new had has was agrees works draft at (refusals.Clash name clash) error writes locks wrote locked played is refused =
     subst (λ x. Enters scenario old new was (record was { exec = stages.Failing x; writes = writes; locks = locks })) (let same : clash_error name clash ≡ error = cc is in same)

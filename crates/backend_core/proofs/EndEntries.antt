@@ -5,6 +5,7 @@ use Rattle.std.proofs.Math.Bool.{and-false}
 use Rattle.std.specs.declared.vec.Vec.{Vec}
 use Rattle.std.specs.declared.alloc.Global.{Global}
 use Rattle.base_types.specs.declared.scan.Purpose.TheVariants as scans
+use Rattle.lock_modes.specs.Rooms.{Roomy}
 use Rattle.lock_modes.specs.Own.{cleared}
 use Rattle.ddl_effect.specs.Plans.{Plan, Done, Fails, Absent, Do, NotBuilt}
 use Rattle.ddl_effect.specs.Blocks.{Block, Outside, Inside, Failed, no_block, ends_block, refused_by}
@@ -41,11 +42,11 @@ pub out_at_end : (s : Backend) → Well s → IsAnswered s → is_out s ≡ true
 out_at_end s well answered = elim (has_or_none s) [ inl has ↦ well.come_out (answered has) | inr none ↦ well.past none ]
 
 -- the state after an entry of the end
-abbrev pub after_end : Backend → Phase → Option OwnTransaction → Vec ℕ Global → Vec OwnLock Global → Backend
+abbrev pub after_end : Backend → Phase → Option OwnTransaction → Vec ℕ Global → Roomy OwnLock → Backend
 after_end was phase running writes locks = record was { phase = phase; running = running; writes = writes; locks = locks }
 
 -- what such an entry leaves of the running command
-pub end_follows : (scenario : Scenario) (old : List Entry) (was : Backend) (phase : Phase) (running : Option OwnTransaction) (writes : Vec ℕ Global) (locks : Vec OwnLock Global) (event : Event) (agrees : Agrees scenario old was)
+pub end_follows : (scenario : Scenario) (old : List Entry) (was : Backend) (phase : Phase) (running : Option OwnTransaction) (writes : Vec ℕ Global) (locks : Roomy OwnLock) (event : Event) (agrees : Agrees scenario old was)
     → IsPlayed scenario old → MayComeNext old (entry_of was.id (was.finished + 1) event) → AddsTables old event → SameCommand was (after_end was phase running writes locks) agrees.rest (rest_after old was event agrees.rest)
     → (rest_after old was event agrees.rest).judged ≡ agrees.rest.judged → is_write event ≡ false → ((scan : Purpose) → is_scan_of scan event ≡ false) → IsAnswered was
     → Follows scenario old was (after_end was phase running writes locks) event agrees.rest
@@ -70,7 +71,7 @@ begins_on s p command going on begins =
     ap (λ t. elim s.blocks.block as (λ x. Bool) [ Outside ↦ not (ends_block command) && not t && is_none (refused_by no_block command) | block ↦ false ]) (on ∙ sym going) ∙ begins
 
 -- the transaction goes on
-pub runs_on : (was : Backend) (phase : Phase) (writes : Vec ℕ Global) (locks : Vec OwnLock Global) (block : Block) → is_ended was.phase ≡ false → is_ended phase ≡ false → RunsBy was block → RunsBy (after_end was phase was.running writes locks) block
+pub runs_on : (was : Backend) (phase : Phase) (writes : Vec ℕ Global) (locks : Roomy OwnLock) (block : Block) → is_ended was.phase ≡ false → is_ended phase ≡ false → RunsBy was block → RunsBy (after_end was phase was.running writes locks) block
 runs_on was phase writes locks Outside going on (inl none) = inl none
 runs_on was phase writes locks Outside going on (inr alone) = inr (record { has = record { command = alone.has.command; at = alone.has.at }; begins = begins_on was phase alone.has.command going on alone.begins; first = alone.first })
 runs_on was phase writes locks Inside going on block = record { runs = block.runs; first = block.first }

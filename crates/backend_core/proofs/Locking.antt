@@ -1,13 +1,14 @@
 -- The locks that a backend asks for.
 use Rattle.std.proofs.Common.{Err, ◌≡◌, ◌<◌, ◌+◌, inl, inr, ◌∙◌, ℕ, Bool, true, false, not, Option, Some, None, List, [], ◌∷◌, ◌++◌, ◌||◌, if◌then◌else◌, refl, sym, ap, subst, length, drop, map, unwrap_or, arith}
 use Rattle.std.specs.Option.{option_map_or}
-use Rattle.std.specs.declared.alloc.Global.{Global}
-use Rattle.std.specs.declared.vec.Vec.{Vec}
 use Rattle.base_types.specs.Scenario.{Scenario}
 use Rattle.base_types.specs.declared.row.Row.TheVariants as rows
 use Rattle.base_types.specs.declared.scan.Purpose.TheVariants as scans
 use Rattle.event_kinds.specs.declared.entry.Event.TheVariants as events
 use Rattle.rel_desc.specs.declared.error.CommandError.TheVariants as errors
+use Rattle.lock_modes.specs.declared.granted.LockRefusal.{LockRefusal}
+use Rattle.lock_modes.specs.declared.granted.LockRefusal.TheVariants.{Conflict}
+use Rattle.lock_modes.specs.Rooms.{Roomy}
 use Rattle.lock_modes.specs.Grants.{holds}
 use Rattle.lock_modes.specs.Own.{cleared, has_lock}
 use Rattle.ddl_effect.specs.Plans.{Plan, Fails, Do, Act, Lookup}
@@ -20,8 +21,6 @@ use Rattle.history_model.specs.Orderly.{MayComeNext}
 use Rattle.history_model.specs.Writes.{is_empty}
 use Rattle.history_model.proofs.Prefixes.{EachEntry-weaker}
 use Rattle.seg_calls.specs.Calls.{entry_of, Appends, Locks}
-use Rattle.seg_calls.specs.declared.refusal.LockRefusal.{LockRefusal}
-use Rattle.seg_calls.specs.declared.refusal.LockRefusal.TheVariants.{Conflict}
 use Rattle.cacheless.specs.Facts.{Facts, facts_of}
 use Rattle.cacheless.specs.Session.{Session, Badly, outcome_of, first_of}
 use Rattle.cacheless.specs.Owed.{OwesScan, owed_at_start, owed_after, builds_owed, act_owed, owed_of, owes_accept}
@@ -86,11 +85,17 @@ may_lock scenario seen s agrees works rel mode next = (
   subst (λ p. IsLock (facts_of seen s.id) p rel mode) (sym next.at) (ap class_oid (found_rows (facts_of seen s.id) s next.name mode next.rest agrees.facts next.at next.read) ∙ (unlocked s.locks.items mode s.given.items rel next.unlocked).names, refl),
 )
 
--- the backend doesn't hold it
+-- a waiting backend holds what its session does
+pub held_same : (scenario : Scenario) (seen : List Entry) (s : Backend) (agrees : Agrees scenario seen s) → IsPlayed scenario seen → Waits agrees → (rel : Oid) (mode : Mode) → holds (held_of seen) s.id rel mode ≡ has_lock s.locks.items rel mode
+held_same scenario seen s agrees played waits rel mode =
+    lock_is_held s.id rel mode (held_of seen) s.locks.items (locks_are_held scenario seen s.id (EachEntry-weaker MayComeNext Follows (λ before e comes. comes.follows.life) seen played.sound) ∙ ap (λ o. map (grant_of s.id) (locks_of o)) (agrees.is ∙ ap Some waits))
+
+-- it doesn't hold the lock that comes next
+pub lock_unheld : (s : Backend) (rel : Oid) (mode : Mode) → NextLock s rel mode → has_lock s.locks.items rel mode ≡ false
+lock_unheld s rel mode next = (unlocked s.locks.items mode s.given.items rel next.unlocked).unheld
+
 pub lock_new : (scenario : Scenario) (seen : List Entry) (s : Backend) → Agrees scenario seen s → IsPlayed scenario seen → IsWorking s → (rel : Oid) (mode : Mode) → NextLock s rel mode → holds (held_of seen) s.id rel mode ≡ false
-lock_new scenario seen s agrees played works rel mode next =
-    lock_is_held s.id rel mode (held_of seen) s.locks.items (locks_are_held scenario seen s.id (EachEntry-weaker MayComeNext Follows (λ before e comes. comes.follows.life) seen played.sound) ∙ ap (λ o. map (grant_of s.id) (locks_of o)) (agrees.is ∙ ap Some (waits_lock scenario seen s agrees works.has rel mode next)))
-    ∙ (unlocked s.locks.items mode s.given.items rel next.unlocked).unheld
+lock_new scenario seen s agrees played works rel mode next = held_same scenario seen s agrees played (waits_lock scenario seen s agrees works.has rel mode next) rel mode ∙ lock_unheld s rel mode next
 
 -- and its relation is drawn
 pub lock_drawn : (scenario : Scenario) (seen : List Entry) (s : Backend) → Agrees scenario seen s → (rel : Oid) (mode : Mode) → NextLock s rel mode → rel.0 < next_oid seen
@@ -108,7 +113,7 @@ keeps_unclear facts None s owed = ap not owed
 keeps_unclear facts (Some command) s owed = ap (λ t. not t || elim (outcome_of s.left) as (λ x. Bool) [ Badly ↦ false | other ↦ not (is_empty (builds_owed facts s.opened)) ]) (not_empty-after (owed_at_start facts command s) (owed_after facts.last) owed)
 
 -- a lock that is granted
-pub granted_enters : (scenario : Scenario) (old new : List Entry) (had has : ℕ → ℕ) (was : Backend) (rel : Oid) (mode : Mode) (locks : Vec OwnLock Global) → Agrees scenario old was → IsPlayed scenario old → IsWorking was → NextLock was rel mode
+pub granted_enters : (scenario : Scenario) (old new : List Entry) (had has : ℕ → ℕ) (was : Backend) (rel : Oid) (mode : Mode) (locks : Roomy OwnLock) → Agrees scenario old was → IsPlayed scenario old → IsWorking was → NextLock was rel mode
     → locks.items ≡ was.locks.items ++ record { rel = rel; mode = mode; command = was.finished + 1; clear = false } ∷ []
     → Appends old new had has (entry_of was.id (was.finished + 1) (events.LockOk rel mode)) → Enters scenario old new was (record was { phase = phases.Granted; locks = locks })
 granted_enters scenario old new had has was rel mode locks agrees played works next pushed appends =
@@ -193,9 +198,9 @@ granted_enters scenario old new had has was rel mode locks agrees played works n
     leaves = own_leaves old e was.id may refl (λ name. refl) refl
 
 -- a lock that is refused ends the command
-pub refused_enters : (scenario : Scenario) (old new : List Entry) (had has : ℕ → ℕ) (was : Backend) (rel : Oid) (mode : Mode) (holder : ℕ) (held : Mode) → Agrees scenario old was → IsPlayed scenario old → IsWorking was → NextLock was rel mode
-    → Appends old new had has (entry_of was.id (was.finished + 1) (events.LockHeld rel mode holder held)) → Enters scenario old new was (record was { exec = stages.Failing (errors.Locked rel holder held) })
-refused_enters scenario old new had has was rel mode holder held agrees played works next appends =
+pub refused_enters : (scenario : Scenario) (old new : List Entry) (had has : ℕ → ℕ) (was : Backend) (rel : Oid) (mode : Mode) (holder : ℕ) (held : Mode) (locks : Roomy OwnLock) → Agrees scenario old was → IsPlayed scenario old → IsWorking was → NextLock was rel mode
+    → locks.items ≡ was.locks.items → Appends old new had has (entry_of was.id (was.finished + 1) (events.LockHeld rel mode holder held)) → Enters scenario old new was (record was { exec = stages.Failing (errors.Locked rel holder held); locks = locks })
+refused_enters scenario old new had has was rel mode holder held locks agrees played works next same appends =
     own_enters scenario old new had has was now event agrees (waits_lock scenario old was agrees works.has rel mode next)
     (record { session = λ _ _ _ _ _ _. refl; finished = λ _. refl; life = λ _. refl })
     (record {
@@ -206,7 +211,7 @@ refused_enters scenario old new had has was rel mode holder held agrees played w
     })
     (record {
       moves = record { id = refl; commands = refl; finished = refl; life = refl; lines = refl };
-      session = accepted-clear (facts_after old was event) (first_of (drop was.finished was.commands)) (placed_at (length old + 1) (was.finished + 1) event (session_at was agrees.rest)) (clear_at was agrees.well (λ is. absurd (cc (is, works.phase))));
+      session = accepted-clear (facts_after old was event) (first_of (drop was.finished was.commands)) placed (clear_at was agrees.well (λ is. absurd (cc (is, works.phase)))) ∙ (λ i. record placed { locks = sym same i });
       facts = record {
         running = runs_on (was.finished + 1) was (facts_of old was.id) agrees.facts acting.runs;
         lists = agrees.facts.lists;
@@ -237,7 +242,7 @@ refused_enters scenario old new had has was rel mode holder held agrees played w
         past = λ none. refl;
         free = λ some. absurd (cc (some, acting.unanswered));
         granted = λ is. absurd (cc (is, works.phase));
-        clear = inr (clear_at was agrees.well (λ is. absurd (cc (is, works.phase))));
+        clear = inr (ap (map cleared) same ∙ clear_at was agrees.well (λ is. absurd (cc (is, works.phase))) ∙ sym same);
       };
     })
     (record {
@@ -258,7 +263,10 @@ refused_enters scenario old new had has was rel mode holder held agrees played w
     event = events.LockHeld rel mode holder held
 
     now : Backend
-    now = record was { exec = stages.Failing (errors.Locked rel holder held) }
+    now = record was { exec = stages.Failing (errors.Locked rel holder held); locks = locks }
+
+    placed : Session
+    placed = placed_at (length old + 1) (was.finished + 1) event (session_at was agrees.rest)
 
     acting : IsActing old was agrees.rest works.has.command
     acting = is_acting scenario old was agrees works (ap acts next.at)
@@ -273,8 +281,9 @@ refused_enters scenario old new had has was rel mode holder held agrees played w
     may = may_come scenario old e played appends.comes tt
 
 -- the same for what the call answered
-pub refusal_enters : (scenario : Scenario) (old new : List Entry) (had has : ℕ → ℕ) (was : Backend) (rel : Oid) (mode : Mode) (refusal : LockRefusal) (holder of : ℕ) (held under : Mode) → Agrees scenario old was → IsPlayed scenario old → IsWorking was → NextLock was rel mode
-    → refusal ≡ Conflict holder held → of ≡ holder → under ≡ held → Locks old new had has was.id (was.finished + 1) rel mode (Err refusal) → Enters scenario old new was (record was { exec = stages.Failing (errors.Locked rel of under) })
-refusal_enters scenario old new had has was rel mode refusal holder of held under agrees played works next is holder_is held_is locks =
-    subst (λ h. Enters scenario old new was (record was { exec = stages.Failing (errors.Locked rel h under) })) (sym holder_is) (subst (λ m. Enters scenario old new was (record was { exec = stages.Failing (errors.Locked rel holder m) })) (sym held_is)
-    (refused_enters scenario old new had has was rel mode holder held agrees played works next (subst (λ r. Locks old new had has was.id (was.finished + 1) rel mode (Err r)) is locks)))
+pub refusal_enters : (scenario : Scenario) (old new : List Entry) (had has : ℕ → ℕ) (was : Backend) (rel : Oid) (mode : Mode) (refusal : LockRefusal) (holder of : ℕ) (held under : Mode) (locks : Roomy OwnLock) → Agrees scenario old was → IsPlayed scenario old → IsWorking was
+    → NextLock was rel mode → refusal ≡ Conflict holder held → of ≡ holder → under ≡ held → locks.items ≡ was.locks.items → Locks old new had has was.id (was.finished + 1) rel mode (Err refusal)
+    → Enters scenario old new was (record was { exec = stages.Failing (errors.Locked rel of under); locks = locks })
+refusal_enters scenario old new had has was rel mode refusal holder of held under locks agrees played works next is holder_is held_is same answers =
+    subst (Enters scenario old new was) (λ i. record was { exec = stages.Failing (errors.Locked rel (sym holder_is i) (sym held_is i)); locks = locks })
+    (refused_enters scenario old new had has was rel mode holder held locks agrees played works next same (subst (λ r. Locks old new had has was.id (was.finished + 1) rel mode (Err r)) is answers))

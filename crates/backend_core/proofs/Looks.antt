@@ -1,15 +1,12 @@
 -- The looks of a backend: at its transaction's start, after a grant, and before a scan.
-use Rattle.std.proofs.Common.{◌≡◌, ◌≢◌, ◌≤◌, ◌<◌, ◌+◌, ◌⊎◌, inl, inr, ◌∙◌, ℕ, Bool, true, false, not, Option, Some, None, List, [], ◌∷◌, ◌++◌, ◌==◌, ◌&&◌, ◌||◌, refl, sym, ap, subst, length, drop, take, set, get_or, map, is_none, is_some, arith}
+use Rattle.std.proofs.Common.{◌≡◌, ◌≢◌, ◌≤◌, ◌+◌, ◌⊎◌, inl, inr, ◌∙◌, ℕ, Bool, true, false, not, Option, Some, None, List, [], ◌∷◌, ◌++◌, ◌==◌, ◌&&◌, ◌||◌, refl, sym, ap, subst, length, drop, map, is_none, is_some, arith}
 use Rattle.std.specs.Prelude.{nat_le}
 use Rattle.std.specs.Option.{option_map, option_map_or}
-use Rattle.std.specs.declared.alloc.Global.{Global}
-use Rattle.std.specs.declared.vec.Vec.{Vec}
 use Rattle.std.proofs.Math.Bool.{and-false}
 use Rattle.std.proofs.lemmas.Bool.{eq-eqb, le-leb}
-use Rattle.std.proofs.lemmas.List.{get_or_default}
-use Rattle.std.proofs.lemmas.List.Edits.{map_over_more}
 use Rattle.base_types.specs.Scenario.{Scenario}
 use Rattle.event_kinds.specs.declared.entry.Event.TheVariants as events
+use Rattle.lock_modes.specs.Rooms.{Roomy}
 use Rattle.lock_modes.specs.Own.{cleared}
 use Rattle.ddl_effect.specs.Blocks.{Block, Outside, Inside, Failed, ends_block, refused_by, no_block}
 use Rattle.history_model.specs.Drawn.{next_oid}
@@ -73,7 +70,7 @@ written_xid : (number : ℕ) (own : Option OwnTransaction) → option_map_or (λ
 written_xid number None xid = absurd (cc)
 written_xid number (Some t) xid = xid
 
-owed_look : (scenario : Scenario) (old new : List Entry) (had has : ℕ → ℕ) (was : Backend) (locks : Vec OwnLock Global) → (agrees : Agrees scenario old was) → IsPlayed scenario old
+owed_look : (scenario : Scenario) (old new : List Entry) (had has : ℕ → ℕ) (was : Backend) (locks : Roomy OwnLock) → (agrees : Agrees scenario old was) → IsPlayed scenario old
     → OwedLook scenario old was agrees (record was { phase = phases.Working; running = Some (begun_own (was.finished + 1) was.running); locks = locks })
     → Appends old new had has (entry_of was.id (was.finished + 1) (events.Look false)) → Enters scenario old new was (record was { phase = phases.Working; running = Some (begun_own (was.finished + 1) was.running); locks = locks })
 owed_look scenario old new had has was locks agrees played owes appends =
@@ -158,11 +155,6 @@ cleared_twice : (locks : List OwnLock) → map cleared (map cleared locks) ≡ m
 cleared_twice [] = refl
 cleared_twice (lock ∷ locks) = ap (λ l. cleared lock ∷ l) (cleared_twice locks)
 
--- one more lock is made clear
-pub clears_more : (locks now : List OwnLock) (given : List OwnLock) (i : ℕ) (d : OwnLock) → i < length given → given ≡ locks → length now ≡ length given → now ≡ map cleared (take i locks) ++ drop i locks
-    → set now i (cleared (get_or now i d)) ≡ map cleared (take (i + 1) locks) ++ drop (i + 1) locks
-clears_more locks now given i d within same long done = map_over_more cleared locks now i (get_or now i d) (omega (arith, within, ap length same)) done (get_or_default now i d (get_or now i d) (omega (arith, within, long)))
-
 -- where a look is owed at the start, no transaction runs, and the command begins one
 first_owed : (begins none : Bool) → elim (begins && none) as (λ t. List Owes) [ true ↦ OwesLook ∷ [] | false ↦ [] ] ≢ [] → (begins ≡ true) × (none ≡ true)
 first_owed true true some = (refl, refl)
@@ -173,7 +165,7 @@ none_is : {X : Type 0} (o : Option X) → is_none o ≡ true → o ≡ None
 none_is None none = refl
 none_is (Some x) none = absurd (cc)
 
-first_look : (scenario : Scenario) (old new : List Entry) (had has : ℕ → ℕ) (was : Backend) (locks : Vec OwnLock Global) → (agrees : Agrees scenario old was) → IsPlayed scenario old
+first_look : (scenario : Scenario) (old new : List Entry) (had has : ℕ → ℕ) (was : Backend) (locks : Roomy OwnLock) → (agrees : Agrees scenario old was) → IsPlayed scenario old
     → (at : HasCommand was) → owed_first was at.command ≢ [] → was.phase ≡ phases.Working → is_some was.answer ≡ false → locks.items ≡ map cleared was.locks.items
     → Appends old new had has (entry_of was.id (was.finished + 1) (events.Look false)) → Enters scenario old new was (record was { phase = phases.Working; running = Some (begun_own (was.finished + 1) was.running); locks = locks })
 first_look scenario old new had has was locks agrees played at some phase unanswered items appends = owed_look scenario old new had has was locks agrees played (record {
@@ -220,7 +212,7 @@ accepts facts command s runs free built =
     ∙ ap (λ l. elim (outcome_of s.left) [ Badly ↦ false | other ↦ not (is_empty l) ]) built
     ∙ elim (outcome_of s.left) as (λ o. elim o as (λ x. Bool) [ Badly ↦ false | other ↦ false ] ≡ false) [ Badly ↦ refl | other ↦ refl ]
 
-granted_look : (scenario : Scenario) (old new : List Entry) (had has : ℕ → ℕ) (was : Backend) (locks : Vec OwnLock Global) → (agrees : Agrees scenario old was) → IsPlayed scenario old
+granted_look : (scenario : Scenario) (old new : List Entry) (had has : ℕ → ℕ) (was : Backend) (locks : Roomy OwnLock) → (agrees : Agrees scenario old was) → IsPlayed scenario old
     → (at : HasCommand was) → was.phase ≡ phases.Granted → locks.items ≡ map cleared was.locks.items
     → Appends old new had has (entry_of was.id (was.finished + 1) (events.Look false)) → Enters scenario old new was (record was { phase = phases.Working; running = Some (begun_own (was.finished + 1) was.running); locks = locks })
 granted_look scenario old new had has was locks agrees played at phase items appends = owed_look scenario old new had has was locks agrees played (record {
@@ -284,7 +276,7 @@ owed_call scenario seen s agrees played owes = by_phase (owed_phase s agrees.wel
     by_phase (inr granted) = at_phase (ap is_visible_at granted) (ap is_taken_back granted)
 
 -- the look that is owed, at the transaction's start or after a grant
-pub look_enters : (scenario : Scenario) (old new : List Entry) (had has : ℕ → ℕ) (was : Backend) (own : OwnTransaction) (locks : Vec OwnLock Global) → Agrees scenario old was → IsPlayed scenario old → OwesLookNow was
+pub look_enters : (scenario : Scenario) (old new : List Entry) (had has : ℕ → ℕ) (was : Backend) (own : OwnTransaction) (locks : Roomy OwnLock) → Agrees scenario old was → IsPlayed scenario old → OwesLookNow was
     → own ≡ begun_own (was.finished + 1) was.running → locks.items ≡ map cleared was.locks.items
     → Appends old new had has (entry_of was.id (was.finished + 1) (events.Look false)) → Enters scenario old new was (record was { phase = phases.Working; running = Some own; locks = locks })
 look_enters scenario old new had has was own locks agrees played owes is items appends =

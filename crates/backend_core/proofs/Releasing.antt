@@ -6,6 +6,7 @@ use Rattle.std.proofs.lemmas.Bool.{eq-eqb, le-leb, both_ways, false_from_ne_true
 use Rattle.std.specs.declared.vec.Vec.{Vec}
 use Rattle.std.specs.declared.alloc.Global.{Global}
 use Rattle.event_kinds.specs.declared.entry.Event.TheVariants as events
+use Rattle.lock_modes.specs.Rooms.{Roomy}
 use Rattle.lock_modes.specs.Own.{cleared}
 use Rattle.history_model.specs.Drawn.{next_oid}
 use Rattle.history_model.specs.Legal.{FollowsVisible, FollowsGone, MayRelease}
@@ -248,7 +249,7 @@ none_left s from well first = by_own s.running refl first
     by_own (Some t) at is = ap (λ f. elim f [ true ↦ [] | false ↦ lists_at s ]) (eq-eqb t.first from is)
 
 -- the state after it
-pub release_enters : (scenario : Scenario) (old new : List Entry) (had has : ℕ → ℕ) (was : Backend) (from : ℕ) (writes : Vec ℕ Global) (locks : Vec OwnLock Global) (agrees : Agrees scenario old was) → IsPlayed scenario old → NextRelease was from
+pub release_enters : (scenario : Scenario) (old new : List Entry) (had has : ℕ → ℕ) (was : Backend) (from : ℕ) (writes : Vec ℕ Global) (locks : Roomy OwnLock) (agrees : Agrees scenario old was) → IsPlayed scenario old → NextRelease was from
     → writes.items ≡ [] → locks.items ≡ filter (λ lock. nat_lt lock.command from) was.locks.items → Appends old new had has (entry_of was.id (was.finished + 1) (events.Release from))
     → Enters scenario old new was (record was { phase = phases.Ended; running = None; writes = writes; locks = locks })
 release_enters scenario old new had has was from writes locks agrees played next none kept appends =

@@ -1,10 +1,9 @@
 -- A field as it is shown by its kept scan is what the definition shows.
-use Rattle.std.proofs.Common.{◌≡◌, ◌∙◌, ℕ, Bool, true, false, not, Option, Some, None, List, [], ◌∷◌, ◌&&◌, ◌||◌, cond, if◌then◌else◌, refl, sym, ap, subst, map, filter, take}
-use Rattle.std.specs.List.{list_any, AllByRecursion}
+use Rattle.std.proofs.Common.{◌≡◌, ◌∙◌, ℕ, Bool, true, false, not, Option, Some, None, List, [], ◌∷◌, ◌||◌, cond, if◌then◌else◌, refl, sym, ap, subst, map, take}
+use Rattle.std.specs.List.{AllByRecursion}
 use Rattle.std.specs.Option.{option_map_or}
 use Rattle.base_types.specs.Fields.{field_text, fields_of, has_field, read_by}
-use Rattle.base_types.specs.Modes.{conflicts}
-use Rattle.base_types.specs.Scans.{same_oid, same_scan, build_scans}
+use Rattle.base_types.specs.Scans.{same_scan, build_scans}
 use Rattle.base_types.specs.Scenario.{Scenario}
 use Rattle.base_types.specs.declared.field.Field.TheVariants as fields
 use Rattle.base_types.specs.declared.kind.Kind.TheVariants.{Table, Index}
@@ -18,26 +17,13 @@ use Rattle.cacheless.specs.Lines.{read_field, shown_field, shown_fields}
 use Rattle.cacheless.specs.Protected.{protects, is_protected}
 use Rattle.cacheless.specs.Session.{Session}
 use Rattle.cacheless.specs.Sessions.{session_of}
-use Rattle.backend_core.specs.Types.{Oid, Mode, Kind, Field, Purpose, Entry, OwnLock, KeptScan}
+use Rattle.backend_core.specs.Types.{Oid, Kind, Field, Purpose, Entry, OwnLock, KeptScan}
 use Rattle.backend_core.specs.NewTables.{relation_of, StaysRead, SeesRelation}
 use Rattle.backend_core.specs.State.{is_kept, missing}
 use Rattle.backend_core.specs.Agrees.{ReadRight, KeptFits}
 use Rattle.backend_core.specs.Answering.{kept_for, shown_by, shown_kept, shown_of}
 use Rattle.backend_core.proofs.ReadPlaces.{read_at_place}
 use Rattle.backend_core.proofs.SeesRelation.{still_there}
-
--- a clear lock on the relation conflicts with a mode
-pub clear_against : (writer : Mode) (rel : Oid) (locks : List OwnLock) → list_any (λ lock. (lock.clear && same_oid lock.rel rel) && conflicts writer lock.mode) locks ≡ list_any (conflicts writer) (clear_modes locks rel)
-clear_against writer rel [] = refl
-clear_against writer rel (lock ∷ locks) = by_test (lock.clear && same_oid lock.rel rel) (clear_against writer rel locks)
-  where
-    rest : List OwnLock
-    rest = filter (λ l. l.clear && same_oid l.rel rel) locks
-
-    by_test : (t : Bool) → list_any (λ l. (l.clear && same_oid l.rel rel) && conflicts writer l.mode) locks ≡ list_any (conflicts writer) (map (λ l. l.mode) rest)
-        → ((t && conflicts writer lock.mode) || list_any (λ l. (l.clear && same_oid l.rel rel) && conflicts writer l.mode) locks) ≡ list_any (conflicts writer) (map (λ l. l.mode) (cond t (lock ∷ rest) rest))
-    by_test true same = ap (λ u. conflicts writer lock.mode || u) same
-    by_test false same = same
 
 -- the scan that is kept for a purpose, and what holds of it
 pub record IsKeptFor (P Q : KeptScan → Type 0) (kept : List KeptScan) (scan : Purpose) : Type 0 where

@@ -1,7 +1,7 @@
 -- A backend's write of a new table.
 use Rattle.std.proofs.Common.{◌≡◌, ◌<◌, ◌+◌, ◌∙◌, inl, inr, ℕ, Bool, true, false, Option, Some, None, List, [], ◌∷◌, ◌++◌, ◌==◌, ◌&&◌, ◌||◌, refl, sym, ap, subst, length, drop, fold, map, is_some, arith}
 use Rattle.std.specs.Option.{option_map_or}
-use Rattle.std.specs.List.{flat_map}
+use Rattle.std.specs.List.{flat_map, AllByRecursion}
 use Rattle.std.specs.declared.alloc.Global.{Global}
 use Rattle.std.specs.declared.vec.Vec.{Vec}
 use Rattle.std.proofs.Math.Bool.{and-false, or-true}
@@ -9,18 +9,24 @@ use Rattle.std.proofs.lemmas.Bool.{ne_eqb, eq-eqb}
 use Rattle.std.proofs.lemmas.List.{map-append}
 use Rattle.base_types.specs.declared.mode.Mode.TheVariants.{AccessExclusive}
 use Rattle.event_kinds.specs.declared.entry.Event.TheVariants as events
-use Rattle.lock_modes.specs.Own.{cleared}
+use Rattle.base_types.specs.Modes.{same_mode}
+use Rattle.lock_modes.specs.declared.grant.Grant.{Grant}
+use Rattle.lock_modes.specs.Grants.{holds}
+use Rattle.lock_modes.specs.Rooms.{Roomy}
+use Rattle.lock_modes.specs.Own.{has_lock, new_lock, cleared}
 use Rattle.ddl_effect.specs.declared.exec.Exec.TheVariants as stages
 use Rattle.ddl_effect.specs.Plans.{Plan, Done, Do, Write}
 use Rattle.ddl_effect.specs.Commands.{plan_of, writing}
 use Rattle.ddl_effect.specs.Blocks.{Block, Outside, Inside, Failed}
 use Rattle.ddl_effect.specs.Stages.{plan_at}
 use Rattle.history_model.specs.Drawn.{next_oid}
+use Rattle.history_model.specs.Held.{held_of}
 use Rattle.history_model.specs.Orderly.{MayComeNext}
 use Rattle.history_model.specs.Sent.{written_by, has_write_from, cats_by, rels_by, once_more}
 use Rattle.history_model.specs.Transactions.{Running, begun}
 use Rattle.history_model.specs.Writes.{has_written, is_empty}
 use Rattle.history_model.proofs.Reading.{has_written-more}
+use Rattle.history_model.proofs.Ordered.{locks_exclude}
 use Rattle.history_model.proofs.NoMessages.{usable_by-none}
 use Rattle.seg_calls.specs.declared.refusal.Written.{Written as Made}
 use Rattle.seg_calls.specs.Calls.{MakesWrite, MayRequest, MayWrite, Appends, items_drawn, entry_of}
@@ -30,7 +36,7 @@ use Rattle.cacheless.specs.Owed.{OwesScan, builds_owed, owed_of}
 use Rattle.cacheless.specs.Sessions.{written, placed_at}
 use Rattle.cacheless.specs.Plays.{IsWrite, MayPlayIn}
 use Rattle.cacheless.proofs.Settling.{waits-act}
-use Rattle.backend_core.specs.Types.{Oid, Xid, Row, Scenario, Entry, Event, Item, Phase, Draft, Exec, Opening, OwnLock, OwnTransaction, Backend}
+use Rattle.backend_core.specs.Types.{Oid, Xid, Mode, Row, Scenario, Entry, Event, Item, Phase, Draft, Exec, Opening, OwnLock, OwnTransaction, Backend}
 use Rattle.backend_core.specs.declared.phase.Phase.TheVariants as phases
 use Rattle.backend_core.specs.NewTables.{IsNewTable, SeesRelation}
 use Rattle.backend_core.specs.State.{is_visible_at, is_taken_back, is_ended, is_out, running_in, written_in, builds_missing, owed_at, one_if, session_at}
@@ -42,6 +48,7 @@ use Rattle.backend_core.proofs.CanFollow.{CanGoOn}
 use Rattle.backend_core.proofs.Stepping.{Waits, facts_after, session_after, rest_after, Keeps, Follows, Suits, GoesOn, own_enters}
 use Rattle.backend_core.proofs.Carry.{may_request, waits_at, missing_at, owed_scans, clear_at, accepted-clear, may_come, kept-more, no_answer}
 use Rattle.backend_core.proofs.NewTable.{new_table_may_write, new_table_locks}
+use Rattle.backend_core.proofs.Locking.{held_same}
 use Rattle.backend_core.proofs.Nexting.{the_command}
 use Rattle.backend_core.proofs.Ways.{acts}
 
@@ -50,7 +57,7 @@ working_fits : (s : Backend) → s.phase ≡ phases.Working → TransactionFits 
 working_fits s phase fits = subst (TransactionFits s) phase fits
 
 -- the backend after it asked for a write
-abbrev pub after_asking : Backend → Exec → List Opening → Bool → Option OwnTransaction → Vec ℕ Global → Vec OwnLock Global → Backend
+abbrev pub after_asking : Backend → Exec → List Opening → Bool → Option OwnTransaction → Vec ℕ Global → Roomy OwnLock → Backend
 after_asking was exec opened read running writes locks = record was { exec = exec; opened = opened; read = read; running = running; writes = writes; locks = locks }
 
 -- its command has come out, and its transaction has written at most
@@ -63,7 +70,7 @@ pub record Settles (was : Backend) (exec : Exec) (opened : List Opening) (runnin
   pub clear : map cleared locks ≡ locks
 
 -- so its transaction is still as the blocks say
-asked_transaction : (was : Backend) (exec : Exec) (opened : List Opening) (read : Bool) (running : Option OwnTransaction) (writes : Vec ℕ Global) (locks : Vec OwnLock Global) → was.phase ≡ phases.Working → is_some was.running ≡ true
+asked_transaction : (was : Backend) (exec : Exec) (opened : List Opening) (read : Bool) (running : Option OwnTransaction) (writes : Vec ℕ Global) (locks : Roomy OwnLock) → was.phase ≡ phases.Working → is_some was.running ≡ true
     → is_some running ≡ true → option_map_or (λ t. t.first) running 0 ≡ option_map_or (λ t. t.first) was.running 0 → TransactionFits was was.phase → TransactionFits (after_asking was exec opened read running writes locks) was.phase
 asked_transaction was exec opened read running writes locks phase ran runs first fits =
     subst (TransactionFits now) (sym phase)
@@ -79,7 +86,7 @@ asked_transaction was exec opened read running writes locks phase ran runs first
     by_block Failed is none = let no : true ≡ false = sym ran ∙ ap is_some none in absurd (cc no)
 
 -- and it is well
-pub asked_well : (was : Backend) (exec : Exec) (opened : List Opening) (read : Bool) (running : Option OwnTransaction) (writes : Vec ℕ Global) (locks : Vec OwnLock Global) → was.phase ≡ phases.Working → is_some was.running ≡ true → was.blocked ≡ false
+pub asked_well : (was : Backend) (exec : Exec) (opened : List Opening) (read : Bool) (running : Option OwnTransaction) (writes : Vec ℕ Global) (locks : Roomy OwnLock) → was.phase ≡ phases.Working → is_some was.running ≡ true → was.blocked ≡ false
     → is_some was.answer ≡ false → is_out was ≡ false → Settles was exec opened running writes.items locks.items → Well was → Well (after_asking was exec opened read running writes locks)
 asked_well was exec opened read running writes locks phase ran unblocked none busy settles well = record {
   built = well.built;
@@ -140,6 +147,13 @@ starts_kept : (o : Option OwnTransaction) (c : ℕ) (xid : Option Xid) → is_so
 starts_kept None c xid runs = absurd (cc)
 starts_kept (Some t) c xid runs = refl
 
+-- a relation that isn't drawn yet isn't locked
+undrawn_unheld : (held : List Grant) (b next : ℕ) (rel : Oid) (mode : Mode) → AllByRecursion (λ g. g.rel.0 < next) held → rel.0 ≡ next → holds held b rel mode ≡ false
+undrawn_unheld [] b next rel mode drawn new = refl
+undrawn_unheld (g ∷ held) b next rel mode drawn new =
+    (λ i. ((g.backend == b) && ne_eqb g.rel.0 rel.0 (λ same. absurd (omega (arith, same, drawn.0, new))) i && same_mode g.mode mode) || undrawn_unheld held b next rel mode drawn.1 new i)
+    ∙ ap (λ t. (t && same_mode g.mode mode) || false) (and-false (g.backend == b))
+
 module _ (scenario : Scenario) (old : List Entry) (was : Backend) (agrees : Agrees scenario old was) (works : IsWorking was) (draft : Draft) (at : plan_at was.exec ≡ writing draft) where
   -- what is known of it
   acting : IsActing old was agrees.rest works.has.command
@@ -182,12 +196,13 @@ module _ (scenario : Scenario) (old : List Entry) (was : Backend) (agrees : Agre
       by_test true = refl
       by_test false = refl
 
+  -- the new relation isn't locked yet
+  pub new_unheld : IsPlayed scenario old → (rel : Oid) → rel.0 ≡ next_oid old → has_lock was.locks.items rel AccessExclusive ≡ false
+  new_unheld played rel new =
+      sym (held_same scenario old was agrees played waits rel AccessExclusive) ∙ undrawn_unheld (held_of old) was.id (next_oid old) rel AccessExclusive (locks_exclude old played.sound).drawn new
+
   pub nothing_owed : owed_of (facts_of old was.id) works.has.command (session_at was agrees.rest) ≡ []
   nothing_owed = owed_scans scenario old was agrees works ∙ ap (map OwesScan) (missing_at was (writing draft) agrees.well.builds at)
-
--- the lock on a new relation
-abbrev pub new_lock : Oid → ℕ → OwnLock
-new_lock rel c = record { rel = rel; mode = AccessExclusive; command = c; clear = true }
 
 -- the transaction that has written
 abbrev pub with_xid : Option OwnTransaction → ℕ → Xid → OwnTransaction
@@ -210,7 +225,7 @@ unwritten_later : (history : List Entry) (b c number : ℕ) (xid : Xid) (items :
 unwritten_later history b c number xid items later none = has_written-more history (entry_of b c (events.Write xid items)) b number
     ∙ (λ i. none i || ((b == b) && ne_eqb c number (λ same. absurd (omega (arith, same, later))) i && true)) ∙ ap (λ t. t && true) (and-false (b == b))
 
-module _ (scenario : Scenario) (old : List Entry) (was : Backend) (agrees : Agrees scenario old was) (works : IsWorking was) (draft : Draft) (at : plan_at was.exec ≡ writing draft) (xid : Xid) (rel : Oid) (writes : Vec ℕ Global) (locks : Vec OwnLock Global)
+module _ (scenario : Scenario) (old : List Entry) (was : Backend) (agrees : Agrees scenario old was) (works : IsWorking was) (draft : Draft) (at : plan_at was.exec ≡ writing draft) (xid : Xid) (rel : Oid) (writes : Vec ℕ Global) (locks : Roomy OwnLock)
     (first : rel.0 ≡ next_oid old) (wrote : writes.items ≡ was.writes.items ++ (was.finished + 1) ∷ []) (locked : locks.items ≡ was.locks.items ++ new_lock rel (was.finished + 1) ∷ []) where
   abbrev own : OwnTransaction
   own = with_xid was.running (was.finished + 1) xid
@@ -327,7 +342,7 @@ module _ (scenario : Scenario) (old : List Entry) (was : Backend) (agrees : Agre
   write_enters new had has played appends = own_enters scenario old new had has was now event agrees (waits scenario old was agrees works draft at) (write_goes_on xid (items_drawn old draft)) suits keeps (follows played appends.comes) appends
 
 -- the same, for what a segment answers and what the backend keeps of it
-pub wrote_enters : (scenario : Scenario) (old new : List Entry) (had has : ℕ → ℕ) (was : Backend) (agrees : Agrees scenario old was) (works : IsWorking was) (draft : Draft) (at : plan_at was.exec ≡ writing draft) (made : Made) (exec : Exec) (opened : List Opening) (transaction : OwnTransaction) (writes : Vec ℕ Global) (locks : Vec OwnLock Global)
+pub wrote_enters : (scenario : Scenario) (old new : List Entry) (had has : ℕ → ℕ) (was : Backend) (agrees : Agrees scenario old was) (works : IsWorking was) (draft : Draft) (at : plan_at was.exec ≡ writing draft) (made : Made) (exec : Exec) (opened : List Opening) (transaction : OwnTransaction) (writes : Vec ℕ Global) (locks : Roomy OwnLock)
     → exec ≡ stages.Done → opened ≡ [] → transaction ≡ with_xid was.running (was.finished + 1) made.xid → writes.items ≡ was.writes.items ++ (was.finished + 1) ∷ [] → locks.items ≡ was.locks.items ++ new_lock made.first_oid (was.finished + 1) ∷ []
     → IsPlayed scenario old → MakesWrite old new had has was.id (was.finished + 1) draft made → Enters scenario old new was (after_asking was exec opened false (Some transaction) writes locks)
 wrote_enters scenario old new had has was agrees works draft at made exec opened transaction writes locks done closed runs_as wrote locked played makes =

@@ -1,8 +1,5 @@
-ghost use Rattle.std.specs.Prelude.{◌≡◌, ◌<◌, ◌&&◌, true, None, Some, List, IfOk, OnOk, slice_get};
-ghost use Rattle.std.specs.List.{list_any};
+ghost use Rattle.std.specs.Prelude.{◌≡◌, ◌<◌, true, None, Some, List, IfOk, OnOk, slice_get};
 ghost use Rattle.std.specs.Option.{option_copied};
-ghost use Rattle.base_types.specs.Modes.{conflicts as do_conflict};
-ghost use Rattle.base_types.specs.Scans.{same_oid};
 ghost use Rattle.base_types.specs.Scenario.{Scenario};
 ghost use Rattle.event_kinds.specs.declared.entry.Entry.{Entry};
 ghost use Rattle.lock_modes.specs.Own.{clear_modes};
@@ -15,12 +12,13 @@ ghost use Rattle.backend_core.specs.Measure.{left_of};
 
 use crate::{Backend, KeptScan};
 use base_types::{
-    Command, Field, Kind, Listed, Mode, NoMemory, Oid, Purpose, conflicts, field_text, fields_of,
-    read_by, same_scan, writers,
+    Command, Field, Kind, Listed, NoMemory, Oid, Purpose, field_text, fields_of, read_by,
+    same_scan, writers,
 };
-use cacheless::{Opening, OwnLock};
+use cacheless::Opening;
 use ddl_effect::Want;
 use event_kinds::LineText;
+use lock_modes::OwnLocks;
 use rel_desc::{Answer, CommandError, Shown, Value, answer_text};
 use std::alloc::Global;
 
@@ -102,7 +100,7 @@ impl Backend {
 fn shown_all(
     alloc: Global,
     kept: &[KeptScan],
-    locks: &Vec<OwnLock>,
+    locks: &OwnLocks,
     o: Opening,
 ) -> Result<Answer, NoMemory>
     ensures { IfOk result (λ answer. answer ≡ shown_of kept.now locks.now.items o None) }
@@ -122,7 +120,7 @@ fn shown_all(
 fn shown_field(
     alloc: Global,
     kept: &[KeptScan],
-    locks: &Vec<OwnLock>,
+    locks: &OwnLocks,
     o: Opening,
     field: Field,
 ) -> Result<Shown, NoMemory>
@@ -142,7 +140,7 @@ fn shown_field(
 fn shown_scan(
     alloc: Global,
     k: &KeptScan,
-    locks: &Vec<OwnLock>,
+    locks: &OwnLocks,
     o: Opening,
     field: Field,
 ) -> Result<Shown, NoMemory>
@@ -167,25 +165,11 @@ fn scan_kept(kept: &[KeptScan], scan: Purpose) -> Option<&KeptScan>
 }
 
 // Whether the locks keep all others from changing the field.
-fn is_protected(locks: &Vec<OwnLock>, rel: Oid, kind: Kind, field: Field) -> bool
+fn is_protected(locks: &OwnLocks, rel: Oid, kind: Kind, field: Field) -> bool
     ensures { result ≡ protects (clear_modes locks.now.items rel) kind field }
 {
     writers(kind, field)
         .as_slice()
         .iter()
-        .all(|writer| keeps_out(locks, rel, *writer))
-}
-
-// Whether a lock that is held clear on the relation conflicts with a mode.
-fn keeps_out(locks: &Vec<OwnLock>, rel: Oid, writer: Mode) -> bool
-    ensures { result ≡ list_any (do_conflict writer) (clear_modes locks.now.items rel) }
-{
-    is_any_against(locks, rel, writer)
-}
-
-// The same, lock by lock.
-fn is_any_against(locks: &Vec<OwnLock>, rel: Oid, writer: Mode) -> bool
-    ensures { result ≡ list_any (λ lock. (lock.clear && same_oid lock.rel rel) && do_conflict writer lock.mode) locks.now.items }
-{
-    locks.iter().any(|lock| lock.clear && lock.rel.0 == rel.0 && conflicts(writer, lock.mode))
+        .all(|writer| locks.keeps_out(rel, *writer))
 }

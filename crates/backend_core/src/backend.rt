@@ -1,9 +1,10 @@
 use crate::begun::begun;
 use crate::{KeptScan, Life, OwnTransaction, Phase};
 use base_types::{Command, Listed, NoMemory, Row};
-use cacheless::{Opening, OwnLock};
+use cacheless::Opening;
 use ddl_effect::Exec;
 use event_kinds::{Line, LineText};
+use lock_modes::OwnLocks;
 use seg_calls::Seg;
 use std::alloc::Global;
 use txn_blocks::TxnBlocks;
@@ -33,7 +34,7 @@ pub struct Backend {
     pub(crate) given_at: u64,
     // the descriptors that it has opened
     pub(crate) opened: Listed<Opening>,
-    pub(crate) locks: Vec<OwnLock>,
+    pub(crate) locks: OwnLocks,
     pub(crate) kept: Listed<KeptScan>,
     pub(crate) lines: Listed<Line>,
 }
@@ -71,7 +72,7 @@ impl Backend {
             given: Vec::new(alloc),
             given_at: 0,
             opened: Listed::new(alloc),
-            locks: Vec::new(alloc),
+            locks: OwnLocks::new(alloc),
             kept: Listed::new(alloc),
             lines: Listed::new(alloc),
         })

@@ -2,7 +2,6 @@ ghost use Rattle.std.specs.Prelude.{◌≡◌, filter, nat_lt};
 
 use crate::{Backend, Life, Phase};
 use base_types::Xid;
-use cacheless::OwnLock;
 use seg_calls::Seg;
 
 impl Backend {
@@ -48,7 +47,7 @@ impl Backend {
         ensures enters { Enters (L.script seg.old) (L.history seg.old) (L.history seg.new) self.old self.new }
     {
         seg.release(self.id, self.finished + 1, from);
-        keep_locks(&mut self.locks, from);
+        self.locks.release(from);
         self.writes.clear();
         self.running = None;
         self.phase = Phase::Ended;
@@ -72,11 +71,4 @@ fn keep_writes(writes: &mut Vec<u32>, from: u32)
     ensures { writes.new.items ≡ filter (λ command. nat_lt command from) writes.old.items }
 {
     writes.retain(|command: &u32| *command < from);
-}
-
-// Only the locks of commands before this one stay.
-fn keep_locks(locks: &mut Vec<OwnLock>, from: u32)
-    ensures { locks.new.items ≡ filter (λ lock. nat_lt lock.command from) locks.old.items }
-{
-    locks.retain(|lock: &OwnLock| lock.command < from);
 }

@@ -2,7 +2,6 @@ ghost use Rattle.std.specs.Prelude.{◌≡◌, ◌≢◌, ◌&&◌, true, false,
 ghost use Rattle.std.specs.List.{find, list_any};
 ghost use Rattle.base_types.specs.Scans.{build_scans};
 ghost use Rattle.base_types.specs.declared.scan.Purpose.{Purpose};
-ghost use Rattle.lock_modes.specs.Own.{has_lock as is_locked};
 ghost use Rattle.ddl_effect.specs.Stages.{plan_at, want_of};
 ghost use Rattle.ddl_effect.specs.Blocks.{ends_block as does_end_block};
 ghost use Rattle.cacheless.specs.Ends.{Commits};
@@ -13,7 +12,6 @@ ghost use Rattle.backend_core.specs.Steps.{IsNextOf, IsWorking};
 
 use crate::{Backend, KeptScan, Next, Phase};
 use base_types::{Command, Kind, Mode, Name, Oid, Purpose, Row, same_scan, table_scans};
-use cacheless::OwnLock;
 use ddl_effect::Want;
 
 // How a command ends.
@@ -147,7 +145,7 @@ impl Backend {
         ensures { result ≡ unlocked_of self.now.locks.items mode self.now.given.items }
     {
         match self.given.first() {
-            Some(Row::Class { oid, .. }) if !has_lock(&self.locks, *oid, mode) => Some(*oid),
+            Some(Row::Class { oid, .. }) if self.locks.state(*oid, mode).is_none() => Some(*oid),
             _ => None,
         }
     }
@@ -285,13 +283,6 @@ fn ends_block(command: &Command) -> bool
     ensures { result ≡ does_end_block command.now }
 {
     matches!(command, Command::Commit | Command::Rollback)
-}
-
-// Whether the mode is held on the relation.
-fn has_lock(locks: &Vec<OwnLock>, rel: Oid, mode: Mode) -> bool
-    ensures { result ≡ is_locked locks.now.items rel mode }
-{
-    locks.iter().any(|lock| lock.rel.0 == rel.0 && lock.mode.number() == mode.number())
 }
 
 // The first scan of a descriptor that isn't kept.

@@ -1,12 +1,10 @@
 // The looks, the scans and the locks of a backend.
 
-ghost use Rattle.std.specs.Prelude.{◌≡◌, map};
-ghost use Rattle.lock_modes.specs.Own.{cleared};
+ghost use Rattle.std.specs.Prelude.{◌≡◌};
 ghost use Rattle.backend_core.specs.State.{begun_own};
 
 use crate::{Backend, KeptScan, OwnTransaction, Phase};
 use base_types::{Listed, Mode, Name, NoMemory, Oid, Purpose};
-use cacheless::OwnLock;
 use ddl_effect::Exec;
 use rel_desc::CommandError;
 use seg_calls::{LockRefusal, Seg};
@@ -30,7 +28,7 @@ impl Backend {
         seg.looked(self.id, number, false);
         self.phase = Phase::Working;
         self.running = Some(begun(number, self.running));
-        clear_all(&mut self.locks);
+        self.locks.clear_all();
     }
 
     // The look before a scan.
@@ -97,14 +95,10 @@ impl Backend {
         ensures enters { OnOk result (Enters (L.script seg.old) (L.history seg.old) (L.history seg.new) self.old self.new) }
     {
         let number = self.finished + 1;
+        self.locks.reserve()?;
         match seg.lock(self.id, number, rel, mode) {
             Ok(()) => {
-                self.locks.push(OwnLock {
-                    rel,
-                    mode,
-                    command: number,
-                    clear: false,
-                })?;
+                self.locks.add(rel, mode, number);
                 self.phase = Phase::Granted;
                 Ok(())
             }
@@ -129,13 +123,4 @@ fn begun(number: u32, running: Option<OwnTransaction>) -> OwnTransaction
         first: number,
         xid: None,
     })
-}
-
-// Makes all locks clear.
-fn clear_all(locks: &mut Vec<OwnLock>)
-    ensures { locks.new.items ≡ map cleared locks.old.items }
-{
-    for lock in locks.iter_mut() {
-        lock.clear = true;
-    }
 }

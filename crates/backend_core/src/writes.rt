@@ -3,8 +3,7 @@ ghost use Rattle.std.specs.Option.{option_map_or};
 ghost use Rattle.backend_core.specs.Refusals.{error_of as error_after};
 
 use crate::{Backend, OwnTransaction};
-use base_types::{Listed, Mode, NoMemory, Xid};
-use cacheless::OwnLock;
+use base_types::{Listed, NoMemory, Xid};
 use ddl_effect::Exec;
 use rel_desc::CommandError;
 use row_visibility::Clash;
@@ -28,18 +27,13 @@ impl Backend {
         ensures enters { OnOk result (Enters (L.script seg.old) (L.history seg.old) (L.history seg.new) self.old self.new) }
     {
         self.writes.reserve(1)?;
-        self.locks.reserve(1)?;
+        self.locks.reserve()?;
         let command = self.finished + 1;
         let draft = replace(&mut self.exec, Exec::Done).into_draft();
         match seg.write(self.id, command, &draft) {
             Ok(written) => {
                 self.writes.push_reserved(command);
-                self.locks.push_reserved(OwnLock {
-                    rel: written.first_oid,
-                    mode: Mode::AccessExclusive,
-                    command,
-                    clear: true,
-                });
+                self.locks.add_new(written.first_oid, command);
                 self.running = Some(with_xid(self.running, command, written.xid));
                 self.opened = Listed::new(alloc);
                 self.read = false;

@@ -1,4 +1,4 @@
-ghost use Rattle.std.specs.Prelude.{◌≡◌, ◌++◌, ◌==◌, ◌&&◌, ◌∷◌, ℕ, List, [], true, not, filter, length, cond, OnOk, OnErr};
+ghost use Rattle.std.specs.Prelude.{◌≡◌, ◌++◌, ◌==◌, ◌&&◌, ℕ, List, [], true, not, filter, length, cond, OnOk, OnErr};
 ghost use Rattle.std.specs.List.{list_any};
 ghost use Rattle.base_types.specs.Modes.{conflicts as do_conflict};
 ghost use Rattle.base_types.specs.Scans.{same_oid};
