@@ -2,7 +2,8 @@ ghost use Rattle.std.specs.Prelude.{◌≡◌, ◌<◌, ◌++◌, ◌∷◌, ◌
 ghost use Rattle.std.specs.List.{list_any};
 ghost use Rattle.base_types.specs.Modes.{conflicts as do_conflict};
 ghost use Rattle.base_types.specs.Scans.{same_oid};
-ghost use Rattle.lock_modes.specs.Own.{is_own, has_lock, state_of, cleared, cleared_if, clear_modes, new_lock};
+ghost use Rattle.lock_modes.specs.Own.{is_own, has_lock, cleared, clear_modes, new_lock};
+ghost use Rattle.lock_modes.specs.States.{state_of, cleared_if};
 
 use crate::OwnLock;
 use base_types::{Mode, NoMemory, Oid, conflicts};
