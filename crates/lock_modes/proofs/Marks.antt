@@ -7,7 +7,8 @@ use Rattle.std.proofs.lemmas.List.Edits.{map_over_more}
 use Rattle.base_types.specs.Modes.{conflicts}
 use Rattle.base_types.specs.Scans.{same_oid}
 use Rattle.lock_modes.specs.Types.{Oid, Mode, OwnLock}
-use Rattle.lock_modes.specs.Own.{is_own, has_lock, state_of, clear_modes}
+use Rattle.lock_modes.specs.Own.{is_own, has_lock, clear_modes}
+use Rattle.lock_modes.specs.States.{state_of}
 
 -- a lock has a state where it is held
 pub is_some-state : (locks : List OwnLock) (rel : Oid) (mode : Mode) → is_some (state_of locks rel mode) ≡ has_lock locks rel mode

@@ -5,7 +5,7 @@ use Rattle.std.proofs.lemmas.Bool.{eqb-true, eq-eqb}
 use Rattle.std.proofs.lemmas.List.{take_more}
 use Rattle.std.proofs.lemmas.List.Folds.{list_any-append}
 use Rattle.lock_modes.specs.Types.{Grant, Released}
-use Rattle.lock_modes.specs.Grants.{is_released, is_kept, is_out}
+use Rattle.lock_modes.specs.Changes.{is_released, is_kept, is_out}
 use Rattle.lock_modes.specs.GrantLists.{grants_at}
 use Rattle.lock_modes.specs.Kept.{Holds}
 use Rattle.lock_modes.specs.declared.grant_lists.GrantLists.{GrantLists}

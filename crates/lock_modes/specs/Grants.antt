@@ -1,11 +1,9 @@
 -- Lists of grants, in the order in which they were given.
-use Rattle.std.specs.Prelude.{ℕ, Bool, not, Option, List, [], ◌∷◌, ◌++◌, ◌==◌, ◌&&◌, nat_le, filter}
+use Rattle.std.specs.Prelude.{ℕ, Bool, not, Option, List, ◌==◌, ◌&&◌, nat_le}
 use Rattle.std.specs.List.{find, list_any}
 use Rattle.base_types.specs.Modes.{same_mode, conflicts}
 use Rattle.base_types.specs.Scans.{same_oid}
-use Rattle.lock_modes.specs.Types.{Oid, Mode, Grant, Released, LockChange}
-use Rattle.lock_modes.specs.declared.change.Released.TheVariants as releases
-use Rattle.lock_modes.specs.declared.change.LockChange.TheVariants as changes
+use Rattle.lock_modes.specs.Types.{Oid, Mode, Grant}
 
 -- a grant of the mode on the relation to the backend
 abbrev pub is_lock : ℕ → Oid → Mode → Grant → Bool
@@ -22,21 +20,3 @@ first_conflict held b rel mode = find (λ g. not (g.backend == b) && same_oid g.
 -- a grant that a backend keeps when it releases what it was granted in commands of this number and above
 abbrev pub stays : ℕ → ℕ → Grant → Bool
 stays b from g = not ((g.backend == b) && nat_le from g.command)
-
--- a grant that is released
-abbrev pub is_released : Released → Grant → Bool
-is_released (releases.Lock b rel mode) g = is_lock b rel mode g
-is_released (releases.From b from) g = (g.backend == b) && nat_le from g.command
-
--- a grant that isn't
-abbrev pub is_kept : Released → Grant → Bool
-is_kept released g = not (is_released released g)
-
--- a grant on the relation that is released
-abbrev pub is_out : Released → ℕ → Grant → Bool
-is_out released rel g = (g.rel.0 == rel) && is_released released g
-
--- the grants after a change
-abbrev pub changed : LockChange → List Grant → List Grant
-changed (changes.Grant g) old = old ++ g ∷ []
-changed (changes.Release released) old = filter (is_kept released) old

@@ -1,8 +1,10 @@
 pub mod Types
 pub mod Grants
+pub mod Requests
+pub mod Changes
 pub mod Own
+pub mod States
 pub mod Rooms
 pub mod GrantLists
 pub mod Holding
 pub mod Kept
-pub mod Requests

@@ -1,7 +1,6 @@
 -- Lists of a backend's own locks, in the order in which they were granted.
-use Rattle.std.specs.Prelude.{ℕ, Bool, true, Option, List, ◌&&◌, map, filter, if◌then◌else◌}
-use Rattle.std.specs.List.{find, list_any}
-use Rattle.std.specs.Option.{option_map}
+use Rattle.std.specs.Prelude.{ℕ, Bool, true, List, ◌&&◌, map, filter}
+use Rattle.std.specs.List.{list_any}
 use Rattle.base_types.specs.Modes.{same_mode}
 use Rattle.base_types.specs.Scans.{same_oid}
 use Rattle.base_types.specs.declared.mode.Mode.TheVariants.{AccessExclusive}
@@ -15,10 +14,6 @@ is_own rel mode lock = same_oid lock.rel rel && same_mode lock.mode mode
 abbrev pub has_lock : List OwnLock → Oid → Mode → Bool
 has_lock locks rel mode = list_any (is_own rel mode) locks
 
--- whether the mode is clear, if it is held on the relation
-abbrev pub state_of : List OwnLock → Oid → Mode → Option Bool
-state_of locks rel mode = option_map (λ lock. lock.clear) (find (is_own rel mode) locks)
-
 -- the lock of a relation's creator, which is clear at once
 abbrev pub new_lock : Oid → ℕ → OwnLock
 new_lock rel command = record { rel = rel; mode = AccessExclusive; command = command; clear = true }
@@ -26,10 +21,6 @@ new_lock rel command = record { rel = rel; mode = AccessExclusive; command = com
 -- the lock, which is clear from now on
 abbrev pub cleared : OwnLock → OwnLock
 cleared lock = record lock { clear = true }
-
--- the same if it is of the mode on the relation
-abbrev pub cleared_if : Oid → Mode → OwnLock → OwnLock
-cleared_if rel mode lock = if is_own rel mode lock then cleared lock else lock
 
 -- the modes that are held clear on a relation
 abbrev pub clear_modes : List OwnLock → Oid → List Mode

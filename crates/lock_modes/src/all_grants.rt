@@ -21,7 +21,7 @@ impl Model for AllGrants {
 unsafe impl Send for AllGrants {}
 
 impl AllGrants {
-    ghost use Rattle.lock_modes.specs.Grants.{changed};
+    ghost use Rattle.lock_modes.specs.Changes.{changed};
 
     // None.
     pub(crate) fn new() -> AllGrants

@@ -1,5 +1,6 @@
 ghost use Rattle.std.specs.Prelude.{◌≡◌};
-ghost use Rattle.lock_modes.specs.Grants.{is_lock, is_released};
+ghost use Rattle.lock_modes.specs.Grants.{is_lock};
+ghost use Rattle.lock_modes.specs.Changes.{is_released};
 
 use crate::Grant;
 use base_types::{Mode, Oid};

@@ -1,5 +1,5 @@
 ghost use Rattle.std.specs.Prelude.{◌≡◌, ◌≤◌, ◌<◌, ◌+◌, ◌++◌, ◌∷◌, ◌↔◌, [], filter, OnOk, IsTrue};
-ghost use Rattle.lock_modes.specs.Grants.{is_kept};
+ghost use Rattle.lock_modes.specs.Changes.{is_kept};
 
 use crate::Grant;
 use crate::change::Released;

@@ -1,5 +1,5 @@
 ghost use Rattle.std.specs.Prelude.{◌≡◌, ◌≤◌, ◌<◌, ◌+◌, ◌++◌, ◌∷◌, ◌==◌, ℕ, [], cond, filter, OnOk};
-ghost use Rattle.lock_modes.specs.Grants.{is_kept};
+ghost use Rattle.lock_modes.specs.Changes.{is_kept};
 ghost use Rattle.lock_modes.specs.GrantLists.{grants_at, room_at};
 
 use crate::Grant;

@@ -9,8 +9,8 @@
 //!
 //! The promise to the layers above: contracts see a table as the list of all grants in the order in
 //! which they were given, and own locks as their list. Each call does to that list exactly what the words
-//! of `specs/Grants.antt`, `specs/Requests.antt` and `specs/Own.antt` say, and a call without a `Result`
-//! takes no memory.
+//! of `specs/Grants.antt`, `specs/Requests.antt`, `specs/Own.antt` and `specs/States.antt` say, and a call
+//! without a `Result` takes no memory.
 //!
 //! ```text
 //! own.reserve()?;

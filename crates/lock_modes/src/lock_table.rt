@@ -1,8 +1,9 @@
-ghost use Rattle.std.specs.Prelude.{◌≡◌, ◌++◌, ◌==◌, ◌&&◌, ◌∷◌, ℕ, List, [], true, not, filter, length, cond, OnOk, OnErr};
+ghost use Rattle.std.specs.Prelude.{◌≡◌, ◌++◌, ◌==◌, ◌&&◌, ℕ, List, [], true, not, filter, length, cond, OnOk, OnErr};
 ghost use Rattle.std.specs.List.{list_any};
 ghost use Rattle.base_types.specs.Modes.{conflicts as do_conflict};
 ghost use Rattle.base_types.specs.Scans.{same_oid};
-ghost use Rattle.lock_modes.specs.Grants.{is_kept, is_lock, is_out, is_released, holds as do_hold, first_conflict, stays};
+ghost use Rattle.lock_modes.specs.Grants.{is_lock, holds as do_hold, first_conflict, stays};
+ghost use Rattle.lock_modes.specs.Changes.{is_kept, is_out, is_released};
 ghost use Rattle.lock_modes.specs.GrantLists.{grants_at};
 ghost use Rattle.lock_modes.specs.Kept.{Holds, HasRoom};
 ghost use Rattle.lock_modes.specs.Requests.{Requests};
@@ -104,8 +105,8 @@ impl LockTable {
     }
 
     /// Makes room for grants that need no test, such as those of a new relation, which nobody else
-    /// can ask for yet. They take the place of what was prepared before; any other call that changes
-    /// the table forgets them. Out of memory, nothing changes.
+    /// can ask for yet. They take the place of what was prepared before; a request, an `unlock` or a
+    /// `release` forgets them. Out of memory, nothing changes.
     pub fn prepare(&mut self, grants: Vec<Grant>) -> Result<(), NoMemory>
         ensures held { self.new.held ≡ self.old.held }
         ensures ok { OnOk result (self.new.prepared ≡ grants.items) }

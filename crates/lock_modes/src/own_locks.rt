@@ -1,8 +1,9 @@
-ghost use Rattle.std.specs.Prelude.{◌≡◌, ◌<◌, ◌+◌, ◌≤◌, ◌++◌, ◌∷◌, ◌&&◌, [], true, false, not, is_some, filter, map, nat_lt, OnOk};
+ghost use Rattle.std.specs.Prelude.{◌≡◌, ◌<◌, ◌++◌, ◌∷◌, ◌&&◌, [], true, false, not, is_some, filter, map, nat_lt, OnOk};
 ghost use Rattle.std.specs.List.{list_any};
 ghost use Rattle.base_types.specs.Modes.{conflicts as do_conflict};
 ghost use Rattle.base_types.specs.Scans.{same_oid};
-ghost use Rattle.lock_modes.specs.Own.{is_own, has_lock, state_of, cleared, cleared_if, clear_modes, new_lock};
+ghost use Rattle.lock_modes.specs.Own.{is_own, has_lock, cleared, clear_modes, new_lock};
+ghost use Rattle.lock_modes.specs.States.{state_of, cleared_if};
 
 use crate::OwnLock;
 use base_types::{Mode, NoMemory, Oid, conflicts};

@@ -1,7 +1,7 @@
 use Rattle.std.proofs.Common.{◌≡◌, ℕ, cond, filter, take}
 use Rattle.std.specs.List.{list_any}
 use Rattle.lock_modes.specs.GrantLists.{grants_at}
-use Rattle.lock_modes.specs.Grants.{is_kept, is_out}
+use Rattle.lock_modes.specs.Changes.{is_kept, is_out}
 use Rattle.lock_modes.proofs.lock_table.take_out_each.Given as goal
 
 abbrev pub invariant-loop-grant : goal.invariant-loop-grant

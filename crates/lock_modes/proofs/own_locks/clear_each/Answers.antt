@@ -1,5 +1,5 @@
 use Rattle.std.proofs.Common.{◌∙◌, ap, slice_set}
-use Rattle.lock_modes.specs.Own.{cleared_if}
+use Rattle.lock_modes.specs.States.{cleared_if}
 use Rattle.lock_modes.proofs.Marks.{marks_more}
 use Rattle.lock_modes.proofs.own_locks.clear_each.Goals as goal
 

@@ -1,5 +1,5 @@
 use Rattle.std.proofs.Common.{◌≡◌, ◌++◌, map, take, drop}
-use Rattle.lock_modes.specs.Own.{cleared_if}
+use Rattle.lock_modes.specs.States.{cleared_if}
 use Rattle.lock_modes.proofs.own_locks.clear_each.Given as goal
 
 abbrev pub invariant-loop-lock : goal.invariant-loop-lock

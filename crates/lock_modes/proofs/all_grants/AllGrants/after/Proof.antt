@@ -32,7 +32,7 @@ use Rattle.lock_modes.proofs.all_grants.AllGrants.after.Statement as stated
 use Rattle.lock_modes.proofs.all_grants.AllGrants.after.Code as code
 use Rattle.lock_modes.specs.contracts.all_grants.AllGrants as trail
 use Rattle.lock_modes.specs.contracts.change.LockChange as name
-use Rattle.lock_modes.specs.Grants.{changed}
+use Rattle.lock_modes.specs.Changes.{changed}
 
 abbrev stayed : Stays (f.ended).signature.params (f.ended).kept
 stayed = (stay_none_ref (0 ∷ []) tt (plain (λ _. trail.the_row)) yes, (stay_none_ref (1 ∷ []) tt (plain (λ _. name.the_row)) yes, tt))
