@@ -18,6 +18,8 @@ mod events;
 #[cfg(test)]
 mod locks;
 #[cfg(test)]
+mod messages;
+#[cfg(test)]
 mod readers;
 #[cfg(test)]
 mod rows;
