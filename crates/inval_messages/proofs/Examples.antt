@@ -1,6 +1,5 @@
 -- Worked hashes and messages, by computation.
-use Rattle.std.proofs.Common.{◌≡◌, ℕ, true, false, None, Some, List, [], ◌∷◌, codes, negsuc, refl}
-use Rattle.std.specs.Prelude.{Option}
+use Rattle.std.proofs.Common.{◌≡◌, ℕ, true, None, Some, List, [], ◌∷◌, codes, negsuc, refl}
 use Rattle.std.specs.List.{flat_map}
 use Rattle.base_types.specs.CacheKeys.{key_hash}
 use Rattle.base_types.specs.declared.col_type.ColType.TheVariants.{Int4, Text}
@@ -8,7 +7,7 @@ use Rattle.base_types.specs.declared.kind.Kind.TheVariants.{Table}
 use Rattle.base_types.specs.declared.key.KeyPart.TheVariants as parts
 use Rattle.base_types.specs.declared.row.ConKind.TheVariants.{Check, Foreign}
 use Rattle.base_types.specs.declared.row.Row.TheVariants.{Class, Att, Con, Def}
-use Rattle.inval_messages.specs.Types.{Oid, Row, RelName, RelOid, AttName, Message, Cat, Rel}
+use Rattle.inval_messages.specs.Types.{Oid, Row, RelName, RelOid, AttName, Cat, Rel}
 use Rattle.inval_messages.specs.Changes.{cats_of, rels_of}
 use Rattle.inval_messages.specs.Lists.{Written, cats_in, rels_in, sent_in, once_more, rest_of_parts}
 

@@ -1,2 +1,3 @@
 mod Examples
 pub mod Covers
+pub mod Parts

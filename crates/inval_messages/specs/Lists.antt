@@ -14,6 +14,10 @@ pub record Written : Type 0 where
 abbrev pub once_more : List Message → Message → List Message
 once_more old message = if list_any (same_message message) old then old else old ++ message ∷ []
 
+-- the list has a message
+abbrev pub has_messages : Written → Bool
+has_messages list = nat_lt 0 (length (list.cats ++ list.rels))
+
 -- the lists of this command and of those after it
 abbrev pub lists_from : ℕ → List Written → List Written
 lists_from from lists = filter (λ w. nat_le from w.command) lists

@@ -1,5 +1,5 @@
 -- Invalidation messages, and which scans a message covers.
-use Rattle.std.specs.Prelude.{ℕ, Bool, false, not, List, [], ◌∷◌, ◌==◌, ◌&&◌}
+use Rattle.std.specs.Prelude.{Bool, true, false, not, List, [], ◌∷◌, ◌==◌, ◌&&◌}
 use Rattle.std.specs.List.{list_any}
 use Rattle.base_types.specs.CacheKeys.{key_hash, cache_number}
 use Rattle.base_types.specs.Scans.{same_oid}
@@ -21,6 +21,11 @@ same_message a b = false
 abbrev pub is_for_cache : CacheId → Message → Bool
 is_for_cache cache (Cat own hash) = cache_number own == cache_number cache
 is_for_cache cache (Rel rel) = false
+
+-- the message is for a descriptor
+abbrev pub is_for_descriptor : Message → Bool
+is_for_descriptor (Cat cache hash) = false
+is_for_descriptor (Rel rel) = true
 
 -- the message covers the scan: what the scan gave may have changed
 abbrev pub covers : Purpose → Message → Bool

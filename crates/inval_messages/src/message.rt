@@ -1,3 +1,6 @@
+ghost use Rattle.std.specs.Prelude.{◌≡◌};
+ghost use Rattle.inval_messages.specs.Messages.{same_message};
+
 use base_types::{CacheId, Oid};
 
 /// An invalidation message (`SharedInvalidationMessage` in `src/include/storage/sinval.h`).
@@ -8,4 +11,23 @@ pub enum Message {
     Cat { cache: CacheId, hash: u32 },
     /// For the descriptor of a relation (`SharedInvalRelcacheMsg`).
     Rel { rel: Oid },
+}
+
+impl Message {
+    /// Whether two messages are one.
+    pub fn is_same(self, other: Message) -> bool
+        ensures { result ≡ same_message self other }
+    {
+        match (self, other) {
+            (
+                Message::Cat { cache, hash },
+                Message::Cat {
+                    cache: other_cache,
+                    hash: other_hash,
+                },
+            ) => cache.number() == other_cache.number() && hash == other_hash,
+            (Message::Rel { rel }, Message::Rel { rel: other_rel }) => rel.0 == other_rel.0,
+            _ => false,
+        }
+    }
 }

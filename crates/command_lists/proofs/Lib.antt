@@ -1,0 +1,6 @@
+mod Order
+mod Ranges
+mod Parts
+mod Registering
+mod Aborting
+pub mod Writes
