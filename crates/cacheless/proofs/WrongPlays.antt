@@ -279,6 +279,12 @@ protected_after_fetch = search arith
 pub name_scanned_again : IsNext another.show_of_anothers_table name_appeared (entry 2 1 (Scan (scans.RelName (codes "t")) 1))
 name_scanned_again = search arith
 
+-- messages of another name leave what the lookup found
+pub absent_after_other_messages : IsNext another.show_of_anothers_table (another.started
+    ++ entry 2 1 (Look false) ∷ entry 2 1 (Scan (scans.RelName (codes "t")) 0) ∷ entry 1 0 Start ∷ entry 1 1 (Look false) ∷ entry 1 1 (Write (xid 1) (new_table 16384 (codes "u") (codes "a")))
+    ∷ entry 1 1 (Visible (xid 1)) ∷ entry 1 1 (Publish 3) ∷ entry 1 1 (Publish 1) ∷ entry 1 1 (Release 1) ∷ entry 2 1 (Look true) ∷ entry 2 1 (Fetch 4) ∷ []) (entry 2 1 (Release 1))
+absent_after_other_messages = search arith
+
 -- also before the relation is locked
 pub name_scanned_again_before_lock : IsNext another.show_of_anothers_table name_went_away (entry 2 1 (Scan (scans.RelName (codes "t")) 0))
 name_scanned_again_before_lock = search arith
