@@ -149,7 +149,7 @@ first_has p m messages is = or_left (p m) (list_any p messages) is
 -- each column's row is covered by its own message, and its descriptor by the relation's
 columns_covered : (before : List Entry) (b : ℕ) (rel : Oid) (messages : List Message) (numbered : List (ℕ × NewColumn))
     → ((p : Message → Bool) → list_any p (flat_map (cats_by before b) (map (column_item rel) numbered)) ≡ true → list_any p messages ≡ true) → list_any (covers (scans.Attribute rel)) messages ≡ true
-    → list_all (is_covered messages) (flat_map scans_of (flat_map (λ item. rows_named item (old_row before b item)) (map (column_item rel) numbered))) ≡ true
+    → list_all (is_covered messages) (flat_map (λ item. flat_map scans_of (rows_named item (old_row before b item))) (map (column_item rel) numbered)) ≡ true
 columns_covered before b rel messages [] has relation = refl
 columns_covered before b rel messages ((num, column) ∷ numbered) has relation =
     λ i. has (covers (scans.AttName rel column.name)) (first_has (covers (scans.AttName rel column.name)) own later (same_message-itself own)) i
