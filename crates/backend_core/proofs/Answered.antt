@@ -16,7 +16,6 @@ use Rattle.cacheless.specs.Lines.{answer_well, answer_by, effect_judged, answer_
 use Rattle.cacheless.specs.Session.{none_open, outcome_of, is_settled}
 use Rattle.cacheless.specs.Settled.{found_by}
 use Rattle.backend_core.specs.Types.{Row, Purpose, Command, CommandError, Entry, Backend}
-use Rattle.backend_core.specs.declared.phase.Phase.TheVariants as phases
 use Rattle.backend_core.specs.State.{is_accepting, is_out, owed_first, Rest}
 use Rattle.backend_core.specs.Agrees.{OpensLast, RunsBy, TransactionFits, EndFits, Well, PlaceFits, CommandFits, Agrees}
 use Rattle.backend_core.specs.Steps.{AgreesNow, IsWorking}

@@ -1,17 +1,14 @@
 -- The fetch of messages that wait.
-use Rattle.std.proofs.Common.{◌≡◌, ◌≢◌, ◌≤◌, ◌+◌, ◌∙◌, ℕ, Bool, true, false, not, Option, Some, None, List, [], ◌∷◌, ◌++◌, ◌==◌, ◌&&◌, refl, sym, ap, subst, length, All, is_some, slice_get, arith}
+use Rattle.std.proofs.Common.{◌≡◌, ◌≤◌, ◌+◌, ◌∙◌, ℕ, Bool, true, false, not, Option, Some, List, [], ◌∷◌, ◌++◌, ◌==◌, ◌&&◌, refl, sym, ap, subst, length, arith}
 use Rattle.std.specs.Option.{option_map_or}
 use Rattle.std.proofs.Math.Bool.{and-true}
 use Rattle.base_types.specs.Scenario.{Scenario}
-use Rattle.base_types.specs.Scans.{is_build_scan}
 use Rattle.base_types.specs.declared.fetched.Fetched.TheVariants as fetches
-use Rattle.base_types.specs.declared.fetched.Fetched.{Fetched}
 use Rattle.event_kinds.specs.declared.entry.Event.TheVariants as events
 use Rattle.inval_messages.specs.declared.message.Message.{Message}
 use Rattle.inval_messages.specs.Messages.{is_spared}
-use Rattle.lock_modes.specs.Own.{cleared}
 use Rattle.lock_modes.specs.Rooms.{Roomy}
-use Rattle.ddl_effect.specs.Plans.{Plan, Absent, Do}
+use Rattle.ddl_effect.specs.Plans.{Plan, Absent}
 use Rattle.ddl_effect.specs.Stages.{plan_at}
 use Rattle.history_model.specs.Drawn.{next_oid}
 use Rattle.history_model.specs.Lives.{last_event_of}
@@ -21,16 +18,16 @@ use Rattle.history_model.specs.Writes.{is_empty}
 use Rattle.seg_calls.specs.Calls.{entry_of, due_to, Fetches, Appends, MayCall}
 use Rattle.cacheless.specs.Facts.{facts_of}
 use Rattle.cacheless.specs.Session.{Session, Tally}
-use Rattle.cacheless.specs.Owed.{Owes, OwesFetch, OwesLook, owed_at_start, owed_after, owes_build}
+use Rattle.cacheless.specs.Owed.{Owes, OwesFetch, OwesLook, owed_at_start, owed_after}
 use Rattle.cacheless.specs.Sessions.{resumed, tally_by, placed_at, counted}
 use Rattle.cacheless.specs.Plays.{MayPlayIn}
 use Rattle.cacheless.proofs.Settling.{waits-owed}
-use Rattle.backend_core.specs.Types.{Command, OwnLock, Row, Purpose, Entry, Event, KeptScan, Phase, OwnTransaction, Backend}
+use Rattle.backend_core.specs.Types.{OwnLock, Entry, Event, KeptScan, Phase, Backend}
 use Rattle.backend_core.specs.declared.phase.Phase.TheVariants as phases
-use Rattle.backend_core.specs.State.{owed_at, is_accepting, looks_due, phase_fetched, locks_accepted, is_absent, is_visible_at, is_taken_back, is_ended, one_if, is_kept, kept_spared, begun_own, Rest, session_at, HasCommand}
-use Rattle.backend_core.specs.Agrees.{IsPlayed, TallyFits, ReadRight, KeptFits, EndFits, IsFoundLocked, IsAccepting, Agrees}
+use Rattle.backend_core.specs.State.{owed_at, is_accepting, looks_due, phase_fetched, locks_accepted, is_absent, is_visible_at, is_taken_back, one_if, kept_spared, Rest, session_at, HasCommand}
+use Rattle.backend_core.specs.Agrees.{IsPlayed, TallyFits, ReadRight, KeptFits, EndFits, IsAccepting, Agrees}
 use Rattle.backend_core.specs.Steps.{Enters}
-use Rattle.backend_core.proofs.Stepping.{Waits, facts_after, session_after, rest_after, own_enters}
+use Rattle.backend_core.proofs.Stepping.{facts_after, session_after, rest_after, own_enters}
 use Rattle.backend_core.proofs.Carry.{MayCome, may_come, Leaves, own_leaves, kept-more, command-more, no_answer, may_call, waits_at, rows_fit-locked, found_locked-more}
 use Rattle.backend_core.proofs.Sparing.{is_kept-spared, all-spared}
 use Rattle.backend_core.proofs.Looks.{in_command, Quiet, quiet, runs_begun, runs_same, same_locks, locks_after, owes_none, Accepts, accepted_state, accept_well, accepts_in, first_begun, accepting_opened, not_empty-after}

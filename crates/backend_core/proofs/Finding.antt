@@ -19,10 +19,9 @@ use Rattle.cacheless.specs.Owed.{act_owed}
 use Rattle.cacheless.specs.Settled.{if_locked, looked_up, gives, opened_by, found_by, sought_by, act_done, done_here, settled}
 use Rattle.cacheless.proofs.Settling.{settled-act}
 use Rattle.backend_core.specs.Types.{Oid, Mode, Kind, Row, Command, Entry, Opening, OwnLock, Exec, KeptScan, Backend}
-use Rattle.backend_core.specs.declared.phase.Phase.TheVariants as phases
 use Rattle.backend_core.specs.NewTables.{SeesRelation}
 use Rattle.backend_core.specs.State.{is_accepting, missing, builds_missing, act_missing, is_out, owed_first, unlocked_of, Rest, session_at}
-use Rattle.backend_core.specs.Agrees.{RowsFit, FactsFit, RunsBy, TransactionFits, EndFits, HasOpened, OpensLast, Well, PlaceFits, GivenSeen, Agrees}
+use Rattle.backend_core.specs.Agrees.{RowsFit, FactsFit, RunsBy, TransactionFits, EndFits, OpensLast, Well, PlaceFits, GivenSeen, Agrees}
 use Rattle.backend_core.specs.Steps.{AgreesNow, IsWorking, NextFind, NextOpen}
 use Rattle.backend_core.specs.Way.{after_given, made_first, made_in, opening_by, relation_by, SeesAll, OnItsWay}
 use Rattle.backend_core.proofs.Acting.{IsActing, is_acting}

@@ -1,7 +1,6 @@
 -- The locks that a backend asks for.
 use Rattle.std.proofs.Common.{Err, ◌≡◌, ◌<◌, ◌+◌, inl, inr, ◌∙◌, ℕ, Bool, true, false, not, Option, Some, None, List, [], ◌∷◌, ◌++◌, ◌==◌, ◌&&◌, ◌||◌, if◌then◌else◌, refl, sym, ap, subst, length, drop, map, unwrap_or, arith}
 use Rattle.std.specs.Option.{option_map_or}
-use Rattle.std.specs.List.{list_any}
 use Rattle.std.proofs.lemmas.Bool.{eq-eqb, or_right}
 use Rattle.std.proofs.lemmas.List.Folds.{list_any-append}
 use Rattle.base_types.specs.Modes.{mode_number}
@@ -36,7 +35,7 @@ use Rattle.cacheless.proofs.HeldLocks.{Follows, grant_of, locks_of, locks_are_he
 use Rattle.cacheless.proofs.Settling.{waits-act}
 use Rattle.backend_core.specs.Types.{Oid, Mode, Row, Purpose, Command, Entry, Event, OwnLock, Backend}
 use Rattle.backend_core.specs.declared.phase.Phase.TheVariants as phases
-use Rattle.backend_core.specs.State.{owed_at, is_absent, is_accepting, looks_due, is_taken_back, is_ended, running_in, builds_missing, scans_missing, unlocked_of, Rest, session_at, HasCommand}
+use Rattle.backend_core.specs.State.{owed_at, is_absent, is_accepting, looks_due, is_taken_back, is_ended, running_in, scans_missing, unlocked_of, Rest, session_at, HasCommand}
 use Rattle.backend_core.specs.Agrees.{IsPlayed, FactsFit, RowsFit, Well, IsFoundLocked, GivenSeen, Agrees}
 use Rattle.backend_core.specs.Steps.{IsWorking, NextLock, Enters}
 use Rattle.backend_core.proofs.Stepping.{Waits, facts_after, session_after, rest_after, own_enters}

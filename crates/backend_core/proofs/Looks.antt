@@ -1,5 +1,5 @@
 -- The looks of a backend: at its transaction's start, in an accept of messages, and before a scan.
-use Rattle.std.proofs.Common.{◌≡◌, ◌≢◌, ◌≤◌, ◌<◌, ◌+◌, ◌⊎◌, inl, inr, ◌∙◌, ℕ, Bool, true, false, not, Option, Some, None, List, [], ◌∷◌, ◌++◌, ◌==◌, ◌&&◌, ◌||◌, if◌then◌else◌, refl, sym, ap, subst, length, drop, map, is_none, is_some, arith}
+use Rattle.std.proofs.Common.{◌≡◌, ◌≢◌, ◌≤◌, ◌+◌, ◌⊎◌, inl, inr, ◌∙◌, ℕ, Bool, true, false, not, Option, Some, None, List, [], ◌∷◌, ◌++◌, ◌==◌, ◌&&◌, ◌||◌, if◌then◌else◌, refl, sym, ap, subst, length, drop, map, is_none, is_some, arith}
 use Rattle.std.specs.Prelude.{nat_le, ◌*◌}
 use Rattle.std.specs.Option.{option_map, option_map_or}
 use Rattle.std.proofs.Math.Bool.{and-false}
@@ -24,9 +24,9 @@ use Rattle.cacheless.specs.Owed.{Owes, OwesFetch, OwesLook, begins, owed_at_star
 use Rattle.cacheless.specs.Sessions.{placed_at}
 use Rattle.cacheless.specs.Plays.{may_look, MayPlayIn}
 use Rattle.cacheless.proofs.Settling.{waits-owed}
-use Rattle.backend_core.specs.Types.{Command, Mode, OwnLock, Row, Purpose, Entry, KeptScan, Phase, OwnTransaction, Backend}
+use Rattle.backend_core.specs.Types.{Command, Mode, OwnLock, Row, Entry, KeptScan, Phase, OwnTransaction, Backend}
 use Rattle.backend_core.specs.declared.phase.Phase.TheVariants as phases
-use Rattle.backend_core.specs.State.{owed_at, is_accepting, looks_due, phase_looked, locks_accepted, published_at, is_absent, is_visible_at, is_taken_back, is_ended, one_if, running_in, begun_own, begins_in, has_write_since, owed_first, act_missing, scans_missing, Rest, session_at, HasCommand}
+use Rattle.backend_core.specs.State.{owed_at, is_accepting, looks_due, phase_looked, locks_accepted, published_at, is_absent, is_visible_at, is_taken_back, is_ended, one_if, running_in, begun_own, begins_in, owed_first, scans_missing, Rest, session_at, HasCommand}
 use Rattle.backend_core.specs.Agrees.{IsPlayed, FactsFit, TallyFits, Well, RunsBy, TransactionFits, EndFits, OpensLast, IsFoundLocked, IsAccepting, Agrees}
 use Rattle.backend_core.specs.Steps.{OwesLookNow, IsWorking, Enters}
 use Rattle.backend_core.proofs.Stepping.{Waits, facts_after, session_after, rest_after, own_enters}

@@ -1,24 +1,22 @@
 -- What a backend does next.
-use Rattle.std.proofs.Common.{◌≡◌, ◌≢◌, ◌≤◌, ◌∙◌, ℕ, Bool, true, false, not, ◌&&◌, ◌==◌, Option, Some, None, List, [], ◌∷◌, ◌++◌, refl, sym, ap, subst, length, take, filter, if◌then◌else◌, is_none, is_some, slice_get, ◌⊎◌, inl, inr, arith}
+use Rattle.std.proofs.Common.{◌≡◌, ◌∙◌, ℕ, Bool, true, false, not, ◌&&◌, ◌==◌, Option, Some, None, List, [], ◌∷◌, refl, sym, ap, subst, length, take, filter, is_none, is_some, slice_get, ◌⊎◌, inl, inr, arith}
 use Rattle.std.specs.Prelude.{nat_le}
 use Rattle.std.specs.List.{find}
 use Rattle.std.proofs.lemmas.Bool.{le-leb, eqb-true}
 use Rattle.std.specs.Option.{option_map_or}
 use Rattle.base_types.specs.Scans.{build_scans}
-use Rattle.base_types.specs.declared.scan.Purpose.TheVariants as scans
 use Rattle.ddl_effect.specs.Plans.{Plan, Do, Lookup, Open, Write}
 use Rattle.ddl_effect.specs.Stages.{plan_at, want_of}
 use Rattle.ddl_effect.specs.declared.want.Want.TheVariants as wants
-use Rattle.inval_messages.specs.Lists.{Written, has_write_from, sent_in, unsent_after}
+use Rattle.inval_messages.specs.Lists.{Written, has_write_from, unsent_after}
 use Rattle.history_model.proofs.Every.{any-weaker}
 use Rattle.cacheless.specs.Ends.{Ends, Commits, TakesBack}
 use Rattle.cacheless.specs.Owed.{OwesLook}
-use Rattle.cacheless.specs.Session.{Badly, outcome_of}
 use Rattle.backend_core.specs.Types.{Oid, Mode, Kind, Row, Purpose, Message, Command, Draft, Xid, OwnTransaction, Backend}
 use Rattle.backend_core.specs.declared.phase.Phase.TheVariants as phases
-use Rattle.backend_core.specs.State.{is_kept, missing, builds_missing, act_missing, scans_missing, begins_in, end_at, has_write_since, lists_at, unsent_at, published_at, unlocked_of, HasCommand}
-use Rattle.backend_core.specs.Agrees.{Well, EndFits, CommitFits}
-use Rattle.backend_core.specs.Steps.{OwesLookNow, IsWorking, NextLookUp, NextBuild, NextLock, NextFind, NextOpen, NextWrite, NextCommit, NextPublish, NextRelease, AfterCommit, WithoutWrite, NextFinish}
+use Rattle.backend_core.specs.State.{is_kept, begins_in, end_at, has_write_since, lists_at, published_at, unlocked_of, HasCommand}
+use Rattle.backend_core.specs.Agrees.{Well}
+use Rattle.backend_core.specs.Steps.{OwesLookNow, IsWorking, NextLookUp, NextBuild, NextLock, NextFind, NextOpen, NextWrite, NextCommit, NextRelease, AfterCommit, WithoutWrite, NextFinish}
 
 -- the plan that wants a lookup
 wants_lookup : (p : Plan) (name : List ℕ) (mode : Mode) → want_of p ≡ wants.Lookup name mode → (rest : List Row → Plan) × (p ≡ Do (Lookup name mode) rest)

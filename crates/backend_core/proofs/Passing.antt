@@ -1,5 +1,5 @@
 -- What comes next says whether a backend goes on without an entry.
-use Rattle.std.proofs.Common.{◌≡◌, ◌≢◌, ◌∙◌, ◌⊎◌, inl, inr, ℕ, Bool, true, false, not, ◌&&◌, ◌||◌, Option, Some, None, List, [], ◌∷◌, ◌++◌, if◌then◌else◌, refl, sym, ap, is_none, is_some, slice_get}
+use Rattle.std.proofs.Common.{◌≡◌, ◌≢◌, ◌∙◌, ◌⊎◌, inl, inr, ℕ, Bool, true, false, not, ◌&&◌, ◌||◌, Option, Some, None, List, [], ◌∷◌, ◌++◌, if◌then◌else◌, refl, ap, is_none, is_some, slice_get}
 use Rattle.std.specs.Option.{option_map_or}
 use Rattle.base_types.specs.Scans.{build_scans}
 use Rattle.base_types.specs.declared.scan.Purpose.TheVariants as scans

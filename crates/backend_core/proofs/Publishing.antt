@@ -1,5 +1,5 @@
 -- Messages of a commit are published.
-use Rattle.std.proofs.Common.{◌≡◌, ◌≢◌, ◌≤◌, ◌+◌, ◌∙◌, ◌∷◌, inl, inr, ℕ, Bool, true, false, not, Option, Some, None, List, [], refl, sym, ap, subst, length, take, map, min, is_none, is_some, if◌then◌else◌, arith}
+use Rattle.std.proofs.Common.{◌≡◌, ◌≢◌, ◌≤◌, ◌+◌, ◌∙◌, ◌∷◌, inr, ℕ, Bool, true, false, Option, Some, None, List, [], refl, sym, ap, subst, length, take, map, min, is_none, is_some, if◌then◌else◌, arith}
 use Rattle.std.specs.Prelude.{nat_le}
 use Rattle.std.specs.Option.{option_map, option_map_or}
 use Rattle.std.proofs.lemmas.Bool.{leb-true, leb-false}
@@ -7,7 +7,7 @@ use Rattle.std.proofs.lemmas.List.{length-take, length-take-le, take_all, take_m
 use Rattle.std.proofs.Math.Nat.{min-le_right}
 use Rattle.event_kinds.specs.declared.entry.Event.TheVariants as events
 use Rattle.lock_modes.specs.Own.{cleared}
-use Rattle.inval_messages.specs.Lists.{Written, has_write_from, cats_in, rels_in, sent_in, unsent_after}
+use Rattle.inval_messages.specs.Lists.{has_write_from, cats_in, rels_in, sent_in, unsent_after}
 use Rattle.history_model.specs.Drawn.{next_oid}
 use Rattle.history_model.specs.Legal.{FollowsVisible, FollowsGone}
 use Rattle.history_model.specs.Lives.{FollowsLife}

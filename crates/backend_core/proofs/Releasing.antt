@@ -1,5 +1,5 @@
 -- The locks of an end are released.
-use Rattle.std.proofs.Common.{◌≡◌, ◌≢◌, ◌≤◌, ◌+◌, ◌∙◌, ◌∷◌, ◌⊎◌, inl, inr, ℕ, Bool, true, false, Option, Some, None, List, [], refl, sym, ap, subst, length, map, filter, is_none, is_some, slice_get, if◌then◌else◌, arith}
+use Rattle.std.proofs.Common.{◌≡◌, ◌≤◌, ◌+◌, ◌∙◌, ◌∷◌, ◌⊎◌, inl, inr, ℕ, Bool, true, false, Option, Some, None, List, [], refl, sym, ap, subst, length, map, filter, is_some, slice_get, if◌then◌else◌, arith}
 use Rattle.std.specs.Prelude.{nat_le, nat_lt}
 use Rattle.std.specs.Option.{option_map, option_map_or}
 use Rattle.std.proofs.lemmas.Bool.{eq-eqb, le-leb, both_ways, false_from_ne_true}
@@ -22,7 +22,7 @@ use Rattle.cacheless.specs.Plays.{MayPlayIn, IsEnd}
 use Rattle.cacheless.specs.Sessions.{placed_at}
 use Rattle.backend_core.specs.Types.{Scenario, Entry, Event, OwnLock, OwnTransaction, Phase, Backend}
 use Rattle.backend_core.specs.declared.phase.Phase.TheVariants as phases
-use Rattle.backend_core.specs.State.{owed_at, is_accepting, published_at, is_visible_at, is_taken_back, is_ended, is_out, running_in, running_at, lists_at, unsent_at, end_of_running, end_at, has_write_since, owed_first, session_at, HasCommand}
+use Rattle.backend_core.specs.State.{owed_at, is_accepting, published_at, is_visible_at, is_taken_back, is_ended, is_out, running_in, running_at, lists_at, end_of_running, end_at, has_write_since, owed_first, session_at, HasCommand}
 use Rattle.backend_core.specs.Agrees.{IsPlayed, CommitFits, TakeBackFits, EndFits, Well, Agrees}
 use Rattle.backend_core.specs.Steps.{NextRelease, AfterCommit, AfterTakingBack, WithoutWrite, AtTheEnd, Enters}
 use Rattle.backend_core.proofs.Stepping.{facts_after, own_enters}

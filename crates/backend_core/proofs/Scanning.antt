@@ -1,5 +1,5 @@
 -- The scans of a backend.
-use Rattle.std.proofs.Common.{◌≡◌, ◌≢◌, ◌<◌, ◌+◌, inl, inr, ◌∙◌, ℕ, Bool, true, false, not, Option, Some, None, List, [], ◌∷◌, ◌++◌, ◌==◌, ◌&&◌, ◌||◌, if◌then◌else◌, refl, sym, ap, subst, length, get_or, cond, filter, take, drop, All, is_none, is_some, slice_get, lt-ltb, arith}
+use Rattle.std.proofs.Common.{◌≡◌, ◌≢◌, ◌<◌, ◌+◌, inl, inr, ◌∙◌, ℕ, Bool, true, false, not, Option, Some, None, List, [], ◌∷◌, ◌++◌, ◌==◌, ◌&&◌, ◌||◌, if◌then◌else◌, refl, sym, ap, subst, length, get_or, cond, filter, take, drop, All, slice_get, lt-ltb, arith}
 use Rattle.std.specs.List.{list_any, flat_map, AllByRecursion}
 use Rattle.std.specs.Option.{option_map_or}
 use Rattle.std.proofs.Math.Bool.{or_comm}
@@ -17,31 +17,27 @@ use Rattle.base_types.specs.declared.scan.Purpose.TheVariants as scans
 use Rattle.base_types.proofs.SameScan.{same_scan-true, same_scan-itself}
 use Rattle.event_kinds.specs.declared.entry.Event.TheVariants as events
 use Rattle.ddl_effect.specs.Plans.{Plan, Do, Lookup, Open}
-use Rattle.ddl_effect.specs.Blocks.{Block, Outside, Inside, Failed, innermost, ends_block, refused_by, no_block}
 use Rattle.ddl_effect.specs.Stages.{plan_at}
 use Rattle.history_model.specs.Drawn.{next_oid}
 use Rattle.history_model.specs.Read.{rows_by}
-use Rattle.history_model.specs.Transactions.{begun}
 use Rattle.history_model.specs.Versions.{answer_of}
-use Rattle.history_model.specs.Writes.{is_empty}
 use Rattle.seg_calls.specs.Calls.{entry_of, Appends, GivesRows}
 use Rattle.cacheless.specs.Facts.{Facts, facts_of}
 use Rattle.cacheless.specs.Session.{Session, Unsettled, Well as Goes, Badly, Outcome, outcome_of, is_settled, first_of}
-use Rattle.cacheless.specs.Owed.{unusable, builds_owed, act_owed, act_next, is_next_scan}
+use Rattle.cacheless.specs.Owed.{unusable, act_owed, act_next, is_next_scan}
 use Rattle.cacheless.specs.Locks.{is_locked}
 use Rattle.cacheless.specs.Sessions.{placed_at, is_wanted}
 use Rattle.cacheless.specs.Plays.{MayPlayIn, started_in, has_looked}
-use Rattle.cacheless.proofs.Settling.{waits-scans}
-use Rattle.backend_core.specs.Types.{Oid, Kind, Command, Row, Purpose, Mode, Entry, Event, Opening, KeptScan, Exec, Phase, OwnTransaction, Backend}
+use Rattle.backend_core.specs.Types.{Oid, Kind, Row, Purpose, Mode, Entry, Event, Opening, KeptScan, OwnTransaction, Backend}
 use Rattle.backend_core.specs.declared.phase.Phase.TheVariants as phases
 use Rattle.backend_core.specs.NewTables.{StaysRead, SeesRelation, relation_of}
-use Rattle.backend_core.specs.State.{owed_at, is_accepting, looks_due, is_taken_back, is_ended, is_out, owed_first, one_if, running_in, running_at, begins_in, is_kept, missing, builds_missing, act_missing, scans_missing, Rest, session_at, HasCommand}
-use Rattle.backend_core.specs.Agrees.{IsPlayed, FactsFit, TallyFits, RowsFit, ReadRight, Well, RunsBy, TransactionFits, EndFits, PlaceFits, KeptFits, GivenSeen, Agrees}
+use Rattle.backend_core.specs.State.{owed_at, is_accepting, looks_due, is_taken_back, is_ended, is_out, owed_first, one_if, running_in, is_kept, act_missing, scans_missing, Rest, session_at}
+use Rattle.backend_core.specs.Agrees.{IsPlayed, FactsFit, TallyFits, RowsFit, ReadRight, Well, PlaceFits, KeptFits, GivenSeen, Agrees}
 use Rattle.backend_core.specs.Steps.{IsWorking, NextLookUp, NextBuild, Enters}
 use Rattle.backend_core.proofs.SeesRelation.{found_seen, read_stays-after}
-use Rattle.backend_core.proofs.Stepping.{Waits, facts_after, rest_after, own_enters}
-use Rattle.backend_core.proofs.Carry.{transaction-more, end_free, waits_scan, runs_on, MayCome, may_come, Leaves, own_leaves, LeavesWrites, LeavesRelations, leaves_relations, has_written-quiet, place_read-scan, kept-more, SameCommand, way-more, later-more, command-more, no_answer, waits_at, scans_same, act_same, none_opened, none_missing, missing_at, owed_free, clear_at, accepted-clear}
-use Rattle.backend_core.proofs.Acting.{IsActing, is_acting, missing_acts}
+use Rattle.backend_core.proofs.Stepping.{facts_after, rest_after, own_enters}
+use Rattle.backend_core.proofs.Carry.{transaction-more, end_free, waits_scan, runs_on, MayCome, may_come, Leaves, own_leaves, LeavesWrites, LeavesRelations, leaves_relations, has_written-quiet, place_read-scan, kept-more, SameCommand, way-more, later-more, command-more, no_answer, act_same, none_opened, none_missing, missing_at, owed_free, clear_at, accepted-clear}
+use Rattle.backend_core.proofs.Acting.{IsActing, is_acting}
 use Rattle.backend_core.proofs.CanFollow.{CanGoOn}
 use Rattle.backend_core.proofs.Nexting.{the_command}
 use Rattle.backend_core.proofs.Ways.{acts}

@@ -1,10 +1,9 @@
 -- A field as it is shown by its kept scan is what the definition shows.
-use Rattle.std.proofs.Common.{◌≡◌, ◌∙◌, ℕ, Bool, true, false, not, Option, Some, None, List, [], ◌∷◌, ◌&&◌, ◌||◌, cond, if◌then◌else◌, refl, sym, ap, subst, map, filter, take}
-use Rattle.std.specs.List.{list_any, AllByRecursion}
+use Rattle.std.proofs.Common.{◌≡◌, ◌∙◌, ℕ, Bool, true, false, not, Option, Some, None, List, [], ◌∷◌, ◌||◌, cond, if◌then◌else◌, refl, sym, ap, subst, map, take}
+use Rattle.std.specs.List.{AllByRecursion}
 use Rattle.std.specs.Option.{option_map_or}
 use Rattle.base_types.specs.Fields.{field_text, fields_of, has_field, read_by}
-use Rattle.base_types.specs.Modes.{conflicts}
-use Rattle.base_types.specs.Scans.{same_oid, same_scan, build_scans}
+use Rattle.base_types.specs.Scans.{same_scan, build_scans}
 use Rattle.base_types.specs.Scenario.{Scenario}
 use Rattle.base_types.specs.declared.field.Field.TheVariants as fields
 use Rattle.base_types.specs.declared.kind.Kind.TheVariants.{Table, Index}
@@ -18,7 +17,7 @@ use Rattle.cacheless.specs.Lines.{read_field, shown_field, shown_fields}
 use Rattle.cacheless.specs.Protected.{protects, is_protected}
 use Rattle.cacheless.specs.Session.{Session}
 use Rattle.cacheless.specs.Sessions.{session_of}
-use Rattle.backend_core.specs.Types.{Oid, Mode, Kind, Field, Purpose, Entry, OwnLock, KeptScan}
+use Rattle.backend_core.specs.Types.{Oid, Kind, Field, Purpose, Entry, OwnLock, KeptScan}
 use Rattle.backend_core.specs.NewTables.{relation_of, StaysRead, SeesRelation}
 use Rattle.backend_core.specs.State.{is_kept, missing}
 use Rattle.backend_core.specs.Agrees.{ReadRight, KeptFits}

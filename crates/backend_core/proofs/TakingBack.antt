@@ -18,7 +18,7 @@ use Rattle.command_lists.proofs.Writes.{aborted-all}
 use Rattle.seg_calls.specs.Calls.{entry_of, MayCall, Appends}
 use Rattle.cacheless.specs.Facts.{Facts, facts_of}
 use Rattle.cacheless.specs.Owed.{owed_after}
-use Rattle.cacheless.specs.Session.{Outcome, Well as CameWell, Badly, Unsettled, outcome_of, plan_admitted, plan_first, refused_first}
+use Rattle.cacheless.specs.Session.{Well as CameWell, Badly, Unsettled, outcome_of, plan_admitted, plan_first, refused_first}
 use Rattle.cacheless.specs.Ends.{End, Ends, Commits, TakesBack, next_of_end}
 use Rattle.cacheless.specs.Plays.{MayPlayIn, IsEnd}
 use Rattle.cacheless.specs.Sessions.{placed_at}
