@@ -1,7 +1,7 @@
-ghost use Rattle.std.specs.Prelude.{◌≡◌, true, [], IfOk, MatchOption};
+ghost use Rattle.std.specs.Prelude.{◌≡◌, ◌<◌, true, [], IfOk, MatchOption};
 ghost use Rattle.ddl_effect.specs.Plans.{is_built, after_act};
 ghost use Rattle.ddl_effect.specs.Commands.{plan_of, found as found_rows, showing, writing};
-ghost use Rattle.ddl_effect.specs.Stages.{plan_at, want_of};
+ghost use Rattle.ddl_effect.specs.Stages.{plan_at, want_of, acts_left};
 
 use crate::table::create_table;
 use crate::{Draft, Want};
@@ -75,7 +75,8 @@ impl Exec {
 
     /// What it wanted was done, and gave these rows: those of the scan on which the act rests.
     pub fn give(&mut self, rows: &[Row])
-        ensures { plan_at self.new ≡ after_act rows.now (plan_at self.old) }
+        ensures plan { plan_at self.new ≡ after_act rows.now (plan_at self.old) }
+        ensures less { 0 < acts_left self.old → acts_left self.new < acts_left self.old }
     {
         let next = match self {
             Exec::Finding { name, field, .. } => found(*name, *field, rows),

@@ -11,6 +11,6 @@ acts-preserved c =
     let rows : Purpose → List Row = λ scan. scan_of scan c.args.facts.now.rows in
     let found : c.in-Ok-rows_for.rows.items ≡ given_for rows c.in_default-next.want = search rules in
     let given : c.deref.result.now ≡ given_for rows (want_of (plan_at c.acts.exec)) = c.deref.ensures.value ∙ found ∙ ap (given_for rows) (sym c.in_default-next.want-is ∙ c.next.ensures) in
-    ap (effect_of rows) c.give.ensures
+    ap (effect_of rows) c.give.ensures.plan
     ∙ effect_of-after rows (plan_at c.acts.exec) c.deref.result.now (λ writes. c.in_default-next.not-Write (c.next.ensures ∙ writes)) given
     ∙ c.acts.invariant
