@@ -9,7 +9,7 @@ use Rattle.base_types.specs.declared.row.Row.TheVariants as rows
 use Rattle.base_types.specs.declared.command.Command.TheVariants as commands
 use Rattle.rel_desc.specs.declared.error.CommandError.TheVariants as errors
 use Rattle.ddl_effect.specs.Plans.{Plan, Done, Fails, Absent, NotBuilt, Do, Lookup, Open, Column, Read, Lock, Write, is_built}
-use Rattle.ddl_effect.specs.Commands.{plan_of, found, looking_up, if_passes, if_no_column, first_twice, writing, opening, showing, creating, new_table}
+use Rattle.ddl_effect.specs.Commands.{plan_of, found, looking_up, if_passes, if_no_column, first_twice, writing, opening, showing, is_table, locking, creating, new_table}
 use Rattle.ddl_effect.specs.Effects.{effect_at, row_found}
 use Rattle.history_model.specs.Versions.{answer_of}
 use Rattle.cacheless.specs.Session.{none_open}
@@ -60,6 +60,9 @@ can_showing : (P : Oid → Kind → Type 0) (name : List ℕ) (field : Option Fi
 can_showing P name None rel kind holds = can_opening P rel kind Done holds tt
 can_showing P name (Some field) rel kind holds = can_if_passes P (has_field kind field) (errors.NoField name field) (opening rel kind Done) (can_opening P rel kind Done holds tt)
 
+can_locking : (P : Oid → Kind → Type 0) (name : List ℕ) (rel : Oid) (kind : Kind) → P rel kind → CanFollow P (locking name rel kind)
+can_locking P name rel kind holds = can_if_passes P (is_table kind) (errors.NotTable name) Done tt
+
 can_creating : (P : Oid → Kind → Type 0) (name : List ℕ) (columns : List NewColumn) → CanFollow P (creating name columns)
 can_creating P name columns =
     can_if_passes P (nat_le (length columns) MOST_COLUMNS) errors.TooManyColumns (if_no_column twice (writing (new_table name columns)))
@@ -74,6 +77,7 @@ can_follow P commands.Begin built = tt
 can_follow P commands.Commit built = tt
 can_follow P commands.Rollback built = tt
 can_follow P (commands.Show name field) built = can_looking_up P name AccessShare (showing name field) (can_showing P name field)
+can_follow P (commands.LockTable name mode) built = can_looking_up P name mode (locking name) (can_locking P name)
 can_follow P (commands.CreateTable name columns) built = can_creating P name columns
 can_follow P command built = absurd (cc)
 

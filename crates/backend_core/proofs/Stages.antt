@@ -19,6 +19,7 @@ stage_reads stages.Done = tt
 stage_reads (stages.Failing error) = tt
 stage_reads (stages.Missing name) = tt
 stage_reads (stages.Finding name mode field) = tt
+stage_reads (stages.Locking name mode) = tt
 stage_reads (stages.Opening rel kind) = tt
 stage_reads (stages.Writing draft) = tt
 
@@ -28,5 +29,6 @@ opens_last stages.Done rel kind rest at = absurd (cc)
 opens_last (stages.Failing error) rel kind rest at = absurd (cc)
 opens_last (stages.Missing name) rel kind rest at = absurd (cc)
 opens_last (stages.Finding name mode field) rel kind rest at = absurd (cc)
+opens_last (stages.Locking name mode) rel kind rest at = absurd (cc)
 opens_last (stages.Opening r k) rel kind rest at = refl
 opens_last (stages.Writing draft) rel kind rest at = absurd (cc)

@@ -71,11 +71,21 @@ abbrev pub showing : List ℕ → Option Field → Oid → Kind → Plan
 showing name None rel kind = opening rel kind Done
 showing name (Some field) rel kind = if_passes (has_field kind field) (errors.NoField name field) (opening rel kind Done)
 
+-- the relation is a table
+abbrev pub is_table : Kind → Bool
+is_table Table = true
+is_table kind = false
+
+-- `lock table`, after its lookup, which has locked the relation: it has to be a table
+abbrev pub locking : List ℕ → Oid → Kind → Plan
+locking name rel kind = if_passes (is_table kind) (errors.NotTable name) Done
+
 -- what each command does; `held` are the relations that the session holds open
 abbrev pub plan_of : List Oid → Command → Plan
 plan_of held commands.Begin = Done
 plan_of held commands.Commit = Done
 plan_of held commands.Rollback = Done
 plan_of held (commands.Show name field) = looking_up name AccessShare (showing name field)
+plan_of held (commands.LockTable name mode) = looking_up name mode (locking name)
 plan_of held (commands.CreateTable name columns) = creating name columns
 plan_of held command = NotBuilt

@@ -1,6 +1,6 @@
 ghost use Rattle.std.specs.Prelude.{◌≡◌, ◌<◌, true, [], IfOk, MatchOption};
 ghost use Rattle.ddl_effect.specs.Plans.{is_built, after_act};
-ghost use Rattle.ddl_effect.specs.Commands.{plan_of, found as found_rows, showing, writing};
+ghost use Rattle.ddl_effect.specs.Commands.{plan_of, found as found_rows, locking, showing, writing};
 ghost use Rattle.ddl_effect.specs.Stages.{plan_at, want_of, acts_left};
 
 use crate::table::create_table;
@@ -24,6 +24,11 @@ pub enum Exec {
         mode: Mode,
         field: Option<Field>,
     },
+    /// `lock table`: it looks for the table, and locks it.
+    Locking {
+        name: Name,
+        mode: Mode,
+    },
     /// It opens the relation's descriptor.
     Opening {
         rel: Oid,
@@ -46,6 +51,10 @@ impl Exec {
                 mode: Mode::AccessShare,
                 field: *field,
             }),
+            Command::LockTable { name, mode } => Ok(Exec::Locking {
+                name: *name,
+                mode: *mode,
+            }),
             Command::CreateTable { name, columns } => {
                 create_table(alloc, *name, columns.as_slice())
             }
@@ -61,7 +70,7 @@ impl Exec {
             Exec::Done => Want::Done,
             Exec::Failing(error) => Want::Fails(*error),
             Exec::Missing(name) => Want::Absent(*name),
-            Exec::Finding { name, mode, .. } => Want::Lookup {
+            Exec::Finding { name, mode, .. } | Exec::Locking { name, mode } => Want::Lookup {
                 name: *name,
                 mode: *mode,
             },
@@ -80,6 +89,7 @@ impl Exec {
     {
         let next = match self {
             Exec::Finding { name, field, .. } => found(*name, *field, rows),
+            Exec::Locking { name, .. } => locked(*name, rows),
             Exec::Opening { .. } | Exec::Writing(_) => Exec::Done,
             Exec::Done | Exec::Failing(_) | Exec::Missing(_) => return,
         };
@@ -104,6 +114,19 @@ fn found(name: Name, field: Option<Field>, rows: &[Row]) -> Exec
 {
     match rows.first() {
         Some(Row::Class { oid, kind, .. }) => found_relation(name, field, *oid, *kind),
+        _ => Exec::Missing(name),
+    }
+}
+
+// After the lookup of `lock table`.
+fn locked(name: Name, rows: &[Row]) -> Exec
+    ensures { plan_at result ≡ found_rows name (locking name) rows.now }
+{
+    match rows.first() {
+        Some(Row::Class {
+            kind: Kind::Table, ..
+        }) => Exec::Done,
+        Some(Row::Class { .. }) => Exec::Failing(CommandError::NotTable { name }),
         _ => Exec::Missing(name),
     }
 }

@@ -7,8 +7,8 @@ ghost use Rattle.walk_run.specs.Built.{is_built as is_built_scenario};
 use base_types::Command;
 use script_text::Script;
 
-/// Whether all commands of the script can be run today: `begin`, `commit`, `rollback`, `create table`
-/// and `show`.
+/// Whether all commands of the script can be run today: `begin`, `commit`, `rollback`, `lock table`,
+/// `create table` and `show`.
 pub fn is_built(script: &Script) -> bool
     ensures { result ≡ is_built_scenario script.now }
 {
@@ -27,6 +27,7 @@ fn is_built_command(command: &Command) -> bool
         Command::Begin
             | Command::Commit
             | Command::Rollback
+            | Command::LockTable { .. }
             | Command::CreateTable { .. }
             | Command::Show { .. }
     )

@@ -40,6 +40,10 @@ fn copied(alloc: Global, command: &Command) -> Result<Command, NoMemory>
             name: *name,
             field: *field,
         },
+        Command::LockTable { name, mode } => Command::LockTable {
+            name: *name,
+            mode: *mode,
+        },
         Command::CreateTable { name, columns } => Command::CreateTable {
             name: *name,
             columns: copied_columns(alloc, columns)?,
