@@ -4,11 +4,14 @@
 //! write. A [`Backend`] takes its commands' plans act by act. Before an act comes what it rests on: a
 //! look whether messages wait (`AcceptInvalidationMessages` in `src/backend/utils/cache/inval.c`) at
 //! a transaction's start, after each grant and before each scan, and the scans that the act needs and
-//! that aren't kept from earlier ones. A command that has come out is answered, and then ended: a
-//! transaction of its own is committed or taken back, a block goes on, fails or ends
-//! (`src/backend/access/transam/xact.c`). One step makes exactly one entry; what needs no entry (to go
-//! on by the rows of a lookup, to open a descriptor whose scans are made, to answer, to pass to the
-//! next command) is done at once after it.
+//! that aren't kept from earlier ones. Where messages wait it fetches them, at most 32, and drops the
+//! scans that one of them covers; after a fetch of 32 it looks again. A command that has come out is
+//! answered, and then ended: a transaction of its own is committed or taken back, a block goes on,
+//! fails or ends (`src/backend/access/transam/xact.c`). A commit publishes the messages of its writes
+//! between its visibility step and its release, at most 64 at a time, all for the catalog caches
+//! before all for descriptors; what a rollback takes back is never published. One step makes exactly
+//! one entry; what needs no entry (to go on by the rows of a lookup, to open a descriptor whose scans
+//! are made, to answer, to pass to the next command) is done at once after it.
 //!
 //! The only way to rows, locks and the history is a segment ([`Seg`] of `seg_calls`), whichever it
 //! is, so no new body of these changes a proof here.

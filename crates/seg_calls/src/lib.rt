@@ -12,12 +12,14 @@
 //!
 //! What must not fail has its place promised beforehand. A call without a `Result` needs one promised
 //! place of its backend and takes at most that one; a `scan`, `lock` or `write` takes none. So a
-//! commit that has become visible is always released, whatever memory others take meanwhile:
+//! commit that has become visible is always published and released, whatever memory others take
+//! meanwhile:
 //!
 //! ```text
 //! seg.promise(b, 48)?;
 //! let written = seg.write(b, c, &draft)?;
 //! seg.visible(b, c, written.xid);
+//! seg.publish(b, c, written.messages.as_slice());
 //! seg.release(b, c, first);
 //! ```
 //!
