@@ -9,6 +9,7 @@ pub mod AnothersTable
 pub mod FullFetch
 pub mod FailedBlock
 pub mod RefusedLock
+pub mod ThreeHolders
 pub mod RefusedCommands
 pub mod WrongEntries
 pub mod WrongPlays

@@ -20,6 +20,7 @@ use Rattle.cacheless.proofs.TwoCreators as creators
 use Rattle.cacheless.proofs.NewOids as oids
 use Rattle.cacheless.proofs.CreateThenShow as show
 use Rattle.cacheless.proofs.RefusedLock as refused
+use Rattle.cacheless.proofs.ThreeHolders as three
 
 -- a foreign key of the second table: whether it is known to hold, and the column of the first to which it refers
 abbrev pub foreign_key : Bool → ℕ → Row
@@ -200,6 +201,10 @@ wrong_holder h = search arith
 -- a lock refused by a mode that isn't held
 pub wrong_held_mode : MayFollow refused.scanned (entry 2 1 (LockHeld (oid 16384) AccessShare 1 AccessShare)) → ⊥
 wrong_held_mode h = search arith
+
+-- a lock refused by a holder to whom another that conflicts was granted before
+pub later_holder : MayFollow three.third_scanned (entry 3 2 (LockHeld (oid 16384) AccessExclusive 2 AccessShare)) → ⊥
+later_holder h = search arith
 
 -- a lock refused though nobody holds one
 pub refused_without_holder : MayFollow refused.released (entry 2 1 (LockHeld (oid 16384) AccessShare 1 AccessExclusive)) → ⊥
