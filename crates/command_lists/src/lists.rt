@@ -4,9 +4,7 @@ ghost use Rattle.inval_messages.specs.Messages.{same_message};
 ghost use Rattle.inval_messages.specs.Lists.{cats_in, rels_in, lists_from, has_write_from};
 ghost use Rattle.command_lists.specs.Starts.{end_of as whole};
 
-use crate::start::{
-    Place, Start, begin, count_before, has_start_from, place_from, running_before,
-};
+use crate::start::{Place, Start, begin, count_before, has_start_from, place_from, running_before};
 use base_types::NoMemory;
 use inval_messages::Message;
 use std::alloc::Global;

@@ -123,9 +123,12 @@ fn locked(name: Name, rows: &[Row]) -> Exec
     ensures { plan_at result ≡ found_rows name (locking name) rows.now }
 {
     match rows.first() {
-        Some(Row::Class {
-            kind: Kind::Table, ..
-        }) => Exec::Done,
+        Some(
+            Row::Class {
+                kind: Kind::Table,
+                ..
+            },
+        ) => Exec::Done,
         Some(Row::Class { .. }) => Exec::Failing(CommandError::NotTable { name }),
         _ => Exec::Missing(name),
     }

@@ -220,8 +220,13 @@ position_within history b legal = each-keeps MayFollow (λ h. IsWithin h b) (ome
       where
         by_owner : (t : Bool) → (e.backend == b) ≡ t → IsWithin (before ++ e ∷ []) b
         by_owner true own =
-            omega (arith, position_of-own before e b own, log_of-grows before e, subst (λ a. position_by before e.event (position_of before a) ≤ length (log_of before)) (eqb-true e.backend b own)
-            (within-by before e.backend e.command e.event follows.event (subst (IsWithin before) (sym (eqb-true e.backend b own)) was)))
+            omega (
+              arith,
+              position_of-own before e b own,
+              log_of-grows before e,
+              subst (λ a. position_by before e.event (position_of before a) ≤ length (log_of before)) (eqb-true e.backend b own)
+                  (within-by before e.backend e.command e.event follows.event (subst (IsWithin before) (sym (eqb-true e.backend b own)) was)),
+            )
         by_owner false other = omega (arith, position_of-other before e b other, log_of-grows before e, was)
 
 -- so its place in the queue is one of it

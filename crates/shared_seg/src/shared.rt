@@ -116,7 +116,8 @@ impl Seg for Shared {
 
     fn promise(&mut self, b: u32, n: u32) -> Result<(), NoMemory> {
         let more = n.saturating_sub(self.places.promised(b)) as usize;
-        self.queue.reserve(MOST_PUBLISHED * (self.places.total() + more))?;
+        self.queue
+            .reserve(MOST_PUBLISHED * (self.places.total() + more))?;
         self.places.promise(b, n)?;
         Ok(())
     }

@@ -56,11 +56,11 @@ invariant_of-self-2 c =
     let entries = entry_written _ _ _ c.args.b c.args.c c.in-Ok.drawn.xid _ _ _ c.push.ensures.entries c.make_room.ensures.same.entries c.from_vec.ensures made in
     record {
       folds = keeps_last _ _ _ _ _ _ _ _ _ last
-    (asked_keeps _ _ _ _ c.args.b c.args.c (Write c.in-Ok.drawn.xid (items_drawn c.self.inside.places.entries c.args.draft.now)) _ _ _ _ _ _ _ _ _ _ c.self.view_is c.self.invariant.folds c.requires.call refl
-    (write_allowed _ _ _ _ _ _ _ _ c.args.b c.args.c c.self.invariant.folds c.args.draft.now c.in-Ok.drawn request may drawn free) may.orderly
-    (entry_written _ _ _ c.args.b c.args.c c.in-Ok.drawn.xid _ _ _ c.push.ensures.entries c.make_room.ensures.same.entries c.from_vec.ensures made) (c.push.ensures.promised ∙ c.make_room.ensures.same.promised)
-    (write_steps _ _ _ _ _ _ _ _ c.args.b c.args.c c.self.invariant.folds c.args.draft.now c.in-Ok.drawn _ _ _ request may drawn (c.in-Ok-apply.ensures.ok ∙ ap (after_write c.self.inside.store c.in-Ok.drawn.xid c.args.c) c.deref-5.ensures.value)
-    granted c.begin_writing.ensures));
+          (asked_keeps _ _ _ _ c.args.b c.args.c (Write c.in-Ok.drawn.xid (items_drawn c.self.inside.places.entries c.args.draft.now)) _ _ _ _ _ _ _ _ _ _ c.self.view_is c.self.invariant.folds c.requires.call refl
+          (write_allowed _ _ _ _ _ _ _ _ c.args.b c.args.c c.self.invariant.folds c.args.draft.now c.in-Ok.drawn request may drawn free) may.orderly
+          (entry_written _ _ _ c.args.b c.args.c c.in-Ok.drawn.xid _ _ _ c.push.ensures.entries c.make_room.ensures.same.entries c.from_vec.ensures made) (c.push.ensures.promised ∙ c.make_room.ensures.same.promised)
+          (write_steps _ _ _ _ _ _ _ _ c.args.b c.args.c c.self.invariant.folds c.args.draft.now c.in-Ok.drawn _ _ _ request may drawn (c.in-Ok-apply.ensures.ok ∙ ap (after_write c.self.inside.store c.in-Ok.drawn.xid c.args.c) c.deref-5.ensures.value)
+          granted c.begin_writing.ensures));
       queued = asked_still _ _ _ _ c.args.b c.args.c (Write c.in-Ok.drawn.xid (items_drawn c.self.inside.places.entries c.args.draft.now)) _ c.self.view_is c.self.invariant.queued c.requires.call refl allowed refl entries (c.push.ensures.promised ∙ c.make_room.ensures.same.promised);
     }
 
