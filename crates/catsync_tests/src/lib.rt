@@ -16,6 +16,8 @@ mod edge;
 #[cfg(test)]
 mod events;
 #[cfg(test)]
+mod messages_runs;
+#[cfg(test)]
 mod readers;
 #[cfg(test)]
 mod rows;
