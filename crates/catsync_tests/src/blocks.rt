@@ -14,7 +14,7 @@ backends 2
 1: commit
 2: create table x (b int4)
 2: create table x (b int4)
-steps 1*3 2*4 1*3 2*4
+steps 1*3 2*4 1*5 2*5
 end
 ",
         b"\
@@ -26,9 +26,12 @@ h 2 1 look no
 h 2 1 clash x running 1
 h 2 1 release 1
 h 1 3 visible 1
+h 1 3 publish 3
+h 1 3 publish 1
 h 1 3 release 1
 h 1 4 stop
-h 2 2 look no
+h 2 2 look yes
+h 2 2 fetch 4
 h 2 2 clash x row 16384
 h 2 2 release 2
 h 2 3 stop
@@ -59,6 +62,8 @@ h 1 3 release 1
 h 1 4 look no
 h 1 4 write 2 +class(16385,w,r,-) +att(16385,1,a,int4,-1,l)
 h 1 4 visible 2
+h 1 4 publish 3
+h 1 4 publish 1
 h 1 4 release 4
 h 1 5 stop
 l 1 1 ok
@@ -81,6 +86,8 @@ h 1 0 start
 h 1 1 look no
 h 1 1 write 1 +class(16384,t,r,-) +att(16384,1,a,int4,-1,l)
 h 1 1 visible 1
+h 1 1 publish 3
+h 1 1 publish 1
 h 1 1 release 1
 h 1 2 stop
 h 2 0 start
@@ -104,7 +111,7 @@ h 2 1 scan trigger 16384 rows 0
 h 2 1 release 1
 h 2 2 stop
 l 1 1 ok
-l 2 1 table 16384; name t; columns a:int4; defaults -; statistics 1:-1 as of 16; fillfactor - as of 14; constraints - as of 20; referenced - as of 20; indexes - as of 22; triggers - as of 24
+l 2 1 table 16384; name t; columns a:int4; defaults -; statistics 1:-1 as of 18; fillfactor - as of 16; constraints - as of 22; referenced - as of 22; indexes - as of 24; triggers - as of 26
 end
 ",
     ),
@@ -117,7 +124,7 @@ backends 2
 2: create table x (b int4)
 2: rollback
 2: create table x (c text)
-steps 2*3 1*3 2*2 1*4 2*5
+steps 2*3 1*3 2*2 1*4 2*7
 end
 ",
         b"\
@@ -134,6 +141,8 @@ h 1 2 stop
 h 2 4 look no
 h 2 4 write 2 +class(16385,x,r,-) +att(16385,1,c,text,-1,l)
 h 2 4 visible 2
+h 2 4 publish 3
+h 2 4 publish 1
 h 2 4 release 4
 h 2 5 stop
 l 1 1 error 55P03 name x is in use by transaction 1
@@ -243,8 +252,11 @@ h 2 2 scan relname t rows 1
 h 2 2 lock 16385 as held 1 ax
 h 2 2 release 2
 h 2 3 stop
+h 1 7 publish 3
+h 1 7 publish 1
 h 1 7 release 7
-h 1 8 look no
+h 1 8 look yes
+h 1 8 fetch 4
 h 1 8 look no
 h 1 8 scan relname t rows 1
 h 1 8 lock 16385 as ok
@@ -293,7 +305,7 @@ backends 3
 3: show u name
 3: rollback
 3: show u name
-steps 1*4 2*5 3*8 1*3 2*3 3*8 1*18 2*30 3*30 1*5
+steps 1*4 2*7 3*8 1*3 2*4 3*8 1*18 2*30 3*30 1*5
 end
 ",
         b"\
@@ -305,6 +317,8 @@ h 2 0 start
 h 2 1 look no
 h 2 2 write 1 +class(16384,u,r,-) +att(16384,1,a,int4,-1,l)
 h 2 3 visible 1
+h 2 3 publish 3
+h 2 3 publish 1
 h 2 3 release 1
 h 3 0 start
 h 3 1 look no
@@ -316,7 +330,8 @@ h 3 2 look no
 h 3 2 scan class 16384 rows 1
 h 1 2 release 1
 h 1 6 stop
-h 2 4 look no
+h 2 4 look yes
+h 2 4 fetch 4
 h 2 4 look no
 h 2 4 scan relname t rows 0
 h 3 2 look no
@@ -347,7 +362,7 @@ l 1 5 rolled back
 l 2 1 ok
 l 2 2 ok
 l 2 3 ok
-l 2 4 error 42P01 relation t does not exist as of 22
+l 2 4 error 42P01 relation t does not exist as of 25
 l 3 1 ok
 l 3 2 name u
 l 3 3 ok
@@ -367,7 +382,7 @@ backends 2
 2: show t
 2: rollback
 2: show t fillfactor
-steps 1*4 2*8 1*1 2*40
+steps 1*4 2*8 1*3 2*40
 end
 ",
         b"\
@@ -383,10 +398,13 @@ h 2 2 lock 16384 as held 1 ax
 h 2 2 release 1
 h 2 5 look no
 h 2 5 look no
+h 1 3 publish 3
+h 1 3 publish 1
 h 1 3 release 1
 h 2 5 scan relname t rows 1
 h 2 5 lock 16384 as ok
-h 2 5 look no
+h 2 5 look yes
+h 2 5 fetch 4
 h 2 5 look no
 h 2 5 scan class 16384 rows 1
 h 2 5 look no
@@ -408,7 +426,7 @@ l 2 1 ok
 l 2 2 error 55P03 relation 16384 is locked by backend 1 in ax
 l 2 3 error 25P02 the transaction block has failed
 l 2 4 ok
-l 2 5 fillfactor - as of 18
+l 2 5 fillfactor - as of 21
 end
 ",
     ),
@@ -430,8 +448,11 @@ h 1 0 start
 h 1 1 look no
 h 1 1 write 1 +class(16384,t,r,-) +att(16384,1,a,int4,-1,l)
 h 1 1 visible 1
+h 1 1 publish 3
+h 1 1 publish 1
 h 1 1 release 1
-h 1 2 look no
+h 1 2 look yes
+h 1 2 fetch 4
 h 1 3 look no
 h 1 3 scan relname t rows 1
 h 1 3 lock 16384 as ok

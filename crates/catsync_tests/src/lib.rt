@@ -20,6 +20,8 @@ mod locks;
 #[cfg(test)]
 mod messages;
 #[cfg(test)]
+mod messages_runs;
+#[cfg(test)]
 mod readers;
 #[cfg(test)]
 mod rows;

@@ -23,7 +23,7 @@ backends 2
 2: create table x (b int4)
 2: show x of
 2: show x of
-steps 1*3 2*3 1*4 2*1 1*1 2*7 1*2 2*40
+steps 1*3 2*3 1*4 2*1 1*1 2*7 1*2 2*2 1*2 2*40
 end
 ";
 
@@ -47,10 +47,13 @@ h 2 3 look no
 h 2 3 look no
 h 2 3 scan relname x rows 1
 h 2 3 lock 16385 as held 1 ax
+h 1 6 publish 3
+h 1 6 publish 1
+h 2 3 release 3
+h 2 4 look yes
 h 1 6 release 4
 h 1 7 stop
-h 2 3 release 3
-h 2 4 look no
+h 2 4 fetch 4
 h 2 4 look no
 h 2 4 scan relname x rows 1
 h 2 4 lock 16385 as ok
@@ -73,7 +76,7 @@ fn a_segment_has_its_history(rt: HostRuntime) -> Result<(), Fail> {
     assert!(rt; put_output(&mut sink, seg.history(), &[]).is_ok());
     assert_eq!(rt; sink.sent(), HISTORY);
     assert!(rt; !seg.waits(1) && !seg.waits(2));
-    assert_eq!(rt; seg.into_history().len(), 29);
+    assert_eq!(rt; seg.into_history().len(), 32);
     Ok(())
 }
 

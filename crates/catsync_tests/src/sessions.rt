@@ -14,7 +14,7 @@ const SESSIONS: [(&[u8], &[(&[&[u8]], bool)]); 2] = [
         b"backends 2\n2: show u\n1: create table t (a int4)\n1: begin\nend\n",
         &[
             (&[b"ok", b"ok"], true),
-            (&[b"error 42P01 relation u does not exist as of 12"], true),
+            (&[b"error 42P01 relation u does not exist as of 15"], true),
         ],
     ),
     (
