@@ -16,6 +16,8 @@ mod edge;
 #[cfg(test)]
 mod events;
 #[cfg(test)]
+mod lock_runs;
+#[cfg(test)]
 mod locks;
 #[cfg(test)]
 mod messages;

@@ -11,7 +11,7 @@ use std::test::Fail;
 use walk_run::{is_built, walk_on};
 
 // Whether this is what `walk` writes for a script.
-fn gives(alloc: Global, script: &[u8], output: &[u8]) -> Result<bool, Fail> {
+pub(crate) fn gives(alloc: Global, script: &[u8], output: &[u8]) -> Result<bool, Fail> {
     let mut source = SteadySource::new(script.to_vec(alloc)?);
     let mut sink = SteadySink::with_room(alloc, 40_000)?;
     let status = call(alloc, &["walk"], &mut source, &mut sink)?;

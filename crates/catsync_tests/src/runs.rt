@@ -110,7 +110,7 @@ const REFUSED: [(&[&str], &[u8], u8, &str); 13] = [
     ),
     (
         &["walk"],
-        b"backends 1\n1: begin\n1: lock table t in share mode\nend\n",
+        b"backends 1\n1: begin\n1: columns t\nend\n",
         9,
         "the script holds",
     ),
