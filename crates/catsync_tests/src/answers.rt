@@ -1,7 +1,8 @@
+use crate::calls::{Calls, STEADY, sink_of};
 use crate::readers::CountingSink;
 use crate::values::name;
 use base_types::{ColType, Field, Kind, Listed, Mode, Name, Oid, Xid, field_text};
-use edge_io::{Failed, MEMORY_SINK_ROOM, MemorySink, SteadySink};
+use edge_io::{Failed, MEMORY_SINK_ROOM, MemorySink};
 use event_kinds::{Entry, Event, Line, LineText};
 use out_text::{answer_text, put_entry, put_line, put_output};
 use rel_desc::{Answer, Column, CommandError, Shown, Value};
@@ -143,10 +144,10 @@ fn answers(alloc: Global, name: Name) -> Result<[Answer; 10], Fail> {
 }
 
 // Whether the text of an answer is added to a text that is there already.
-fn has_text(alloc: Global, answer: &Answer, want: &str) -> Result<bool, Fail> {
+fn has_text(alloc: Global, answer: &Answer, before: &str, want: &str) -> Result<bool, Fail> {
     let mut out = b"> ".to_vec(alloc)?;
     answer_text(answer, &mut out)?;
-    let wanted = format!(in alloc; "> {want}")?;
+    let wanted = format!(in alloc; "> {before}{want}")?;
     Ok(out.as_slice() == wanted.as_bytes())
 }
 
@@ -154,9 +155,8 @@ fn has_text(alloc: Global, answer: &Answer, want: &str) -> Result<bool, Fail> {
 fn each_error_has_its_text(rt: HostRuntime) -> Result<(), Fail> {
     let alloc = rt.alloc();
     for (error, text) in errors(name(b"x")?).iter().zip(ERROR_TEXTS.iter()) {
-        let want = format!(in alloc; "error {text}")?;
         assert!(rt;
-            has_text(alloc, &Answer::Error(*error), want.as_str())?,
+            has_text(alloc, &Answer::Error(*error), "error ", text)?,
             "{text}"
         );
     }
@@ -167,7 +167,7 @@ fn each_error_has_its_text(rt: HostRuntime) -> Result<(), Fail> {
 fn each_kind_of_answer_has_its_text(rt: HostRuntime) -> Result<(), Fail> {
     let alloc = rt.alloc();
     for (answer, text) in answers(alloc, name(b"x")?)?.iter().zip(ANSWER_TEXTS.iter()) {
-        assert!(rt; has_text(alloc, answer, text)?, "{text}");
+        assert!(rt; has_text(alloc, answer, "", text)?, "{text}");
     }
     Ok(())
 }
@@ -201,18 +201,25 @@ fn ok_line(alloc: Global) -> Result<Line, Fail> {
     })
 }
 
+// An entry, a line, and an output of both.
+fn put_all(sink: &mut MemorySink, history: &[Entry], lines: &[Line]) -> Result<(), Failed> {
+    for entry in history {
+        put_entry(sink, entry)?;
+    }
+    for line in lines {
+        put_line(sink, line)?;
+    }
+    put_output(sink, history, lines)
+}
+
 #[test]
 fn entries_and_lines_are_written(rt: HostRuntime) -> Result<(), Fail> {
-    let alloc = rt.alloc();
-    let line = ok_line(alloc)?;
-    let mut sink = SteadySink::with_room(alloc, 200)?;
-    put_entry(&mut sink, &GRANT)?;
-    put_line(&mut sink, &line)?;
-    put_output(&mut sink, &grants(alloc, 1)?, &[line])?;
-    assert_eq!(rt;
-        sink.sent(),
-        b"h 1 1 lock 16384 as ok\nl 2 7 ok\nh 1 1 lock 16384 as ok\nl 2 7 ok\nend\n".as_slice()
-    );
+    let mut sink = sink_of(rt.alloc(), STEADY)?;
+    let (history, line) = (grants(rt.alloc(), 1)?, ok_line(rt.alloc())?);
+    put_all(&mut sink, &history, &[line])?;
+    let wanted =
+        b"h 1 1 lock 16384 as ok\nl 2 7 ok\nh 1 1 lock 16384 as ok\nl 2 7 ok\nend\n".as_slice();
+    assert!(rt; sink.sent() == wanted);
     Ok(())
 }
 
@@ -221,22 +228,25 @@ fn a_history_costs_few_writes(rt: HostRuntime) -> Result<(), Fail> {
     let history = grants(rt.alloc(), 200)?;
     let mut sink = CountingSink { calls: 0, bytes: 0 };
     put_output(&mut sink, &history, &[])?;
-    assert_eq!(rt; sink.bytes, 200 * LOCK_LINE.len() + 4);
-    assert_eq!(rt; sink.calls, 2);
+    assert!(rt; sink.bytes == 200 * LOCK_LINE.len() + 4 && sink.calls == 2);
     Ok(())
 }
 
 #[test]
 fn a_sink_fails_within_a_history(rt: HostRuntime) -> Result<(), Fail> {
-    let alloc = rt.alloc();
-    let history = grants(alloc, 200)?;
-    let mut sink = MemorySink::new(alloc, MEMORY_SINK_ROOM, [2].to_vec(alloc)?);
-    sink.ready()?;
-    let sent = put_output(&mut sink, &history, &[]);
-    assert!(rt; matches!(sent, Err(Failed)));
-    assert_eq!(rt; sink.sent().len(), 4096);
-    for (i, byte) in sink.sent().iter().enumerate() {
-        assert_eq!(rt; *byte, LOCK_LINE[i % LOCK_LINE.len()], "at {i}");
-    }
+    let history = grants(rt.alloc(), 200)?;
+    let writes = Calls {
+        per_call: MEMORY_SINK_ROOM,
+        failing: 2,
+    };
+    let mut sink = sink_of(rt.alloc(), writes)?;
+    assert!(rt; matches!(put_output(&mut sink, &history, &[]), Err(Failed)));
+    assert!(rt; sink.sent().len() == 4096 && are_lock_lines(sink.sent()));
     Ok(())
+}
+
+// Whether a text begins with the line of a grant again and again.
+fn are_lock_lines(text: &[u8]) -> bool {
+    let mut bytes = text.iter().enumerate();
+    bytes.all(|(i, byte)| *byte == LOCK_LINE[i % LOCK_LINE.len()])
 }

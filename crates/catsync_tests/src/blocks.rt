@@ -1,6 +1,4 @@
-use crate::runs::call;
-use catsync_top::Status;
-use edge_io::{SteadySink, SteadySource};
+use crate::calls::walked;
 use std::test::Fail;
 
 // Scripts with blocks, and what is written for each.
@@ -499,13 +497,8 @@ end
 
 #[test]
 fn scripts_with_blocks_have_these_outputs(rt: HostRuntime) -> Result<(), Fail> {
-    let alloc = rt.alloc();
     for (name, script, output) in RUNS {
-        let mut source = SteadySource::new(script.to_vec(alloc)?);
-        let mut sink = SteadySink::with_room(alloc, 20_000)?;
-        let status = call(alloc, &["walk"], &mut source, &mut sink)?;
-        assert!(rt; matches!(status, Status::Done), "{name}");
-        assert_eq!(rt; sink.sent(), output, "{name}");
+        assert!(rt; walked(rt.alloc(), script)?.gave(output), "{name}");
     }
     Ok(())
 }

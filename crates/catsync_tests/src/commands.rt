@@ -1,23 +1,18 @@
 use crate::events::text_of;
-use crate::scripts::read;
+use crate::scripts::{script_of, text_of_command};
 use crate::values::name;
 use base_types::{Change, Command, Kind, Listed, Mode, NoMemory, Oid, Row, Xid};
 use ddl_effect::{Draft, EffectRefusal, Exec, Facts, Want, effect};
 use event_kinds::{Entry, Event, Item};
 use rel_desc::CommandError;
-use script_text::{Rest, ScriptRead};
+use script_text::Script;
 use std::alloc::Global;
 use std::test::Fail;
 use txn_blocks::{BlockCause, TxnBlocks};
 
 // The script of one command.
-fn script_of(alloc: Global, command: &str) -> Result<ScriptRead, Fail> {
-    let text = format!(in alloc; "backends 1\n1: {command}\nend\n")?;
-    Ok(
-        read(alloc, text.as_bytes(), Rest::Refused)
-            .ok()
-            .ok_or("no script")?,
-    )
+fn script_of_command(alloc: Global, command: &str) -> Result<Script, Fail> {
+    script_of(alloc, text_of_command(alloc, command)?.as_bytes())
 }
 
 // Commands, and what the blocks say of each outside a block, inside one, and in a failed one.
@@ -44,18 +39,21 @@ fn admitted(blocks: &TxnBlocks, command: &Command) -> &'static str {
     }
 }
 
+// The same outside a block, inside one, and in a failed one.
+fn admitted_anywhere(command: &Command) -> [&'static str; 3] {
+    let mut blocks = TxnBlocks::new();
+    let outside = admitted(&blocks, command);
+    blocks.begin(1, true);
+    let inside = admitted(&blocks, command);
+    blocks.fail();
+    [outside, inside, admitted(&blocks, command)]
+}
+
 #[test]
 fn blocks_admit_commands(rt: HostRuntime) -> Result<(), Fail> {
     for (text, wanted) in ADMITTED {
-        let script = script_of(rt.alloc(), text)?;
-        for placed in script.script.commands() {
-            let mut blocks = TxnBlocks::new();
-            let outside = admitted(&blocks, &placed.command);
-            blocks.begin(1, true);
-            let inside = admitted(&blocks, &placed.command);
-            blocks.fail();
-            let failed = admitted(&blocks, &placed.command);
-            assert_eq!(rt; [outside, inside, failed], wanted, "{text}");
+        for placed in script_of_command(rt.alloc(), text)?.commands() {
+            assert!(rt; admitted_anywhere(&placed.command) == wanted, "{text}");
         }
     }
     Ok(())
@@ -72,19 +70,19 @@ fn blocks_open_fail_and_end(rt: HostRuntime) {
     blocks.fail();
     blocks.begin(2, false);
     blocks.ended_well(3, &Command::Commit);
-    assert_eq!(rt; state(&blocks), (false, false, 9));
+    assert!(rt; state(&blocks) == (false, false, 9));
     for ending in [Command::Commit, Command::Rollback] {
         blocks.ended_well(4, &Command::Begin);
         blocks.ended_well(5, &Command::Begin);
-        assert_eq!(rt; state(&blocks), (true, false, 4));
+        assert!(rt; state(&blocks) == (true, false, 4));
         blocks.fail();
-        assert_eq!(rt; state(&blocks), (true, true, 4));
+        assert!(rt; state(&blocks) == (true, true, 4));
         blocks.ended_well(6, &ending);
-        assert_eq!(rt; state(&blocks), (false, false, 9));
+        assert!(rt; state(&blocks) == (false, false, 9));
     }
     blocks.begin(7, true);
     blocks.end();
-    assert_eq!(rt; state(&blocks), (false, false, 9));
+    assert!(rt; state(&blocks) == (false, false, 9));
 }
 
 // Commands, whether a lookup finds a table, what each wants in turn, and what it changes where there is a table
@@ -113,30 +111,43 @@ const PLANS: [(&str, bool, [&str; 3], &[u8]); 6] = [
     ("show u", false, ["lookup", "absent", "absent"], b"absent"),
 ];
 
+// What a command wants in turn, where its lookup finds these rows.
+fn wants(alloc: Global, command: &Command, rows: &[Row]) -> Result<[&'static str; 3], Fail> {
+    let mut exec = begun(alloc, command)?;
+    let first = wanted(&exec);
+    exec.give(rows);
+    let second = wanted(&exec);
+    exec.give(rows);
+    Ok([first, second, wanted(&exec)])
+}
+
+// Whether a command that wants to write at first wants to write this.
+fn is_drafted(alloc: Global, command: &Command, changes: &[u8]) -> Result<bool, Fail> {
+    let exec = begun(alloc, command)?;
+    match exec.next() {
+        Want::Write => Ok(draft_text(alloc, &exec.into_draft())?.as_slice() == changes),
+        _ => Ok(true),
+    }
+}
+
 #[test]
 fn commands_follow_their_plans(rt: HostRuntime) -> Result<(), Fail> {
-    let alloc = rt.alloc();
     let rows = [Row::Class {
         oid: Oid(16384),
         name: name(b"t")?,
         kind: Kind::Table,
         fill: None,
     }];
-    for (text, finds, wants, changes) in PLANS {
-        let script = script_of(alloc, text)?;
-        for placed in script.script.commands() {
-            let mut exec = begun(alloc, &placed.command)?;
-            for want in wants {
-                assert_eq!(rt; wanted(&exec), want, "{text}");
-                exec.give(if finds { &rows } else { &[] });
-            }
-            let made = changed(alloc, &placed.command, &rows)?;
-            assert_eq!(rt; made.as_slice(), changes, "{text}");
-            let exec = begun(alloc, &placed.command)?;
-            if let Want::Write = exec.next() {
-                let drafted = draft_text(alloc, &exec.into_draft())?;
-                assert_eq!(rt; drafted.as_slice(), changes);
-            }
+    for (text, finds, wanted, changes) in PLANS {
+        for placed in script_of_command(rt.alloc(), text)?.commands() {
+            let given = if finds { rows.as_slice() } else { &[] };
+            assert!(rt;
+                wants(rt.alloc(), &placed.command, given)? == wanted,
+                "{text}"
+            );
+            assert!(rt; is_drafted(rt.alloc(), &placed.command, changes)?, "{text}");
+            let made = changed(rt.alloc(), &placed.command, &rows)?;
+            assert!(rt; made.as_slice() == changes, "{text}");
         }
     }
     Ok(())

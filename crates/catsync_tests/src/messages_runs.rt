@@ -1,22 +1,11 @@
-use crate::runs::call;
-use crate::scripts::read;
-use catsync_top::Status;
-use edge_io::{SteadySink, SteadySource};
-use script_text::Rest;
+use crate::calls::walked;
+use crate::scripts::script_of;
+use crate::segments::walked_segment;
 use seg_calls::Seg;
-use shared_seg::Shared;
 use std::alloc::Global;
 use std::fmt::Write;
 use std::test::Fail;
-use walk_run::{is_built, walk_on};
-
-// Whether this is what `walk` writes for a script.
-pub(crate) fn gives(alloc: Global, script: &[u8], output: &[u8]) -> Result<bool, Fail> {
-    let mut source = SteadySource::new(script.to_vec(alloc)?);
-    let mut sink = SteadySink::with_room(alloc, 40_000)?;
-    let status = call(alloc, &["walk"], &mut source, &mut sink)?;
-    Ok(matches!(status, Status::Done) && sink.sent() == output)
-}
+use walk_run::is_built;
 
 // Scripts whose messages are sent and fetched, or aren't, and what is written for each.
 const RUNS: [(&str, &[u8], &[u8]); 11] = [
@@ -551,7 +540,7 @@ end
 #[test]
 fn scripts_with_messages_have_these_outputs(rt: HostRuntime) -> Result<(), Fail> {
     for (name, script, output) in RUNS {
-        assert!(rt; gives(rt.alloc(), script, output)?, "{name}");
+        assert!(rt; walked(rt.alloc(), script)?.gave(output), "{name}");
     }
     Ok(())
 }
@@ -689,8 +678,8 @@ fn wide_tables_are_sent_and_fetched_in_parts(rt: HostRuntime) -> Result<(), Fail
         for look in LOOKS {
             let script = wide_script(alloc, tables, look)?;
             let output = wide_output(alloc, tables, sent, fetched, look)?;
-            let is_so = gives(alloc, script.as_bytes(), output.as_bytes())?;
-            assert!(rt; is_so, "before {look}");
+            let run = walked(alloc, script.as_bytes())?;
+            assert!(rt; run.gave(output.as_bytes()), "before {look}");
         }
     }
     Ok(())
@@ -750,7 +739,7 @@ fn many_output(alloc: Global) -> Result<String, Fail> {
 fn each_backend_fetches_what_one_publishes(rt: HostRuntime) -> Result<(), Fail> {
     let alloc = rt.alloc();
     let (script, output) = (many_script(alloc)?, many_output(alloc)?);
-    assert!(rt; gives(alloc, script.as_bytes(), output.as_bytes())?);
+    assert!(rt; walked(alloc, script.as_bytes())?.gave(output.as_bytes()));
     Ok(())
 }
 
@@ -779,10 +768,9 @@ const WAITING: [(&[u8], [bool; 3]); 4] = [
 fn messages_wait_until_they_are_fetched(rt: HostRuntime) -> Result<(), Fail> {
     let alloc = rt.alloc();
     for (text, waiting) in WAITING {
-        let found = read(alloc, text, Rest::Refused).ok().ok_or("no script")?;
-        assert!(rt; is_built(&found.script));
-        let mut seg = Shared::new(alloc, &found.script)?;
-        walk_on(alloc, &found.script, &mut seg)?;
+        let script = script_of(alloc, text)?;
+        assert!(rt; is_built(&script));
+        let (seg, _backends) = walked_segment(alloc, &script)?;
         let waits = [seg.waits(1), seg.waits(2), seg.waits(3)];
         assert!(rt; waits == waiting);
     }

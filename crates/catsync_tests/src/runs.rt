@@ -1,9 +1,7 @@
+use crate::calls::{Calls, STEADY, called, called_over, sink_of, walked};
 use crate::readers::EndlessReader;
-use base_types::NoMemory;
-use catsync_top::{MOST_BACKENDS, MOST_INPUT, Status, catsync};
-use edge_io::{
-    MemorySink, MemorySource, OpenGate, PIECE, Sink, Source, StdSource, SteadySink, SteadySource,
-};
+use catsync_top::{MOST_INPUT, Status};
+use edge_io::{PIECE, StdSource};
 use script_text::ScriptCause;
 use std::alloc::Global;
 use std::fmt::Write;
@@ -23,47 +21,26 @@ l 1 1 error 42P01 relation t does not exist as of 4
 end
 ";
 
-// The top call with these arguments.
-pub(crate) fn call<S: Source, K: Sink>(
-    alloc: Global,
-    words: &[&str],
-    source: &mut S,
-    sink: &mut K,
-) -> Result<Status, NoMemory> {
-    let mut arguments = Vec::new(alloc);
-    for word in words {
-        arguments.push(String::from_str(alloc, word)?)?;
-    }
-    let mut gates = vec![in alloc; OpenGate; MOST_BACKENDS as usize]?;
-    let mut sessions = Vec::new(alloc);
-    Ok(catsync(alloc, &arguments, source, sink, &mut gates, &mut sessions))
-}
-
 #[test]
 fn an_absent_table_is_shown(rt: HostRuntime) -> Result<(), Fail> {
-    let alloc = rt.alloc();
     for script in [ABSENT, b"-- x\n\nBACKENDS 1\r\n\t1 : Show T ;\nEND"] {
-        let mut source = SteadySource::new(script.to_vec(alloc)?);
-        let mut sink = SteadySink::with_room(alloc, 4000)?;
-        let status = call(alloc, &["walk"], &mut source, &mut sink)?;
-        assert!(rt; matches!(status, Status::Done));
-        assert_eq!(rt; sink.sent(), ABSENT_OUTPUT);
+        assert!(rt; walked(rt.alloc(), script)?.gave(ABSENT_OUTPUT));
     }
     Ok(())
 }
 
 #[test]
 fn a_source_fails_at_each_call_in_turn(rt: HostRuntime) -> Result<(), Fail> {
-    let alloc = rt.alloc();
-    for (per_call, calls) in [(1, ABSENT.len() + 1), (5000, 2)] {
+    for (per_call, calls) in [(1, ABSENT.len() as u64 + 1), (5000, 2)] {
         for failing in 1..calls + 2 {
-            let failing_calls = [failing as u64].to_vec(alloc)?;
-            let mut source = MemorySource::new(ABSENT.to_vec(alloc)?, per_call, failing_calls);
-            let mut sink = SteadySink::with_room(alloc, 4000)?;
-            let status = call(alloc, &["walk"], &mut source, &mut sink)?;
-            let wanted = if failing > calls { 0 } else { 4 };
-            assert_eq!(rt; status.exit_code(), wanted, "at {failing} of {calls}");
-            assert_eq!(rt; sink.sent().is_empty(), failing <= calls);
+            let reads = Calls { per_call, failing };
+            let outcome = called(rt.alloc(), &["walk"], ABSENT, reads, STEADY)?;
+            let is_well = if failing <= calls {
+                outcome.status.exit_code() == 4 && outcome.sent().is_empty()
+            } else {
+                outcome.gave(ABSENT_OUTPUT)
+            };
+            assert!(rt; is_well, "at {failing} of {calls}");
         }
     }
     Ok(())
@@ -71,20 +48,24 @@ fn a_source_fails_at_each_call_in_turn(rt: HostRuntime) -> Result<(), Fail> {
 
 #[test]
 fn a_sink_fails_at_each_call_in_turn(rt: HostRuntime) -> Result<(), Fail> {
-    let alloc = rt.alloc();
-    for (per_call, calls) in [(1, ABSENT_OUTPUT.len()), (5000, 1)] {
+    for (per_call, calls) in [(1, ABSENT_OUTPUT.len() as u64), (5000, 1)] {
         for failing in 1..calls + 2 {
-            let mut source = SteadySource::new(ABSENT.to_vec(alloc)?);
-            let mut sink = MemorySink::new(alloc, per_call, [failing as u64].to_vec(alloc)?);
-            sink.ready()?;
-            let status = call(alloc, &["walk"], &mut source, &mut sink)?;
-            let wanted = if failing > calls { 0 } else { 5 };
-            assert_eq!(rt; status.exit_code(), wanted, "at {failing} of {calls}");
-            assert!(rt; ABSENT_OUTPUT.starts_with(sink.sent()), "at {failing}");
-            assert_eq!(rt; sink.sent().len() == ABSENT_OUTPUT.len(), failing > calls);
+            let writes = Calls { per_call, failing };
+            let outcome = called(rt.alloc(), &["walk"], ABSENT, STEADY, writes)?;
+            let is_well = if failing <= calls {
+                outcome.status.exit_code() == 5 && is_cut(outcome.sent())
+            } else {
+                outcome.gave(ABSENT_OUTPUT)
+            };
+            assert!(rt; is_well, "at {failing} of {calls}");
         }
     }
     Ok(())
+}
+
+// Whether it is a prefix of the output, and not all of it.
+fn is_cut(text: &[u8]) -> bool {
+    ABSENT_OUTPUT.starts_with(text) && text.len() < ABSENT_OUTPUT.len()
 }
 
 // Arguments and scripts that are refused, and the exit status and the first word that is said.
@@ -136,29 +117,29 @@ const REFUSED: [(&[&str], &[u8], u8, &str); 13] = [
 
 #[test]
 fn other_arguments_and_other_scripts_write_nothing(rt: HostRuntime) -> Result<(), Fail> {
-    let alloc = rt.alloc();
     for (words, script, code, said) in REFUSED {
-        let mut source = SteadySource::new(script.to_vec(alloc)?);
-        let mut sink = SteadySink::with_room(alloc, 4000)?;
-        let status = call(alloc, words, &mut source, &mut sink)?;
-        assert_eq!(rt; status.exit_code(), code, "{said}");
-        let text = format!(in alloc; "{status}")?;
-        assert!(rt; text.as_str().starts_with(said), "{said}");
-        assert!(rt; sink.sent().is_empty());
+        let outcome = called(rt.alloc(), words, script, STEADY, STEADY)?;
+        let is_so = outcome.status.exit_code() == code && outcome.sent().is_empty();
+        assert!(rt;
+            is_so && begins(rt.alloc(), outcome.status, said)?,
+            "{said}"
+        );
     }
     Ok(())
 }
 
+// Whether what is said of a status begins so.
+fn begins(alloc: Global, status: Status, said: &str) -> Result<bool, Fail> {
+    let text = format!(in alloc; "{status}")?;
+    Ok(text.as_str().starts_with(said))
+}
+
 #[test]
 fn the_most_bytes_and_one_more(rt: HostRuntime) -> Result<(), Fail> {
-    let alloc = rt.alloc();
     for (more, code) in [(0, 0), (1, 3)] {
-        let mut script = b"backends 1\nend\n".to_vec(alloc)?;
+        let mut script = b"backends 1\nend\n".to_vec(rt.alloc())?;
         script.resize(MOST_INPUT + more, b' ')?;
-        let mut source = SteadySource::new(script);
-        let mut sink = SteadySink::new(alloc);
-        let status = call(alloc, &["walk"], &mut source, &mut sink)?;
-        assert_eq!(rt; status.exit_code(), code);
+        assert!(rt; walked(rt.alloc(), &script)?.status.exit_code() == code);
     }
     Ok(())
 }
@@ -166,37 +147,39 @@ fn the_most_bytes_and_one_more(rt: HostRuntime) -> Result<(), Fail> {
 #[test]
 fn an_input_without_an_end_is_read_to_the_limit(rt: HostRuntime) -> Result<(), Fail> {
     let mut reader = EndlessReader { given: 0 };
-    let mut sink = SteadySink::new(rt.alloc());
-    let status = call(
+    let sink = sink_of(rt.alloc(), STEADY)?;
+    let outcome = called_over(
         rt.alloc(),
         &["walk"],
         &mut StdSource::new(&mut reader),
-        &mut sink,
+        sink,
     )?;
-    assert_eq!(rt; status.exit_code(), 3);
+    assert!(rt; outcome.status.exit_code() == 3);
     assert!(rt; reader.given <= (MOST_INPUT + PIECE) as u64);
     Ok(())
 }
 
 #[test]
 fn the_most_columns_and_one_more(rt: HostRuntime) -> Result<(), Fail> {
-    let alloc = rt.alloc();
     for (columns, end) in [
         (1600, b"\nl 1 1 ok\nend\n".as_slice()),
         (1601, b"\nl 1 1 error 54011 too many columns\nend\n"),
     ] {
-        let mut script = String::from_str(alloc, "backends 1\n1: create table t (c0 int4")?;
-        for column in 1..columns {
-            write!(script, ", c{column} int4")?;
-        }
-        script.push_str(")\nend\n")?;
-        let mut source = SteadySource::new(script.into_bytes());
-        let mut sink = SteadySink::with_room(alloc, 100_000)?;
-        let status = call(alloc, &["walk"], &mut source, &mut sink)?;
-        assert!(rt; matches!(status, Status::Done));
-        assert!(rt; sink.sent().ends_with(end), "{columns}");
+        let script = wide_script(rt.alloc(), columns)?;
+        let outcome = walked(rt.alloc(), &script)?;
+        assert!(rt; matches!(outcome.status, Status::Done) && outcome.sent().ends_with(end));
     }
     Ok(())
+}
+
+// A script that makes a table of so many columns.
+fn wide_script(alloc: Global, columns: u32) -> Result<Vec<u8>, Fail> {
+    let mut script = String::from_str(alloc, "backends 1\n1: create table t (c0 int4")?;
+    for column in 1..columns {
+        write!(script, ", c{column} int4")?;
+    }
+    script.push_str(")\nend\n")?;
+    Ok(script.into_bytes())
 }
 
 // A script of 1,048,576 bytes with 64 backends, 20,000 commands and 1,000,000 steps: one table is
@@ -220,13 +203,11 @@ fn largest_script(alloc: Global) -> Result<Vec<u8>, Fail> {
 // after a look; each backend starts and stops.
 #[test]
 fn the_largest_script_is_walked(rt: HostRuntime) -> Result<(), Fail> {
-    let alloc = rt.alloc();
-    let mut source = SteadySource::new(largest_script(alloc)?);
-    let mut sink = SteadySink::with_room(alloc, 16_000_000)?;
-    let status = call(alloc, &["walk"], &mut source, &mut sink)?;
-    assert_eq!(rt; status.exit_code(), 0);
-    let lines = sink.sent().iter().filter(|byte| **byte == b'\n').count();
-    assert_eq!(rt; lines, 6 + 1 + 19_999 * 6 + 64 * (6 * 2 + 2) + 20_000 + 1);
+    let script = largest_script(rt.alloc())?;
+    let outcome = walked(rt.alloc(), &script)?;
+    assert!(rt; matches!(outcome.status, Status::Done));
+    let lines = outcome.sent().iter().filter(|byte| **byte == b'\n').count();
+    assert!(rt; lines == 6 + 1 + 19_999 * 6 + 64 * (6 * 2 + 2) + 20_000 + 1);
     Ok(())
 }
 
@@ -298,15 +279,19 @@ const STATUSES: [(Status, &str); 7] = [
 
 #[test]
 fn each_status_has_its_text(rt: HostRuntime) -> Result<(), Fail> {
-    let alloc = rt.alloc();
     for (cause, text) in CAUSES {
-        let shown = format!(in alloc; "{}", Status::BadScript { line: 7, cause })?;
-        let said = format!(in alloc; "line 7: {text}")?;
-        assert_eq!(rt; shown.as_str(), said.as_str());
+        let status = Status::BadScript { line: 7, cause };
+        assert!(rt; is_said(rt.alloc(), status, "line 7: ", text)?, "{text}");
     }
     for (status, text) in STATUSES {
-        let shown = format!(in alloc; "{status}")?;
-        assert_eq!(rt; shown.as_str(), text);
+        assert!(rt; is_said(rt.alloc(), status, "", text)?, "{text}");
     }
     Ok(())
+}
+
+// Whether this is said of a status.
+fn is_said(alloc: Global, status: Status, before: &str, text: &str) -> Result<bool, Fail> {
+    let shown = format!(in alloc; "{status}")?;
+    let said = format!(in alloc; "{before}{text}")?;
+    Ok(shown.as_str() == said.as_str())
 }

@@ -1,4 +1,4 @@
-use script_text::{Rest, ScriptFault, ScriptRead, read_script, write_script};
+use script_text::{Rest, Script, ScriptFault, ScriptRead, read_script, write_script};
 use std::alloc::Global;
 use std::test::Fail;
 
@@ -8,6 +8,16 @@ pub(crate) fn read(alloc: Global, text: &[u8], rest: Rest) -> Result<ScriptRead,
         return Err(ScriptFault::NoMemory);
     }
     read_script(alloc, text, rest)
+}
+
+// The script of a short text.
+pub(crate) fn script_of(alloc: Global, text: &[u8]) -> Result<Script, Fail> {
+    Ok(
+        read(alloc, text, Rest::Refused)
+            .ok()
+            .ok_or("no script")?
+            .script,
+    )
 }
 
 // A text that is read and written; nothing for one that is no script.
@@ -108,14 +118,25 @@ const COMMANDS: [(&str, &str); 36] = [
     ("alter index i rename to j", "alter index i rename to j"),
 ];
 
+// The text of a script of one command.
+pub(crate) fn text_of_command(alloc: Global, command: &str) -> Result<String, Fail> {
+    Ok(format!(in alloc; "backends 2\n1: {command}\nend\n")?)
+}
+
+// Whether a text is read, and written again so.
+fn is_written(alloc: Global, text: &[u8], wanted: &[u8]) -> Result<bool, Fail> {
+    Ok(written(alloc, text)?.as_slice() == wanted)
+}
+
 #[test]
 fn each_command_is_read_and_written(rt: HostRuntime) -> Result<(), Fail> {
-    let alloc = rt.alloc();
     for (given, want) in COMMANDS {
-        let text = format!(in alloc; "backends 2\n1: {given}\nend\n")?;
-        let wanted = format!(in alloc; "backends 2\n1: {want}\nend\n")?;
-        let found = written(alloc, text.as_bytes())?;
-        assert_eq!(rt; found.as_slice(), wanted.as_bytes(), "at {given}");
+        let text = text_of_command(rt.alloc(), given)?;
+        let wanted = text_of_command(rt.alloc(), want)?;
+        assert!(rt;
+            is_written(rt.alloc(), text.as_bytes(), wanted.as_bytes())?,
+            "{given}"
+        );
     }
     Ok(())
 }
@@ -143,8 +164,10 @@ const SCRIPTS: [(&str, &str); 4] = [
 #[test]
 fn whole_scripts_are_read_and_written(rt: HostRuntime) -> Result<(), Fail> {
     for (given, want) in SCRIPTS {
-        let found = written(rt.alloc(), given.as_bytes())?;
-        assert_eq!(rt; found.as_slice(), want.as_bytes(), "at {given}");
+        assert!(rt;
+            is_written(rt.alloc(), given.as_bytes(), want.as_bytes())?,
+            "{given}"
+        );
     }
     Ok(())
 }
@@ -186,76 +209,81 @@ const FAULTS: [(&str, u32, &str); 22] = [
 #[test]
 fn the_first_fault_is_named(rt: HostRuntime) -> Result<(), Fail> {
     for (text, line, rule) in FAULTS {
-        assert!(rt;
-            breaks(rt.alloc(), text.as_bytes(), line, rule)?,
-            "at {text}"
-        );
+        assert!(rt; breaks(rt.alloc(), text.as_bytes(), line, rule)?, "{text}");
     }
     Ok(())
 }
 
 const BYTES_63: &str = "a23456789_123456789_123456789_123456789_123456789_123456789_123";
 
-// A name, a word and a text of 63 bytes are read, and of 64 they are not.
-#[test]
-fn names_have_63_bytes_at_most(rt: HostRuntime) -> Result<(), Fail> {
-    let alloc = rt.alloc();
-    for (before, after) in LONG_ONES {
-        let text = format!(in alloc; "backends 1\n1: {before}{BYTES_63}{after}\nend\n")?;
-        assert_eq!(rt;
-            written(alloc, text.as_bytes())?.as_slice(),
-            text.as_bytes()
-        );
-        let text = format!(in alloc; "backends 1\n1: {before}{BYTES_63}4{after}\nend\n")?;
-        assert!(rt;
-            breaks(alloc, text.as_bytes(), 2, "BadCommand")?,
-            "at {before}"
-        );
-    }
-    Ok(())
-}
-
-// What stands before and after a name, a word and a text.
+// What is around a name, a word and a text.
 const LONG_ONES: [(&str, &str); 3] = [
     ("create table t (", " int4)"),
     ("alter table t alter column c set default ", ""),
     ("alter table t add constraint k check (", ")"),
 ];
 
+// The text of a script of one command that holds 63 bytes, and these after them.
+fn long_command(alloc: Global, before: &str, after: &str) -> Result<String, Fail> {
+    Ok(format!(in alloc; "backends 1\n1: {before}{BYTES_63}{after}\nend\n")?)
+}
+
+// A name, a word and a text of 63 bytes are read, and of 64 they are not.
 #[test]
-fn a_script_has_at_most_20000_commands(rt: HostRuntime) -> Result<(), Fail> {
-    let alloc = rt.alloc();
-    let mut text = b"backends 64\n".to_vec(alloc)?;
-    for _ in 0..20_000 {
-        text.extend_from_slice(b"64: begin\n")?;
+fn names_have_63_bytes_at_most(rt: HostRuntime) -> Result<(), Fail> {
+    for (before, after) in LONG_ONES {
+        let text = long_command(rt.alloc(), before, after)?;
+        assert!(rt;
+            is_written(rt.alloc(), text.as_bytes(), text.as_bytes())?,
+            "{before}"
+        );
+        let longer = format!(in rt.alloc(); "4{after}")?;
+        let text = long_command(rt.alloc(), before, longer.as_str())?;
+        assert!(rt;
+            breaks(rt.alloc(), text.as_bytes(), 2, "BadCommand")?,
+            "{before}"
+        );
     }
-    text.extend_from_slice(b"steps 1*999999 64\nend\n")?;
-    assert!(rt; read(alloc, &text, Rest::Refused).is_ok());
-    let mut more = b"backends 64\n1: begin\n".to_vec(alloc)?;
-    more.extend_from_slice(&text[12..])?;
-    assert!(rt; breaks(alloc, &more, 20_002, "TooManyCommands")?);
     Ok(())
 }
 
-// The place after the `end` line, whatever is asked of the rest.
+// The text of a script of so many commands.
+fn many_commands(alloc: Global, count: u32) -> Result<Vec<u8>, Fail> {
+    let mut text = b"backends 64\n".to_vec(alloc)?;
+    for _ in 0..count {
+        text.extend_from_slice(b"64: begin\n")?;
+    }
+    text.extend_from_slice(b"steps 1*999999 64\nend\n")?;
+    Ok(text)
+}
+
+#[test]
+fn a_script_has_at_most_20000_commands(rt: HostRuntime) -> Result<(), Fail> {
+    let most = many_commands(rt.alloc(), 20_000)?;
+    assert!(rt; read(rt.alloc(), &most, Rest::Refused).is_ok());
+    let more = many_commands(rt.alloc(), 20_001)?;
+    assert!(rt; breaks(rt.alloc(), &more, 20_002, "TooManyCommands")?);
+    Ok(())
+}
+
+// The place after the `end` line, whether there is a ring line, and the script as it is written.
+fn parts(alloc: Global, text: &[u8], rest: Rest) -> Result<(usize, bool, Vec<u8>), Fail> {
+    let found = read(alloc, text, rest).ok().ok_or("no script")?;
+    let written = write_script(alloc, &found.script)?;
+    Ok((found.rest_at, found.has_ring, written))
+}
+
+// A rest begins after the `end` line, whatever is asked of it.
 #[test]
 fn a_rest_begins_after_the_end(rt: HostRuntime) -> Result<(), Fail> {
-    let alloc = rt.alloc();
     for rest in [Rest::Refused, Rest::Given] {
-        let text = b"backends 1\nend\n-- x\n";
-        let found = read(alloc, text, rest).ok().ok_or("no script")?;
-        assert_eq!(rt; found.rest_at, 15);
-        assert!(rt; !found.has_ring);
+        let (rest_at, has_ring, _) = parts(rt.alloc(), b"backends 1\nend\n-- x\n", rest)?;
+        assert!(rt; rest_at == 15 && !has_ring);
     }
     let text =
         b"RING 64\nBACKENDS 1\r\n1: CREATE TABLE t (a INT);\nSTEPS 1 * 5 1\nEND\r\nh 1 0 start\n";
-    let found = read(alloc, text, Rest::Given).ok().ok_or("no script")?;
-    assert_eq!(rt; found.rest_at, 66);
-    assert!(rt; found.has_ring);
     let wanted = b"ring 64\nbackends 1\n1: create table t (a int4)\nsteps 1*5 1\nend\n";
-    assert_eq!(rt;
-        write_script(alloc, &found.script)?.as_slice(),
-        wanted.as_slice()
-    );
+    let (rest_at, has_ring, written) = parts(rt.alloc(), text, Rest::Given)?;
+    assert!(rt; rest_at == 66 && has_ring && written.as_slice() == wanted);
     Ok(())
 }

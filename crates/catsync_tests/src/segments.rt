@@ -1,9 +1,17 @@
-use crate::scripts::read;
-use edge_io::SteadySink;
+ghost use Rattle.std.specs.Prelude.{◌≡◌, true};
+ghost use Rattle.base_types.specs.Scenario.{IsBackend};
+ghost use Rattle.walk_run.specs.Built.{is_built_scenario};
+
+use crate::calls::{STEADY, sink_of};
+use crate::scripts::script_of;
+use backend_core::Backend;
+use base_types::NoMemory;
+use event_kinds::Entry;
 use out_text::put_output;
-use script_text::Rest;
+use script_text::Script;
 use seg_calls::Seg;
 use shared_seg::Shared;
+use std::alloc::Global;
 use std::test::Fail;
 use walk_run::{is_built, walk_on};
 
@@ -63,38 +71,58 @@ h 2 5 stop
 end
 ";
 
+// A segment after the walk of a script, and the backends that were run.
+pub(crate) fn walked_segment(
+    alloc: Global,
+    script: &Script,
+) -> Result<(Shared, Vec<Backend>), NoMemory>
+    requires { is_built_scenario script.now ≡ true }
+{
+    let mut seg = Shared::new(alloc, script)?;
+    let backends = walk_on(alloc, script, &mut seg)?;
+    Ok((seg, backends))
+}
+
+// Whether this is the text of a history.
+fn has_text(alloc: Global, history: &[Entry], text: &[u8]) -> Result<bool, NoMemory> {
+    let mut sink = sink_of(alloc, STEADY)?;
+    let sent = put_output(&mut sink, history, &[]);
+    Ok(sent.is_ok() && sink.sent() == text)
+}
+
 #[test]
 fn a_segment_has_its_history(rt: HostRuntime) -> Result<(), Fail> {
-    let alloc = rt.alloc();
-    let found = read(alloc, SCRIPT, Rest::Refused).ok().ok_or("no script")?;
-    assert!(rt; is_built(&found.script));
-    let mut seg = Shared::new(alloc, &found.script)?;
-    assert!(rt; seg.history().is_empty());
-    let backends = walk_on(alloc, &found.script, &mut seg)?;
-    assert_eq!(rt; backends.len(), 2);
-    let mut sink = SteadySink::with_room(alloc, 4000)?;
-    assert!(rt; put_output(&mut sink, seg.history(), &[]).is_ok());
-    assert_eq!(rt; sink.sent(), HISTORY);
-    assert!(rt; !seg.waits(1) && !seg.waits(2));
-    assert_eq!(rt; seg.into_history().len(), 32);
+    let script = script_of(rt.alloc(), SCRIPT)?;
+    assert!(rt; is_built(&script));
+    let (seg, backends) = walked_segment(rt.alloc(), &script)?;
+    assert!(rt; backends.len() == 2 && !seg.waits(1) && !seg.waits(2));
+    assert!(rt; has_text(rt.alloc(), seg.history(), HISTORY)?);
+    assert!(rt; seg.into_history().len() == 32);
     Ok(())
+}
+
+// Promises a backend so many places, and says how many the two backends have.
+fn promised(seg: &mut Shared, b: u32, n: u32) -> Result<(u32, u32), NoMemory>
+    requires { IsBackend seg.old.script.backends b }
+    ensures { seg.new.script ≡ seg.old.script }
+{
+    seg.promise(b, n)?;
+    Ok((seg.promised(1), seg.promised(2)))
 }
 
 #[test]
 fn places_are_promised_by_turns(rt: HostRuntime) -> Result<(), Fail> {
     let alloc = rt.alloc();
-    let found = read(alloc, b"backends 2\nend\n", Rest::Refused)
-        .ok()
-        .ok_or("no script")?;
-    assert_eq!(rt; found.script.backends(), 2);
-    let mut seg = Shared::new(alloc, &found.script)?;
-    assert_eq!(rt; (seg.promised(1), seg.promised(2)), (0, 0));
-    seg.promise(1, 3)?;
-    seg.promise(2, 70)?;
-    assert!(rt; seg.promised(1) >= 3 && seg.promised(2) >= 70);
-    seg.promise(1, 5)?;
-    seg.promise(2, 1)?;
-    assert!(rt; seg.promised(1) >= 5 && seg.promised(2) >= 70);
+    let script = script_of(alloc, b"backends 2\nend\n")?;
+    assert!(rt; script.backends() == 2);
+    let mut seg = Shared::new(alloc, &script)?;
+    assert!(rt; seg.promised(1) == 0 && seg.promised(2) == 0);
+    promised(&mut seg, 1, 3)?;
+    let (first, second) = promised(&mut seg, 2, 70)?;
+    assert!(rt; first >= 3 && second >= 70);
+    promised(&mut seg, 1, 5)?;
+    let (first, second) = promised(&mut seg, 2, 1)?;
+    assert!(rt; first >= 5 && second >= 70);
     assert!(rt; seg.history().is_empty());
     Ok(())
 }

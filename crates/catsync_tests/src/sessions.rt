@@ -1,12 +1,15 @@
-use crate::scripts::read;
+ghost use Rattle.std.specs.Prelude.{◌≡◌, true};
+ghost use Rattle.walk_run.specs.Built.{is_built_scenario};
+
+use crate::calls::walked;
+use crate::scripts::script_of;
+use crate::segments::walked_segment;
 use backend_core::Backend;
-use base_types::Listed;
-use catsync_top::{MOST_BACKENDS, Status, catsync};
-use edge_io::{OpenGate, SteadySink, SteadySource};
-use script_text::Rest;
-use shared_seg::Shared;
+use base_types::{Listed, NoMemory};
+use script_text::Script;
+use std::alloc::Global;
 use std::test::Fail;
-use walk_run::{is_built, walk, walk_on};
+use walk_run::{is_built, walk};
 
 // Scripts, and of each backend its answers in order, and whether it stops.
 const SESSIONS: [(&[u8], &[(&[&[u8]], bool)]); 2] = [
@@ -68,32 +71,23 @@ fn has_answered(backend: &Backend, answers: &[&[u8]]) -> bool {
         })
 }
 
+// The backends of a walk of a script.
+fn walked_backends(alloc: Global, script: &Script) -> Result<Listed<Backend>, NoMemory>
+    requires { is_built_scenario script.now ≡ true }
+{
+    Ok(walk(alloc, script)?.backends)
+}
+
 #[test]
 fn each_call_gives_the_sessions(rt: HostRuntime) -> Result<(), Fail> {
-    let alloc = rt.alloc();
     for (text, wanted) in SESSIONS {
-        let found = read(alloc, text, Rest::Refused).ok().ok_or("no script")?;
-        assert!(rt; is_built(&found.script));
-        let world = walk(alloc, &found.script)?;
-        assert!(rt; are_sessions(world.backends.as_slice(), wanted));
-        let mut seg = Shared::new(alloc, &found.script)?;
-        assert!(rt; are_sessions(&walk_on(alloc, &found.script, &mut seg)?, wanted));
-
-        let arguments = vec![in alloc; String::from_str(alloc, "walk")?]?;
-        let mut gates = vec![in alloc; OpenGate; MOST_BACKENDS as usize]?;
-        let mut source = SteadySource::new(text.to_vec(alloc)?);
-        let mut sink = SteadySink::with_room(alloc, 4000)?;
-        let mut sessions = Vec::new(alloc);
-        let status = catsync(
-            alloc,
-            &arguments,
-            &mut source,
-            &mut sink,
-            &mut gates,
-            &mut sessions,
-        );
-        assert!(rt; matches!(status, Status::Done));
-        assert!(rt; are_sessions(&sessions, wanted));
+        let script = script_of(rt.alloc(), text)?;
+        assert!(rt; is_built(&script));
+        let backends = walked_backends(rt.alloc(), &script)?;
+        assert!(rt; are_sessions(backends.as_slice(), wanted));
+        let (_seg, backends) = walked_segment(rt.alloc(), &script)?;
+        assert!(rt; are_sessions(&backends, wanted));
+        assert!(rt; are_sessions(&walked(rt.alloc(), text)?.sessions, wanted));
     }
     Ok(())
 }
@@ -101,7 +95,6 @@ fn each_call_gives_the_sessions(rt: HostRuntime) -> Result<(), Fail> {
 #[test]
 fn a_new_backend_has_not_answered(rt: HostRuntime) -> Result<(), Fail> {
     let backend = Backend::new(rt.alloc(), 7, Listed::new(rt.alloc()))?;
-    assert_eq!(rt; backend.id(), 7);
-    assert!(rt; !backend.is_stopped() && backend.transcript().is_empty());
+    assert!(rt; backend.id() == 7 && !backend.is_stopped() && backend.transcript().is_empty());
     Ok(())
 }
