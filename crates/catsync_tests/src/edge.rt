@@ -52,7 +52,7 @@ fn a_source_goes_on_after_a_call_that_failed(rt: HostRuntime) -> Result<(), Fail
             Err(ReadRefusal::Failed)
         )
     );
-    assert!(rt; read_all(rt.alloc(), &mut source, 100)?.as_slice() == b"efg");
+    assert!(rt; read_all(rt.alloc(), &mut source, 100)?.as_slice() == b"efg".as_slice());
     Ok(())
 }
 
@@ -79,7 +79,7 @@ fn a_steady_sink_keeps_what_fits(rt: HostRuntime) -> Result<(), Fail> {
     let mut sink = SteadySink::with_room(rt.alloc(), 5)?;
     send(&mut sink, b"abc")?;
     send(&mut sink, b"defg")?;
-    assert!(rt; sink.sent() == b"abcde");
+    assert!(rt; sink.sent() == b"abcde".as_slice());
     let mut none = SteadySink::new(rt.alloc());
     send(&mut none, b"abc")?;
     assert!(rt; none.sent().is_empty());
@@ -103,7 +103,7 @@ fn texts_are_gathered(rt: HostRuntime) -> Result<(), Fail> {
     };
     let mut sink = sink_of(rt.alloc(), calls)?;
     send_two(&mut sink, b"abc", b"def")?;
-    assert!(rt; sink.sent() == b"abcdef");
+    assert!(rt; sink.sent() == b"abcdef".as_slice());
     send_two(&mut sink, b"", &long)?;
     assert!(rt; sink.sent().len() == 5006);
     assert!(rt; send_two(&mut sink, b"abc", b"def").is_err() && sink.sent().len() == 5006);

@@ -284,6 +284,6 @@ fn a_rest_begins_after_the_end(rt: HostRuntime) -> Result<(), Fail> {
         b"RING 64\nBACKENDS 1\r\n1: CREATE TABLE t (a INT);\nSTEPS 1 * 5 1\nEND\r\nh 1 0 start\n";
     let wanted = b"ring 64\nbackends 1\n1: create table t (a int4)\nsteps 1*5 1\nend\n";
     let (rest_at, has_ring, written) = parts(rt.alloc(), text, Rest::Given)?;
-    assert!(rt; rest_at == 66 && has_ring && written.as_slice() == wanted);
+    assert!(rt; rest_at == 66 && has_ring && written.as_slice() == wanted.as_slice());
     Ok(())
 }

@@ -108,7 +108,7 @@ fn the_first_fault_of_a_name(rt: HostRuntime) {
 #[test]
 fn the_name_of_a_dropped_column(rt: HostRuntime) {
     let dropped = Name::dropped(12);
-    assert!(rt; dropped.as_bytes() == b"........pg.dropped.12........");
+    assert!(rt; dropped.as_bytes() == b"........pg.dropped.12........".as_slice());
     assert!(rt; Name::new(dropped.as_bytes()).is_err());
 }
 
@@ -260,6 +260,6 @@ fn lists(rt: HostRuntime) -> Result<(), Fail> {
     let mut list = Listed::new(rt.alloc());
     list.push(7u32)?;
     let list = Listed::from_vec(list.into_vec());
-    assert!(rt; list.as_slice() == [7]);
+    assert!(rt; list.as_slice() == [7].as_slice());
     Ok(())
 }
