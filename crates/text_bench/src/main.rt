@@ -1,6 +1,6 @@
-//! What `bench/texts.sh` measures: a script read and written back (`script`), the lines of a history
-//! read (`read`), and read and written back (`copy`). Its exit status is 0, or 1 where an argument, a text,
-//! memory or the outside fails.
+//! What the scripts of `bench` measure beside the program: a script read and written back (`script`),
+//! the lines of a history read (`read`), and read and written back (`copy`); a script walked, and no text
+//! written of it (`walk`). Its exit status is 0, or 1 where an argument, a text, memory or the outside fails.
 #![tactic(auto)]
 
 use edge_io::{Sink, StdSink, StdSource, read_all, send};
@@ -11,6 +11,7 @@ use std::alloc::Global;
 use std::env;
 use std::process::ExitCode;
 use std::rt::Env;
+use walk_run::{is_built, walk};
 
 // The most bytes that are read.
 const MOST_INPUT: usize = 268_435_456;
@@ -31,6 +32,7 @@ fn run<R: Env + AllocGlobal + Input + Print>(rt: &R, alloc: Global) -> Option<()
         "script" => copy_script(alloc, &input, &mut sink),
         "read" => read_entries(alloc, &input).map(|_| ()),
         "copy" => put_output(&mut sink, &read_entries(alloc, &input)?, &[]).ok(),
+        "walk" => walk_script(alloc, &input),
         _ => None,
     }
 }
@@ -42,6 +44,18 @@ fn copy_script<K: Sink>(alloc: Global, input: &[u8], sink: &mut K) -> Option<()>
     }
     let read = read_script(alloc, input, Rest::Refused).ok()?;
     send(sink, &write_script(alloc, &read.script).ok()?).ok()
+}
+
+// Reads a script and walks it.
+fn walk_script(alloc: Global, input: &[u8]) -> Option<()> {
+    if input.len() > MOST_INPUT {
+        return None;
+    }
+    let read = read_script(alloc, input, Rest::Refused).ok()?;
+    if !is_built(&read.script) {
+        return None;
+    }
+    walk(alloc, &read.script).ok().map(|_| ())
 }
 
 // Reads the entries of a history's lines.
