@@ -91,7 +91,8 @@ def lock_bar(layout: Layout, lock):
     title = "%s on %s, held by backend %d, %s; %s" % (
         MODE_NAMES[lock.mode], known(lock.rel, lock.name), lock.backend, how_long(lock), since)
     shape = {"x": lock_left(layout, lock), "width": lane.lock_width - 2, "stroke": GREEN}
-    bar = element("rect", title, y=top, height=bottom - top, fill=MODE_COLOURS[lock.mode], class_="lock " + ending(lock), **shape)
+    bar = element("rect", title, y=top, height=bottom - top, fill=MODE_COLOURS[lock.mode],
+                  class_="lock " + ending(lock), **shape)
     if clear > top:
         bar += element("rect", title, y=top, height=clear - top, fill="url(#not-clear)", class_="part", **shape)
     return bar + lock_label(layout, lock, clear if bottom - clear > 14 else top, bottom)
@@ -109,7 +110,8 @@ def lock_label(layout: Layout, lock, top, bottom):
     if width < 10:
         return ""
     texts = ("%s %d %s" % (lock.mode, lock.rel, lock.name), "%s %s" % (lock.mode, lock.name or lock.rel), lock.mode)
-    return label(layout, lock_left(layout, lock) + width / 2 - 3, top, bottom, texts, "#ffffff" if lock.mode in DARK_MODES else INK)
+    colour = "#ffffff" if lock.mode in DARK_MODES else INK
+    return label(layout, lock_left(layout, lock) + width / 2 - 3, top, bottom, texts, colour)
 
 
 def build_bar(layout: Layout, build):

@@ -19,7 +19,8 @@ text.small { font: 11px 'DejaVu Sans', Verdana, sans-serif }
 text.head { font: bold 11px 'DejaVu Sans', Verdana, sans-serif }
 text.number { fill: #767676 }
 text.label { font: 9px 'DejaVu Sans Mono', Menlo, Consolas, monospace }
-text.waits { font: bold 9px 'DejaVu Sans', Verdana, sans-serif; fill: %(blue)s; paint-order: stroke; stroke: #ffffff; stroke-width: 3px }
+text.waits { font: bold 9px 'DejaVu Sans', Verdana, sans-serif; fill: %(blue)s;
+  paint-order: stroke; stroke: #ffffff; stroke-width: 3px }
 text.error { fill: #963800 }
 .leader { stroke: #d0d0d0; stroke-dasharray: 1 3 }
 .message { fill: none; stroke: %(blue)s; stroke-width: 1.3; stroke-opacity: 0.75 }
@@ -49,7 +50,8 @@ def lanes_ground(layout: Layout):
 def life_line(layout: Layout, life):
     """The line of a backend, from its start to its stop."""
     bottom = layout.bottom if life.last is None else layout.middle(life.last)
-    return element("path", d=path("M", layout.lanes[life.backend].mark, layout.middle(life.first), "V", bottom), stroke="#b8b8b8")
+    drawn = path("M", layout.lanes[life.backend].mark, layout.middle(life.first), "V", bottom)
+    return element("path", d=drawn, stroke="#b8b8b8")
 
 
 def header_row(layout: Layout, row):
@@ -90,14 +92,15 @@ def entry_text(layout: Layout, row):
 def answer_text(layout: Layout, row):
     """An answer, below the entry at which its command ended."""
     answer = row.content
-    lane, refused = layout.lanes[answer.backend], answer.text.startswith("error")
-    ground = element("rect", x=layout.text - 6, y=row.y + 1, width=layout.width - layout.text - 2, height=row.height - 2,
-                     fill="#fdeadf" if refused else "#eaf4ec", rx=2)
-    line = element("path", d=path("M", lane.mark + 3, row.middle, "H", layout.text - 6), stroke=RED if refused else GREEN, stroke_opacity=0.5)
-    dot = element("circle", cx=lane.mark, cy=row.middle, r=2.5, fill=RED if refused else GREEN)
-    text = '<text class="line%s">%s</text>' % (" error" if refused else "", text_lines(layout.text, row.middle + 4, row.lines))
-    title = "the answer of command %d of backend %d" % (answer.command, answer.backend) + (":\n" + answer.line if row.cut else "")
-    return group(ground + line + dot + text, title, class_="answer")
+    mark, refused = layout.lanes[answer.backend].mark, answer.text.startswith("error")
+    fill, colour, class_ = ("#fdeadf", RED, "line error") if refused else ("#eaf4ec", GREEN, "line")
+    drawn = element("rect", x=layout.text - 6, y=row.y + 1, width=layout.width - layout.text - 2, height=row.height - 2,
+                    fill=fill, rx=2)
+    drawn += element("path", d=path("M", mark + 3, row.middle, "H", layout.text - 6), stroke=colour, stroke_opacity=0.5)
+    drawn += element("circle", cx=mark, cy=row.middle, r=2.5, fill=colour)
+    drawn += '<text class="%s">%s</text>' % (class_, text_lines(layout.text, row.middle + 4, row.lines))
+    title = "the answer of command %d of backend %d" % (answer.command, answer.backend)
+    return group(drawn, title + (":\n" + answer.line if row.cut else ""), class_="answer")
 
 
 def rows_drawn(layout: Layout, kind, one_drawn):
@@ -110,16 +113,17 @@ def rows_drawn(layout: Layout, kind, one_drawn):
 def bars_drawn(layout: Layout, story: Story):
     """All bars that the entries which are drawn meet."""
     drawn = []
-    kinds = ((story.lives, life_line), (story.transactions, transaction_bar), (story.builds, build_bar), (story.locks, lock_bar))
-    for bars, one_drawn in kinds:
+    for bars, one_drawn in ((story.lives, life_line), (story.transactions, transaction_bar), (story.builds, build_bar),
+                            (story.locks, lock_bar)):
         drawn += [one_drawn(layout, bar) for bar in bars if layout.span.meets(bar)]
     return "".join(drawn)
 
 
 def arrows_drawn(layout: Layout, story: Story, messages, refusals):
     """The arrows, and the numbers of messages that wait."""
+    waiting = [waiting for waiting in story.waiting if layout.span.holds(waiting.entry) and waiting.count]
     drawn = [message_arrow(layout, message) for message in messages]
-    drawn += [waiting_number(layout, waiting) for waiting in story.waiting if layout.span.holds(waiting.entry) and waiting.count]
+    drawn += [waiting_number(layout, one) for one in waiting]
     drawn += [refusal_arrow(layout, refusal) for refusal in refusals]
     return "".join(drawn)
 

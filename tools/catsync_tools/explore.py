@@ -16,8 +16,9 @@ from .scripts import read_script, steps_line, turns_of
 from .sentences import counted
 
 NOT_FOUND = 1
-MOST_ORDERS = 2000
+MOST_ORDERS = 5000
 FURTHER = 64            # steps that a backend may make beyond those that were seen
+MOST_STEPS = 1000000    # of a script
 
 
 def count_of(text):
@@ -29,7 +30,7 @@ def count_of(text):
 
 def arguments_of(words):
     """The command line."""
-    parser = Arguments(allow_abbrev=False, prog="explore", description="Runs a script under many schedules: tools/explore < SCRIPT")
+    parser = Arguments(prog="explore", description="Runs a script under many schedules: tools/explore < SCRIPT")
     parser.add_argument("--most", type=count_of, default=MOST_ORDERS, metavar="N",
                         help="all orders are run where there are at most N, else N random schedules (%d)" % MOST_ORDERS)
     parser.add_argument("--seed", default="1", help="of the random schedules (1)")
@@ -62,13 +63,15 @@ class Exploration:
 
     def run(self, first, rest):
         """The run in which these backends make the first steps, and these then go on to their stop."""
-        while True:
-            turns = turns_of(first) + [(backend, self.longest + FURTHER) for backend in rest]
+        room = (MOST_STEPS - len(first)) // len(rest)
+        while self.longest <= MOST_STEPS:
+            turns = turns_of(first) + [(backend, min(self.longest + FURTHER, room)) for backend in rest]
             run = self.program.run(self.script.with_steps(steps_line(turns)))
             self.longest = max(self.longest, len(run.steps))
             if sum(text == "stop" for _, _, text in run.steps) == len(self.backends):
                 return run
             self.longest *= 2
+        raise Fault("the script has too many steps to be explored")
 
     def take(self, run, history):
         """One more schedule; whether it is the one that is looked for."""

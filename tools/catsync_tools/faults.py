@@ -14,6 +14,9 @@ class Fault(Exception):
 class Arguments(argparse.ArgumentParser):
     """A command line whose faults are faults as any other, and not several lines."""
 
+    def __init__(self, **settings):
+        super().__init__(allow_abbrev=False, **settings)
+
     def error(self, message):
         """Called by argparse for a faulty command line."""
         raise Fault("%s; %s --help says more" % (message, self.prog))

@@ -22,23 +22,27 @@ _DISC = '<circle r="6" fill="%s"/><path d="%s" fill="none" stroke="#ffffff" stro
 MARKS = {
     "start": ("start", '<path d="M-5.5 -4.5H5.5L0 5.5Z" fill="%s"/>' % INK),
     "look-no": ("look no", '<circle r="3" fill="#ffffff" stroke="%s" stroke-width="1.4"/>' % GREY),
-    "look-yes": ("look yes", '<circle r="4.5" fill="#ffffff" stroke="%s" stroke-width="1.6"/><circle r="2" fill="%s"/>' % (BLUE, BLUE)),
+    "look-yes": ("look yes", '<circle r="4.5" fill="#ffffff" stroke="%s" stroke-width="1.6"/><circle r="2" fill="%s"/>'
+                 % (BLUE, BLUE)),
     "fetch": ("fetch", '<path d="M-5 -5.5H5V0L0 6L-5 0Z" fill="%s"/>' % BLUE),
-    "fetch-reset": ("fetch reset", '<path d="M0 -8L2 -3L7 -5.5L4.5 0L8 3L3 3.5L2 8L-1.5 4L-6 6L-4 1.5L-8 -1L-3.5 -2.5L-5 -7L-1 -4Z" '
-                    'fill="%s" stroke="#ffffff" stroke-width="0.6"/>' % RED),
+    "fetch-reset": ("fetch reset", '<path d="M0 -8L2 -3L7 -5.5L4.5 0L8 3L3 3.5L2 8L-1.5 4L-6 6L-4 1.5L-8 -1L-3.5 -2.5L-5 -7'
+                    'L-1 -4Z" fill="%s" stroke="#ffffff" stroke-width="0.6"/>' % RED),
     "lock-ok": ("lock ok", _PADLOCK % GREEN + _BODY % (GREEN, GREEN)),
     "lock-held": ("lock held (refused)", _PADLOCK % RED + _BODY % ("#ffffff", RED) +
                   '<path d="M-6 -6L6 6M6 -6L-6 6" stroke="%s" stroke-width="1.5"/>' % RED),
-    "unlock": ("unlock", _OPEN_PADLOCK % GREEN + '<circle cy="2" r="3.4" fill="#ffffff" stroke="%s" stroke-width="1.6"/>' % GREEN),
+    "unlock": ("unlock", _OPEN_PADLOCK % GREEN +
+               '<circle cy="2" r="3.4" fill="#ffffff" stroke="%s" stroke-width="1.6"/>' % GREEN),
     "scan": ("scan", '<circle cx="-1" cy="-1" r="3.4" fill="#ffffff" stroke="%s" stroke-width="1.5"/>'
              '<path d="M1.6 1.6L5.5 5.5" stroke="%s" stroke-width="2"/>' % (INK, INK)),
     "write": ("write", _DIAMOND % (ORANGE, "#8a5f00")),
-    "clash": ("clash (refused)", _DIAMOND % ("#ffffff", RED) + '<path d="M-3 -3L3 3M3 -3L-3 3" stroke="%s" stroke-width="1.5"/>' % RED),
+    "clash": ("clash (refused)", _DIAMOND % ("#ffffff", RED) +
+              '<path d="M-3 -3L3 3M3 -3L-3 3" stroke="%s" stroke-width="1.5"/>' % RED),
     "visible": ("visible", _DISC % (GREEN, "M-3 0L-0.8 2.6L3.2 -2.6")),
     "publish": ("publish", '<path d="M-5 -5H0L6 0L0 5H-5Z" fill="%s" stroke="%s" stroke-width="1.2"/>' % (SKY, BLUE)),
     "release": ("release", _OPEN_PADLOCK % GREEN + _BODY % ("#ffffff", GREEN)),
     "gone": ("gone", _DISC % (PURPLE, "M3.6 0H-3M-0.4 -2.8L-3.2 0L-0.4 2.8")),
-    "fail": ("fail", '<path d="M0 -7L7 5.5H-7Z" fill="%s"/><path d="M0 -3V1.4M0 2.6V4.2" stroke="#ffffff" stroke-width="1.8"/>' % RED),
+    "fail": ("fail", '<path d="M0 -7L7 5.5H-7Z" fill="%s"/>'
+             '<path d="M0 -3V1.4M0 2.6V4.2" stroke="#ffffff" stroke-width="1.8"/>' % RED),
     "stop": ("stop", '<rect x="-4.5" y="-4.5" width="9" height="9" fill="%s"/>' % INK),
 }
 

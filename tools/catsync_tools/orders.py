@@ -4,13 +4,13 @@ An order is known by its history. Within it a step comes before another if it is
 is earlier and their accesses meet, or by way of steps between. Histories in which the same steps come before the same
 steps are one order.
 
-The program can't be stopped and gone on with, so each order costs one run of it, from the start. Which runs are made is
-decided by races: two steps of different backends which meet, with no step that comes between them. For each race of a
-history there has to be a history in which the later step comes first; where none is known to be due, a run is put down
-that makes it come first (`Branch`). A backend whose next step was tried at some place, with all that can follow, sleeps
-there: it isn't tried again until a step that meets its own has been made. So no order is run twice; a run that ends with
-all that is left asleep is given up, since its order was run before. This is the search known as source-set dynamic
-partial order reduction (Abdulla, Aronsson, Jonsson, Sagonas: Optimal dynamic partial order reduction, 2014).
+A run can't be stopped half-way and continued, so each order costs one run from the start. Which runs are made is decided
+by races: two steps of different backends which meet, with no step that comes between them. For each race of a history
+there has to be a history in which the later step comes first; where none is due, a run is put down in which it does
+(`Branch.want`). A backend whose next step was tried at some place, with all that can follow, sleeps there: it isn't tried
+again until a step that meets its own has been made. So no order is run twice; a run in which all that haven't stopped are
+asleep is given up, since its order was run before. This search is known as dynamic partial order reduction with source
+sets and sleep sets (Abdulla, Aronis, Jonsson, Sagonas: Optimal dynamic partial order reduction, POPL 2014).
 """
 from typing import Dict, List, NamedTuple, Set
 
@@ -97,7 +97,7 @@ def initials(steps):
     return found
 
 
-def awake_after(asleep, access):
+def asleep_after(asleep, access):
     """The sleepers that a step doesn't wake."""
     return {backend: own for backend, own in asleep.items() if not own.meets_one_of(access)}
 
@@ -128,7 +128,7 @@ class Search:
     """Runs all orders, one after the other."""
 
     def __init__(self, run, backends, every_order=False):
-        self.run = run                  # a function of whose the first steps are, and of who then goes on to the stop
+        self.run = run              # a function of whose the first steps are, and of who then goes on to the stop
         self.backends = backends
         self.accesses = Accesses(every_order)
         self.branches: List[Branch] = []
@@ -139,15 +139,11 @@ class Search:
         branch, steps = Branch(0, {}), []
         while branch is not None:
             run = self.run(*self.schedule(branch, steps))
-            branch = self.take(run, branch)
-            steps = []
-            if branch is None:
-                yield run, self.history
-            elif self.is_stuck(branch):
-                yield None, self.history
-                branch = None
-            if branch is None:
-                branch, steps = self.go_back()
+            branch, steps = self.take(run, branch), []
+            if branch is not None and not self.is_stuck(branch):
+                continue
+            yield (run if branch is None else None), self.history
+            branch, steps = self.go_back()
 
     def is_stuck(self, branch):
         """Whether all that haven't stopped sleep at this place."""
@@ -158,7 +154,7 @@ class Search:
         """The steps up to the branch and these; then those to the stop who are awake, and at last the sleepers."""
         asleep = branch.asleep
         for step in steps:
-            asleep = awake_after(asleep, step.access)
+            asleep = asleep_after(asleep, step.access)
         awake = [backend for backend in self.backends if backend not in asleep]
         return [known.backend for known in self.branches] + [step.backend for step in steps], awake + sorted(asleep)
 
@@ -172,7 +168,7 @@ class Search:
                 self.compare(at, known[at], step)
                 continue
             if at > len(known):
-                branch = Branch(step[0], awake_after(branch.asleep, self.history.steps[at - 1].access))
+                branch = Branch(step[0], asleep_after(branch.asleep, self.history.steps[at - 1].access))
             if step[0] in branch.asleep:
                 return branch
             branch.backend = step[0]

@@ -46,7 +46,8 @@ function follow(from, to, drawing) {
 }
 function lead(pane) { leader = pane; }
 for (const [pane, other] of [[picture, list], [list, picture]]) {
-  for (const event of ['pointerenter', 'wheel', 'touchstart', 'focusin']) pane.addEventListener(event, () => lead(pane), {passive: true});
+  for (const event of ['pointerenter', 'wheel', 'touchstart', 'focusin'])
+    pane.addEventListener(event, () => lead(pane), {passive: true});
   pane.addEventListener('scroll', () => follow(pane, other));
 }
 window.addEventListener('resize', () => { heights.list = items.map(item => item.offsetTop); });
@@ -56,15 +57,19 @@ items.forEach((item, at) => {
     element.addEventListener('pointerenter', () => mark(at, true));
     element.addEventListener('pointerleave', () => mark(at, false));
   }
-  item.addEventListener('click', () => { lead(list); picture.scrollTop = heights.picture[at] - lanes - picture.clientHeight / 3; });
+  item.addEventListener('click', () => {
+    lead(list);
+    picture.scrollTop = heights.picture[at] - lanes - picture.clientHeight / 3;
+  });
 });
 """
 
 
 def entry_item(entry):
     """An entry in the list: its number, its line, and what it means."""
-    return '<li class="entry" data-entry="%d"><span class="number">%d</span><div><code>%s</code><div class="means">%s</div></div></li>' % (
-        entry.number, entry.number, escape(entry.line), escape(sentence_of(entry)))
+    text = '<code>%s</code><div class="means">%s</div>' % (escape(entry.line), escape(sentence_of(entry)))
+    return '<li class="entry" data-entry="%d"><span class="number">%d</span><div>%s</div></li>' % (
+        entry.number, entry.number, text)
 
 
 def answer_item(answer):

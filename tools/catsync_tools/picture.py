@@ -11,7 +11,7 @@ MOST_ENTRIES = 5000
 
 def arguments_of(words):
     """The command line."""
-    parser = Arguments(allow_abbrev=False, prog="picture", description="Draws an output of catsync: tools/picture < OUTPUT > HISTORY.svg")
+    parser = Arguments(prog="picture", description="Draws an output of catsync: tools/picture < OUTPUT > HISTORY.svg")
     parser.add_argument("--html", action="store_true", help="one page, with a list of the entries beside the picture")
     parser.add_argument("--from", dest="first", type=int, metavar="N", help="the first entry to draw (1)")
     parser.add_argument("--to", dest="last", type=int, metavar="N", help="the last entry to draw (the last there is)")

@@ -1,6 +1,7 @@
 """Runs `catsync walk` on scripts."""
 import glob
 import os
+import signal
 import subprocess
 import tempfile
 from typing import List, NamedTuple, Tuple
@@ -62,6 +63,8 @@ class Program:
             file.flush()
             file.seek(0)
         output, status = self.wait()
+        if status == -signal.SIGINT:
+            raise KeyboardInterrupt
         if status != 0:
             raise Fault(self.refusal(status))
         lines = output.decode("ascii").split("\n")
@@ -72,8 +75,8 @@ class Program:
         """Starts the program and waits for its end; its output and its exit status."""
         try:
             # Without closing other files Python can start a process the quick way.
-            process = subprocess.Popen([self.path, "walk"], stdin=self.input, stdout=subprocess.PIPE, stderr=self.said,
-                                       close_fds=False)
+            process = subprocess.Popen(
+                [self.path, "walk"], stdin=self.input, stdout=subprocess.PIPE, stderr=self.said, close_fds=False)
         except OSError as error:
             raise Fault("%s: %s" % (self.path, error.strerror))
         with process:

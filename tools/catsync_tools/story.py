@@ -331,7 +331,8 @@ class Queue:
         first = self.position[entry.backend]
         last = first + entry.event.parts["count"]
         if last > self.length():
-            raise fault_at(entry, "a fetch of %d messages, but %d wait for backend %d", last - first, self.length() - first, entry.backend)
+            raise fault_at(entry, "a fetch of %d messages, but %d wait for backend %d",
+                           last - first, self.length() - first, entry.backend)
         at = bisect.bisect_right(self.ends, first)
         while first < last:
             count = min(self.ends[at], last) - first
@@ -423,5 +424,5 @@ def story_of(output):
         locks.take(entry, names)
         builds.take(entry, names)
         queue.take(entry, lives.alive())
-    return Story(output.entries, [life for _, life in sorted(lives.all.items())], placed_answers(output), transactions.all, locks.all, builds.all,
-                 queue.messages, queue.waiting, refusals)
+    return Story(output.entries, [life for _, life in sorted(lives.all.items())], placed_answers(output), transactions.all,
+                 locks.all, builds.all, queue.messages, queue.waiting, refusals)
