@@ -36,7 +36,8 @@ from catsync_tools.story import story_of
 
 PROGRAM = os.environ.get("CATSYNC_PROGRAM") or PROVED
 HAS_PROGRAM = "CATSYNC_PROGRAM" in os.environ or is_up_to_date(PROVED)
-OUTPUTS = sorted(glob.glob(os.path.join(TOP, "examples", "*.output")) + glob.glob(os.path.join(TOOLS, "samples", "*.output")))
+OUTPUTS = sorted(path for folder in (os.path.join(TOP, "examples"), os.path.join(TOOLS, "samples"))
+                 for path in glob.glob(os.path.join(folder, "*.output")))
 SVG = "{http://www.w3.org/2000/svg}"
 
 
@@ -381,7 +382,8 @@ class Orders(unittest.TestCase):
             steps = {backend: [draw.choice(self.STEPS) for _ in range(length - 1)] + ["stop"]
                      for backend, length in enumerate(lengths, 1)}
             with self.subTest(steps):
-                found = [self.order_of(history) for run, history in Search(self.program(steps), sorted(steps)).orders() if run]
+                search = Search(self.program(steps), sorted(steps))
+                found = [self.order_of(history) for run, history in search.orders() if run]
                 self.assertEqual(len(found), len(set(found)))
                 self.assertEqual(set(found), self.all_orders(steps))
 
@@ -455,7 +457,8 @@ ROLLED_BACK_ANSWERS = {
     ("l 1 1 ok", "l 1 2 error 42P07 relation t already exists", "l 1 3 ok", "l 2 1 ok", "l 2 2 columns b:text"),
 }
 
-BY_HAND = ((TWO_CREATORS, TWO_CREATORS_ANSWERS), (CREATE_AND_SHOW, CREATE_AND_SHOW_ANSWERS), (ROLLED_BACK, ROLLED_BACK_ANSWERS))
+BY_HAND = ((TWO_CREATORS, TWO_CREATORS_ANSWERS), (CREATE_AND_SHOW, CREATE_AND_SHOW_ANSWERS),
+           (ROLLED_BACK, ROLLED_BACK_ANSWERS))
 
 
 class Report:
@@ -579,7 +582,7 @@ class Explorer(unittest.TestCase):
         examples = os.path.join(TOP, "examples")
         cases = [(["--most", "0"], TWO_CREATORS, "not a count of schedules: 0"),
                  (["--picture", "x.svg"], TWO_CREATORS, "--picture draws what --find finds, and there is no --find"),
-                 (["--find", "ok", "--picture", "/no/such/folder.svg"], TWO_CREATORS, "/no/such/folder.svg: writing failed: "),
+                 (["--find", "ok", "--picture", "/no/such/a.svg"], TWO_CREATORS, "/no/such/a.svg: writing failed: "),
                  (["--program", "/no/such/program"], TWO_CREATORS, "/no/such/program: "),
                  ([], b"", "catsync: line 1: NoBackends: ")]
         for name in ("bad_line", "not_built_yet"):

@@ -42,8 +42,8 @@ def arrows_in(span, story: Story):
 
 def lanes_ground(layout: Layout):
     """The ground of the lanes, every second one grey."""
-    top = layout.rows[0].y
-    return "".join(element("rect", x=lane.left, y=top, width=lane.right - lane.left, height=layout.bottom - top, fill="#f6f6f6")
+    shape = {"y": layout.rows[0].y, "height": layout.bottom - layout.rows[0].y, "fill": "#f6f6f6"}
+    return "".join(element("rect", x=lane.left, width=lane.right - lane.left, **shape)
                    for lane in list(layout.lanes.values())[::2])
 
 

@@ -37,7 +37,8 @@ def arguments_of(words):
     parser.add_argument("--places", action="store_true", help="answers that name other entries (as of N) are other answers; "
                         "then no two schedules are the same order")
     parser.add_argument("--find", metavar="TEXT", help="stop at the first schedule with this text in an answer or an entry")
-    parser.add_argument("--picture", metavar="FILE", help="draw the schedule that --find finds; a page if FILE ends with .html")
+    parser.add_argument("--picture", metavar="FILE",
+                        help="draw the schedule that --find finds; a page if FILE ends with .html")
     parser.add_argument("--program", metavar="FILE", help="run FILE in place of the proved executable")
     options = parser.parse_args(words)
     if options.picture and options.find is None:

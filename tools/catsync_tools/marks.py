@@ -1,6 +1,7 @@
 """The marks of entries: a shape and a colour for each kind of event, and the colours of bars.
 
-The colours are those of Okabe and Ito, which people who are colour-blind can tell apart; no two kinds differ by colour alone.
+The colours are those of Okabe and Ito, which people who are colour-blind can tell apart, and no two kinds differ by colour
+alone.
 """
 from .events import MODES, Event
 
