@@ -524,7 +524,7 @@ class Explorer(unittest.TestCase):
         """Schedules that are drawn at random lead to no other answers than those worked out by hand."""
         draw = random.Random(3)
         for script, answers in BY_HAND:
-            for _ in range(60):
+            for _ in range(25):
                 steps = [draw.randint(1, 2) for _ in range(40)]
                 line = steps_line(turns_of(steps) + [(1, 100), (2, 100)])
                 self.assertIn(without_places(self.run_with(script, line).answers), answers)
