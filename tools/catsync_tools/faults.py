@@ -1,0 +1,70 @@
+"""Faults of the input or the command line: one line on standard error, and an exit status other than 0."""
+import argparse
+import os
+import sys
+
+BAD = 2
+INTERRUPTED = 130
+
+
+class Fault(Exception):
+    """Something that the user gave is wrong; its text says what, and where."""
+
+
+class Arguments(argparse.ArgumentParser):
+    """A command line whose faults are faults as any other, and not several lines."""
+
+    def __init__(self, **settings):
+        super().__init__(allow_abbrev=False, **settings)
+
+    def error(self, message):
+        """Called by argparse for a faulty command line."""
+        raise Fault("%s; %s --help says more" % (message, self.prog))
+
+
+def run(name, main, arguments):
+    """Runs a command; its exit status. A fault is said in one line that begins with the command's name."""
+    try:
+        return main(arguments)
+    except Fault as fault:
+        print("%s: %s" % (name, fault), file=sys.stderr)
+        return BAD
+    except KeyboardInterrupt:
+        print("%s: interrupted" % name, file=sys.stderr)
+        return INTERRUPTED
+
+
+def read_input():
+    """All of standard input, as bytes."""
+    try:
+        return sys.stdin.buffer.read()
+    except OSError as error:
+        raise Fault("reading failed: %s" % error.strerror)
+
+
+def write_output(text):
+    """Writes a whole text to standard output."""
+    try:
+        sys.stdout.buffer.write(text.encode("utf-8", "surrogateescape"))
+        sys.stdout.buffer.flush()
+    except OSError as error:
+        discard_output()
+        raise Fault("writing failed: %s" % error.strerror)
+
+
+def discard_output():
+    """Makes sure that Python writes nothing more to standard output as it ends."""
+    os.dup2(os.open(os.devnull, os.O_WRONLY), sys.stdout.fileno())
+
+
+def write_file(path, text):
+    """Writes a file whole or not at all: beside it first, then in its place."""
+    beside = "%s.%d.part" % (path, os.getpid())
+    try:
+        with open(beside, "wb") as file:
+            file.write(text.encode("utf-8", "surrogateescape"))
+        os.replace(beside, path)
+    except OSError as error:
+        if os.path.exists(beside):
+            os.remove(beside)
+        raise Fault("%s: writing failed: %s" % (path, error.strerror))

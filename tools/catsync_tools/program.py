@@ -1,0 +1,95 @@
+"""Runs `catsync walk` on scripts."""
+import glob
+import os
+import signal
+import subprocess
+import tempfile
+from typing import List, NamedTuple, Tuple
+
+from .faults import Fault
+
+TOP = os.path.dirname(os.path.dirname(os.path.dirname(os.path.abspath(__file__))))
+PROVED = os.path.join(TOP, "crates", "catsync", "out", "catsync")
+
+Step = Tuple[int, int, str]         # a step of a history: its backend, its command, and the text of its event
+
+
+class Run(NamedTuple):
+    """What a run printed."""
+    output: bytes
+    steps: List[Step]
+    answers: Tuple[str, ...]
+
+
+def is_up_to_date(program):
+    """Whether a file is there and no source is newer; as ./catsync tests it."""
+    if not os.access(program, os.X_OK):
+        return False
+    made = os.path.getmtime(program)
+    sources = [os.path.join(TOP, "crates.txt")]
+    for folder in ("src", "specs", "proofs"):
+        sources += glob.glob(os.path.join(TOP, "crates", "*", folder, "**"), recursive=True)
+    return all(os.path.getmtime(source) <= made for source in sources if os.path.isfile(source))
+
+
+def proved_program():
+    """The proved executable."""
+    if not is_up_to_date(PROVED):
+        raise Fault("no proved executable that is up to date: ./prove makes it, or 'rt run' in crates/catsync; "
+                    "--program FILE names another")
+    return PROVED
+
+
+def step_of(line):
+    """The step of an entry's line."""
+    _, backend, command, text = line.split(" ", 3)
+    return int(backend), int(command), text
+
+
+class Program:
+    """The program, and how often it was run."""
+
+    def __init__(self, path):
+        self.path, self.runs = path, 0
+        self.input, self.said = tempfile.TemporaryFile(), tempfile.TemporaryFile()
+
+    def run(self, script):
+        """What the program prints for a script; a Fault says why it was refused."""
+        self.runs += 1
+        for file, content in ((self.input, script), (self.said, b"")):
+            file.seek(0)
+            file.truncate()
+            file.write(content)
+            file.flush()
+            file.seek(0)
+        output, status = self.wait()
+        if status == -signal.SIGINT:
+            raise KeyboardInterrupt
+        if status != 0:
+            raise Fault(self.refusal(status))
+        lines = output.decode("ascii").split("\n")
+        steps = [step_of(line) for line in lines if line.startswith("h ")]
+        return Run(output, steps, tuple(line for line in lines if line.startswith("l ")))
+
+    def wait(self):
+        """Starts the program and waits for its end; its output and its exit status."""
+        try:
+            # Without closing other files Python can start a process the quick way.
+            process = subprocess.Popen(
+                [self.path, "walk"], stdin=self.input, stdout=subprocess.PIPE, stderr=self.said, close_fds=False)
+        except OSError as error:
+            raise Fault("%s: %s" % (self.path, error.strerror))
+        with process:
+            output = process.stdout.read()
+        return output, process.returncode
+
+    def close(self):
+        """Closes the files that the program is given."""
+        self.input.close()
+        self.said.close()
+
+    def refusal(self, status):
+        """What the program said on standard error, in one line."""
+        self.said.seek(0)
+        lines = self.said.read().decode("ascii", "replace").splitlines()
+        return lines[0] if lines else "%s: exit status %d" % (self.path, status)

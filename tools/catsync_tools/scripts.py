@@ -1,0 +1,47 @@
+"""Scripts with other schedules than their own."""
+from typing import List, NamedTuple, Tuple
+
+from .faults import Fault
+
+Turns = List[Tuple[int, int]]       # backends, each with how many steps it makes before the next one's turn
+
+
+class Script(NamedTuple):
+    """A script without its lines of steps and its line `end`."""
+    lines: List[bytes]
+
+    def without_steps(self):
+        """The script without a schedule: each backend to its stop, in order."""
+        return b"\n".join(self.lines + [b"end", b""])
+
+    def with_steps(self, line):
+        """The script with this line of steps."""
+        return b"\n".join(self.lines + [line.encode("ascii"), b"end", b""])
+
+
+def read_script(data):
+    """The script of an input that the program doesn't refuse."""
+    lines = []
+    for line in data.split(b"\n"):
+        words = line.lower().split()
+        if words == [b"end"]:
+            return Script(lines)
+        if words[:1] != [b"steps"]:
+            lines.append(line)
+    raise Fault("line %d: the input ends without an 'end' line" % (len(lines) + 1))
+
+
+def turns_of(backends):
+    """The turns of the backends of a history, in order."""
+    turns: Turns = []
+    for backend in backends:
+        if turns and turns[-1][0] == backend:
+            turns[-1] = (backend, turns[-1][1] + 1)
+        else:
+            turns.append((backend, 1))
+    return turns
+
+
+def steps_line(turns):
+    """The `steps` line of turns."""
+    return "steps " + " ".join("%d" % backend if count == 1 else "%d*%d" % (backend, count) for backend, count in turns)
