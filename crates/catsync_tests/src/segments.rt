@@ -1,6 +1,6 @@
 ghost use Rattle.std.specs.Prelude.{◌≡◌, true};
 ghost use Rattle.base_types.specs.Scenario.{IsBackend};
-ghost use Rattle.walk_run.specs.Built.{is_built_scenario};
+ghost use Rattle.walk_run.specs.Built.{is_built as is_built_scenario};
 
 use crate::calls::{STEADY, sink_of};
 use crate::scripts::script_of;

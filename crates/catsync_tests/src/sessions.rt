@@ -1,5 +1,5 @@
 ghost use Rattle.std.specs.Prelude.{◌≡◌, true};
-ghost use Rattle.walk_run.specs.Built.{is_built_scenario};
+ghost use Rattle.walk_run.specs.Built.{is_built as is_built_scenario};
 
 use crate::calls::walked;
 use crate::scripts::script_of;
