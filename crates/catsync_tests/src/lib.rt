@@ -12,10 +12,6 @@ mod blocks;
 #[cfg(test)]
 mod calls;
 #[cfg(test)]
-mod commands;
-#[cfg(test)]
-mod edge;
-#[cfg(test)]
 mod events;
 #[cfg(test)]
 mod lock_runs;
@@ -26,16 +22,6 @@ mod messages;
 #[cfg(test)]
 mod messages_runs;
 #[cfg(test)]
-mod readers;
-#[cfg(test)]
 mod rows;
-#[cfg(test)]
-mod runs;
-#[cfg(test)]
-mod scripts;
-#[cfg(test)]
-mod segments;
-#[cfg(test)]
-mod sessions;
 #[cfg(test)]
 mod values;
