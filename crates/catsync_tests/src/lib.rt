@@ -22,6 +22,8 @@ mod messages;
 #[cfg(test)]
 mod messages_runs;
 #[cfg(test)]
+mod readers;
+#[cfg(test)]
 mod rows;
 #[cfg(test)]
 mod values;
