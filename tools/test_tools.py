@@ -599,8 +599,10 @@ class Explorer(unittest.TestCase):
     def start(self, *words, stderr=subprocess.PIPE):
         """Starts the explorer on an example with many orders."""
         with open(os.path.join(TOP, "examples", "three_at_once.script"), "rb") as script:
+            # what runs in a shell's background has Ctrl-C ignored, and so would the explorer
             return subprocess.Popen([sys.executable, os.path.join(TOOLS, "explore"), "--program", PROGRAM] + list(words),
-                                    stdin=script, stdout=subprocess.PIPE, stderr=stderr)
+                                    stdin=script, stdout=subprocess.PIPE, stderr=stderr,
+                                    preexec_fn=lambda: signal.signal(signal.SIGINT, signal.SIG_DFL))
 
     def test_interrupt(self):
         """On Ctrl-C there are the results so far, on a terminal there was a bar, and the exit status is 130."""
