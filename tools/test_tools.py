@@ -235,12 +235,15 @@ class Pictures(unittest.TestCase):
                 self.assertEqual(sorted(line for line in items.lines if line.startswith("l ")), sorted(answer_lines(data)))
                 self.assertNotRegex(text.replace("http://www.w3.org/2000/svg", ""), r"https?:|<link|src=|@import|url\((?!#)")
 
-    def test_picture_of_the_first_example(self):
-        """The picture that README shows is that of its first example."""
-        status, drawn, _ = call("picture", given=content_of(os.path.join(TOP, "examples", "two_backends.output")))
-        self.assertEqual(status, 0)
-        self.assertEqual(drawn, content_of(os.path.join(TOP, "docs", "two_backends.svg")),
-                         "make it anew: tools/picture < examples/two_backends.output > docs/two_backends.svg")
+    def test_pictures_of_the_readme(self):
+        """The pictures that README shows are those of its first example and of two backends."""
+        for given, shown in (("crates/catsync/stdout", "docs/first_run.svg"),
+                             ("examples/two_backends.output", "docs/two_backends.svg")):
+            with self.subTest(shown):
+                status, drawn, _ = call("picture", given=content_of(os.path.join(TOP, given)))
+                self.assertEqual(status, 0)
+                self.assertEqual(drawn, content_of(os.path.join(TOP, shown)),
+                                 "make it anew: tools/picture < %s > %s" % (given, shown))
 
 
 class Items(html.parser.HTMLParser):
