@@ -12,6 +12,10 @@ mod blocks;
 #[cfg(test)]
 mod calls;
 #[cfg(test)]
+mod commands;
+#[cfg(test)]
+mod edge;
+#[cfg(test)]
 mod events;
 #[cfg(test)]
 mod lock_runs;
@@ -25,5 +29,11 @@ mod messages_runs;
 mod readers;
 #[cfg(test)]
 mod rows;
+#[cfg(test)]
+mod runs;
+#[cfg(test)]
+mod scripts;
+#[cfg(test)]
+mod segments;
 #[cfg(test)]
 mod values;

@@ -1,7 +1,11 @@
 use crate::calls::walked;
+use crate::scripts::script_of;
+use crate::segments::walked_segment;
+use seg_calls::Seg;
 use std::alloc::Global;
 use std::fmt::Write;
 use std::test::Fail;
+use walk_run::is_built;
 
 // Scripts whose messages are sent and fetched, or aren't, and what is written for each.
 const RUNS: [(&str, &[u8], &[u8]); 11] = [
@@ -677,6 +681,98 @@ fn wide_tables_are_sent_and_fetched_in_parts(rt: HostRuntime) -> Result<(), Fail
             let run = walked(alloc, script.as_bytes())?;
             assert!(rt; run.gave(output.as_bytes()), "before {look}");
         }
+    }
+    Ok(())
+}
+
+// 64 backends have started before one of them makes a table, and then each of them looks for a name.
+fn many_script(alloc: Global) -> Result<String, Fail> {
+    let mut script = String::from_str(alloc, "backends 64\n1: create table t (a int4)\n")?;
+    for backend in 1..65 {
+        writeln!(script, "{backend}: show u")?;
+    }
+    for backend in 2..65 {
+        writeln!(script, "steps {backend}")?;
+    }
+    script.push_str("steps 1*7\n")?;
+    for backend in 1..65 {
+        writeln!(script, "steps {backend}*6")?;
+    }
+    script.push_str("end\n")?;
+    Ok(script)
+}
+
+// Each fetches what was published, in 6 entries; the scan is the fourth of them.
+fn many_output(alloc: Global) -> Result<String, Fail> {
+    let mut output = String::new(alloc);
+    for backend in 2..65 {
+        writeln!(output, "h {backend} 0 start")?;
+    }
+    output.push_str(TABLE_MADE)?;
+    for backend in 1..65 {
+        let (b, c) = (backend, if backend == 1 { 2 } else { 1 });
+        writeln!(
+            output,
+            "h {b} {c} look yes\nh {b} {c} fetch 4\nh {b} {c} look no"
+        )?;
+        writeln!(
+            output,
+            "h {b} {c} scan relname u rows 0\nh {b} {c} release {c}\nh {b} {} stop",
+            c + 1
+        )?;
+    }
+    output.push_str("l 1 1 ok\n")?;
+    for backend in 1_u32..65 {
+        let (b, c) = (backend, if backend == 1 { 2 } else { 1 });
+        // after 63 starts, the table's 7 entries and those of the backends before
+        let scan = 63 + 7 + b * 6 - 2;
+        writeln!(
+            output,
+            "l {b} {c} error 42P01 relation u does not exist as of {scan}"
+        )?;
+    }
+    output.push_str("end\n")?;
+    Ok(output)
+}
+
+#[test]
+fn each_backend_fetches_what_one_publishes(rt: HostRuntime) -> Result<(), Fail> {
+    let alloc = rt.alloc();
+    let (script, output) = (many_script(alloc)?, many_output(alloc)?);
+    assert!(rt; walked(alloc, script.as_bytes())?.gave(output.as_bytes()));
+    Ok(())
+}
+
+// Schedules that end in the middle of a commit, or after it, and for whom messages wait then. Nothing waits for a
+// backend that hasn't started or that has stopped.
+const WAITING: [(&[u8], [bool; 3]); 4] = [
+    (
+        b"backends 3\n1: create table t (a int4)\n2: show t\nsteps 2 1*4\nend\n",
+        [false, false, false],
+    ),
+    (
+        b"backends 3\n1: create table t (a int4)\n2: show t\nsteps 2 1*5\nend\n",
+        [true, true, false],
+    ),
+    (
+        b"backends 3\n1: create table t (a int4)\n2: show t\nsteps 2 1*8\nend\n",
+        [false, true, false],
+    ),
+    (
+        b"backends 3\n1: create table t (a int4)\n2: show t\nsteps 2 1*7 2*3 3\nend\n",
+        [true, false, false],
+    ),
+];
+
+#[test]
+fn messages_wait_until_they_are_fetched(rt: HostRuntime) -> Result<(), Fail> {
+    let alloc = rt.alloc();
+    for (text, waiting) in WAITING {
+        let script = script_of(alloc, text)?;
+        assert!(rt; is_built(&script));
+        let (seg, _backends) = walked_segment(alloc, &script)?;
+        let waits = [seg.waits(1), seg.waits(2), seg.waits(3)];
+        assert!(rt; waits == waiting);
     }
     Ok(())
 }

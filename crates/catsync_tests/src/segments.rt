@@ -1,0 +1,101 @@
+ghost use Rattle.std.specs.Prelude.{◌≡◌, true};
+ghost use Rattle.walk_run.specs.Built.{is_built as is_built_scenario};
+
+use crate::calls::{STEADY, sink_of};
+use crate::scripts::script_of;
+use backend_core::Backend;
+use base_types::NoMemory;
+use event_kinds::Entry;
+use out_text::put_output;
+use script_text::Script;
+use seg_calls::Seg;
+use shared_seg::Shared;
+use std::alloc::Global;
+use std::test::Fail;
+use walk_run::{is_built, walk_on};
+
+// The calls of a segment that make an entry have conditions on the whole history before them, which
+// `backend_core` is proved to meet. So the backends make these calls here: two creators of one name, of whom
+// the first rolls back and creates it again, and a reader whose lock is refused and then granted. Each step
+// is promised its place, by turns.
+const SCRIPT: &[u8] = b"\
+backends 2
+1: begin
+1: create table x (a int4)
+1: rollback
+1: begin
+1: create table x (a int4)
+1: commit
+2: create table x (b int4)
+2: create table x (b int4)
+2: show x of
+2: show x of
+steps 1*3 2*3 1*4 2*1 1*1 2*7 1*2 2*2 1*2 2*40
+end
+";
+
+const HISTORY: &[u8] = b"\
+h 1 0 start
+h 1 1 look no
+h 1 2 write 1 +class(16384,x,r,-) +att(16384,1,a,int4,-1,l)
+h 2 0 start
+h 2 1 look no
+h 2 1 clash x running 1
+h 1 3 gone 1
+h 1 3 release 1
+h 1 4 look no
+h 1 5 write 2 +class(16385,x,r,-) +att(16385,1,a,int4,-1,l)
+h 2 1 release 1
+h 1 6 visible 2
+h 2 2 look no
+h 2 2 clash x row 16385
+h 2 2 release 2
+h 2 3 look no
+h 2 3 look no
+h 2 3 scan relname x rows 1
+h 2 3 lock 16385 as held 1 ax
+h 1 6 publish 3
+h 1 6 publish 1
+h 2 3 release 3
+h 2 4 look yes
+h 1 6 release 4
+h 1 7 stop
+h 2 4 fetch 4
+h 2 4 look no
+h 2 4 scan relname x rows 1
+h 2 4 lock 16385 as ok
+h 2 4 look no
+h 2 4 release 4
+h 2 5 stop
+end
+";
+
+// A segment after the walk of a script, and the backends that were run.
+pub(crate) fn walked_segment(
+    alloc: Global,
+    script: &Script,
+) -> Result<(Shared, Vec<Backend>), NoMemory>
+    requires { is_built_scenario script.now ≡ true }
+{
+    let mut seg = Shared::new(alloc, script)?;
+    let backends = walk_on(alloc, script, &mut seg)?;
+    Ok((seg, backends))
+}
+
+// Whether this is the text of a history.
+fn has_text(alloc: Global, history: &[Entry], text: &[u8]) -> Result<bool, NoMemory> {
+    let mut sink = sink_of(alloc, STEADY)?;
+    let sent = put_output(&mut sink, history, &[]);
+    Ok(sent.is_ok() && sink.sent() == text)
+}
+
+#[test]
+fn a_segment_has_its_history(rt: HostRuntime) -> Result<(), Fail> {
+    let script = script_of(rt.alloc(), SCRIPT)?;
+    assert!(rt; is_built(&script));
+    let (seg, backends) = walked_segment(rt.alloc(), &script)?;
+    assert!(rt; backends.len() == 2 && !seg.waits(1) && !seg.waits(2));
+    assert!(rt; has_text(rt.alloc(), seg.history(), HISTORY)?);
+    assert!(rt; seg.into_history().len() == 32);
+    Ok(())
+}
