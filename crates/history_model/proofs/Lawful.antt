@@ -3,17 +3,35 @@ use Rattle.std.proofs.Common.{◌≡◌, ◌⊎◌, ℕ, true, false, None, List
 use Rattle.std.specs.Prelude.{⊤}
 use Rattle.std.specs.List.{AllByRecursion}
 use Rattle.std.specs.Option.{IfSome}
+use Rattle.base_types.specs.declared.row.Row.{Row}
+use Rattle.base_types.specs.declared.scan.Purpose.{Purpose}
+use Rattle.base_types.specs.Scans.{selects}
 use Rattle.event_kinds.specs.declared.entry.Entry.{Entry}
 use Rattle.event_kinds.specs.declared.entry.Event.{Event}
 use Rattle.event_kinds.specs.declared.entry.Event.TheVariants as events
 use Rattle.event_kinds.specs.declared.entry.Item.{Item}
+use Rattle.inval_messages.specs.declared.message.Message.{Message}
 use Rattle.history_model.specs.Transactions.{running_transaction_of, is_visible, runs_as, xid_for}
-use Rattle.history_model.specs.Versions.{versions_of, ends}
-use Rattle.history_model.specs.Sent.{lists_of, ends_transaction}
+use Rattle.history_model.specs.Versions.{versions_of, ends, added_row}
+use Rattle.history_model.specs.Sent.{lists_of, ends_transaction, messages_written}
+use Rattle.history_model.specs.Covered.{is_covered}
 
 -- an item ends no version that a running transaction has ended
 abbrev pub EndsOnce : List Entry → ℕ → Item → Type 0
 EndsOnce before b item = AllByRecursion (λ v. ends before b item v ≡ true → IfSome v.ended (λ s. (other : ℕ) → runs_as before other s.xid.0 ≡ false)) (versions_of before)
+
+-- a message covers each scan that asks for the row
+abbrev pub CoversRow : List Message → Row → Type 0
+CoversRow messages row = (d : Purpose) → selects d row ≡ true → is_covered messages d ≡ true
+
+-- so it is with the row that an item adds, and with those of the versions that it ends
+abbrev pub CoversItem : List Entry → ℕ → List Message → Item → Type 0
+CoversItem before b messages item = IfSome (added_row item) (CoversRow messages) × AllByRecursion (λ v. ends before b item v ≡ true → CoversRow messages v.row) (versions_of before)
+
+-- the messages of a write cover what it adds and ends
+abbrev pub CoversLawfully : List Entry → ℕ → Event → Type 0
+CoversLawfully before b (events.Write xid changes) = AllByRecursion (CoversItem before b (messages_written before b changes)) changes
+CoversLawfully before b event = ⊤
 
 -- by events
 abbrev pub IsLawfulEvent : List Entry → ℕ → ℕ → Event → Type 0

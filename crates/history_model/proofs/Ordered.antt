@@ -29,17 +29,20 @@ use Rattle.lock_modes.specs.Grants.{holds}
 use Rattle.history_model.specs.Lives.{Life, Unstarted, Alive, Stopped, life_of, FollowsLife}
 use Rattle.history_model.specs.Transactions.{Running, running_transaction_of, is_visible, runs_as, is_committed}
 use Rattle.history_model.specs.Versions.{versions_of, rows_of, row_with, ends, ended_key, added_row, old_row, counts, sees}
+use Rattle.inval_messages.specs.declared.message.Message.{Message}
 use Rattle.inval_messages.specs.Lists.{Written, has_write_from}
-use Rattle.history_model.specs.Sent.{lists_of, ends_transaction as ends_at}
+use Rattle.history_model.specs.Sent.{lists_of, messages_written, ends_transaction as ends_at}
 use Rattle.history_model.specs.Held.{granted_by, held_by, held_of}
 use Rattle.history_model.specs.Drawn.{made_by}
-use Rattle.history_model.specs.Writes.{has_row, relations_of, is_guarded, IsWriteAllowed}
+use Rattle.history_model.specs.Covered.{scans_of, is_covered}
+use Rattle.history_model.specs.Writes.{has_row, relations_of, rows_named, is_guarded, IsWriteAllowed}
 use Rattle.history_model.specs.Legal.{FollowsVisible, MayRelease, AllowsEvent}
-use Rattle.history_model.specs.Orderly.{has_key, is_fresh, main_rel, keeps_relation, IsOrderlyEvent, MayComeNext, IsSound}
+use Rattle.history_model.specs.Orderly.{has_key, is_fresh, main_rel, keeps_relation, covers_named, IsOrderlyEvent, MayComeNext, IsSound}
 use Rattle.history_model.proofs.Prefixes.{each-keeps}
 use Rattle.history_model.proofs.Reading.{held_of-more as held-more}
 use Rattle.history_model.proofs.Every.{every-weaker, every, every-append, every-filter, every-both, any-left, any-right}
-use Rattle.history_model.proofs.Lawful.{EndsOnce, IsLawfulEvent}
+use Rattle.history_model.proofs.Lawful.{EndsOnce, CoversRow, CoversItem, CoversLawfully, IsLawfulEvent, IsLawful}
+use Rattle.history_model.proofs.Asking.{oid_eq, scan_in}
 use Rattle.history_model.proofs.Runs.{Runs, Runs-start, Runs-more}
 use Rattle.history_model.proofs.Exclude.{AllAgree, LocksWell, LocksWell-more, LocksLawfully}
 use Rattle.history_model.proofs.Touched.{entry_of, OfStamps, Touched, Touched-more}
@@ -83,9 +86,6 @@ all_kept p f (x ∷ xs) all = by_option (f x) all (all_kept p f xs)
 if_some : {X : Type 0} (P Q : X → Type 0) → ((x : X) → P x → Q x) → (o : Option X) → IfSome o P → IfSome o Q
 if_some P Q weaker None held = tt
 if_some P Q weaker (Some x) held = weaker x held
-
-oid_eq : (a b : Oid) → same_oid a b ≡ true → a ≡ b
-oid_eq a b is = let e : a.0 ≡ b.0 = eqb-true a.0 b.0 is in ap {B = Oid} (λ n. record { 0 = n }) e
 
 -- the rows that a change names
 pub both_rows : {Y : Type 0} (p : Y → Bool) (f : Row → List Y) (old new : Option Row) → list_all p (flat_map f (filter_map (λ r. r) (old ∷ new ∷ []))) ≡ true → IfSome new (λ row. list_all p (f row) ≡ true) × IfSome old (λ row. list_all p (f row) ≡ true)
@@ -264,6 +264,29 @@ ends_once history b c xid items item locks guards' guarded =
         counts_not true y none = absurd (cc)
         counts_not false true none = absurd (cc)
         counts_not false false none = refl
+
+-- the messages of an orderly write cover what gives the rows that it adds and ends
+covers_items : (history : List Entry) (b : ℕ) (items : List Item) → OneVersion history → covers_named history b items ≡ true → AllByRecursion (CoversItem history b (messages_written history b items)) items
+covers_items history b items one named =
+    every-weaker (λ item. list_all (is_covered messages) (flat_map scans_of (rows_named item (old_row history b item))) ≡ true) (CoversItem history b messages) of items (all_flat (is_covered messages) (λ item. flat_map scans_of (rows_named item (old_row history b item))) items named)
+  where
+    messages : List Message
+    messages = messages_written history b items
+
+    All : Row → Type 0
+    All row = list_all (is_covered messages) (scans_of row) ≡ true
+
+    on : (row : Row) → All row → CoversRow messages row
+    on row all d asks = scan_in (is_covered messages) d row asks all
+
+    of : (item : Item) → list_all (is_covered messages) (flat_map scans_of (rows_named item (old_row history b item))) ≡ true → CoversItem history b messages item
+    of item all =
+        let both = both_rows (is_covered messages) scans_of (old_row history b item) (added_row item) all in
+        (if_some All (CoversRow messages) on (added_row item) both.0, ended_named history b (CoversRow messages) item one (if_some All (CoversRow messages) on (old_row history b item) both.1))
+
+covers_lawful : (history : List Entry) (b : ℕ) (event : Event) → IsOrderlyEvent history b event → OneVersion history → CoversLawfully history b event
+covers_lawful history b (events.Write xid items) orderly one = covers_items history b items one orderly.named
+covers_lawful history b event orderly one = tt
 
 -- a row that is added has a key of its own
 others : (key : RowKey) (vs : List Version) → list_any (λ v. same_key (key_of v.row) key) vs ≡ false → AllByRecursion (λ v. key_of v.row ≡ key → ⊥) vs
@@ -444,11 +467,19 @@ early_at : (history : List Entry) (e : Entry) → Ordered history → FollowsLif
 early_at history e k follows = every-weaker (λ g. g.command ≤ command_of history g.backend) (λ g. g.backend ≡ e.backend → g.command ≤ e.command)
     (λ g low is. let same : command_of history g.backend ≡ command_of history e.backend = ap (command_of history) is in omega (arith, low, same, rises_at history e follows k.lives)) (held_of history) k.early
 
+-- an entry that may come is lawful
+pub lawful_of : (history : List Entry) (e : Entry) → Ordered history → MayComeNext history e → IsLawful history e
+lawful_of history e k comes = lawful_event history e.backend e.command e.event comes.follows.life comes.follows.visible comes.follows.event comes.orderly k (early_at history e k comes.follows.life)
+
+-- and so are the messages of a write
+pub covers_of : (history : List Entry) (e : Entry) → Ordered history → MayComeNext history e → CoversLawfully history e.backend e.event
+covers_of history e k comes = covers_lawful history e.backend e.event comes.orderly k.one
+
 -- after one more entry that may come
 pub Ordered-more : (history : List Entry) (e : Entry) → Ordered history → MayComeNext history e → Ordered (history ++ e ∷ [])
 Ordered-more history e k comes =
     let early = early_at history e k comes.follows.life in
-    let lawful = lawful_event history e.backend e.command e.event comes.follows.life comes.follows.visible comes.follows.event comes.orderly k early in
+    let lawful = lawful_of history e k comes in
     let guarding = guards_lawful history e.backend e.command e.event comes.follows.event k early in
     let keyed = keys_lawful history e.backend e.command e.event comes.follows.event comes.orderly k.rels (begun_at history e comes.follows.life k.lives) in
     record {
@@ -456,7 +487,7 @@ Ordered-more history e k comes =
       lives = Lives-more history e comes.follows.life k.lives;
       early = Early-more history e comes.follows.life k.lives k.early;
       locks = LocksWell-more history e (locks_lawful history e.backend e.command e.event comes.follows.event comes.orderly) k.locks;
-      touched = Touched-more history e k.runs k.touched lawful;
+      touched = Touched-more history e k.runs k.touched lawful (covers_of history e k comes);
       guards = Guards-more history e lawful guarding k.runs k.touched k.guards;
       rels = OneRel-more history e keyed k.rels;
       one = OneVersion-more history e lawful keyed k.runs k.locks k.touched k.guards k.rels k.one;

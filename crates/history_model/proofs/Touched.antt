@@ -1,10 +1,12 @@
--- What a running transaction has touched, it has written in a command that wasn't taken back.
+-- What a running transaction has touched, it has written in a command that wasn't taken back, with messages that cover it.
 use Rattle.std.proofs.Common.{◌≡◌, ◌≤◌, ◌∙◌, ◌⊎◌, inl, inr, ℕ, Bool, true, false, not, Option, Some, None, List, [], ◌∷◌, ◌++◌, ◌==◌, ◌&&◌, if◌then◌else◌, refl, sym, ap, subst, map, filter, fold, arith}
-use Rattle.std.specs.Prelude.{nat_le, nat_lt, ⊤}
+use Rattle.std.specs.Prelude.{nat_le, nat_lt}
 use Rattle.std.specs.List.{AllByRecursion, list_any}
 use Rattle.std.specs.Option.{option_map_or, IfSome}
-use Rattle.std.proofs.lemmas.Bool.{eqb-true, eq-eqb, or_left, not-true, leb-false, lt-ltb}
+use Rattle.std.proofs.lemmas.Bool.{eqb-true, eq-eqb, or_left, and_parts, and_from, not-true, leb-false, lt-ltb}
 use Rattle.base_types.specs.declared.row.Row.{Row}
+use Rattle.base_types.specs.declared.scan.Purpose.{Purpose}
+use Rattle.base_types.specs.Scans.{selects}
 use Rattle.event_kinds.specs.declared.entry.Entry.{Entry}
 use Rattle.event_kinds.specs.declared.entry.Event.{Event}
 use Rattle.event_kinds.specs.declared.entry.Event.TheVariants as events
@@ -14,10 +16,12 @@ use Rattle.row_visibility.specs.declared.version.Version.{Version}
 use Rattle.row_visibility.specs.declared.version.Stamp.{Stamp}
 use Rattle.history_model.specs.Versions.{versions_of, versions_by, change_by, end_by, ends, version_of, added_row, is_back, end_back}
 use Rattle.inval_messages.specs.Lists.{Written}
-use Rattle.history_model.specs.Sent.{written_by, lists_of, lists_by}
+use Rattle.inval_messages.specs.declared.message.Message.{Message}
+use Rattle.history_model.specs.Sent.{written_by, messages_written, lists_of, lists_by}
+use Rattle.history_model.specs.Covered.{is_covered}
 use Rattle.history_model.proofs.Reading.{running_transaction_of-own as running-own, versions_of-more as versions-more, lists_of-own as lists-own, lists_of-other as lists-other}
 use Rattle.history_model.proofs.Every.{every-weaker, every, every-append, every-map, every-filter, every-both, every-swap, any-filter, any-left, any-right}
-use Rattle.history_model.proofs.Lawful.{IsLawful}
+use Rattle.history_model.proofs.Lawful.{CoversRow, CoversLawfully, IsLawful}
 use Rattle.history_model.proofs.Runs.{last_xid-rises, Draws, runs-before, Runs, Runs-more}
 
 -- both stamps of a version, with its row
@@ -46,16 +50,29 @@ is_of c w = w.command == c
 abbrev pub HasWrite : List Written → ℕ → Type 0
 HasWrite lists c = list_any (is_of c) lists ≡ true
 
--- a stamp: its Xid is drawn, and while it runs the lists have the write
+-- all messages of a write
+abbrev pub of_write : Written → List Message
+of_write w = w.cats ++ w.rels
+
+-- a write of this command, which covers the scan
+abbrev pub covers_at : ℕ → Purpose → Written → Bool
+covers_at c d w = is_of c w && is_covered (of_write w) d
+
+-- the write of a command covers each scan that asks for the row
+abbrev pub HasCovered : List Written → ℕ → Row → Type 0
+HasCovered lists c row = (d : Purpose) → selects d row ≡ true → list_any (covers_at c d) lists ≡ true
+
+-- a stamp: its Xid is drawn, and while it runs the lists have the write, which covers the row
 pub record Touch (history : List Entry) (s : Stamp) (row : Row) : Type 0 where
   pub bound : s.xid.0 ≤ last_xid history
   pub written : (a : ℕ) → runs_as history a s.xid.0 ≡ true → HasWrite (lists_of history a) s.command
+  pub covered : (a : ℕ) → runs_as history a s.xid.0 ≡ true → HasCovered (lists_of history a) s.command row
 
 abbrev pub Touched : List Entry → Type 0
 Touched history = AllByRecursion (OfStamps (Touch history)) (versions_of history)
 
-HasWrite-below : (lists : List Written) (from c : ℕ) → nat_le from c ≡ false → HasWrite lists c → HasWrite (filter (λ w. nat_lt w.command from) lists) c
-HasWrite-below lists from c below has = any-filter (is_of c) (λ w. nat_lt w.command from) (λ w is. ap (λ k. nat_lt k from) (eqb-true w.command c is) ∙ lt-ltb c from (leb-false from c below)) lists has
+below_stays : (p : Written → Bool) (lists : List Written) (from c : ℕ) → ((w : Written) → p w ≡ true → is_of c w ≡ true) → nat_le from c ≡ false → list_any p lists ≡ true → list_any p (filter (λ w. nat_lt w.command from) lists) ≡ true
+below_stays p lists from c of below has = any-filter p (λ w. nat_lt w.command from) (λ w is. ap (λ k. nat_lt k from) (eqb-true w.command c (of w is)) ∙ lt-ltb c from (leb-false from c below)) lists has
 
 -- the event takes back what was done in the command
 abbrev pub takes_back : ℕ → Event → Bool
@@ -71,30 +88,34 @@ released_not x from c (Some t) lists is = by_end (t.first == from) is
     by_end true h = absurd (cc)
     by_end false h = refl
 
-lists-keep : (history : List Entry) (b x c' : ℕ) (event : Event) (lists : List Written) (c : ℕ)
-    → has_xid x (running_by c' event (running_transaction_of history b)) ≡ true → takes_back c event ≡ false → HasWrite lists c → HasWrite (lists_by history b c' event lists) c
-lists-keep history b x c' (events.Write xid changes) lists c runs spared has = any-left (is_of c) lists (written_by history b c' changes ∷ []) has
-lists-keep history b x c' (events.Gone from) lists c runs spared has = HasWrite-below lists from c spared has
-lists-keep history b x c' (events.Release from) lists c runs spared has = subst (λ ws. HasWrite ws c) (sym (released_not x from c' (running_transaction_of history b) lists runs)) has
-lists-keep history b x c' event lists c runs spared has = has
+-- a write of the command stays in the lists
+lists-keep : (p : Written → Bool) (history : List Entry) (b x c' : ℕ) (event : Event) (lists : List Written) (c : ℕ) → ((w : Written) → p w ≡ true → is_of c w ≡ true)
+    → has_xid x (running_by c' event (running_transaction_of history b)) ≡ true → takes_back c event ≡ false → list_any p lists ≡ true → list_any p (lists_by history b c' event lists) ≡ true
+lists-keep p history b x c' (events.Write xid changes) lists c of runs spared has = any-left p lists (written_by history b c' changes ∷ []) has
+lists-keep p history b x c' (events.Gone from) lists c of runs spared has = below_stays p lists from c of spared has
+lists-keep p history b x c' (events.Release from) lists c of runs spared has = subst (λ ws. list_any p ws ≡ true) (sym (released_not x from c' (running_transaction_of history b) lists runs)) has
+lists-keep p history b x c' event lists c of runs spared has = has
 
 -- an old stamp after one more entry, unless the entry takes back what it did
 pub Touch-kept : (history : List Entry) (e : Entry) (s : Stamp) (row : Row) → IsLawful history e
     → (runs_as history e.backend s.xid.0 ≡ true → takes_back s.command e.event ≡ false) → Touch history s row → Touch (history ++ e ∷ []) s row
 Touch-kept history e s row lawful spared touch = record {
   bound = omega (arith, touch.bound, last_xid-rises history e);
-  written = λ a is. written_of a is (runs-before history e a s.xid.0 lawful is);
+  written = λ a is. kept (is_of s.command) a (λ w here. here) is (λ had. touch.written a had) (runs-before history e a s.xid.0 lawful is);
+  covered = λ a is d asks. kept (covers_at s.command d) a (λ w here. (and_parts (is_of s.command w) (is_covered (of_write w) d) here).0) is (λ had. touch.covered a had d asks) (runs-before history e a s.xid.0 lawful is);
 }
   where
-    by_owner : (a : ℕ) (t : Bool) → (e.backend == a) ≡ t → runs_as (history ++ e ∷ []) a s.xid.0 ≡ true → runs_as history a s.xid.0 ≡ true → HasWrite (lists_of (history ++ e ∷ []) a) s.command
-    by_owner a true own is had = subst (λ ws. HasWrite ws s.command) (sym (lists-own history e a own))
-        (lists-keep history a s.xid.0 e.command e.event (lists_of history a) s.command (sym (ap (has_xid s.xid.0) (running-own history e a own)) ∙ is)
-        (spared (subst (λ o. runs_as history o s.xid.0 ≡ true) (sym (eqb-true e.backend a own)) had)) (touch.written a had))
-    by_owner a false other is had = subst (λ ws. HasWrite ws s.command) (sym (lists-other history e a other)) (touch.written a had)
+    by_owner : (p : Written → Bool) (a : ℕ) → ((w : Written) → p w ≡ true → is_of s.command w ≡ true) → (t : Bool) → (e.backend == a) ≡ t → runs_as (history ++ e ∷ []) a s.xid.0 ≡ true → runs_as history a s.xid.0 ≡ true → list_any p (lists_of history a) ≡ true
+        → list_any p (lists_of (history ++ e ∷ []) a) ≡ true
+    by_owner p a of true own is had has = subst (λ ws. list_any p ws ≡ true) (sym (lists-own history e a own))
+        (lists-keep p history a s.xid.0 e.command e.event (lists_of history a) s.command of (sym (ap (has_xid s.xid.0) (running-own history e a own)) ∙ is)
+        (spared (subst (λ o. runs_as history o s.xid.0 ≡ true) (sym (eqb-true e.backend a own)) had)) has)
+    by_owner p a of false other is had has = subst (λ ws. list_any p ws ≡ true) (sym (lists-other history e a other)) has
 
-    written_of : (a : ℕ) → runs_as (history ++ e ∷ []) a s.xid.0 ≡ true → (runs_as history a s.xid.0 ≡ true) ⊎ Draws history e a s.xid.0 → HasWrite (lists_of (history ++ e ∷ []) a) s.command
-    written_of a is (inl had) = by_owner a (e.backend == a) refl is had
-    written_of a is (inr drew) = absurd (omega (arith, touch.bound, drew.new))
+    kept : (p : Written → Bool) (a : ℕ) → ((w : Written) → p w ≡ true → is_of s.command w ≡ true) → runs_as (history ++ e ∷ []) a s.xid.0 ≡ true → (runs_as history a s.xid.0 ≡ true → list_any p (lists_of history a) ≡ true)
+        → (runs_as history a s.xid.0 ≡ true) ⊎ Draws history e a s.xid.0 → list_any p (lists_of (history ++ e ∷ []) a) ≡ true
+    kept p a of is has (inl had) = by_owner p a of (e.backend == a) refl is had (has had)
+    kept p a of is has (inr drew) = absurd (omega (arith, touch.bound, drew.new))
 
 abbrev pub entry_of : ℕ → ℕ → Event → Entry
 entry_of b c event = record { backend = b; command = c; event = event }
@@ -152,11 +173,10 @@ stamps-gone T T' back kept vs held =
     of_ended row None touch = tt
     of_ended row (Some s) touch = by_test row s (back s) refl touch
 
-touched_by : (history : List Entry) (b c : ℕ) (event : Event) → IsLawful history (entry_of b c event) → Runs history → Touched history
+touched_by : (history : List Entry) (b c : ℕ) (event : Event) → IsLawful history (entry_of b c event) → CoversLawfully history b event → Runs history → Touched history
     → AllByRecursion (OfStamps (Touch (history ++ entry_of b c event ∷ []))) (versions_by history b c event (versions_of history))
-touched_by history b c (events.Write xid changes) lawful r touched =
-    stamps-write (Touch after) (λ row. ⊤) history b stamp (λ row named. new row) changes (versions_of history)
-    (every (λ item. IfSome (added_row item) (λ row. ⊤) × AllByRecursion (λ v. ends history b item v ≡ true → ⊤) (versions_of history)) (λ item. (some_all (added_row item), every (λ v. ends history b item v ≡ true → ⊤) (λ v is. tt) (versions_of history))) changes)
+touched_by history b c (events.Write xid changes) lawful covering r touched =
+    stamps-write (Touch after) (CoversRow messages) history b stamp new changes (versions_of history) covering
     (every-weaker (OfStamps (Touch history)) (OfStamps (Touch after)) (λ v. stamps-weaker (Touch history) (Touch after) (λ s row. Touch-kept history (entry_of b c (events.Write xid changes)) s row lawful (λ runs. refl)) v) (versions_of history) touched)
   where
     after : List Entry
@@ -165,9 +185,8 @@ touched_by history b c (events.Write xid changes) lawful r touched =
     stamp : Stamp
     stamp = record { xid = xid; command = c }
 
-    some_all : (o : Option Row) → IfSome o (λ row. ⊤)
-    some_all None = tt
-    some_all (Some row) = tt
+    messages : List Message
+    messages = messages_written history b changes
 
     own : (b == b) ≡ true
     own = eq-eqb b b refl
@@ -181,12 +200,17 @@ touched_by history b c (events.Write xid changes) lawful r touched =
     has : HasWrite (lists_of after b) c
     has = subst (λ ws. HasWrite ws c) (sym (lists-own history (entry_of b c (events.Write xid changes)) b own)) (any-right (is_of c) (lists_of history b) (written_by history b c changes ∷ []) (or_left (c == c) false (eq-eqb c c refl)))
 
-    new : (row : Row) → Touch after stamp row
-    new row = record {
+    has_covered : (row : Row) → CoversRow messages row → HasCovered (lists_of after b) c row
+    has_covered row covers d asks = subst (λ ws. list_any (covers_at c d) ws ≡ true) (sym (lists-own history (entry_of b c (events.Write xid changes)) b own))
+        (any-right (covers_at c d) (lists_of history b) (written_by history b c changes ∷ []) (or_left (covers_at c d (written_by history b c changes)) false (and_from (c == c) (is_covered messages d) (eq-eqb c c refl) (covers d asks))))
+
+    new : (row : Row) → CoversRow messages row → Touch after stamp row
+    new row covers = record {
       bound = after_well.bound b xid.0 runs;
       written = λ a is. subst (λ o. HasWrite (lists_of after o) c) (after_well.one b a xid.0 runs is) has;
+      covered = λ a is. subst (λ o. HasCovered (lists_of after o) c row) (after_well.one b a xid.0 runs is) (has_covered row covers);
     }
-touched_by history b c (events.Gone from) lawful r touched =
+touched_by history b c (events.Gone from) lawful covering r touched =
     stamps-gone (Touch history) (Touch after) (is_back history b from) kept (versions_of history) touched
   where
     after : List Entry
@@ -198,8 +222,8 @@ touched_by history b c (events.Gone from) lawful r touched =
 
     kept : (s : Stamp) (row : Row) → is_back history b from s ≡ false → Touch history s row → Touch after s row
     kept s row stays touch = Touch-kept history (entry_of b c (events.Gone from)) s row lawful (λ runs. second (runs_as history b s.xid.0) (nat_le from s.command) runs stays) touch
-touched_by history b c event lawful r touched =
+touched_by history b c event lawful covering r touched =
     every-weaker (OfStamps (Touch history)) (OfStamps (Touch (history ++ entry_of b c event ∷ []))) (λ v. stamps-weaker (Touch history) (Touch (history ++ entry_of b c event ∷ [])) (λ s row. Touch-kept history (entry_of b c event) s row lawful (λ runs. refl)) v) (versions_of history) touched
 
-pub Touched-more : (history : List Entry) (e : Entry) → Runs history → Touched history → IsLawful history e → Touched (history ++ e ∷ [])
-Touched-more history e r touched lawful = subst (AllByRecursion (OfStamps (Touch (history ++ e ∷ [])))) (sym (versions-more history e)) (touched_by history e.backend e.command e.event lawful r touched)
+pub Touched-more : (history : List Entry) (e : Entry) → Runs history → Touched history → IsLawful history e → CoversLawfully history e.backend e.event → Touched (history ++ e ∷ [])
+Touched-more history e r touched lawful covering = subst (AllByRecursion (OfStamps (Touch (history ++ e ∷ [])))) (sym (versions-more history e)) (touched_by history e.backend e.command e.event lawful covering r touched)
