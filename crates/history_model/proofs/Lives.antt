@@ -47,7 +47,7 @@ alive_is : (c last : ℕ) (event : Event) → life_by c event ≡ Alive last →
 alive_is c last events.Stop is = absurd (cc)
 alive_is c last event is = cc
 
-not_unstarted : (c : ℕ) (event : Event) → life_by c event ≡ Unstarted → ⊥
+pub not_unstarted : (c : ℕ) (event : Event) → life_by c event ≡ Unstarted → ⊥
 not_unstarted c events.Stop is = absurd (cc)
 not_unstarted c event is = absurd (cc)
 

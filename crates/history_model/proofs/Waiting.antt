@@ -7,7 +7,7 @@ use Rattle.event_kinds.specs.declared.entry.Entry.{Entry}
 use Rattle.event_kinds.specs.declared.entry.Event.{Event}
 use Rattle.event_kinds.specs.declared.entry.Event.TheVariants as events
 use Rattle.history_model.specs.Legal.{MayFollow, IsLegal}
-use Rattle.history_model.specs.Lives.{Life, is_alive, life_by, life_of}
+use Rattle.history_model.specs.Lives.{is_alive, life_by, life_of}
 use Rattle.history_model.specs.Log.{log_by, log_of, position_by, position_of, is_waiting, waited_by, has_waited}
 use Rattle.inval_messages.specs.declared.message.Message.{Message}
 use Rattle.history_model.specs.Sent.{unsent_of}
@@ -15,7 +15,7 @@ use Rattle.history_model.proofs.Prefixes.{each-keeps, own-own, own-other}
 use Rattle.history_model.proofs.Reading.{life_of-own, life_of-other, log_of-more, position_of-own, position_of-other}
 
 -- no entry shortens the log
-log_by-grows : (before : List Entry) (b : ℕ) (event : Event) (old : List Message) → length old ≤ length (log_by before b event old)
+pub log_by-grows : (before : List Entry) (b : ℕ) (event : Event) (old : List Message) → length old ≤ length (log_by before b event old)
 log_by-grows before b (events.Publish count) old = omega (arith, length-append old (take count (unsent_of before b)))
 log_by-grows before b event old = omega arith
 
