@@ -21,7 +21,7 @@ use Rattle.backend_core.specs.Types.{Oid, Kind, Field, Purpose, Entry, OwnLock, 
 use Rattle.backend_core.specs.NewTables.{relation_of, StaysRead, SeesRelation}
 use Rattle.backend_core.specs.State.{is_kept, missing}
 use Rattle.backend_core.specs.Agrees.{ReadRight, KeptFits}
-use Rattle.backend_core.specs.Answering.{kept_for, shown_by, shown_kept, shown_of}
+use Rattle.backend_core.specs.Answering.{kept_for, shown_by, shown_kept, shown_all}
 use Rattle.backend_core.proofs.ReadPlaces.{read_at_place}
 use Rattle.backend_core.proofs.SeesRelation.{still_there}
 
@@ -119,7 +119,7 @@ field_is scenario seen b kept locks rel kind field k can fits right same =
     by_guard false = λ i. record { field = field; value = field_text field rel (then' i); at = Some (place i) }
 
 -- a field of a relation whose scans are all kept
-field_shown : (scenario : Scenario) (seen : List Entry) (b : ℕ) (kept : List KeptScan) (locks : List OwnLock) (rel : Oid) (kind : Kind) (field : Field) → CanShow scenario seen b kept locks rel kind → has_field kind field ≡ true
+pub field_shown : (scenario : Scenario) (seen : List Entry) (b : ℕ) (kept : List KeptScan) (locks : List OwnLock) (rel : Oid) (kind : Kind) (field : Field) → CanShow scenario seen b kept locks rel kind → has_field kind field ≡ true
     → shown_field scenario seen b rel kind field ≡ shown_kept kept locks (record { rel = rel; kind = kind }) field
 field_shown scenario seen b kept locks rel kind field can has =
     let own = kept_scan (KeptFits seen b) (ReadRight (rows_read seen b)) (read_by field rel) kept can.fits can.right (field_among (λ s. is_kept kept s ≡ true) kind rel field has (none_missing kept (build_scans kind rel) can.none)) in
@@ -133,14 +133,8 @@ map_same : {X Y : Type 0} (P : X → Type 0) (f g : X → Y) → ((x : X) → P 
 map_same P f g same [] all = refl
 map_same P f g same (x ∷ xs) all = ap (λ y. y ∷ map f xs) (same x all.0) ∙ ap (λ ys. g x ∷ ys) (map_same P f g same xs all.1)
 
--- the field that is asked for, if one is, is one of the kind
-abbrev pub HasAsked : Kind → Option Field → Type 0
-HasAsked kind None = Unit {0}
-HasAsked kind (Some field) = has_field kind field ≡ true
-
--- all fields, or one
-pub fields_shown : (scenario : Scenario) (seen : List Entry) (b : ℕ) (kept : List KeptScan) (locks : List OwnLock) (rel : Oid) (kind : Kind) (asked : Option Field) → CanShow scenario seen b kept locks rel kind → HasAsked kind asked
-    → shown_fields scenario seen b rel kind asked ≡ shown_of kept locks (record { rel = rel; kind = kind }) asked
-fields_shown scenario seen b kept locks rel kind None can has =
+-- all its fields
+pub all_shown : (scenario : Scenario) (seen : List Entry) (b : ℕ) (kept : List KeptScan) (locks : List OwnLock) (rel : Oid) (kind : Kind) → CanShow scenario seen b kept locks rel kind
+    → shown_fields scenario seen b rel kind None ≡ shown_all kept locks (record { rel = rel; kind = kind })
+all_shown scenario seen b kept locks rel kind can =
     ap (answers.Shown kind rel) (map_same (λ field. has_field kind field ≡ true) (shown_field scenario seen b rel kind) (shown_kept kept locks (record { rel = rel; kind = kind })) (λ field own. field_shown scenario seen b kept locks rel kind field can own) (fields_of kind) (each_has kind))
-fields_shown scenario seen b kept locks rel kind (Some field) can has = ap answers.One (field_shown scenario seen b kept locks rel kind field can has)

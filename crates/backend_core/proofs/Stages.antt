@@ -18,7 +18,8 @@ pub stage_reads : (exec : Exec) → ReadsBuilds (plan_at exec)
 stage_reads stages.Done = tt
 stage_reads (stages.Failing error) = tt
 stage_reads (stages.Missing name) = tt
-stage_reads (stages.Finding name mode field) = tt
+stage_reads (stages.Finding name) = tt
+stage_reads (stages.FindingField name field) = tt
 stage_reads (stages.Locking name mode) = tt
 stage_reads (stages.Opening rel kind) = tt
 stage_reads (stages.Writing draft) = tt
@@ -28,7 +29,8 @@ pub opens_last : (exec : Exec) (rel : Oid) (kind : Kind) (rest : List Row → Pl
 opens_last stages.Done rel kind rest at = absurd (cc)
 opens_last (stages.Failing error) rel kind rest at = absurd (cc)
 opens_last (stages.Missing name) rel kind rest at = absurd (cc)
-opens_last (stages.Finding name mode field) rel kind rest at = absurd (cc)
+opens_last (stages.Finding name) rel kind rest at = absurd (cc)
+opens_last (stages.FindingField name field) rel kind rest at = absurd (cc)
 opens_last (stages.Locking name mode) rel kind rest at = absurd (cc)
 opens_last (stages.Opening r k) rel kind rest at = refl
 opens_last (stages.Writing draft) rel kind rest at = absurd (cc)

@@ -29,19 +29,19 @@ shown_by locks o field (Some k) = record { field = field; value = field_text fie
 abbrev pub shown_kept : List KeptScan → List OwnLock → Opening → Field → Shown
 shown_kept kept locks o field = shown_by locks o field (kept_for kept (read_by field o.rel))
 
--- all its fields, or one
-abbrev pub shown_of : List KeptScan → List OwnLock → Opening → Option Field → Answer
-shown_of kept locks o None = answers.Shown o.kind o.rel (map (shown_kept kept locks o) (fields_of o.kind))
-shown_of kept locks o (Some field) = answers.One (shown_kept kept locks o field)
+-- all its fields
+abbrev pub shown_all : List KeptScan → List OwnLock → Opening → Answer
+shown_all kept locks o = answers.Shown o.kind o.rel (map (shown_kept kept locks o) (fields_of o.kind))
 
--- the same of the descriptor that is open
-abbrev pub shown_first : List KeptScan → List OwnLock → List Opening → Option Field → Answer
-shown_first kept locks [] field = answers.Ok
-shown_first kept locks (o ∷ opened) field = shown_of kept locks o field
+-- an answer of the descriptor that is open
+abbrev pub of_open : (Opening → Answer) → List Opening → Answer
+of_open shown [] = answers.Ok
+of_open shown (o ∷ opened) = shown o
 
 -- what a command answers that came out well
 abbrev pub answer_done : Backend → Command → Answer
-answer_done s (commands.Show name field) = shown_first s.kept s.locks.items s.opened field
+answer_done s (commands.Show name None) = of_open (shown_all s.kept s.locks.items) s.opened
+answer_done s (commands.Show name (Some field)) = of_open (λ o. answers.One (shown_kept s.kept s.locks.items o field)) s.opened
 answer_done s commands.Commit = commit_answer s.blocks.block
 answer_done s command = answers.Ok
 

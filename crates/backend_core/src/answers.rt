@@ -5,11 +5,12 @@ ghost use Rattle.base_types.specs.Modes.{conflicts as do_conflict};
 ghost use Rattle.base_types.specs.Scans.{same_oid};
 ghost use Rattle.base_types.specs.Scenario.{Scenario};
 ghost use Rattle.event_kinds.specs.declared.entry.Entry.{Entry};
+ghost use Rattle.rel_desc.specs.declared.answer.Answer.TheVariants as answers;
 ghost use Rattle.lock_modes.specs.Own.{clear_modes};
 ghost use Rattle.cacheless.specs.Protected.{protects};
 ghost use Rattle.backend_core.specs.declared.next.Next.TheVariants as nexts;
 ghost use Rattle.backend_core.specs.State.{is_out};
-ghost use Rattle.backend_core.specs.Answering.{kept_for, shown_by, shown_kept, shown_of, shown_first, answer_done, answer_at, IsToldText};
+ghost use Rattle.backend_core.specs.Answering.{kept_for, shown_by, shown_kept, shown_all as all_shown, of_open, answer_done, answer_at, IsToldText};
 ghost use Rattle.backend_core.specs.Steps.{IsNextOf, AgreesNow};
 ghost use Rattle.backend_core.specs.Measure.{left_of};
 
@@ -74,27 +75,36 @@ impl Backend {
         ensures { IfOk result (λ answer. answer ≡ answer_done self.now command.now) }
     {
         match command {
-            Command::Show { field, .. } => self.shown_open(alloc, *field),
+            Command::Show { field: None, .. } => self.shown_open(alloc),
+            Command::Show {
+                field: Some(field),
+                ..
+            } => self.shown_open_field(alloc, *field),
             Command::Commit if self.blocks.is_failed() => Ok(Answer::RolledBack),
             _ => Ok(Answer::Ok),
         }
     }
 
-    // All fields of the descriptor that is open, or one.
-    fn shown_open(&self, alloc: Global, field: Option<Field>) -> Result<Answer, NoMemory>
-        ensures { IfOk result (λ answer. answer ≡ shown_first self.now.kept self.now.locks.items self.now.opened field) }
+    // All fields of the descriptor that is open.
+    fn shown_open(&self, alloc: Global) -> Result<Answer, NoMemory>
+        ensures { IfOk result (λ answer. answer ≡ of_open (all_shown self.now.kept self.now.locks.items) self.now.opened) }
     {
-        let kept = self.kept.as_slice();
-        match (self.opened.as_slice().first(), field) {
-            (Some(o), None) => shown_all(alloc, kept, &self.locks, *o),
-            (Some(o), Some(field)) => Ok(Answer::One(shown_field(
-                alloc,
-                kept,
-                &self.locks,
-                *o,
-                field,
-            )?)),
-            (None, _) => Ok(Answer::Ok),
+        match self.opened.as_slice().first() {
+            Some(o) => shown_all(alloc, self.kept.as_slice(), &self.locks, *o),
+            None => Ok(Answer::Ok),
+        }
+    }
+
+    // One field of the descriptor that is open.
+    fn shown_open_field(&self, alloc: Global, field: Field) -> Result<Answer, NoMemory>
+        ensures { IfOk result (λ answer. answer ≡ of_open (λ o. answers.One (shown_kept self.now.kept self.now.locks.items o field)) self.now.opened) }
+    {
+        match self.opened.as_slice().first() {
+            Some(o) => {
+                let shown = shown_field(alloc, self.kept.as_slice(), &self.locks, *o, field)?;
+                Ok(Answer::One(shown))
+            }
+            None => Ok(Answer::Ok),
         }
     }
 }
@@ -106,7 +116,7 @@ fn shown_all(
     locks: &OwnLocks,
     o: Opening,
 ) -> Result<Answer, NoMemory>
-    ensures { IfOk result (λ answer. answer ≡ shown_of kept.now locks.now.items o None) }
+    ensures { IfOk result (λ answer. answer ≡ all_shown kept.now locks.now.items o) }
 {
     let mut fields = Listed::new(alloc);
     for field in fields_of(o.kind) {

@@ -1,11 +1,10 @@
 -- A worked example: a table is shown by a backend that was there before it.
 use Rattle.std.specs.Fmt.{digits}
-use Rattle.std.proofs.Common.{◌≡◌, ◌≤◌, ◌++◌, ℕ, true, false, Some, List, [], ◌∷◌, codes, refl, sym, arith}
+use Rattle.std.proofs.Common.{◌≡◌, ◌≤◌, ◌++◌, ℕ, true, false, None, List, [], ◌∷◌, codes, refl, sym, arith}
 use Rattle.base_types.specs.Scenario.{Scenario}
 use Rattle.base_types.specs.declared.mode.Mode.TheVariants.{AccessShare}
 use Rattle.base_types.specs.declared.scan.Purpose.TheVariants as scans
 use Rattle.base_types.specs.declared.command.Command.TheVariants as commands
-use Rattle.base_types.specs.declared.field.Field.TheVariants as fields
 use Rattle.event_kinds.specs.declared.entry.Entry.{Entry}
 use Rattle.event_kinds.specs.declared.entry.Event.TheVariants.{Start, Look, Fetch, LockOk, Scan, Write, Visible, Publish, Release, Stop}
 use Rattle.event_kinds.specs.Texts.{text_of}
@@ -31,7 +30,7 @@ at_most_2 : 2 ≤ 2
 at_most_2 = omega arith
 
 abbrev pub show_of_anothers_table : Scenario
-show_of_anothers_table = script 2 (placed 1 (creating (codes "t") (codes "a")) ∷ placed 2 (commands.Show (codes "t") (Some fields.Columns)) ∷ []) ((turns 2 2 ∷ turns 1 8 ∷ turns 2 19 ∷ []) ∷ [])
+show_of_anothers_table = script 2 (placed 1 (creating (codes "t") (codes "a")) ∷ placed 2 (commands.Show (codes "t") None) ∷ []) ((turns 2 2 ∷ turns 1 8 ∷ turns 2 19 ∷ []) ∷ [])
 
 abbrev pub started : List Entry
 started = entry 2 0 Start ∷ entry 2 1 (Look false) ∷ []
@@ -283,7 +282,7 @@ pub show_of_anothers_table_complete : IsComplete show_of_anothers_table stopped
 show_of_anothers_table_complete = refl
 
 abbrev pub show_of_anothers_table_text : List ℕ
-show_of_anothers_table_text = codes "h 2 0 start\nh 2 1 look no\nh 1 0 start\nh 1 1 look no\nh 1 1 write 1 +class(16384,t,r,-) +att(16384,1,a,int4,-1,l)\nh 1 1 visible 1\nh 1 1 publish 3\nh 1 1 publish 1\nh 1 1 release 1\nh 1 2 stop\nh 2 1 look yes\nh 2 1 fetch 4\nh 2 1 scan relname t rows 1\nh 2 1 lock 16384 as ok\nh 2 1 look no\nh 2 1 look no\nh 2 1 scan class 16384 rows 1\nh 2 1 look no\nh 2 1 scan attribute 16384 rows 1\nh 2 1 look no\nh 2 1 scan attrdef 16384 rows 0\nh 2 1 look no\nh 2 1 scan constraint 16384 rows 0\nh 2 1 look no\nh 2 1 scan index 16384 rows 0\nh 2 1 look no\nh 2 1 scan trigger 16384 rows 0\nh 2 1 release 1\nh 2 2 stop\nl 1 1 ok\nl 2 1 columns a:int4\nend\n"
+show_of_anothers_table_text = codes "h 2 0 start\nh 2 1 look no\nh 1 0 start\nh 1 1 look no\nh 1 1 write 1 +class(16384,t,r,-) +att(16384,1,a,int4,-1,l)\nh 1 1 visible 1\nh 1 1 publish 3\nh 1 1 publish 1\nh 1 1 release 1\nh 1 2 stop\nh 2 1 look yes\nh 2 1 fetch 4\nh 2 1 scan relname t rows 1\nh 2 1 lock 16384 as ok\nh 2 1 look no\nh 2 1 look no\nh 2 1 scan class 16384 rows 1\nh 2 1 look no\nh 2 1 scan attribute 16384 rows 1\nh 2 1 look no\nh 2 1 scan attrdef 16384 rows 0\nh 2 1 look no\nh 2 1 scan constraint 16384 rows 0\nh 2 1 look no\nh 2 1 scan index 16384 rows 0\nh 2 1 look no\nh 2 1 scan trigger 16384 rows 0\nh 2 1 release 1\nh 2 2 stop\nl 1 1 ok\nl 2 1 table 16384; name t; columns a:int4; defaults -; statistics 1:-1 as of 19; fillfactor - as of 17; constraints - as of 23; referenced - as of 23; indexes - as of 25; triggers - as of 27\nend\n"
 
 pub show_of_anothers_table_spelled : text_of stopped (lines_of show_of_anothers_table stopped) ≡ show_of_anothers_table_text
 unfolding digits

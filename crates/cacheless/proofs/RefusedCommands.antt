@@ -1,14 +1,11 @@
--- A worked example: a table with one column twice, and a field that a table hasn't.
+-- A worked example: a table with one column twice is refused, and a table with its columns isn't.
 use Rattle.std.specs.Fmt.{digits}
-use Rattle.std.proofs.Common.{◌≡◌, ◌≤◌, ◌++◌, ℕ, true, false, Some, List, [], ◌∷◌, codes, refl, sym, arith}
+use Rattle.std.proofs.Common.{◌≡◌, ◌≤◌, ◌++◌, ℕ, false, List, [], ◌∷◌, codes, refl, sym, arith}
 use Rattle.base_types.specs.Scenario.{Scenario}
 use Rattle.base_types.specs.declared.col_type.ColType.TheVariants.{Int4}
-use Rattle.base_types.specs.declared.mode.Mode.TheVariants.{AccessShare}
-use Rattle.base_types.specs.declared.scan.Purpose.TheVariants as scans
 use Rattle.base_types.specs.declared.command.Command.TheVariants as commands
-use Rattle.base_types.specs.declared.field.Field.TheVariants as fields
 use Rattle.event_kinds.specs.declared.entry.Entry.{Entry}
-use Rattle.event_kinds.specs.declared.entry.Event.TheVariants.{Start, Look, Fetch, LockOk, Scan, Write, Visible, Publish, Release, Stop}
+use Rattle.event_kinds.specs.declared.entry.Event.TheVariants.{Start, Look, Write, Visible, Publish, Release, Stop}
 use Rattle.event_kinds.specs.Texts.{text_of}
 use Rattle.history_model.specs.Orderly.{MayComeNext, IsSound}
 use Rattle.history_model.specs.Read.{IsEconomical}
@@ -17,7 +14,7 @@ use Rattle.cacheless.specs.Plays.{IsNext, Plays}
 use Rattle.cacheless.specs.Schedule.{FollowsSchedule, AreLooksTrue, IsComplete}
 use Rattle.cacheless.specs.Lines.{lines_of}
 use Rattle.cacheless.specs.Output.{IsOutput}
-use Rattle.cacheless.proofs.Given.{oid, xid, entry, placed, script, creating, new_table}
+use Rattle.cacheless.proofs.Given.{xid, entry, placed, script, creating, new_table}
 
 at_least_1 : 1 ≤ 1
 at_least_1 = omega arith
@@ -26,7 +23,7 @@ at_most_1 : 1 ≤ 1
 at_most_1 = omega arith
 
 abbrev pub refused_commands : Scenario
-refused_commands = script 1 (placed 1 (commands.CreateTable (codes "t") (record { name = (codes "a"); col_type = Int4 } ∷ record { name = (codes "b"); col_type = Int4 } ∷ record { name = (codes "a"); col_type = Int4 } ∷ [])) ∷ placed 1 (creating (codes "t") (codes "a")) ∷ placed 1 (commands.Show (codes "t") (Some fields.Valid)) ∷ []) []
+refused_commands = script 1 (placed 1 (commands.CreateTable (codes "t") (record { name = (codes "a"); col_type = Int4 } ∷ record { name = (codes "b"); col_type = Int4 } ∷ record { name = (codes "a"); col_type = Int4 } ∷ [])) ∷ placed 1 (creating (codes "t") (codes "a")) ∷ []) []
 
 abbrev pub looked : List Entry
 looked = entry 1 0 Start ∷ entry 1 1 (Look false) ∷ []
@@ -91,86 +88,35 @@ created_plays_6 = ((at_least_1, at_most_1), (refl, (refl, refl)))
 created_comes_6 : MayComeNext (column_refused ++ entry 1 2 (Look false) ∷ entry 1 2 (Write (xid 1) (new_table 16384 (codes "t") (codes "a"))) ∷ entry 1 2 (Visible (xid 1)) ∷ entry 1 2 (Publish 3) ∷ entry 1 2 (Publish 1) ∷ []) (entry 1 2 (Release 2))
 created_comes_6 = record { follows = record { life = omega arith; visible = tt; gone = tt; event = (omega arith, (refl, refl)) }; orderly = tt }
 
-abbrev pub scanned : List Entry
-scanned = created ++ entry 1 3 (Look true) ∷ entry 1 3 (Fetch 4) ∷ entry 1 3 (Look false) ∷ entry 1 3 (Scan (scans.RelName (codes "t")) 1) ∷ []
-
-scanned_plays_1 : IsNext refused_commands created (entry 1 3 (Look true))
-scanned_plays_1 = ((at_least_1, at_most_1), (refl, refl))
-
-scanned_comes_1 : MayComeNext created (entry 1 3 (Look true))
-scanned_comes_1 = record { follows = record { life = omega arith; visible = tt; gone = tt; event = refl }; orderly = tt }
-
-scanned_plays_2 : IsNext refused_commands (created ++ entry 1 3 (Look true) ∷ []) (entry 1 3 (Fetch 4))
-scanned_plays_2 = ((at_least_1, at_most_1), (refl, tt))
-
-scanned_comes_2 : MayComeNext (created ++ entry 1 3 (Look true) ∷ []) (entry 1 3 (Fetch 4))
-scanned_comes_2 = record { follows = record { life = omega arith; visible = tt; gone = tt; event = (refl, refl) }; orderly = tt }
-
-scanned_plays_3 : IsNext refused_commands (created ++ entry 1 3 (Look true) ∷ entry 1 3 (Fetch 4) ∷ []) (entry 1 3 (Look false))
-scanned_plays_3 = ((at_least_1, at_most_1), (refl, refl))
-
-scanned_comes_3 : MayComeNext (created ++ entry 1 3 (Look true) ∷ entry 1 3 (Fetch 4) ∷ []) (entry 1 3 (Look false))
-scanned_comes_3 = record { follows = record { life = omega arith; visible = tt; gone = tt; event = refl }; orderly = tt }
-
-scanned_plays_4 : IsNext refused_commands (created ++ entry 1 3 (Look true) ∷ entry 1 3 (Fetch 4) ∷ entry 1 3 (Look false) ∷ []) (entry 1 3 (Scan (scans.RelName (codes "t")) 1))
-scanned_plays_4 = ((at_least_1, at_most_1), (refl, (refl, refl, refl)))
-
-scanned_comes_4 : MayComeNext (created ++ entry 1 3 (Look true) ∷ entry 1 3 (Fetch 4) ∷ entry 1 3 (Look false) ∷ []) (entry 1 3 (Scan (scans.RelName (codes "t")) 1))
-scanned_comes_4 = record { follows = record { life = omega arith; visible = tt; gone = tt; event = refl }; orderly = tt }
-
-abbrev pub locked : List Entry
-locked = scanned ++ entry 1 3 (LockOk (oid 16384) AccessShare) ∷ entry 1 3 (Look false) ∷ []
-
-locked_plays_1 : IsNext refused_commands scanned (entry 1 3 (LockOk (oid 16384) AccessShare))
-locked_plays_1 = ((at_least_1, at_most_1), (refl, (refl, (refl, refl))))
-
-locked_comes_1 : MayComeNext scanned (entry 1 3 (LockOk (oid 16384) AccessShare))
-locked_comes_1 = record { follows = record { life = omega arith; visible = tt; gone = tt; event = (refl, refl) }; orderly = omega arith }
-
-locked_plays_2 : IsNext refused_commands (scanned ++ entry 1 3 (LockOk (oid 16384) AccessShare) ∷ []) (entry 1 3 (Look false))
-locked_plays_2 = ((at_least_1, at_most_1), (refl, refl))
-
-locked_comes_2 : MayComeNext (scanned ++ entry 1 3 (LockOk (oid 16384) AccessShare) ∷ []) (entry 1 3 (Look false))
-locked_comes_2 = record { follows = record { life = omega arith; visible = tt; gone = tt; event = refl }; orderly = tt }
-
-abbrev pub field_refused : List Entry
-field_refused = locked ++ entry 1 3 (Release 3) ∷ []
-
-field_refused_plays : IsNext refused_commands locked (entry 1 3 (Release 3))
-field_refused_plays = ((at_least_1, at_most_1), (refl, (refl, refl)))
-
-field_refused_comes : MayComeNext locked (entry 1 3 (Release 3))
-field_refused_comes = record { follows = record { life = omega arith; visible = tt; gone = tt; event = (omega arith, refl) }; orderly = tt }
-
 abbrev pub stopped : List Entry
-stopped = field_refused ++ entry 1 4 Stop ∷ []
+stopped = created ++ entry 1 3 Stop ∷ []
 
-stopped_plays : IsNext refused_commands field_refused (entry 1 4 Stop)
+stopped_plays : IsNext refused_commands created (entry 1 3 Stop)
 stopped_plays = ((at_least_1, at_most_1), (refl, refl))
 
-stopped_comes : MayComeNext field_refused (entry 1 4 Stop)
+stopped_comes : MayComeNext created (entry 1 3 Stop)
 stopped_comes = record { follows = record { life = omega arith; visible = tt; gone = tt; event = refl }; orderly = tt }
 
 pub refused_commands_plays : Plays refused_commands stopped
-refused_commands_plays = (looked_plays_1, (looked_plays_2, (column_refused_plays, (created_plays_1, (created_plays_2, (created_plays_3, (created_plays_4, (created_plays_5, (created_plays_6, (scanned_plays_1, (scanned_plays_2, (scanned_plays_3, (scanned_plays_4, (locked_plays_1, (locked_plays_2, (field_refused_plays, (stopped_plays, tt)))))))))))))))))
+refused_commands_plays = (looked_plays_1, (looked_plays_2, (column_refused_plays, (created_plays_1, (created_plays_2, (created_plays_3, (created_plays_4, (created_plays_5, (created_plays_6, (stopped_plays, tt))))))))))
 
 pub refused_commands_sound : IsSound stopped
-refused_commands_sound = (looked_comes_1, (looked_comes_2, (column_refused_comes, (created_comes_1, (created_comes_2, (created_comes_3, (created_comes_4, (created_comes_5, (created_comes_6, (scanned_comes_1, (scanned_comes_2, (scanned_comes_3, (scanned_comes_4, (locked_comes_1, (locked_comes_2, (field_refused_comes, (stopped_comes, tt)))))))))))))))))
+refused_commands_sound = (looked_comes_1, (looked_comes_2, (column_refused_comes, (created_comes_1, (created_comes_2, (created_comes_3, (created_comes_4, (created_comes_5, (created_comes_6, (stopped_comes, tt))))))))))
 
 pub refused_commands_economical : IsEconomical stopped
-refused_commands_economical = (tt, (tt, (tt, (tt, (tt, (tt, (tt, (tt, (tt, (tt, (tt, (tt, (λ build. absurd (cc), (tt, (tt, (tt, (tt, tt)))))))))))))))))
+refused_commands_economical = (tt, (tt, (tt, (tt, (tt, (tt, (tt, (tt, (tt, (tt, tt))))))))))
 
 pub refused_commands_follows : FollowsSchedule refused_commands stopped
-refused_commands_follows = (refl, (refl, (refl, (refl, (refl, (refl, (refl, (refl, (refl, (refl, (refl, (refl, (refl, (refl, (refl, (refl, (refl, tt)))))))))))))))))
+refused_commands_follows = (refl, (refl, (refl, (refl, (refl, (refl, (refl, (refl, (refl, (refl, tt))))))))))
 
 pub refused_commands_looks : AreLooksTrue stopped
-refused_commands_looks = (tt, (refl, (tt, (refl, (tt, (tt, (tt, (tt, (tt, (tt, (tt, (refl, (tt, (tt, (refl, (tt, (tt, tt)))))))))))))))))
+refused_commands_looks = (tt, (refl, (tt, (refl, (tt, (tt, (tt, (tt, (tt, (tt, tt))))))))))
 
 pub refused_commands_complete : IsComplete refused_commands stopped
 refused_commands_complete = refl
 
 abbrev pub refused_commands_text : List ℕ
-refused_commands_text = codes "h 1 0 start\nh 1 1 look no\nh 1 1 release 1\nh 1 2 look no\nh 1 2 write 1 +class(16384,t,r,-) +att(16384,1,a,int4,-1,l)\nh 1 2 visible 1\nh 1 2 publish 3\nh 1 2 publish 1\nh 1 2 release 2\nh 1 3 look yes\nh 1 3 fetch 4\nh 1 3 look no\nh 1 3 scan relname t rows 1\nh 1 3 lock 16384 as ok\nh 1 3 look no\nh 1 3 release 3\nh 1 4 stop\nl 1 1 error 42701 column a already exists\nl 1 2 ok\nl 1 3 error 42809 t has no field valid\nend\n"
+refused_commands_text = codes "h 1 0 start\nh 1 1 look no\nh 1 1 release 1\nh 1 2 look no\nh 1 2 write 1 +class(16384,t,r,-) +att(16384,1,a,int4,-1,l)\nh 1 2 visible 1\nh 1 2 publish 3\nh 1 2 publish 1\nh 1 2 release 2\nh 1 3 stop\nl 1 1 error 42701 column a already exists\nl 1 2 ok\nend\n"
 
 pub refused_commands_spelled : text_of stopped (lines_of refused_commands stopped) ≡ refused_commands_text
 unfolding digits

@@ -1,11 +1,10 @@
 -- A worked example: a table is shown whose writer hasn't released its lock.
 use Rattle.std.specs.Fmt.{digits}
-use Rattle.std.proofs.Common.{◌≡◌, ◌≤◌, ◌++◌, ℕ, false, Some, List, [], ◌∷◌, codes, refl, sym, arith}
+use Rattle.std.proofs.Common.{◌≡◌, ◌≤◌, ◌++◌, ℕ, false, None, List, [], ◌∷◌, codes, refl, sym, arith}
 use Rattle.base_types.specs.Scenario.{Scenario}
 use Rattle.base_types.specs.declared.mode.Mode.TheVariants.{AccessShare, AccessExclusive}
 use Rattle.base_types.specs.declared.scan.Purpose.TheVariants as scans
 use Rattle.base_types.specs.declared.command.Command.TheVariants as commands
-use Rattle.base_types.specs.declared.field.Field.TheVariants as fields
 use Rattle.event_kinds.specs.declared.entry.Entry.{Entry}
 use Rattle.event_kinds.specs.declared.entry.Event.TheVariants.{Start, Look, LockHeld, Scan, Write, Visible, Publish, Release, Stop}
 use Rattle.event_kinds.specs.Texts.{text_of}
@@ -31,7 +30,7 @@ at_most_2 : 2 ≤ 2
 at_most_2 = omega arith
 
 abbrev pub refused_lock : Scenario
-refused_lock = script 2 (placed 1 (creating (codes "t") (codes "a")) ∷ placed 2 (commands.Show (codes "t") (Some fields.Columns)) ∷ []) ((turns 1 4 ∷ turns 2 6 ∷ turns 1 4 ∷ turns 2 1 ∷ []) ∷ [])
+refused_lock = script 2 (placed 1 (creating (codes "t") (codes "a")) ∷ placed 2 (commands.Show (codes "t") None) ∷ []) ((turns 1 4 ∷ turns 2 6 ∷ turns 1 4 ∷ turns 2 1 ∷ []) ∷ [])
 
 abbrev pub visible : List Entry
 visible = entry 1 0 Start ∷ entry 1 1 (Look false) ∷ entry 1 1 (Write (xid 1) (new_table 16384 (codes "t") (codes "a"))) ∷ entry 1 1 (Visible (xid 1)) ∷ []

@@ -66,10 +66,13 @@ new_table name columns = record { changes = table_row name ∷ map new_column (e
 abbrev pub creating : List ℕ → List NewColumn → Plan
 creating name columns = if_passes (nat_le (length columns) MOST_COLUMNS) errors.TooManyColumns (if_no_column (first_twice [] (map (λ c. c.name) columns)) (writing (new_table name columns)))
 
--- `show`, after its lookup: all fields of the descriptor, or one that the kind has
-abbrev pub showing : List ℕ → Option Field → Oid → Kind → Plan
-showing name None rel kind = opening rel kind Done
-showing name (Some field) rel kind = if_passes (has_field kind field) (errors.NoField name field) (opening rel kind Done)
+-- `show T`, after its lookup
+abbrev pub showing : Oid → Kind → Plan
+showing rel kind = opening rel kind Done
+
+-- `show T FIELD`, after its lookup: the kind has the field
+abbrev pub showing_field : List ℕ → Field → Oid → Kind → Plan
+showing_field name field rel kind = if_passes (has_field kind field) (errors.NoField name field) (opening rel kind Done)
 
 -- the relation is a table
 abbrev pub is_table : Kind → Bool
@@ -85,7 +88,8 @@ abbrev pub plan_of : List Oid → Command → Plan
 plan_of held commands.Begin = Done
 plan_of held commands.Commit = Done
 plan_of held commands.Rollback = Done
-plan_of held (commands.Show name field) = looking_up name AccessShare (showing name field)
+plan_of held (commands.Show name None) = looking_up name AccessShare showing
+plan_of held (commands.Show name (Some field)) = looking_up name AccessShare (showing_field name field)
 plan_of held (commands.LockTable name mode) = looking_up name mode (locking name)
 plan_of held (commands.CreateTable name columns) = creating name columns
 plan_of held command = NotBuilt

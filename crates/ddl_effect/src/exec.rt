@@ -1,6 +1,6 @@
 ghost use Rattle.std.specs.Prelude.{◌≡◌, ◌<◌, true, [], IfOk, MatchOption};
 ghost use Rattle.ddl_effect.specs.Plans.{is_built, after_act};
-ghost use Rattle.ddl_effect.specs.Commands.{plan_of, found as found_rows, locking, showing, writing};
+ghost use Rattle.ddl_effect.specs.Commands.{plan_of, found as found_rows, locking, showing, showing_field, writing};
 ghost use Rattle.ddl_effect.specs.Stages.{plan_at, want_of, acts_left};
 
 use crate::table::create_table;
@@ -18,22 +18,14 @@ pub enum Exec {
     Failing(CommandError),
     /// It failed: no relation has the name.
     Missing(Name),
-    /// `show`: it looks for the relation, of which it shows one field or all.
-    Finding {
-        name: Name,
-        mode: Mode,
-        field: Option<Field>,
-    },
+    /// `show T`: it looks for the relation.
+    Finding { name: Name },
+    /// `show T FIELD`: it looks for the relation, which has to have the field.
+    FindingField { name: Name, field: Field },
     /// `lock table`: it looks for the table, and locks it.
-    Locking {
-        name: Name,
-        mode: Mode,
-    },
+    Locking { name: Name, mode: Mode },
     /// It opens the relation's descriptor.
-    Opening {
-        rel: Oid,
-        kind: Kind,
-    },
+    Opening { rel: Oid, kind: Kind },
     /// It writes.
     Writing(Draft),
 }
@@ -46,9 +38,12 @@ impl Exec {
     {
         match command {
             Command::Begin | Command::Commit | Command::Rollback => Ok(Exec::Done),
-            Command::Show { name, field } => Ok(Exec::Finding {
+            Command::Show { name, field: None } => Ok(Exec::Finding { name: *name }),
+            Command::Show {
+                name,
+                field: Some(field),
+            } => Ok(Exec::FindingField {
                 name: *name,
-                mode: Mode::AccessShare,
                 field: *field,
             }),
             Command::LockTable { name, mode } => Ok(Exec::Locking {
@@ -70,7 +65,11 @@ impl Exec {
             Exec::Done => Want::Done,
             Exec::Failing(error) => Want::Fails(*error),
             Exec::Missing(name) => Want::Absent(*name),
-            Exec::Finding { name, mode, .. } | Exec::Locking { name, mode } => Want::Lookup {
+            Exec::Finding { name } | Exec::FindingField { name, .. } => Want::Lookup {
+                name: *name,
+                mode: Mode::AccessShare,
+            },
+            Exec::Locking { name, mode } => Want::Lookup {
                 name: *name,
                 mode: *mode,
             },
@@ -88,7 +87,8 @@ impl Exec {
         ensures less { 0 < acts_left self.old → acts_left self.new < acts_left self.old }
     {
         let next = match self {
-            Exec::Finding { name, field, .. } => found(*name, *field, rows),
+            Exec::Finding { name } => found(*name, rows),
+            Exec::FindingField { name, field } => found_field(*name, *field, rows),
             Exec::Locking { name, .. } => locked(*name, rows),
             Exec::Opening { .. } | Exec::Writing(_) => Exec::Done,
             Exec::Done | Exec::Failing(_) | Exec::Missing(_) => return,
@@ -108,19 +108,41 @@ impl Exec {
     }
 }
 
-// After the lookup of `show`.
-fn found(name: Name, field: Option<Field>, rows: &[Row]) -> Exec
-    ensures { plan_at result ≡ found_rows name (showing name field) rows.now }
+// After the lookup of `show T`.
+fn found(name: Name, rows: &[Row]) -> Exec
+    ensures plan { plan_at result ≡ found_rows name showing rows.now }
+    ensures left { acts_left result < 2 }
 {
     match rows.first() {
-        Some(Row::Class { oid, kind, .. }) => found_relation(name, field, *oid, *kind),
+        Some(Row::Class { oid, kind, .. }) => Exec::Opening {
+            rel: *oid,
+            kind: *kind,
+        },
+        _ => Exec::Missing(name),
+    }
+}
+
+// After the lookup of `show T FIELD`.
+fn found_field(name: Name, field: Field, rows: &[Row]) -> Exec
+    ensures plan { plan_at result ≡ found_rows name (showing_field name field) rows.now }
+    ensures left { acts_left result < 2 }
+{
+    match rows.first() {
+        Some(Row::Class { kind, .. }) if !has_field(*kind, field) => {
+            Exec::Failing(CommandError::NoField { name, field })
+        }
+        Some(Row::Class { oid, kind, .. }) => Exec::Opening {
+            rel: *oid,
+            kind: *kind,
+        },
         _ => Exec::Missing(name),
     }
 }
 
 // After the lookup of `lock table`.
 fn locked(name: Name, rows: &[Row]) -> Exec
-    ensures { plan_at result ≡ found_rows name (locking name) rows.now }
+    ensures plan { plan_at result ≡ found_rows name (locking name) rows.now }
+    ensures left { acts_left result < 1 }
 {
     match rows.first() {
         Some(
@@ -131,17 +153,5 @@ fn locked(name: Name, rows: &[Row]) -> Exec
         ) => Exec::Done,
         Some(Row::Class { .. }) => Exec::Failing(CommandError::NotTable { name }),
         _ => Exec::Missing(name),
-    }
-}
-
-// After a lookup of `show` that found a relation.
-fn found_relation(name: Name, field: Option<Field>, rel: Oid, kind: Kind) -> Exec
-    ensures { plan_at result ≡ showing name field rel kind }
-{
-    match field {
-        Some(field) if !has_field(kind, field) => {
-            Exec::Failing(CommandError::NoField { name, field })
-        }
-        _ => Exec::Opening { rel, kind },
     }
 }
