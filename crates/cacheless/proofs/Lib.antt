@@ -11,6 +11,5 @@ pub mod FailedBlock
 pub mod RefusedLock
 pub mod ThreeHolders
 pub mod RefusedCommands
-pub mod NoField
 pub mod WrongEntries
 pub mod WrongPlays
