@@ -25,7 +25,7 @@ use Rattle.backend_core.specs.Answering.{answer_done, answer_left, answer_at, Is
 use Rattle.backend_core.proofs.CanFollow.{can_go_on, can_follow, effect_on}
 use Rattle.backend_core.proofs.Ending.{built_at}
 use Rattle.backend_core.proofs.Nexting.{the_command}
-use Rattle.backend_core.proofs.Showing.{finished_at, show_answers}
+use Rattle.backend_core.proofs.Showing.{finished_at, show_answers, show_field_answers}
 
 -- a command that has come out of itself
 out_answers : (scenario : Scenario) (seen : List Entry) (s : Backend) (rest : Rest) (command : Command) (p : Plan) (read : Bool) → is_settled (outcome_of p) ≡ true → PlaceFits seen s.id p read s.given_at
@@ -41,6 +41,7 @@ out_answers scenario seen s rest command (Do act plan) read out place well = abs
 well_answers : (scenario : Scenario) (seen : List Entry) (s : Backend) (agrees : Agrees scenario seen s) (command : Command) → Way seen s agrees.rest command → plan_at s.exec ≡ Done
     → answer_well scenario seen s.id (finished_at s agrees.rest) command ≡ answer_done s command
 well_answers scenario seen s agrees (commands.Show name None) way done = show_answers scenario seen s agrees name way done
+well_answers scenario seen s agrees (commands.Show name (Some field)) way done = show_field_answers scenario seen s agrees name field way done
 well_answers scenario seen s agrees command way done = refl
 
 -- a command that has written

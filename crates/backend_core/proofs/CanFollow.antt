@@ -2,18 +2,19 @@
 use Rattle.std.proofs.Common.{◌≡◌, ◌∙◌, ℕ, Bool, true, false, Option, Some, None, List, [], ◌∷◌, ◌++◌, refl, sym, ap, subst, map, length, nat_le}
 use Rattle.std.specs.Prelude.{⊤}
 use Rattle.std.specs.List.{AllByRecursion}
+use Rattle.base_types.specs.Fields.{has_field}
 use Rattle.base_types.specs.declared.dropped.TheConstants.{MOST_COLUMNS}
 use Rattle.base_types.specs.declared.mode.Mode.TheVariants.{AccessShare}
 use Rattle.base_types.specs.declared.row.Row.TheVariants as rows
 use Rattle.base_types.specs.declared.command.Command.TheVariants as commands
 use Rattle.rel_desc.specs.declared.error.CommandError.TheVariants as errors
 use Rattle.ddl_effect.specs.Plans.{Plan, Done, Fails, Absent, NotBuilt, Do, Lookup, Open, Column, Read, Lock, Write, is_built}
-use Rattle.ddl_effect.specs.Commands.{plan_of, found, looking_up, if_passes, if_no_column, first_twice, writing, opening, showing, is_table, locking, creating, new_table}
+use Rattle.ddl_effect.specs.Commands.{plan_of, found, looking_up, if_passes, if_no_column, first_twice, writing, opening, showing, showing_field, is_table, locking, creating, new_table}
 use Rattle.ddl_effect.specs.Effects.{effect_at, row_found}
 use Rattle.history_model.specs.Versions.{answer_of}
 use Rattle.cacheless.specs.Session.{none_open}
 use Rattle.cacheless.specs.Settled.{class_oid, found_by}
-use Rattle.backend_core.specs.Types.{Oid, Mode, Kind, NewColumn, Row, Command, CommandError, Draft, Entry}
+use Rattle.backend_core.specs.Types.{Oid, Mode, Kind, Field, NewColumn, Row, Command, CommandError, Draft, Entry}
 use Rattle.backend_core.specs.NewTables.{IsNewTable, SeesRelation}
 use Rattle.backend_core.specs.Agrees.{PlaceFits}
 use Rattle.backend_core.specs.Way.{after_given, reached, made_first, made_in, relation_by, SeesAll}
@@ -58,6 +59,9 @@ can_writing P draft table = (table, λ given. refl)
 can_showing : (P : Oid → Kind → Type 0) (rel : Oid) (kind : Kind) → P rel kind → CanFollow P (showing rel kind)
 can_showing P rel kind holds = can_opening P rel kind Done holds tt
 
+can_showing_field : (P : Oid → Kind → Type 0) (name : List ℕ) (field : Field) (rel : Oid) (kind : Kind) → P rel kind → CanFollow P (showing_field name field rel kind)
+can_showing_field P name field rel kind holds = can_if_passes P (has_field kind field) (errors.NoField name field) (opening rel kind Done) (can_opening P rel kind Done holds tt)
+
 can_locking : (P : Oid → Kind → Type 0) (name : List ℕ) (rel : Oid) (kind : Kind) → P rel kind → CanFollow P (locking name rel kind)
 can_locking P name rel kind holds = can_if_passes P (is_table kind) (errors.NotTable name) Done tt
 
@@ -75,6 +79,7 @@ can_follow P commands.Begin built = tt
 can_follow P commands.Commit built = tt
 can_follow P commands.Rollback built = tt
 can_follow P (commands.Show name None) built = can_looking_up P name AccessShare showing (can_showing P)
+can_follow P (commands.Show name (Some field)) built = can_looking_up P name AccessShare (showing_field name field) (can_showing_field P name field)
 can_follow P (commands.LockTable name mode) built = can_looking_up P name mode (locking name) (can_locking P name)
 can_follow P (commands.CreateTable name columns) built = can_creating P name columns
 can_follow P command built = absurd (cc)

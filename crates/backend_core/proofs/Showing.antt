@@ -2,11 +2,13 @@
 use Rattle.std.proofs.Common.{◌++◌, ◌≡◌, inl, inr, ◌∙◌, ℕ, Bool, true, false, Option, Some, None, List, [], ◌∷◌, refl, sym, ap, subst, drop}
 use Rattle.std.proofs.lemmas.List.{append-nil}
 use Rattle.std.proofs.lemmas.List.Elements.{recursion_from_All}
+use Rattle.base_types.specs.Fields.{has_field}
 use Rattle.base_types.specs.Scans.{build_scans}
 use Rattle.base_types.specs.Scenario.{Scenario}
 use Rattle.base_types.specs.declared.command.Command.TheVariants as commands
 use Rattle.base_types.specs.declared.mode.Mode.TheVariants.{AccessShare}
 use Rattle.base_types.specs.declared.row.Row.TheVariants as rows
+use Rattle.rel_desc.specs.declared.answer.Answer.TheVariants as answers
 use Rattle.rel_desc.specs.declared.error.CommandError.TheVariants as errors
 use Rattle.ddl_effect.specs.Plans.{Act, Plan, Done, Fails, Absent, Do, Lookup, Open}
 use Rattle.ddl_effect.specs.Commands.{plan_of, found, looking_up, opening, if_passes}
@@ -24,9 +26,9 @@ use Rattle.backend_core.specs.State.{missing, builds_missing, Rest, session_at}
 use Rattle.backend_core.specs.Agrees.{ReadRight, KeptFits, Agrees}
 use Rattle.backend_core.specs.NewTables.{SeesRelation}
 use Rattle.backend_core.specs.Way.{reached, made_in, opening_by, relation_by, SeesAll, Way}
-use Rattle.backend_core.specs.Answering.{shown_all, of_open, answer_done}
+use Rattle.backend_core.specs.Answering.{shown_all, shown_kept, of_open, answer_done}
 use Rattle.backend_core.proofs.Carry.{none_missing_well}
-use Rattle.backend_core.proofs.Shown.{CanShow, all_shown}
+use Rattle.backend_core.proofs.Shown.{CanShow, field_shown, all_shown}
 use Rattle.backend_core.proofs.Ways.{NeverWrites, never_reaches, reached-over, made_in-over}
 
 -- the running command as it will be kept
@@ -135,3 +137,9 @@ pub show_answers : (scenario : Scenario) (seen : List Entry) (s : Backend) (agre
     → answer_well scenario seen s.id (finished_at s agrees.rest) (commands.Show name None) ≡ answer_done s (commands.Show name None)
 show_answers scenario seen s agrees name = opened_answers scenario seen s agrees (commands.Show name None) (λ kind. true) (errors.NotTable name) name AccessShare None (shown_all s.kept s.locks.items) refl
     (λ rel kind passed can. all_shown scenario seen s.id s.kept s.locks.items rel kind can)
+
+-- what `show T FIELD` answers
+pub show_field_answers : (scenario : Scenario) (seen : List Entry) (s : Backend) (agrees : Agrees scenario seen s) (name : List ℕ) (field : Field) → Way seen s agrees.rest (commands.Show name (Some field)) → plan_at s.exec ≡ Done
+    → answer_well scenario seen s.id (finished_at s agrees.rest) (commands.Show name (Some field)) ≡ answer_done s (commands.Show name (Some field))
+show_field_answers scenario seen s agrees name field = opened_answers scenario seen s agrees (commands.Show name (Some field)) (λ kind. has_field kind field) (errors.NoField name field) name AccessShare (Some field) (λ o. answers.One (shown_kept s.kept s.locks.items o field)) refl
+    (λ rel kind passed can. ap answers.One (field_shown scenario seen s.id s.kept s.locks.items rel kind field can passed))

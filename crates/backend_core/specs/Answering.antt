@@ -41,6 +41,7 @@ of_open shown (o ∷ opened) = shown o
 -- what a command answers that came out well
 abbrev pub answer_done : Backend → Command → Answer
 answer_done s (commands.Show name None) = of_open (shown_all s.kept s.locks.items) s.opened
+answer_done s (commands.Show name (Some field)) = of_open (λ o. answers.One (shown_kept s.kept s.locks.items o field)) s.opened
 answer_done s commands.Commit = commit_answer s.blocks.block
 answer_done s command = answers.Ok
 

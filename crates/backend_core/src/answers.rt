@@ -5,6 +5,7 @@ ghost use Rattle.base_types.specs.Modes.{conflicts as do_conflict};
 ghost use Rattle.base_types.specs.Scans.{same_oid};
 ghost use Rattle.base_types.specs.Scenario.{Scenario};
 ghost use Rattle.event_kinds.specs.declared.entry.Entry.{Entry};
+ghost use Rattle.rel_desc.specs.declared.answer.Answer.TheVariants as answers;
 ghost use Rattle.lock_modes.specs.Own.{clear_modes};
 ghost use Rattle.cacheless.specs.Protected.{protects};
 ghost use Rattle.backend_core.specs.declared.next.Next.TheVariants as nexts;
@@ -75,6 +76,10 @@ impl Backend {
     {
         match command {
             Command::Show { field: None, .. } => self.shown_open(alloc),
+            Command::Show {
+                field: Some(field),
+                ..
+            } => self.shown_open_field(alloc, *field),
             Command::Commit if self.blocks.is_failed() => Ok(Answer::RolledBack),
             _ => Ok(Answer::Ok),
         }
@@ -86,6 +91,19 @@ impl Backend {
     {
         match self.opened.as_slice().first() {
             Some(o) => shown_all(alloc, self.kept.as_slice(), &self.locks, *o),
+            None => Ok(Answer::Ok),
+        }
+    }
+
+    // One field of the descriptor that is open.
+    fn shown_open_field(&self, alloc: Global, field: Field) -> Result<Answer, NoMemory>
+        ensures { IfOk result (λ answer. answer ≡ of_open (λ o. answers.One (shown_kept self.now.kept self.now.locks.items o field)) self.now.opened) }
+    {
+        match self.opened.as_slice().first() {
+            Some(o) => {
+                let shown = shown_field(alloc, self.kept.as_slice(), &self.locks, *o, field)?;
+                Ok(Answer::One(shown))
+            }
             None => Ok(Answer::Ok),
         }
     }

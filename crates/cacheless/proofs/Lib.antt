@@ -11,5 +11,6 @@ pub mod FailedBlock
 pub mod RefusedLock
 pub mod ThreeHolders
 pub mod RefusedCommands
+pub mod NoField
 pub mod WrongEntries
 pub mod WrongPlays

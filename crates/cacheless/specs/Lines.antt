@@ -51,6 +51,7 @@ commit_answer block = answers.Ok
 -- what a command answers that didn't fail, judged by these entries
 abbrev pub answer_well : Scenario → List Entry → ℕ → Finished → Command → Answer
 answer_well scenario history b f (commands.Show name None) = shown_row scenario history b None (row_found (answer_of history b) (first_found f.found))
+answer_well scenario history b f (commands.Show name (Some field)) = shown_row scenario history b (Some field) (row_found (answer_of history b) (first_found f.found))
 answer_well scenario history b f commands.Commit = commit_answer f.block
 answer_well scenario history b f command = answers.Ok
 

@@ -87,7 +87,7 @@ fn blocks_open_fail_and_end(rt: HostRuntime) {
 
 // Commands, whether a lookup finds a table, what each wants in turn, and what it changes where there is a table
 // `t`: the number of its new oids, and its changes as those of a write.
-const PLANS: [(&str, bool, [&str; 3], &[u8]); 4] = [
+const PLANS: [(&str, bool, [&str; 3], &[u8]); 6] = [
     (
         "create table x (a int4, b text)",
         false,
@@ -101,6 +101,13 @@ const PLANS: [(&str, bool, [&str; 3], &[u8]); 4] = [
         b"42701",
     ),
     ("show t", true, ["lookup", "open", "done"], b"h 1 1 write 0"),
+    (
+        "show t columns",
+        true,
+        ["lookup", "open", "done"],
+        b"h 1 1 write 0",
+    ),
+    ("show t of", true, ["lookup", "42809", "42809"], b"42809"),
     ("show u", false, ["lookup", "absent", "absent"], b"absent"),
 ];
 

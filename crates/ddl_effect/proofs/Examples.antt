@@ -3,8 +3,9 @@ use Rattle.std.proofs.Common.{◌≡◌, ℕ, true, None, Some, List, [], ◌∷
 use Rattle.base_types.specs.declared.command.Command.TheVariants as commands
 use Rattle.base_types.specs.declared.command.NewColumn.{NewColumn}
 use Rattle.base_types.specs.declared.col_type.ColType.TheVariants.{Int4}
+use Rattle.base_types.specs.declared.field.Field.TheVariants as fields
 use Rattle.base_types.specs.declared.ids.Oid.{Oid}
-use Rattle.base_types.specs.declared.kind.Kind.TheVariants.{Table}
+use Rattle.base_types.specs.declared.kind.Kind.TheVariants.{Table, Index}
 use Rattle.base_types.specs.declared.row.Row.{Row}
 use Rattle.base_types.specs.declared.row.Row.TheVariants.{Class, Att}
 use Rattle.base_types.specs.declared.scan.Purpose.{Purpose}
@@ -12,7 +13,7 @@ use Rattle.base_types.specs.declared.scan.Purpose.TheVariants.{RelName}
 use Rattle.base_types.specs.declared.change.Change.TheVariants.{Insert}
 use Rattle.rel_desc.specs.declared.error.CommandError.TheVariants as errors
 use Rattle.ddl_effect.specs.Plans.{Fails}
-use Rattle.ddl_effect.specs.Effects.{Unknown, effect_of, effect_at}
+use Rattle.ddl_effect.specs.Effects.{Nothing, Refuses, Unknown, effect_of, effect_at}
 use Rattle.ddl_effect.specs.Commands.{plan_of, new_table}
 use Rattle.ddl_effect.specs.Drawing.{changes_of}
 use Rattle.ddl_effect.specs.Blocks.{Failed, no_block, innermost, refused_in, blocks_well, blocks_badly}
@@ -39,6 +40,14 @@ column_twice = refl
 pub table_drawn : changes_of 16384 (new_table (codes "t") (column (codes "a") ∷ column (codes "b") ∷ []))
     ≡ Insert (Class (oid 16384) (codes "t") Table None) ∷ Insert (Att (oid 16384) 1 (codes "a") Int4 (negsuc 0) true) ∷ Insert (Att (oid 16384) 2 (codes "b") Int4 (negsuc 0) true) ∷ []
 table_drawn = refl
+
+-- a table has no field of an index
+pub field_of_index : effect_of (rows_of (Class (oid 16384) (codes "t") Table None)) (plan_of [] (commands.Show (codes "t") (Some fields.Of))) ≡ Refuses (errors.NoField (codes "t") fields.Of)
+field_of_index = refl
+
+-- and an index has it
+pub field_of_its_own : effect_of (rows_of (Class (oid 16384) (codes "i") Index None)) (plan_of [] (commands.Show (codes "i") (Some fields.Of))) ≡ Nothing
+field_of_its_own = refl
 
 -- no row has the name
 pub no_relation : effect_of (λ scan. []) (plan_of [] (commands.Show (codes "t") None)) ≡ Unknown (codes "t")

@@ -3,10 +3,11 @@ use Rattle.std.specs.Prelude.{ℕ, Bool, true, false, Option, Some, None, List, 
 use Rattle.std.specs.List.{list_any, enumerate_from}
 use Rattle.std.specs.Str.{bytes_eq}
 use Rattle.base_types.specs.declared.dropped.TheConstants.{MOST_COLUMNS}
+use Rattle.base_types.specs.Fields.{has_field}
 use Rattle.base_types.specs.declared.row.Row.TheVariants as rows
 use Rattle.base_types.specs.declared.command.Command.TheVariants as commands
 use Rattle.rel_desc.specs.declared.error.CommandError.TheVariants as errors
-use Rattle.ddl_effect.specs.Types.{Oid, Mode, AccessShare, Kind, Table, Row, Change, Insert, Command, NewColumn, Scenario, CommandError, Draft}
+use Rattle.ddl_effect.specs.Types.{Oid, Mode, AccessShare, Kind, Table, Field, Row, Change, Insert, Command, NewColumn, Scenario, CommandError, Draft}
 use Rattle.ddl_effect.specs.Plans.{Lookup, Open, Write, Plan, Done, Fails, Absent, Do, NotBuilt}
 
 -- the commands of a backend, in order
@@ -69,6 +70,10 @@ creating name columns = if_passes (nat_le (length columns) MOST_COLUMNS) errors.
 abbrev pub showing : Oid → Kind → Plan
 showing rel kind = opening rel kind Done
 
+-- `show T FIELD`, after its lookup: the kind has the field
+abbrev pub showing_field : List ℕ → Field → Oid → Kind → Plan
+showing_field name field rel kind = if_passes (has_field kind field) (errors.NoField name field) (opening rel kind Done)
+
 -- the relation is a table
 abbrev pub is_table : Kind → Bool
 is_table Table = true
@@ -84,6 +89,7 @@ plan_of held commands.Begin = Done
 plan_of held commands.Commit = Done
 plan_of held commands.Rollback = Done
 plan_of held (commands.Show name None) = looking_up name AccessShare showing
+plan_of held (commands.Show name (Some field)) = looking_up name AccessShare (showing_field name field)
 plan_of held (commands.LockTable name mode) = looking_up name mode (locking name)
 plan_of held (commands.CreateTable name columns) = creating name columns
 plan_of held command = NotBuilt

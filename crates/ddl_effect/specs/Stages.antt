@@ -5,7 +5,7 @@ use Rattle.ddl_effect.specs.declared.exec.Exec.TheVariants as stages
 use Rattle.ddl_effect.specs.declared.want.Want.TheVariants as wants
 use Rattle.ddl_effect.specs.Types.{Exec, Want}
 use Rattle.ddl_effect.specs.Plans.{Act, Lookup, Open, Column, Read, Lock, Write, Plan, Done, Fails, Absent, Do, NotBuilt}
-use Rattle.ddl_effect.specs.Commands.{looking_up, showing, locking, opening, writing}
+use Rattle.ddl_effect.specs.Commands.{looking_up, showing, showing_field, locking, opening, writing}
 
 -- the plan that is left
 abbrev pub plan_at : Exec → Plan
@@ -13,6 +13,7 @@ plan_at stages.Done = Done
 plan_at (stages.Failing error) = Fails error
 plan_at (stages.Missing name) = Absent name
 plan_at (stages.Finding name) = looking_up name AccessShare showing
+plan_at (stages.FindingField name field) = looking_up name AccessShare (showing_field name field)
 plan_at (stages.Locking name mode) = looking_up name mode (locking name)
 plan_at (stages.Opening rel kind) = opening rel kind Done
 plan_at (stages.Writing draft) = writing draft
@@ -37,6 +38,7 @@ want_of NotBuilt = wants.Done
 -- at most so many acts are left
 abbrev pub acts_left : Exec → ℕ
 acts_left (stages.Finding name) = 2
+acts_left (stages.FindingField name field) = 2
 acts_left (stages.Locking name mode) = 1
 acts_left (stages.Opening rel kind) = 1
 acts_left (stages.Writing draft) = 1

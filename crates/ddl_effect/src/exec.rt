@@ -1,11 +1,11 @@
 ghost use Rattle.std.specs.Prelude.{◌≡◌, ◌<◌, true, [], IfOk, MatchOption};
 ghost use Rattle.ddl_effect.specs.Plans.{is_built, after_act};
-ghost use Rattle.ddl_effect.specs.Commands.{plan_of, found as found_rows, locking, showing, writing};
+ghost use Rattle.ddl_effect.specs.Commands.{plan_of, found as found_rows, locking, showing, showing_field, writing};
 ghost use Rattle.ddl_effect.specs.Stages.{plan_at, want_of, acts_left};
 
 use crate::table::create_table;
 use crate::{Draft, Want};
-use base_types::{Command, Kind, Mode, Name, NoMemory, Oid, Row};
+use base_types::{Command, Field, Kind, Mode, Name, NoMemory, Oid, Row, has_field};
 use rel_desc::CommandError;
 use std::alloc::Global;
 
@@ -20,6 +20,8 @@ pub enum Exec {
     Missing(Name),
     /// `show T`: it looks for the relation.
     Finding { name: Name },
+    /// `show T FIELD`: it looks for the relation, which has to have the field.
+    FindingField { name: Name, field: Field },
     /// `lock table`: it looks for the table, and locks it.
     Locking { name: Name, mode: Mode },
     /// It opens the relation's descriptor.
@@ -37,6 +39,13 @@ impl Exec {
         match command {
             Command::Begin | Command::Commit | Command::Rollback => Ok(Exec::Done),
             Command::Show { name, field: None } => Ok(Exec::Finding { name: *name }),
+            Command::Show {
+                name,
+                field: Some(field),
+            } => Ok(Exec::FindingField {
+                name: *name,
+                field: *field,
+            }),
             Command::LockTable { name, mode } => Ok(Exec::Locking {
                 name: *name,
                 mode: *mode,
@@ -56,7 +65,7 @@ impl Exec {
             Exec::Done => Want::Done,
             Exec::Failing(error) => Want::Fails(*error),
             Exec::Missing(name) => Want::Absent(*name),
-            Exec::Finding { name } => Want::Lookup {
+            Exec::Finding { name } | Exec::FindingField { name, .. } => Want::Lookup {
                 name: *name,
                 mode: Mode::AccessShare,
             },
@@ -79,6 +88,7 @@ impl Exec {
     {
         let next = match self {
             Exec::Finding { name } => found(*name, rows),
+            Exec::FindingField { name, field } => found_field(*name, *field, rows),
             Exec::Locking { name, .. } => locked(*name, rows),
             Exec::Opening { .. } | Exec::Writing(_) => Exec::Done,
             Exec::Done | Exec::Failing(_) | Exec::Missing(_) => return,
@@ -104,6 +114,23 @@ fn found(name: Name, rows: &[Row]) -> Exec
     ensures left { acts_left result < 2 }
 {
     match rows.first() {
+        Some(Row::Class { oid, kind, .. }) => Exec::Opening {
+            rel: *oid,
+            kind: *kind,
+        },
+        _ => Exec::Missing(name),
+    }
+}
+
+// After the lookup of `show T FIELD`.
+fn found_field(name: Name, field: Field, rows: &[Row]) -> Exec
+    ensures plan { plan_at result ≡ found_rows name (showing_field name field) rows.now }
+    ensures left { acts_left result < 2 }
+{
+    match rows.first() {
+        Some(Row::Class { kind, .. }) if !has_field(*kind, field) => {
+            Exec::Failing(CommandError::NoField { name, field })
+        }
         Some(Row::Class { oid, kind, .. }) => Exec::Opening {
             rel: *oid,
             kind: *kind,

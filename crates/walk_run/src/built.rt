@@ -8,7 +8,7 @@ use base_types::Command;
 use script_text::Script;
 
 /// Whether all commands of the script can be run today: `begin`, `commit`, `rollback`, `lock table`,
-/// `create table` and `show T`.
+/// `create table` and `show`.
 pub fn is_built(script: &Script) -> bool
     ensures { result ≡ is_built_scenario script.now }
 {
@@ -29,6 +29,6 @@ fn is_built_command(command: &Command) -> bool
             | Command::Rollback
             | Command::LockTable { .. }
             | Command::CreateTable { .. }
-            | Command::Show { field: None, .. }
+            | Command::Show { .. }
     )
 }
