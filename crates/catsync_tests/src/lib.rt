@@ -36,4 +36,6 @@ mod scripts;
 #[cfg(test)]
 mod segments;
 #[cfg(test)]
+mod sessions;
+#[cfg(test)]
 mod values;
