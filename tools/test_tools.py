@@ -25,6 +25,7 @@ TOP = os.path.dirname(TOOLS)
 sys.path.insert(0, TOOLS)
 
 from catsync_tools.access import Accesses
+from catsync_tools.explore import Exploration, arguments_of
 from catsync_tools.findings import Found, without_places
 from catsync_tools.layout import Span
 from catsync_tools.orders import History, Search
@@ -549,6 +550,16 @@ ROLLED_BACK_ANSWERS = {
     ("l 1 1 ok", "l 1 2 error 42P07 relation t already exists", "l 1 3 ok", "l 2 1 ok", "l 2 2 columns b:text"),
 }
 
+# Two backends look twice for a table that a third one makes. Here the turns that each go on longest aren't the fewest.
+TWO_LOOK = b"""backends 3
+1: create table t (a int4)
+2: show t name
+2: show t name
+3: show t name
+3: show t name
+end
+"""
+
 BY_HAND = ((TWO_CREATORS, TWO_CREATORS_ANSWERS), (CREATE_AND_SHOW, CREATE_AND_SHOW_ANSWERS),
            (ROLLED_BACK, ROLLED_BACK_ANSWERS))
 
@@ -611,6 +622,28 @@ class Explorer(unittest.TestCase):
                     report = self.report(script, *words)
                     for line, answers in zip(report.steps, report.answers):
                         self.assertEqual(self.run_with(script, line).answers, answers)
+
+    def test_line_of_steps_is_the_shortest(self):
+        """Of all orders that were run with these answers it has the fewest turns, and of those the fewest steps."""
+        for script, words in [(script, ()) for script, _ in BY_HAND] + [(TWO_LOOK, ("--most", "40", "--seed", "2"))]:
+            exploration = Exploration(arguments_of(("--program", PROGRAM) + words), script)
+            least, add = {}, exploration.findings.add
+
+            def add_and_count(run, history):
+                """Counts the fewest turns beside."""
+                key = without_places(run.answers)
+                least[key] = min(least.get(key, (99, 99)), (least_turns(history), len(history.steps)))
+                add(run, history)
+            exploration.findings.add = add_and_count
+            exploration.explore()
+            printed = Report(self.explore(script, *words)[1])
+            for line, answers in zip(printed.steps, printed.answers):
+                with self.subTest(line):
+                    again = self.run_with(script, line)
+                    self.assertEqual(again.answers, answers)
+                    self.assertEqual((len(line.split()) - 1, len(again.steps)), least.pop(without_places(answers)))
+            self.assertEqual(least, {})
+            exploration.program.close()
 
     def test_no_schedule_has_other_answers(self):
         """Schedules that are drawn at random lead to no other answers than those worked out by hand."""
@@ -676,6 +709,7 @@ class Explorer(unittest.TestCase):
                  (["--picture", "x.svg"], TWO_CREATORS, "--picture draws what --find finds, and there is no --find"),
                  (["--find", "ok", "--picture", "/no/such/a.svg"], TWO_CREATORS, "/no/such/a.svg: writing failed: "),
                  (["--program", "/no/such/program"], TWO_CREATORS, "/no/such/program: "),
+                 (["--program", "/bin/echo"], TWO_CREATORS, "/bin/echo: what it prints isn't an output of catsync"),
                  ([], b"", "catsync: line 1: NoBackends: ")]
         for name in ("bad_line", "not_built_yet"):
             error = os.path.join(examples, name + ".error")
