@@ -25,6 +25,7 @@ TOP = os.path.dirname(TOOLS)
 sys.path.insert(0, TOOLS)
 
 from catsync_tools.access import Accesses
+from catsync_tools.chains import Chains
 from catsync_tools.explore import Exploration, arguments_of
 from catsync_tools.findings import Found, without_places
 from catsync_tools.layout import Span
@@ -35,7 +36,7 @@ from catsync_tools.program import PROVED, Program, Run, is_up_to_date
 from catsync_tools.report import led_to
 from catsync_tools.scripts import read_script, steps_line, turns_of
 from catsync_tools.story import story_of
-from catsync_tools.turns import fewest_turns
+from catsync_tools.turns import Tried, fewest_turns
 
 PROGRAM = os.environ.get("CATSYNC_PROGRAM") or PROVED
 HAS_PROGRAM = "CATSYNC_PROGRAM" in os.environ or is_up_to_date(PROVED)
@@ -471,6 +472,16 @@ class FewestTurns(unittest.TestCase):
             steps, history = self.drawn(draw, draw.choice(((12, 12), (8, 8, 8), (10, 9, 8), (5, 5, 5, 5), (6, 6, 5, 4))))
             with self.subTest(steps):
                 self.check(steps, history, least_turns(history))
+
+    def test_places_that_are_passed_over(self):
+        """A place is passed over for one that has all its steps and no more turns, and for no other."""
+        _, history = self.drawn(random.Random(1), (5, 5))
+        tried = Tried(Chains(history.steps))
+        tried.add((2, 3), 4)
+        tried.add((4, 1), 2)
+        for place, turns, is_passed_over in (((2, 3), 4, True), ((1, 3), 5, True), ((4, 0), 2, True), ((2, 3), 3, False),
+                                             ((3, 2), 9, False), ((4, 1), 1, False), ((2, 4), 9, False)):
+            self.assertEqual(tried.has_better(place, turns), is_passed_over)
 
     def test_eight_backends(self):
         """Eight backends with a hundred steps each are no trouble."""
