@@ -5,6 +5,7 @@ The pictures are those of all outputs in examples/ and in tools/samples/; the la
 today makes. The explorer runs the proved executable, or the one that CATSYNC_PROGRAM names; without one its tests are
 skipped, but where that is set.
 """
+import functools
 import glob
 import html.parser
 import os
@@ -24,15 +25,18 @@ TOP = os.path.dirname(TOOLS)
 sys.path.insert(0, TOOLS)
 
 from catsync_tools.access import Accesses
-from catsync_tools.findings import without_places
+from catsync_tools.chains import Chains
+from catsync_tools.explore import Exploration, arguments_of
+from catsync_tools.findings import Found, without_places
 from catsync_tools.layout import Span
 from catsync_tools.orders import History, Search
 from catsync_tools.outputs import read_output
 from catsync_tools.picture import picture_of
 from catsync_tools.program import PROVED, Program, Run, is_up_to_date
-from catsync_tools.schedules import fewest_turns
+from catsync_tools.report import led_to
 from catsync_tools.scripts import read_script, steps_line, turns_of
 from catsync_tools.story import story_of
+from catsync_tools.turns import Tried, fewest_turns
 
 PROGRAM = os.environ.get("CATSYNC_PROGRAM") or PROVED
 HAS_PROGRAM = "CATSYNC_PROGRAM" in os.environ or is_up_to_date(PROVED)
@@ -342,6 +346,11 @@ def interleavings(counts):
                 yield [backend] + rest
 
 
+def order_of(history):
+    """What comes before what in a history."""
+    return tuple(sorted((step.backend, step.turn, tuple(sorted(step.before.items()))) for step in history.steps))
+
+
 class Orders(unittest.TestCase):
     """The search finds each order once, whatever the steps are."""
 
@@ -363,10 +372,6 @@ class Orders(unittest.TestCase):
             return Run(b"", made, ())
         return run
 
-    def order_of(self, history):
-        """What comes before what in a history."""
-        return tuple(sorted((step.backend, step.turn, tuple(sorted(step.before.items()))) for step in history.steps))
-
     def all_orders(self, steps):
         """The orders of all interleavings."""
         orders = set()
@@ -374,7 +379,7 @@ class Orders(unittest.TestCase):
             history = History(Accesses())
             for step in self.program(steps)(order, []).steps:
                 history.add(step)
-            orders.add(self.order_of(history))
+            orders.add(order_of(history))
         return orders
 
     def test_each_order_once(self):
@@ -386,28 +391,124 @@ class Orders(unittest.TestCase):
                      for backend, length in enumerate(lengths, 1)}
             with self.subTest(steps):
                 search = Search(self.program(steps), sorted(steps))
-                found = [self.order_of(history) for run, history in search.orders() if run]
+                found = [order_of(history) for run, history in search.orders() if run]
                 self.assertEqual(len(found), len(set(found)))
                 self.assertEqual(set(found), self.all_orders(steps))
 
-    def test_fewest_turns(self):
-        """The turns keep the order, and with two backends no other turns are fewer."""
+
+def history_of(steps, backends):
+    """The history of backends with these steps, in this order of turns."""
+    left = {backend: list(own) for backend, own in steps.items()}
+    history = History(Accesses())
+    for backend in backends:
+        history.add((backend, 1, left[backend].pop(0)))
+    return history
+
+
+def backends_of(turns):
+    """Whose step is next in turns, one by one."""
+    return [backend for backend, count in turns for _ in range(count)]
+
+
+def least_turns(history):
+    """The fewest turns that keep a history's order, with each step that can come next tried at each place."""
+    befores = {}
+    for step in history.steps:
+        befores.setdefault(step.backend, []).append(step.before)
+
+    @functools.lru_cache(maxsize=None)
+    def after(place, latest):
+        """The fewest turns from a place on, the one that is going on not counted."""
+        made = dict(place)
+        found = []
+        for backend, own in befores.items():
+            if made[backend] < len(own) and all(count <= made[other] for other, count in own[made[backend]].items()
+                                                if other != backend):
+                following = tuple(sorted({**made, backend: made[backend] + 1}.items()))
+                found.append((backend != latest) + after(following, backend))
+        return min(found, default=0)
+    return after(tuple((backend, 0) for backend in sorted(befores)), None)
+
+
+class FewestTurns(unittest.TestCase):
+    """The search for the fewest turns, whatever the steps are."""
+
+    STEPS = Orders.STEPS + tuple("lock %d as ok" % rel for rel in range(20, 26))
+
+    def drawn(self, draw, lengths):
+        """Random steps of backends, so many of each, and their history in a random order."""
+        steps = {backend: [draw.choice(self.STEPS) for _ in range(length)] for backend, length in enumerate(lengths, 1)}
+        order = [backend for backend, own in steps.items() for _ in own]
+        draw.shuffle(order)
+        return steps, history_of(steps, order)
+
+    def check(self, steps, history, least):
+        """The search finds the fewest turns, they keep the order, and it finds none where fewer are wanted."""
+        turns = fewest_turns(history.steps).turns
+        self.assertEqual(len(turns), least)
+        self.assertEqual(order_of(history_of(steps, backends_of(turns))), order_of(history))
+        self.assertEqual(fewest_turns(history.steps, least).turns, turns)
+        self.assertIsNone(fewest_turns(history.steps, least - 1).turns)
+
+    def test_against_all_interleavings(self):
+        """For each order of some steps, against all interleavings that are of this order."""
         draw = random.Random(5)
-        for _ in range(20):
-            steps = {backend: [draw.choice(self.STEPS) for _ in range(4)] for backend in (1, 2)}
-            least = {}
-            for order in interleavings({1: 4, 2: 4}):
-                history = History(Accesses())
-                for step in self.program(steps)(order, []).steps:
-                    history.add(step)
-                key = self.order_of(history)
-                least[key] = min(least.get(key, 9), len(turns_of(order)))
-            turns = fewest_turns(history.steps)
-            again = History(Accesses())
-            for step in self.program(steps)([backend for backend, count in turns for _ in range(count)], []).steps:
-                again.add(step)
-            self.assertEqual(self.order_of(again), self.order_of(history))
-            self.assertEqual(len(turns), least[self.order_of(history)])
+        for lengths in ((4, 4), (5, 3), (3, 3, 2), (2, 3, 3), (3, 3, 3), (2, 2, 2, 1), (2, 2, 2, 2)):
+            steps, _ = self.drawn(draw, lengths)
+            least, histories = {}, {}
+            for order in interleavings({backend: len(own) for backend, own in steps.items()}):
+                history = history_of(steps, order)
+                key = order_of(history)
+                histories[key] = history
+                least[key] = min(least.get(key, len(order)), len(turns_of(order)))
+            for key, history in histories.items():
+                with self.subTest(steps):
+                    self.check(steps, history, least[key])
+
+    def test_against_all_places(self):
+        """For longer histories, against all ways to go on at each place."""
+        draw = random.Random(8)
+        for _ in range(60):
+            steps, history = self.drawn(draw, draw.choice(((12, 12), (8, 8, 8), (10, 9, 8), (5, 5, 5, 5), (6, 6, 5, 4))))
+            with self.subTest(steps):
+                self.check(steps, history, least_turns(history))
+
+    def test_places_that_are_passed_over(self):
+        """A place is passed over for one that has all its steps and no more turns, and for no other."""
+        _, history = self.drawn(random.Random(1), (5, 5))
+        tried = Tried(Chains(history.steps))
+        tried.add((2, 3), 4)
+        tried.add((4, 1), 2)
+        for place, turns, is_passed_over in (((2, 3), 4, True), ((1, 3), 5, True), ((4, 0), 2, True), ((2, 3), 3, False),
+                                             ((3, 2), 9, False), ((4, 1), 1, False), ((2, 4), 9, False)):
+            self.assertEqual(tried.has_better(place, turns), is_passed_over)
+
+    def test_eight_backends(self):
+        """Eight backends with a hundred steps each are no trouble."""
+        draw = random.Random(3)
+        steps, history = self.drawn(draw, [100] * 8)
+        shortest = fewest_turns(history.steps)
+        self.assertEqual(len(shortest.turns), shortest.least)
+        self.assertEqual(order_of(history_of(steps, backends_of(shortest.turns))), order_of(history))
+
+    def test_search_that_is_given_up(self):
+        """It has turns that keep the order, knows how many there are at least, and says that fewer may do."""
+        draw, unsure = random.Random(2), 0
+        for _ in range(40):
+            steps, history = self.drawn(draw, (8, 8, 8))
+            least, given_up, found = least_turns(history), fewest_turns(history.steps, most_tried=0), Found()
+            self.assertEqual(order_of(history_of(steps, backends_of(given_up.turns))), order_of(history))
+            self.assertLessEqual(given_up.least, least)
+            self.assertGreaterEqual(len(given_up.turns), least)
+            found.add(history.steps, 0)
+            self.assertEqual(found.is_shortest, len(given_up.turns) == given_up.least)
+            if not found.is_shortest:
+                unsure += 1
+                self.assertEqual(led_to(found, "9 orders"), "1 of 9 orders (%d turns; the fewest are %d or more)" % (
+                    len(given_up.turns), given_up.least))
+            found.add(history.steps, 10000)
+            self.assertEqual(found.size, (least, len(history.steps)))
+        self.assertGreater(unsure, 0)
 
 
 # The explorer, with the program.
@@ -459,6 +560,16 @@ ROLLED_BACK_ANSWERS = {
     ("l 1 1 ok", "l 1 2 error 55P03 name t is in use by transaction 1", "l 1 3 ok", "l 2 1 ok", "l 2 2 columns b:text"),
     ("l 1 1 ok", "l 1 2 error 42P07 relation t already exists", "l 1 3 ok", "l 2 1 ok", "l 2 2 columns b:text"),
 }
+
+# Two backends look twice for a table that a third one makes. Here the turns that each go on longest aren't the fewest.
+TWO_LOOK = b"""backends 3
+1: create table t (a int4)
+2: show t name
+2: show t name
+3: show t name
+3: show t name
+end
+"""
 
 BY_HAND = ((TWO_CREATORS, TWO_CREATORS_ANSWERS), (CREATE_AND_SHOW, CREATE_AND_SHOW_ANSWERS),
            (ROLLED_BACK, ROLLED_BACK_ANSWERS))
@@ -522,6 +633,28 @@ class Explorer(unittest.TestCase):
                     report = self.report(script, *words)
                     for line, answers in zip(report.steps, report.answers):
                         self.assertEqual(self.run_with(script, line).answers, answers)
+
+    def test_line_of_steps_is_the_shortest(self):
+        """Of all orders that were run with these answers it has the fewest turns, and of those the fewest steps."""
+        for script, words in [(script, ()) for script, _ in BY_HAND] + [(TWO_LOOK, ("--most", "40", "--seed", "2"))]:
+            exploration = Exploration(arguments_of(("--program", PROGRAM) + words), script)
+            least, add = {}, exploration.findings.add
+
+            def add_and_count(run, history):
+                """Counts the fewest turns beside."""
+                key = without_places(run.answers)
+                least[key] = min(least.get(key, (99, 99)), (least_turns(history), len(history.steps)))
+                add(run, history)
+            exploration.findings.add = add_and_count
+            exploration.explore()
+            printed = Report(self.explore(script, *words)[1])
+            for line, answers in zip(printed.steps, printed.answers):
+                with self.subTest(line):
+                    again = self.run_with(script, line)
+                    self.assertEqual(again.answers, answers)
+                    self.assertEqual((len(line.split()) - 1, len(again.steps)), least.pop(without_places(answers)))
+            self.assertEqual(least, {})
+            exploration.program.close()
 
     def test_no_schedule_has_other_answers(self):
         """Schedules that are drawn at random lead to no other answers than those worked out by hand."""
@@ -587,6 +720,7 @@ class Explorer(unittest.TestCase):
                  (["--picture", "x.svg"], TWO_CREATORS, "--picture draws what --find finds, and there is no --find"),
                  (["--find", "ok", "--picture", "/no/such/a.svg"], TWO_CREATORS, "/no/such/a.svg: writing failed: "),
                  (["--program", "/no/such/program"], TWO_CREATORS, "/no/such/program: "),
+                 (["--program", "/bin/echo"], TWO_CREATORS, "/bin/echo: what it prints isn't an output of catsync"),
                  ([], b"", "catsync: line 1: NoBackends: ")]
         for name in ("bad_line", "not_built_yet"):
             error = os.path.join(examples, name + ".error")

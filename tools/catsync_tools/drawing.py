@@ -155,7 +155,7 @@ def draw(story: Story, span: Span):
         element("rect", width=layout.width, height=layout.height, fill="#ffffff"),
         text_at(12, 17, title, "head"), key,
         lanes_ground(layout), rows_drawn(layout, "entry", row_ground), bars_drawn(layout, story),
-        rows_drawn(layout, "header", header_row), arrows_drawn(layout, story, messages, refusals),
+        arrows_drawn(layout, story, messages, refusals), rows_drawn(layout, "header", header_row),
         rows_drawn(layout, "answer", answer_text), rows_drawn(layout, "entry", entry_text),
     ]
     return layout, svg(layout.width, layout.height, "\n".join(parts))

@@ -1,10 +1,16 @@
 """The sets of answers that schedules led to."""
 import re
+import sys
 from typing import Dict, Tuple
 
 from .program import Run
-from .schedules import fewest_turns
-from .scripts import Turns, turns_of
+from .scripts import Turns
+from .turns import MOST_TRIED, fewest_turns
+
+Size = Tuple[int, int]      # of a schedule: turns, and steps
+
+LARGEST: Size = (sys.maxsize, sys.maxsize)
+PLACES_EACH = 20            # that searches may try beyond the first for each schedule
 
 _PLACE = re.compile(r" as of [0-9]+")
 
@@ -20,14 +26,23 @@ class Found:
     def __init__(self):
         self.count = 0
         self.turns: Turns = []
-        self.size: Tuple[int, int] = (0, 0)
+        self.size: Size = LARGEST
+        self.least: Size = LARGEST
 
-    def add(self, turns: Turns):
-        """One more schedule; of the shortest with the fewest turns counts first, then the fewest steps."""
-        size = (len(turns), sum(count for _, count in turns))
-        if not self.turns or (size, turns) < (self.size, self.turns):
-            self.turns, self.size = turns, size
+    def add(self, steps, most_tried):
+        """One more schedule, and with it all of its order; how many places the search for the shortest of these tried."""
+        most = self.size[0] if len(steps) < self.size[1] else self.size[0] - 1
+        found = fewest_turns(steps, min(most, len(steps)), most_tried)
         self.count += 1
+        if found.turns:
+            self.turns, self.size = found.turns, (len(found.turns), len(steps))
+        self.least = min(self.least, (found.least, len(steps)))
+        return found.tried
+
+    @property
+    def is_shortest(self):
+        """Whether no search was given up that could have found a shorter one."""
+        return self.size <= self.least
 
 
 class Findings:
@@ -35,6 +50,7 @@ class Findings:
 
     def __init__(self, places):
         self.places = places
+        self.left = MOST_TRIED
         self.sets: Dict[Tuple[str, ...], Found] = {}
 
     def key(self, answers):
@@ -43,8 +59,11 @@ class Findings:
 
     def add(self, run: Run, history):
         """One more run."""
-        turns = turns_of(step.backend for step in history.steps) if self.places else fewest_turns(history.steps)
-        self.sets.setdefault(self.key(run.answers), Found()).add(turns)
+        key = self.key(run.answers)
+        found = self.sets.get(key) or Found()
+        self.left += PLACES_EACH
+        self.left -= found.add(history.steps, self.left)
+        self.sets[key] = found
 
     def start_counting(self):
         """Forgets how many schedules there were, and not what they led to."""

@@ -67,8 +67,13 @@ class Program:
             raise KeyboardInterrupt
         if status != 0:
             raise Fault(self.refusal(status))
-        lines = output.decode("ascii").split("\n")
-        steps = [step_of(line) for line in lines if line.startswith("h ")]
+        try:
+            lines = output.decode("ascii").split("\n")
+            steps = [step_of(line) for line in lines if line.startswith("h ")]
+        except ValueError:
+            steps = []
+        if not steps:
+            raise Fault("%s: what it prints isn't an output of catsync" % self.path)
         return Run(output, steps, tuple(line for line in lines if line.startswith("l ")))
 
     def wait(self):

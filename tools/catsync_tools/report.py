@@ -1,8 +1,8 @@
 """What tools/explore prints."""
 from .faults import Fault
-from .schedules import fewest_turns
 from .scripts import turns_of
 from .sentences import counted
+from .turns import fewest_turns
 
 
 def lines_with(text, run):
@@ -33,15 +33,23 @@ def confirmed(exploration, answers, turns):
     return [line] + list(run.answers)
 
 
+def led_to(found_set, all_schedules):
+    """How many schedules led to a set of answers; and where it isn't sure that the shortest is known, what is known."""
+    count = "%d of %s" % (found_set.count, all_schedules)
+    if found_set.count == 0:
+        count = "none of the random schedules, but an order that was run before them"
+    if found_set.is_shortest:
+        return count
+    return "%s (%d turns; the fewest are %d or more)" % (count, found_set.size[0], found_set.least[0])
+
+
 def report(exploration):
     """All sets of answers, with how many schedules led to each, and the shortest of these."""
     sets = exploration.findings.sorted()
     lines = []
     for number, (answers, found_set) in enumerate(sets, 1):
-        count = "%d of %s" % (found_set.count, kind_of(exploration, exploration.schedules))
-        if found_set.count == 0:
-            count = "none of the random schedules, but an order that was run before them"
-        lines += ["", "set %d: %s" % (number, count)] + confirmed(exploration, answers, found_set.turns)
+        head = "set %d: %s" % (number, led_to(found_set, kind_of(exploration, exploration.schedules)))
+        lines += ["", head] + confirmed(exploration, answers, found_set.turns)
     head = "%s: %s of answers (%s of the program)" % (
         extent(exploration), counted(len(sets), "set"), counted(exploration.program.runs, "run"))
     return "\n".join([head] + lines) + "\n"
@@ -50,7 +58,7 @@ def report(exploration):
 def found(exploration):
     """The schedule that was looked for, with what has the text; and its run."""
     text = exploration.options.find
-    line, run = exploration.again(fewest_turns(exploration.found))
+    line, run = exploration.again(fewest_turns(exploration.found).turns)
     if not lines_with(text, run):
         line, run = exploration.again(turns_of(step.backend for step in exploration.found))
     head = "found after %s:" % kind_of(exploration, exploration.schedules)
