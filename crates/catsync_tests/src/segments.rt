@@ -101,13 +101,12 @@ fn a_segment_has_its_history(rt: HostRuntime) -> Result<(), Fail> {
 }
 
 #[test]
-fn places_are_promised_by_turns(rt: HostRuntime) -> Result<(), Fail> {
+fn places_are_promised(rt: HostRuntime) -> Result<(), Fail> {
     let alloc = rt.alloc();
     let script = script_of(alloc, b"backends 2\nend\n")?;
     assert!(rt; script.backends() == 2);
     let mut seg = Shared::new(alloc, &script)?;
-    seg.promise(1, 3)?;
     seg.promise(2, 70)?;
-    assert!(rt; seg.promised(1) >= 3 && seg.promised(2) >= 70);
+    assert!(rt; seg.promised(2) >= 70);
     Ok(())
 }
