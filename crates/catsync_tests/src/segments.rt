@@ -99,14 +99,3 @@ fn a_segment_has_its_history(rt: HostRuntime) -> Result<(), Fail> {
     assert!(rt; seg.into_history().len() == 32);
     Ok(())
 }
-
-#[test]
-fn places_are_promised(rt: HostRuntime) -> Result<(), Fail> {
-    let alloc = rt.alloc();
-    let script = script_of(alloc, b"backends 2\nend\n")?;
-    assert!(rt; script.backends() == 2);
-    let mut seg = Shared::new(alloc, &script)?;
-    seg.promise(2, 70)?;
-    assert!(rt; seg.promised(2) >= 70);
-    Ok(())
-}
