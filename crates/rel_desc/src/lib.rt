@@ -21,11 +21,17 @@
 
 mod answer;
 mod answer_parts;
+mod desc_build;
+mod descriptor;
 mod error;
+mod kept_scans;
+mod part;
 mod text;
 mod value;
 
 pub use answer::{Answer, Column, Shown};
+pub use desc_build::DescBuild;
+pub use descriptor::Descriptor;
 pub use error::CommandError;
 pub use text::answer_text;
 pub use value::Value;
