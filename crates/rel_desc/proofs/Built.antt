@@ -1,6 +1,6 @@
 -- A build goes on scan by scan, and is done just where it wants none.
 use Rattle.std.proofs.Common.{◌≡◌, ℕ, zero, suc, ◌≤◌, Bool, true, false, cond, ◌||◌, Option, Some, None, List, [], ◌∷◌, ◌++◌, length, take, refl, ap, sym, subst, ◌∙◌, arith, eq-eqb, Bor}
-use Rattle.std.specs.Prelude.{map, slice_get, is_some, ◌==◌, ◌↔◌, if◌then◌else◌}
+use Rattle.std.specs.Prelude.{map, slice_get, is_some, IsSomeAnd, OnOk, OnErr, Result, Ok, Err, ◌==◌, ◌↔◌, if◌then◌else◌}
 use Rattle.std.specs.Option.{option_map, option_copied}
 use Rattle.std.specs.List.{list_any, flat_map, AllByRecursion}
 use Rattle.std.proofs.lemmas.List.{take_all, map-append, length-map}
@@ -162,3 +162,27 @@ has_field_shown d field shown built is =
 -- and so is its place
 pub has_place_shown : (d : Described) (field : Field) (shown : Option ℕ) → IsBuilt d → shown ≡ place_of d field → is_some shown ≡ has_field (kind_of d) field
 has_place_shown d field shown built is = ap is_some is ∙ is_some-map (λ k. k.at) (reader_of d field) ∙ has_reader d field built
+
+-- a build after a scan that was taken, or for which there was no memory
+pub begun_taken : {T E : Type 0} (r : Result T E) (now d new : Described) (scan : Purpose) (given : List Row) (at : ℕ) → d ≡ now → IsBegun d → Some scan ≡ wanted now
+    → IsSomeAnd (wanted now) (λ s. IsGiven s given) → OnOk r (new ≡ with_scan d scan given at) → OnErr r (new ≡ d) → IsBegun new
+begun_taken (Ok x) now d new scan given at is begun want asked ok err =
+    let fits : IsGiven scan given = subst (λ (o : Option Purpose). IsSomeAnd o (λ s. IsGiven s given)) (sym want) asked in
+    subst IsBegun (sym ok) (begun_more d scan given at begun (ap wanted is ∙ sym want) fits)
+begun_taken (Err e) now d new scan given at is begun want asked ok err = subst IsBegun (sym err) begun
+
+-- the text that the scan gives is that of the field, where the kind has the field
+pub field_if : (now d : Described) (field : Field) (text : Option (List ℕ)) → d ≡ now → has_field (kind_of d) field ≡ true
+    → text ≡ option_map (λ k. field_text field d.rel k.rows) (kept_for d.kept (read_by field d.rel)) → text ≡ field_of now field
+field_if now d field text is has found =
+    subst (λ (e : Described). text ≡ field_of e field) is (found ∙ ap (λ (t : Bool). option_map (λ k. field_text field d.rel k.rows) (if t then kept_for d.kept (read_by field d.rel) else None)) (sym has))
+
+-- and so is the place
+pub place_if : (now d : Described) (field : Field) (place : Option ℕ) → d ≡ now → has_field (kind_of d) field ≡ true
+    → place ≡ option_map (λ k. k.at) (kept_for d.kept (read_by field d.rel)) → place ≡ place_of now field
+place_if now d field place is has found =
+    subst (λ (e : Described). place ≡ place_of e field) is (found ∙ ap (λ (t : Bool). option_map (λ k. k.at) (if t then kept_for d.kept (read_by field d.rel) else None)) (sym has))
+
+-- a descriptor is built, seen from outside
+pub built_seen : (now d : Described) → d ≡ now → IsBuilt d → IsBuilt now
+built_seen now d is built = subst IsBuilt is built
