@@ -2,7 +2,7 @@
 use Rattle.std.proofs.Common.{◌≡◌, ℕ, zero, suc, ◌≤◌, Bool, true, false, cond, ◌||◌, Option, Some, None, List, [], ◌∷◌, ◌++◌, length, take, refl, ap, sym, subst, ◌∙◌, arith, eq-eqb, Bor}
 use Rattle.std.specs.Prelude.{map, slice_get, is_some, IsSomeAnd, OnOk, OnErr, Result, Ok, Err, ◌==◌, ◌↔◌, if◌then◌else◌}
 use Rattle.std.specs.Option.{option_map, option_copied}
-use Rattle.std.specs.List.{list_any, flat_map, AllByRecursion}
+use Rattle.std.specs.List.{find, list_any, flat_map, AllByRecursion}
 use Rattle.std.proofs.lemmas.List.{take_all, map-append, length-map}
 use Rattle.rel_desc.specs.Types.{Oid, Kind, Field, Purpose, Row}
 use Rattle.base_types.specs.declared.kind.Kind.TheVariants.{Table, Index}
@@ -11,6 +11,7 @@ use Rattle.base_types.specs.declared.field.Field.TheVariants as fields
 use Rattle.base_types.specs.declared.scan.Purpose.TheVariants.{Class}
 use Rattle.base_types.specs.Scans.{build_scans, same_scan}
 use Rattle.base_types.specs.Fields.{has_field, read_by, field_text}
+use Rattle.base_types.proofs.SameScan.{same_scan-true}
 use Rattle.rel_desc.specs.Descriptors.{KeptScan, Described, kind_in, kind_of, unread, wanted, with_scan, is_own_row, IsGiven, IsBegun, IsBuilt, kept_for, reader_of, field_of, place_of}
 
 kind_first : (row : Row) (a b : List Row) → kind_in (row ∷ a) ≡ kind_in (row ∷ b)
@@ -186,3 +187,19 @@ place_if now d field place is has found =
 -- a descriptor is built, seen from outside
 pub built_seen : (now d : Described) → d ≡ now → IsBuilt d → IsBuilt now
 built_seen now d is built = subst IsBuilt is built
+
+found_passes : {X : Type 0} (test : X → Bool) (xs : List X) (x : X) → find test xs ≡ Some x → test x ≡ true
+found_passes test [] x is = absurd (cc)
+found_passes test (y ∷ xs) x is = found_by (test y) refl is (found_passes test xs x)
+  where
+    found_by : (t : Bool) → test y ≡ t → cond t (Some y) (find test xs) ≡ Some x → (find test xs ≡ Some x → test x ≡ true) → test x ≡ true
+    found_by true passes first later = let e : y ≡ x = cc in subst (λ z. test z ≡ true) e passes
+    found_by false fails first later = later first
+
+-- the scan that read a field is the one that reads it
+pub reader_scan : (d : Described) (field : Field) (k : KeptScan) → reader_of d field ≡ Some k → k.scan ≡ read_by field d.rel
+reader_scan d field k is = by_kind (has_field (kind_of d) field) is
+  where
+    by_kind : (t : Bool) → (if t then kept_for d.kept (read_by field d.rel) else None) ≡ Some k → k.scan ≡ read_by field d.rel
+    by_kind true found = same_scan-true k.scan (read_by field d.rel) (found_passes (λ k. same_scan k.scan (read_by field d.rel)) d.kept k found)
+    by_kind false found = absurd (cc)

@@ -27,7 +27,7 @@ impl Model for DescBuild {
 
 impl DescBuild {
     ghost use Rattle.std.specs.Prelude.{◌↔◌, None, IsSomeAnd, OnOk, OnErr};
-    ghost use Rattle.rel_desc.specs.Descriptors.{unread, wanted, taken, IsGiven, IsBuilt};
+    ghost use Rattle.rel_desc.specs.Descriptors.{unread, wanted, taken, IsGiven, IsBegun, IsBuilt};
 
     /// A build for which nothing was read. It takes no memory.
     pub fn new(alloc: Global, rel: Oid) -> DescBuild
@@ -41,7 +41,8 @@ impl DescBuild {
 
     /// The relation.
     pub fn rel(&self) -> Oid
-        ensures { result ≡ self.now.rel }
+        ensures rel { result ≡ self.now.rel }
+        ensures begun { IsBegun self.now }
     {
         self.scans.rel()
     }

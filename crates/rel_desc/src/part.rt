@@ -89,10 +89,8 @@ fn fields_read(scan: &Purpose) -> &'static [Field]
         Purpose::Index(_) => &[Field::Indexes],
         Purpose::Trigger(_) => &[Field::Triggers],
         Purpose::IndexRow(_) => &[Field::Of, Field::Valid],
-        Purpose::RelName(_)
-        | Purpose::RelOid(_)
-        | Purpose::AttName(..)
-        | Purpose::AttList(_) => &[],
+        Purpose::RelName(_) | Purpose::RelOid(_) | Purpose::AttName(..) | Purpose::AttList(_) =>
+            &[],
     }
 }
 

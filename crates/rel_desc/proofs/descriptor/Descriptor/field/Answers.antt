@@ -1,4 +1,4 @@
-use Rattle.std.proofs.Common.{◌≡◌, true, ap, ◌∙◌, sym}
+use Rattle.std.proofs.Common.{◌≡◌, true, ◌∙◌, sym}
 use Rattle.base_types.specs.Fields.{has_field}
 use Rattle.rel_desc.specs.Descriptors.{kind_of}
 use Rattle.rel_desc.proofs.Built.{field_if, has_field_shown, built_seen}
