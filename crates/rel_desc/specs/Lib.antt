@@ -1,2 +1,4 @@
 pub mod Types
 pub mod Answers
+pub mod Descriptors
+pub mod KeptRows

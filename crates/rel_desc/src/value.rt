@@ -1,5 +1,7 @@
-ghost use Rattle.std.specs.Prelude.{◌≡◌};
+ghost use Rattle.std.specs.Prelude.{◌≡◌, IfOk};
 
+use base_types::NoMemory;
+use std::alloc::Global;
 use std::marker::Model;
 
 /// The text of one field of a relation, without a line's end.
@@ -37,5 +39,15 @@ impl Value {
         ensures in_line { IsInLine self.now }
     {
         self.text.as_slice()
+    }
+
+    /// A copy of the value, as an answer takes one from a descriptor.
+    // used by `show` over descriptors, which is not built yet
+    pub fn copy(&self, alloc: Global) -> Result<Value, NoMemory>
+        ensures { IfOk result (λ copy. copy ≡ self.now) }
+    {
+        let mut text = Vec::new(alloc);
+        text.extend_from_slice(self.text.as_slice())?;
+        Ok(Value { text })
     }
 }

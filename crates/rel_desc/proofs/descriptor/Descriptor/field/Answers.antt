@@ -1,0 +1,14 @@
+use Rattle.std.proofs.Common.{◌≡◌, true, ◌∙◌, sym}
+use Rattle.base_types.specs.Fields.{has_field}
+use Rattle.rel_desc.specs.Descriptors.{kind_of}
+use Rattle.rel_desc.proofs.Built.{field_if, has_field_shown, built_seen}
+use Rattle.rel_desc.proofs.descriptor.Descriptor.field.Goals as goal
+
+pub returns-then-has_field-clause-value : goal.returns-then-has_field-clause-value
+returns-then-has_field-clause-value c =
+    let has : has_field (kind_of c.self.inside.scans) c.args.field ≡ true = sym (rw c.kind.ensures at c.has_field.ensures) ∙ c.if-has_field.true in
+    field_if c.args.self.now c.self.inside.scans c.args.field _ c.self.view_is has c.value.ensures
+
+pub returns-then-has_field-clause-has : goal.returns-then-has_field-clause-has
+returns-then-has_field-clause-has c =
+    has_field_shown c.args.self.now c.args.field c.value.result (built_seen c.args.self.now c.self.inside.scans c.self.view_is c.self.invariant) (returns-then-has_field-clause-value c)
