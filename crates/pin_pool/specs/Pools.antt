@@ -1,9 +1,10 @@
 -- What a reference names in a pool, and what a call may change.
 use Rattle.std.specs.Prelude.{◌≡◌, ◌≢◌, ℕ, ◌+◌, ◌<◌, ◌==◌, Option, Some, None, slice_index, if◌then◌else◌}
 use Rattle.slab.specs.Slab.{get}
-use Rattle.pin_pool.specs.Entries.{Entry, Slot, held_at}
-pub use Rattle.pin_pool.specs.declared.reference.Ref.{Ref}
-pub use Rattle.pin_pool.specs.declared.pool.Pool.{Pool}
+use Rattle.pin_pool.specs.Entries.{Entry}
+use Rattle.pin_pool.specs.Slots.{held_at}
+use Rattle.pin_pool.specs.declared.reference.Ref.{Ref}
+use Rattle.pin_pool.specs.declared.pool.Pool.{Pool}
 
 module _ {T : Type 0} where
   -- the generation of the next entry at a place: how many entries it had so far
@@ -11,11 +12,11 @@ module _ {T : Type 0} where
   next_generation pool place = slice_index pool.generations.items place
 
   -- what a reference names: the entry at its place, where that is of its generation
-  abbrev pub entry_of : Pool T → Ref → Option (Entry T)
+  unfoldable pub entry_of : Pool T → Ref → Option (Entry T)
   entry_of pool r = if r.generation + 1 == next_generation pool r.place then held_at (get pool.places r.place) else None
 
   -- the reference was handed out at some time, whether or not its entry has gone
-  abbrev pub WasGiven : Pool T → Ref → Type 0
+  unfoldable pub WasGiven : Pool T → Ref → Type 0
   WasGiven pool r = r.generation < next_generation pool r.place
 
   -- the reference was handed out, and its entry has gone

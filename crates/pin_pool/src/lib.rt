@@ -26,9 +26,9 @@
 //! `src/include/utils/catcache.h`, the `rd_refcnt` of a relation in `src/include/utils/rel.h`.
 #![tactic(auto)]
 
-mod entry;
 mod pool;
 mod reference;
+mod slot;
 
 pub use pool::{Back, Pool};
 pub use reference::Ref;

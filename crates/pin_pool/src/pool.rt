@@ -3,7 +3,7 @@ ghost use Rattle.std.specs.Option.{option_map, option_and_then};
 ghost use Rattle.slab.specs.Slab.{get as slot_at};
 
 use crate::Ref;
-use crate::entry::{Entry, Slot};
+use crate::slot::Slot;
 use slab::Slab;
 use std::alloc::{AllocError, Global};
 use std::mem;
@@ -23,6 +23,7 @@ pub struct Pool<T> {
     ghost reusable: { (place : ℕ) → slot_at places place ≡ None → slice_index generations.items place < 4294967295 },
 }
 
+#[tactic(auto, unfolding(crate::specs::Pools::entry_of, crate::specs::Pools::WasGiven))]
 impl<T> Pool<T> {
     ghost use Rattle.pin_pool.specs.Entries.{new_entry, pinned, with_value, unpinned, marked, value_at_unpin, value_at_mark};
     ghost use Rattle.pin_pool.specs.Pools.{entry_of, HasGone, IsSame, Changes};
@@ -53,11 +54,11 @@ impl<T> Pool<T> {
         let Ok(()) = reach(&mut self.generations, place) else {
             return Err(Back { value });
         };
-        self.places.insert_reserved(Slot::Held(Entry {
+        self.places.insert_reserved(Slot::Held {
             value,
             pins: 1,
             dead: false,
-        }));
+        });
         let generation = self.generations[place];
         self.generations[place] = generation + 1;
         Ok(Ref { place, generation })
@@ -72,10 +73,10 @@ impl<T> Pool<T> {
         let Some(slot) = self.places.get_mut(r.place) else {
             unreachable!()
         };
-        let Slot::Held(entry) = slot else {
+        let Slot::Held { pins, .. } = slot else {
             unreachable!()
         };
-        entry.pins += 1;
+        *pins += 1;
     }
 
     /// The value that a reference names. Condition: it names an entry.
@@ -83,10 +84,10 @@ impl<T> Pool<T> {
         requires { IsSome (entry_of self.now r.now) }
         ensures { option_map (λ e. e.value) (entry_of self.now r.now) ≡ Some result.now }
     {
-        let Some(Slot::Held(entry)) = self.places.get(r.place) else {
+        let Some(Slot::Held { value, .. }) = self.places.get(r.place) else {
             unreachable!()
         };
-        &entry.value
+        value
     }
 
     /// How many pins an entry has. Condition: the reference names an entry.
@@ -94,10 +95,10 @@ impl<T> Pool<T> {
         requires { IsSome (entry_of self.now r.now) }
         ensures { option_map (λ e. e.pins) (entry_of self.now r.now) ≡ Some result }
     {
-        let Some(Slot::Held(entry)) = self.places.get(r.place) else {
+        let Some(Slot::Held { pins, .. }) = self.places.get(r.place) else {
             unreachable!()
         };
-        entry.pins
+        *pins
     }
 
     /// Puts a value in the place of the entry's, which is handed out: the same references show the new one,
@@ -125,11 +126,11 @@ impl<T> Pool<T> {
         let Some(slot) = self.places.get_mut(r.place) else {
             unreachable!()
         };
-        let Slot::Held(entry) = slot else {
+        let Slot::Held { pins, dead, .. } = slot else {
             unreachable!()
         };
-        if entry.pins > 1 || !entry.dead {
-            entry.pins -= 1;
+        if *pins > 1 || !*dead {
+            *pins -= 1;
             return None;
         }
         Some(self.take_out(r))
@@ -146,11 +147,11 @@ impl<T> Pool<T> {
         let Some(slot) = self.places.get_mut(r.place) else {
             unreachable!()
         };
-        let Slot::Held(entry) = slot else {
+        let Slot::Held { pins, dead, .. } = slot else {
             unreachable!()
         };
-        if entry.pins > 0 {
-            entry.dead = true;
+        if *pins > 0 {
+            *dead = true;
             return None;
         }
         Some(self.take_out(r))

@@ -1,21 +1,15 @@
 ghost use Rattle.std.specs.Prelude.{◌≡◌, Some, IsSome};
 ghost use Rattle.std.specs.Option.{option_map};
-ghost use Rattle.pin_pool.specs.Entries.{held_in, with_value};
+ghost use Rattle.pin_pool.specs.Slots.{held_in};
+ghost use Rattle.pin_pool.specs.Entries.{with_value};
 
 use std::mem;
-
-// A value, how many pins it has, and whether it goes with the last of them.
-#[derive(Drop)]
-pub(crate) struct Entry<T> {
-    pub(crate) value: T,
-    pub(crate) pins: u32,
-    pub(crate) dead: bool,
-}
 
 // What is kept at a place that isn't vacant.
 #[derive(Drop)]
 pub(crate) enum Slot<T> {
-    Held(Entry<T>),
+    // an entry: how many pins it has, and whether it goes with the last of them
+    Held { value: T, pins: u32, dead: bool },
     // the place has had its last generation
     Retired,
 }
@@ -27,13 +21,11 @@ impl<T> Slot<T> {
         ensures { option_map (λ e. e.value) (held_in self) ≡ Some result }
     {
         match self {
-            Slot::Held(
-                Entry {
-                    value,
-                    pins: _,
-                    dead: _,
-                },
-            ) => value,
+            Slot::Held {
+                value,
+                pins: _,
+                dead: _,
+            } => value,
             Slot::Retired => unreachable!(),
         }
     }
@@ -44,7 +36,7 @@ impl<T> Slot<T> {
         ensures value { option_map (λ e. e.value) (held_in self.old) ≡ Some result }
         ensures entry { held_in self.new ≡ option_map (with_value value) (held_in self.old) }
     {
-        let Slot::Held(Entry { value: held, .. }) = self else {
+        let Slot::Held { value: held, .. } = self else {
             unreachable!()
         };
         mem::replace(held, value)
