@@ -101,7 +101,7 @@ weak_or_strong p (Some (rows.Att rel num own col_type old live)) (forms.Put (row
     (λ is. (column_fixed rel to num num' own name col_type col_type' stat stat live live' is, refl, refl)) some
 weak_or_strong p old item some = inl (only (p AccessExclusive) some)
 
--- a row names the relation of which it is
+-- what holds of each relation that a row names holds of its own
 pub main_of : (Q : Oid → Type 0) (row : Row) → AllByRecursion Q (relations_of row) → Q (main_rel row)
 main_of Q (rows.Class oid own kind fill) all = all.0
 main_of Q (rows.Att rel num own col_type stat live) all = all.0

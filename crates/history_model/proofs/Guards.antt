@@ -61,7 +61,7 @@ is_changing ShareRowExclusive = true
 is_changing AccessExclusive = true
 is_changing mode = false
 
--- the strongest of them, and the weakest
+-- AccessExclusive alone, and ShareUpdateExclusive alone
 abbrev pub is_exclusive : Mode → Bool
 is_exclusive AccessExclusive = true
 is_exclusive mode = false

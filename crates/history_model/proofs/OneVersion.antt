@@ -45,10 +45,10 @@ pair-both R S [] one two = tt
 pair-both R S (x ∷ xs) one two = (every-both (R x) (S x) xs one.0 two.0, pair-both R S xs one.1 two.1)
 
 -- a version whose stamps are there and guarded
-abbrev pub Stamped : List Entry → Version → Type 0
+abbrev Stamped : List Entry → Version → Type 0
 Stamped history v = OfStamps (Touch history) v × OfStamps (Guard history) v
 
-pub stamped : (history : List Entry) → Touched history → Guards history → AllByRecursion (Stamped history) (versions_of history)
+stamped : (history : List Entry) → Touched history → Guards history → AllByRecursion (Stamped history) (versions_of history)
 stamped history touched guards = every-both (OfStamps (Touch history)) (OfStamps (Guard history)) (versions_of history) touched guards
 
 moves : (history after : List Entry) (f g : Stamp → Bool) (v : Version) → OfStamps (λ s row. f s ≡ g s) v → seen_by f v ≡ true → seen_by g v ≡ true

@@ -1,4 +1,4 @@
--- While a backend holds AccessExclusive on no relation, what it sees of the relation's rows is what others see of them, but for what a weak mode may change.
+-- Of a relation on which it doesn't hold AccessExclusive a backend sees the rows that others see, but for what a weak mode may change.
 use Rattle.std.proofs.Common.{◌≡◌, ◌≤◌, ◌∙◌, ◌⊎◌, inl, inr, ℕ, Bool, true, false, not, Option, Some, None, List, [], ◌∷◌, ◌++◌, ◌==◌, ◌||◌, ◌&&◌, cond, refl, sym, ap, subst, map, filter, fold, arith}
 use Rattle.std.specs.Prelude.{nat_le, ⊤}
 use Rattle.std.specs.List.{AllByRecursion, list_any, flat_map, find}
@@ -47,15 +47,15 @@ no_command c = false
 abbrev pub Shows : (Stamp → Bool) → Row → Version → Type 0
 Shows f x v = (seen_by f v ≡ true) × (fixed v.row ≡ x)
 
--- of some versions such a row is seen just where it is of others
+-- such a row is seen in one view of versions just where it is seen in another
 abbrev pub ShowSame : Row → (Stamp → Bool) → List Version → (Stamp → Bool) → List Version → Type 0
 ShowSame x f vs g ws = (SomeOf (Shows f x) vs → SomeOf (Shows g x) ws) × (SomeOf (Shows g x) ws → SomeOf (Shows f x) vs)
 
--- AccessExclusive is held on the relation at no command that passes the test
+-- at no command that passes the test AccessExclusive was held on the relation
 abbrev pub HasNone : List Grant → ℕ → (ℕ → Bool) → Oid → Type 0
 HasNone held a p rel = (c : ℕ) → p c ≡ true → IsHeldIn is_exclusive held a c rel → ⊥
 
--- what a backend sees of a relation that it doesn't hold, however far it sees, is what it sees of others alone
+-- of a relation on which it doesn't hold AccessExclusive a backend sees, however much of its own work counts, the rows that it sees where none of it counts
 abbrev pub Steady : List Entry → Type 0
 Steady history = (a : ℕ) (p : ℕ → Bool) (x : Row) → IsDown p → HasNone (held_of history) a p (main_rel x)
     → ShowSame x (counts_at history a p) (versions_of history) (counts_at history a no_command) (versions_of history)
@@ -223,7 +223,7 @@ find_some p g o (v ∷ vs) is = by_tests (g v) refl is (find_some p g o vs)
     by_tests true sight here rest = in_row sight (p v.row) here rest
     by_tests false sight here rest = inr (rest here)
 
--- what counted of the stamps that are there, after an entry that makes none of them visible
+-- after an entry that makes nothing visible the stamps that were there count as before
 counted_kept : (x : Row) (history : List Entry) (w c : ℕ) (event : Event) (a : ℕ) (p : ℕ → Bool) → IsLawful history (entry_of w c event) → Runs history → Touched history → ((y : ℕ) → makes_visible y event ≡ false)
     → ShowSame x (counts_at (history ++ entry_of w c event ∷ []) a p) (versions_of history) (counts_at history a p) (versions_of history)
 counted_kept x history w c event a p lawful r touched hidden =

@@ -54,7 +54,7 @@ use Rattle.history_model.proofs.InOrder.{IsIn, Differ, IsByNumber, scan_same}
 use Rattle.history_model.proofs.Answers.{answer-kept, counts-other}
 use Rattle.history_model.proofs.Steady.{no_command, ShowSame, Shows, Steady, show-trans, counted_same, main_is, sound_steady}
 
--- the modes under which a row of a catalog is changed
+-- the modes under which a row of this catalog may be changed
 abbrev pub changes_under : Row → Mode → Bool
 changes_under row mode = is_exclusive mode || (is_loose row && is_update mode)
 
@@ -175,7 +175,7 @@ of_field Q fields.Triggers rel row is all = of_scan Q (scans.Trigger rel) row is
 of_field Q fields.Of rel row is all = of_scan Q (scans.IndexRow rel) row is all
 of_field Q fields.Valid rel row is all = of_scan Q (scans.IndexRow rel) row is all
 
--- a weak mode changes the rows that are read for the field, but not the field
+-- a weak mode may change the rows that are read for the field, but not the field
 abbrev is_in_part : Kind → Field → Bool
 is_in_part Table fields.Name = true
 is_in_part Table fields.Columns = true
@@ -220,7 +220,7 @@ exclusive_only : (mode : Mode) → is_exclusive mode ≡ true → list_any (same
 exclusive_only AccessExclusive is = refl
 exclusive_only mode is = absurd (cc)
 
--- where no row that is read for the field is changed
+-- where none of the rows that are read for the field was changed
 whole_kept : (history : List Entry) (a c : ℕ) (xid : Xid) (b : ℕ) (kind : Kind) (f : Field) (rel : Oid) → Ordered history → HeldForAll history → IsLawful history (entry_of a c (events.Visible xid)) → (a == b) ≡ false → has_field kind f ≡ true → is_in_part kind f ≡ false
     → list_any (holds (held_of history) a rel) (writers_of kind f) ≡ false → answer_of (history ++ entry_of a c (events.Visible xid) ∷ []) b (read_by f rel) ≡ answer_of history b (read_by f rel)
 whole_kept history a c xid b kind f rel k held lawful other has whole none =
@@ -238,7 +238,7 @@ whole_kept history a c xid b kind f rel k held lawful other has whole none =
             (of_field (λ o. IsHeldIn (changes_under row) (held_of history) a s.command o) f rel row asks (guard a (subst (λ x. runs_as history a x ≡ true) (eqb-true xid.0 s.xid.0 one) lawful.1))))
         by_xid false differs = counts-other history a c (events.Visible xid) b s other differs
 
--- where a weak mode may change the rows that are read: of the relation's rows another sees the same, but for what such a mode changes
+-- where a weak mode may have changed them: another sees the same rows of the relation, but for what such a mode changes
 part_kept : (history : List Entry) (a c : ℕ) (xid : Xid) (b : ℕ) (x : Row) → Ordered history → Steady history → IsLawful history (entry_of a c (events.Visible xid)) → (a == b) ≡ false → holds (held_of history) a (main_rel x) AccessExclusive ≡ false
     → ShowSame x (counts (history ++ entry_of a c (events.Visible xid) ∷ []) b) (versions_of history) (counts history b) (versions_of history)
 part_kept history a c xid b x k steady lawful other none = by_held (list_any (changes_on a (main_rel x)) (held_of history)) refl
