@@ -2,8 +2,8 @@
 use Rattle.std.proofs.Common.{◌≡◌, ◌≢◌, inl, inr, ◌∙◌, Bool, true, false, not, Option, Some, None, List, [], ◌∷◌, ◌++◌, ◌&&◌, refl, sym, ap, subst, is_none, is_some, slice_get}
 use Rattle.base_types.specs.Scenario.{Scenario}
 use Rattle.base_types.specs.declared.command.Command.TheVariants as commands
-use Rattle.ddl_effect.specs.Plans.{Plan, Done, Fails, Absent, NotBuilt, Do, is_built}
-use Rattle.ddl_effect.specs.Commands.{plan_of}
+use Rattle.ddl_effect.specs.Plans.{Plan, Done, Fails, Absent, NotBuilt, Do}
+use Rattle.ddl_effect.specs.Commands.{plan_of, runs}
 use Rattle.ddl_effect.specs.Blocks.{Block, Outside, Inside, Failed, no_block, ends_block, ends_failure, refused_in, refused_by}
 use Rattle.ddl_effect.specs.Stages.{plan_at}
 use Rattle.cacheless.specs.Owed.{Owes, OwesLook}
@@ -98,7 +98,7 @@ runs_at s works well unblocked other = by_block s.blocks.block refl
     by_block Failed is fits = failed is (ap (λ b. is_some (refused_in b command)) (sym is) ∙ unrefused)
 
 -- what is left of its plan it can go on with
-pub way_can : (seen : List Entry) (s : Backend) (rest : Rest) (command : Command) → OnItsWay seen s rest command → is_built (plan_of none_open command) ≡ true → CanGoOn (SeesRelation seen s.id) (plan_at s.exec)
+pub way_can : (seen : List Entry) (s : Backend) (rest : Rest) (command : Command) → OnItsWay seen s rest command → runs command ≡ true → CanGoOn (SeesRelation seen s.id) (plan_at s.exec)
 way_can seen s rest command way built = subst (CanGoOn P) (sym way.plan) (can_reach P way.gave (plan_of none_open command) (can_go_on P (plan_of none_open command) (can_follow P command built)) way.sees)
   where
     P : Oid → Kind → Type 0

@@ -7,8 +7,8 @@ use Rattle.rel_desc.specs.Answers.{answer_text}
 use Rattle.rel_desc.specs.declared.answer.Answer.TheVariants as answers
 use Rattle.rel_desc.specs.declared.error.CommandError.TheVariants as errors
 use Rattle.ddl_effect.specs.Blocks.{Block, Outside, Inside, Failed}
-use Rattle.ddl_effect.specs.Plans.{Plan, Done, Fails, Absent, NotBuilt, Do, is_built}
-use Rattle.ddl_effect.specs.Commands.{plan_of}
+use Rattle.ddl_effect.specs.Plans.{Plan, Done, Fails, Absent, NotBuilt, Do}
+use Rattle.ddl_effect.specs.Commands.{plan_of, runs}
 use Rattle.ddl_effect.specs.Effects.{effect_at}
 use Rattle.ddl_effect.specs.Stages.{plan_at}
 use Rattle.history_model.specs.Versions.{answer_of}
@@ -52,7 +52,7 @@ written_answers scenario seen s agrees command wrote =
     ∙ well_answers scenario seen s agrees command (inr wrote) wrote.plan ∙ sym (ap (answer_left s command) wrote.plan)
 
 -- one that hasn't
-way_answers : (scenario : Scenario) (seen : List Entry) (s : Backend) (agrees : Agrees scenario seen s) (command : Command) → OnItsWay seen s agrees.rest command → is_built (plan_of none_open command) ≡ true → is_out s ≡ true
+way_answers : (scenario : Scenario) (seen : List Entry) (s : Backend) (agrees : Agrees scenario seen s) (command : Command) → OnItsWay seen s agrees.rest command → runs command ≡ true → is_out s ≡ true
     → answer_judged scenario seen s.id (s.finished + 1) (finished_at s agrees.rest) command None ≡ answer_at s command
 way_answers scenario seen s agrees command way built out =
     ap (λ t. answer_by scenario seen s.id (finished_at s agrees.rest) command (effect_judged seen s.id (finished_at s agrees.rest) t command)) way.unwritten

@@ -2,8 +2,8 @@
 use Rattle.std.proofs.Common.{All, ◌≡◌, ◌≢◌, ◌<◌, ◌+◌, ◌∙◌, inl, ℕ, true, false, Option, Some, None, List, [], refl, sym, ap, subst, is_some, slice_get, arith}
 use Rattle.std.specs.Prelude.{⊤}
 use Rattle.base_types.specs.declared.command.Command.TheVariants as commands
-use Rattle.ddl_effect.specs.Plans.{Plan, Done, Fails, Absent, Do, Lookup, is_built}
-use Rattle.ddl_effect.specs.Commands.{plan_of}
+use Rattle.ddl_effect.specs.Plans.{Plan, Done, Fails, Absent, Do, Lookup}
+use Rattle.ddl_effect.specs.Commands.{plan_of, runs}
 use Rattle.ddl_effect.specs.Blocks.{Blocks, ends_block, refused_by}
 use Rattle.ddl_effect.specs.Stages.{plan_at}
 use Rattle.history_model.specs.Writes.{has_written}
@@ -36,11 +36,11 @@ ends_done commands.Rollback ends = refl
 ends_done command ends = absurd (cc)
 
 -- no scan by name is made yet
-place_admitted : (seen : List Entry) (b : ℕ) (r : Option CommandError) (command : Command) (at : ℕ) → is_built (plan_of none_open command) ≡ true → PlaceFits seen b (plan_admitted r command) false at
+place_admitted : (seen : List Entry) (b : ℕ) (r : Option CommandError) (command : Command) (at : ℕ) → runs command ≡ true → PlaceFits seen b (plan_admitted r command) false at
 place_admitted seen b (Some error) command at built = tt
 place_admitted seen b None command at built = place_unread (λ rel kind. ⊤) seen b (plan_of none_open command) at (can_follow (λ rel kind. ⊤) command built)
 
-place_first : (seen : List Entry) (s : Backend) (o : Option Command) (at : ℕ) → All (λ c. is_built (plan_of none_open c) ≡ true) s.commands → slice_get s.commands s.finished ≡ o → PlaceFits seen s.id (plan_first s.blocks o) false at
+place_first : (seen : List Entry) (s : Backend) (o : Option Command) (at : ℕ) → All (λ c. runs c ≡ true) s.commands → slice_get s.commands s.finished ≡ o → PlaceFits seen s.id (plan_first s.blocks o) false at
 place_first seen s None at built here = tt
 place_first seen s (Some command) at built here = place_admitted seen s.id (refused_by s.blocks command) command at (built_at s.commands s.finished command built here)
 
@@ -61,20 +61,20 @@ not_absent : (P : Oid → Kind → Type 0) (plan : Plan) → CanFollow P plan �
 not_absent P (Absent name) can = absurd can
 not_absent P plan can = refl
 
-absent_admitted : (r : Option CommandError) (command : Command) → is_built (plan_of none_open command) ≡ true → is_absent (plan_admitted r command) ≡ false
+absent_admitted : (r : Option CommandError) (command : Command) → runs command ≡ true → is_absent (plan_admitted r command) ≡ false
 absent_admitted (Some error) command built = refl
 absent_admitted None command built = not_absent (λ rel kind. ⊤) (plan_of none_open command) (can_follow (λ rel kind. ⊤) command built)
 
-absent_first : (s : Backend) (o : Option Command) → All (λ c. is_built (plan_of none_open c) ≡ true) s.commands → slice_get s.commands s.finished ≡ o → is_absent (plan_first s.blocks o) ≡ false
+absent_first : (s : Backend) (o : Option Command) → All (λ c. runs c ≡ true) s.commands → slice_get s.commands s.finished ≡ o → is_absent (plan_first s.blocks o) ≡ false
 absent_first s None built here = refl
 absent_first s (Some command) built here = absent_admitted (refused_by s.blocks command) command (built_at s.commands s.finished command built here)
 
 -- no lookup has found nothing
-pub starts_at : (s : Backend) → Begins s → All (λ c. is_built (plan_of none_open c) ≡ true) s.commands → s.read ≡ false → (has : HasCommand s) → owed_first s has.command ≢ [] → (is_absent (plan_at s.exec) ≡ false) × (s.read ≡ false)
+pub starts_at : (s : Backend) → Begins s → All (λ c. runs c ≡ true) s.commands → s.read ≡ false → (has : HasCommand s) → owed_first s has.command ≢ [] → (is_absent (plan_at s.exec) ≡ false) × (s.read ≡ false)
 starts_at s begins built unread has some = (ap is_absent begins.plan ∙ absent_first s (slice_get s.commands s.finished) built refl, unread)
 
 -- nothing of it is in the history
-pub command_at : (seen : List Entry) (s : Backend) (rest : Rest) → Begins s → All (λ c. is_built (plan_of none_open c) ≡ true) s.commands → rest.refused ≡ refused_first s.blocks (slice_get s.commands s.finished) → rest.found ≡ [] → s.opened ≡ [] → s.read ≡ false
+pub command_at : (seen : List Entry) (s : Backend) (rest : Rest) → Begins s → All (λ c. runs c ≡ true) s.commands → rest.refused ≡ refused_first s.blocks (slice_get s.commands s.finished) → rest.found ≡ [] → s.opened ≡ [] → s.read ≡ false
     → ((c : ℕ) → s.finished < c → has_written seen s.id c ≡ false) → CommandFits seen s rest
 command_at seen s rest begins built refused found opened unread unwritten = record {
   refused = λ error is. begins.plan ∙ refused_fails s.blocks (slice_get s.commands s.finished) error (sym refused ∙ is);

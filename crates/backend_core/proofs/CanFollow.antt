@@ -8,8 +8,8 @@ use Rattle.base_types.specs.declared.mode.Mode.TheVariants.{AccessShare}
 use Rattle.base_types.specs.declared.row.Row.TheVariants as rows
 use Rattle.base_types.specs.declared.command.Command.TheVariants as commands
 use Rattle.rel_desc.specs.declared.error.CommandError.TheVariants as errors
-use Rattle.ddl_effect.specs.Plans.{Plan, Done, Fails, Absent, NotBuilt, Do, Lookup, Open, Column, Read, Lock, Write, is_built}
-use Rattle.ddl_effect.specs.Commands.{plan_of, found, looking_up, if_passes, if_no_column, first_twice, writing, opening, showing, showing_field, is_table, locking, creating, new_table}
+use Rattle.ddl_effect.specs.Plans.{Plan, Done, Fails, Absent, NotBuilt, Do, Lookup, Open, Column, Read, Lock, Write}
+use Rattle.ddl_effect.specs.Commands.{plan_of, runs, found, looking_up, if_passes, if_no_column, first_twice, writing, opening, showing, showing_field, is_table, locking, creating, new_table}
 use Rattle.ddl_effect.specs.Effects.{effect_at, row_found}
 use Rattle.history_model.specs.Versions.{answer_of}
 use Rattle.cacheless.specs.Session.{none_open}
@@ -73,8 +73,8 @@ can_creating P name columns =
     twice : Option (List ℕ)
     twice = first_twice [] (map (λ c. c.name) columns)
 
--- the plan of each command that is built is one: a line a command
-pub can_follow : (P : Oid → Kind → Type 0) (command : Command) → is_built (plan_of none_open command) ≡ true → CanFollow P (plan_of none_open command)
+-- the plan of each command that the program runs is one: a line a command
+pub can_follow : (P : Oid → Kind → Type 0) (command : Command) → runs command ≡ true → CanFollow P (plan_of none_open command)
 can_follow P commands.Begin built = tt
 can_follow P commands.Commit built = tt
 can_follow P commands.Rollback built = tt

@@ -5,13 +5,13 @@ use Rattle.std.proofs.lemmas.Option.{slice_get_within, slice_get_cases, get_or_f
 use Rattle.std.proofs.lemmas.List.Elements.{All-get_or}
 use Rattle.std.proofs.lemmas.List.{drop_all}
 use Rattle.base_types.specs.declared.command.Command.TheVariants as commands
-use Rattle.ddl_effect.specs.Plans.{Plan, Done, Fails, Absent, Do, NotBuilt, is_built}
-use Rattle.ddl_effect.specs.Commands.{plan_of}
+use Rattle.ddl_effect.specs.Plans.{Plan, Done, Fails, Absent, Do, NotBuilt}
+use Rattle.ddl_effect.specs.Commands.{runs}
 use Rattle.ddl_effect.specs.Blocks.{Block, Level, Outside, Inside, Failed, ends_block, refused_in, innermost, blocks_well, blocks_badly}
 use Rattle.ddl_effect.specs.Stages.{plan_at}
 use Rattle.history_model.specs.Writes.{is_empty}
 use Rattle.cacheless.specs.Facts.{Facts, facts_of}
-use Rattle.cacheless.specs.Session.{none_open, refused_first, Outcome, Well as CameWell, Badly, Unsettled, outcome_of, is_settled}
+use Rattle.cacheless.specs.Session.{refused_first, Outcome, Well as CameWell, Badly, Unsettled, outcome_of, is_settled}
 use Rattle.cacheless.specs.Owed.{Owes, OwesScan, owed_after, scans_owed, owed_of}
 use Rattle.cacheless.specs.Ends.{End, Ends, Commits, TakesBack, end_of_all, end_of_block, end_well, end_badly, end_of, end_left, next_of_end}
 use Rattle.cacheless.specs.Plays.{owed_at_end, IsEnd}
@@ -197,13 +197,13 @@ pub level_outside : (levels : List Level) (n : ℕ) → false ≡ not (is_empty 
 level_outside [] n is = refl
 level_outside (level ∷ levels) n is = absurd (cc)
 
--- the running command is built
-pub built_at : (commands : List Command) (n : ℕ) (command : Command) → All (λ c. is_built (plan_of none_open c) ≡ true) commands → slice_get commands n ≡ Some command → is_built (plan_of none_open command) ≡ true
+-- the program runs the running command
+pub built_at : (commands : List Command) (n : ℕ) (command : Command) → All (λ c. runs c ≡ true) commands → slice_get commands n ≡ Some command → runs command ≡ true
 built_at commands n command built at =
-    subst (λ c. is_built (plan_of none_open c) ≡ true) (get_or_from_slice_get commands n command command at) (All-get_or (λ c. is_built (plan_of none_open c) ≡ true) commands n command (slice_get_within commands n command at) built)
+    subst (λ c. runs c ≡ true) (get_or_from_slice_get commands n command command at) (All-get_or (λ c. runs c ≡ true) commands n command (slice_get_within commands n command at) built)
 
 -- a failed block admits what ends it
-ends_failed : (command : Command) → is_some (refused_in Failed command) ≡ false → is_built (plan_of none_open command) ≡ true → ends_block command ≡ true
+ends_failed : (command : Command) → is_some (refused_in Failed command) ≡ false → runs command ≡ true → ends_block command ≡ true
 ends_failed commands.Commit admitted built = refl
 ends_failed commands.Rollback admitted built = refl
 ends_failed (commands.RollbackTo name) admitted built = absurd (cc)

@@ -6,8 +6,7 @@ use Rattle.std.proofs.lemmas.List.{length_push}
 use Rattle.std.proofs.lemmas.List.Elements.{All-nil}
 use Rattle.event_kinds.specs.declared.entry.Event.TheVariants as events
 use Rattle.lock_modes.specs.Own.{cleared}
-use Rattle.ddl_effect.specs.Plans.{is_built}
-use Rattle.ddl_effect.specs.Commands.{plan_of}
+use Rattle.ddl_effect.specs.Commands.{runs}
 use Rattle.ddl_effect.specs.Blocks.{no_block, is_open, innermost}
 use Rattle.history_model.specs.Legal.{FollowsVisible, FollowsGone}
 use Rattle.history_model.specs.Lives.{FollowsLife}
@@ -18,7 +17,7 @@ use Rattle.history_model.specs.Writes.{is_empty}
 use Rattle.history_model.proofs.Reading.{life_of-own}
 use Rattle.seg_calls.specs.Calls.{entry_of, MayCall, Appends}
 use Rattle.cacheless.specs.Facts.{facts_of, facts_by}
-use Rattle.cacheless.specs.Session.{Session, none_open, first_of, at_command, plan_first, refused_first}
+use Rattle.cacheless.specs.Session.{Session, first_of, at_command, plan_first, refused_first}
 use Rattle.cacheless.specs.Plays.{MayPlayAt}
 use Rattle.cacheless.specs.Settled.{settled}
 use Rattle.cacheless.proofs.Reading.{facts_of-own, session_of-own}
@@ -60,7 +59,7 @@ new_begins s new = record {
 }
 
 -- what the code keeps from then on
-new_well : (s : Backend) → All (λ command. is_built (plan_of none_open command) ≡ true) s.commands → length s.commands ≤ 20000 → IsNew s s.id s.commands → Well (joined s)
+new_well : (s : Backend) → All (λ command. runs command ≡ true) s.commands → length s.commands ≤ 20000 → IsNew s s.id s.commands → Well (joined s)
 new_well s built few new = record {
   built = built;
   few = few;

@@ -8,8 +8,8 @@ use Rattle.base_types.specs.declared.scan.Purpose.TheVariants as scans
 use Rattle.event_kinds.specs.declared.entry.Event.TheVariants as events
 use Rattle.rel_desc.specs.Answers.{answer_text}
 use Rattle.lock_modes.specs.Own.{cleared}
-use Rattle.ddl_effect.specs.Plans.{Plan, Done, Fails, Absent, Do, Lookup, is_built}
-use Rattle.ddl_effect.specs.Commands.{plan_of, commands_of}
+use Rattle.ddl_effect.specs.Plans.{Plan, Done, Fails, Absent, Do, Lookup}
+use Rattle.ddl_effect.specs.Commands.{commands_of, runs}
 use Rattle.ddl_effect.specs.Blocks.{Block, Outside, Inside, Failed, no_block, is_open, innermost, ends_block}
 use Rattle.ddl_effect.specs.Stages.{plan_at}
 use Rattle.history_model.specs.Lives.{Life, Unstarted, Alive, Stopped, life_of}
@@ -18,7 +18,7 @@ use Rattle.history_model.specs.Read.{IsEconomical, place_read}
 use Rattle.history_model.specs.Writes.{has_written, is_empty}
 use Rattle.seg_calls.specs.Calls.{took_back}
 use Rattle.cacheless.specs.Facts.{Facts, facts_of}
-use Rattle.cacheless.specs.Session.{Finished, Tally, Well as CameOutWell, outcome_of, none_open, plan_first, refused_first}
+use Rattle.cacheless.specs.Session.{Finished, Tally, Well as CameOutWell, outcome_of, plan_first, refused_first}
 use Rattle.cacheless.specs.Locks.{is_locked}
 use Rattle.inval_messages.specs.Lists.{sent_in}
 use Rattle.command_lists.specs.Lists.{no_lists}
@@ -166,7 +166,7 @@ pub record IsAccepting (s : Backend) : Type 0 where
 
 -- what the code keeps by itself
 pub record Well (s : Backend) : Type 0 where
-  pub built : All (λ command. is_built (plan_of none_open command) ≡ true) s.commands
+  pub built : All (λ command. runs command ≡ true) s.commands
   pub few : length s.commands ≤ 20000
   pub most : s.finished ≤ length s.commands
   pub opened : OpensLast s
@@ -254,7 +254,7 @@ pub record IsNew (s : Backend) (id : ℕ) (commands : List Command) : Type 0 whe
 pub record HasNotJoined (scenario : Scenario) (seen : List Entry) (s : Backend) : Type 0 where
   pub number : IsBackend scenario.backends s.id
   pub commands : s.commands ≡ commands_of scenario s.id
-  pub built : All (λ command. is_built (plan_of none_open command) ≡ true) s.commands
+  pub built : All (λ command. runs command ≡ true) s.commands
   pub few : length s.commands ≤ 20000
   pub new : IsNew s s.id s.commands
   pub session : session_of scenario seen s.id ≡ None

@@ -42,16 +42,14 @@ pub struct Backend {
 
 impl Backend {
     ghost use Rattle.std.specs.Prelude.{◌≡◌, ◌≢◌, ◌≤◌, ◌<◌, true, false, length, All, OnOk, IfOk};
-    ghost use Rattle.ddl_effect.specs.Plans.{is_built};
-    ghost use Rattle.ddl_effect.specs.Commands.{plan_of};
-    ghost use Rattle.cacheless.specs.Session.{none_open};
+    ghost use Rattle.ddl_effect.specs.Commands.{runs};
     ghost use Rattle.backend_core.specs.State.{has_left};
     ghost use Rattle.backend_core.specs.Agrees.{IsNew, IsPlayed, Stands};
     ghost use Rattle.backend_core.specs.Steps.{Steps};
 
     /// The backend of this number with its commands in order, which hasn't joined.
     pub fn new(alloc: Global, id: u32, commands: Listed<Command>) -> Result<Backend, NoMemory>
-        requires built { All (λ command. is_built (plan_of none_open command) ≡ true) commands }
+        requires built { All (λ command. runs command ≡ true) commands }
         ensures { IfOk result (λ s. IsNew s id commands) }
     {
         let blocks = TxnBlocks::new();

@@ -1,8 +1,7 @@
 ghost use Rattle.std.specs.Prelude.{◌≡◌, true, All, IfOk, is_some, slice_get};
-ghost use Rattle.ddl_effect.specs.Plans.{is_built};
-ghost use Rattle.ddl_effect.specs.Commands.{plan_of};
+ghost use Rattle.ddl_effect.specs.Commands.{runs};
 ghost use Rattle.ddl_effect.specs.Stages.{plan_at};
-ghost use Rattle.cacheless.specs.Session.{none_open, plan_first, refused_first};
+ghost use Rattle.cacheless.specs.Session.{plan_first, refused_first};
 
 use base_types::{Command, NoMemory};
 use ddl_effect::Exec;
@@ -24,7 +23,7 @@ pub(crate) fn begun(
     commands: &[Command],
     index: u32,
 ) -> Result<AtStart, NoMemory>
-    requires built { All (λ command. is_built (plan_of none_open command) ≡ true) commands.now }
+    requires built { All (λ command. runs command ≡ true) commands.now }
     ensures plan { IfOk result (λ begun. plan_at begun.exec ≡ plan_first blocks.now (slice_get commands.now index)) }
     ensures blocked { IfOk result (λ begun. begun.blocked ≡ is_some (refused_first blocks.now (slice_get commands.now index))) }
 {

@@ -1,3 +1,4 @@
+mod Alterations
 mod Driven
 mod Examples
 mod Repeated

@@ -1,14 +1,18 @@
 -- The plan of each command, one clause a command.
-use Rattle.std.specs.Prelude.{ℕ, Bool, true, false, Option, Some, None, List, [], ◌∷◌, ◌++◌, ◌==◌, nat_le, map, filter, length, negsuc, if◌then◌else◌}
-use Rattle.std.specs.List.{list_any, enumerate_from}
+use Rattle.std.specs.Prelude.{ℕ, ℤ, Bool, true, false, not, Option, Some, None, List, [], ◌∷◌, ◌++◌, ◌+◌, ◌==◌, ◌&&◌, nat_le, nat_lt, int_lt, map, filter, length, pos, negsuc, if◌then◌else◌}
+use Rattle.std.specs.Int.{int_min}
+use Rattle.std.specs.List.{list_any, enumerate_from, find}
 use Rattle.std.specs.Str.{bytes_eq}
 use Rattle.base_types.specs.declared.dropped.TheConstants.{MOST_COLUMNS}
 use Rattle.base_types.specs.Fields.{has_field}
+use Rattle.base_types.specs.Names.{dropped_name}
+use Rattle.base_types.specs.RowKeys.{key_of}
+use Rattle.base_types.specs.declared.scan.Purpose.TheVariants as scans
 use Rattle.base_types.specs.declared.row.Row.TheVariants as rows
 use Rattle.base_types.specs.declared.command.Command.TheVariants as commands
 use Rattle.rel_desc.specs.declared.error.CommandError.TheVariants as errors
-use Rattle.ddl_effect.specs.Types.{Oid, Mode, AccessShare, Kind, Table, Field, Row, Change, Insert, Command, NewColumn, Scenario, CommandError, Draft}
-use Rattle.ddl_effect.specs.Plans.{Lookup, Open, Write, Plan, Done, Fails, Absent, Do, NotBuilt}
+use Rattle.ddl_effect.specs.Types.{Oid, Mode, AccessShare, ShareUpdateExclusive, AccessExclusive, Kind, Table, Field, ColType, Row, Change, Insert, Replace, Delete, Purpose, Command, NewColumn, Scenario, CommandError, Draft}
+use Rattle.ddl_effect.specs.Plans.{Lookup, Open, Column, Read, Write, Plan, Done, Fails, Absent, Do, NotBuilt}
 
 -- the commands of a backend, in order
 abbrev pub commands_of : Scenario → ℕ → List Command
@@ -83,6 +87,120 @@ is_table kind = false
 abbrev pub locking : List ℕ → Oid → Kind → Plan
 locking name rel kind = if_passes (is_table kind) (errors.NotTable name) Done
 
+-- an alteration, after its lookup: the relation has to be a table, and its descriptor is opened
+abbrev pub altering : List ℕ → (Oid → Plan) → Oid → Kind → Plan
+altering name rest rel kind = if_passes (is_table kind) (errors.NotTable name) (opening rel kind (rest rel))
+
+-- goes on with the row of a column, which has to be there
+abbrev pub column_there : List ℕ → (Row → Plan) → List Row → Plan
+column_there column rest [] = Fails (errors.NoColumn column)
+column_there column rest (row ∷ more) = rest row
+
+-- goes on only where no column has the name
+abbrev pub column_free : List ℕ → Plan → List Row → Plan
+column_free column plan [] = plan
+column_free column plan (row ∷ more) = Fails (errors.ColumnExists column)
+
+-- finds a column by its name
+abbrev pub with_column : Oid → List ℕ → (Row → Plan) → Plan
+with_column rel column rest = Do (Column rel column) (column_there column rest)
+
+-- finds that no column has the name
+abbrev pub without_column : Oid → List ℕ → Plan → Plan
+without_column rel column plan = Do (Column rel column) (column_free column plan)
+
+-- reads rows of an open descriptor
+abbrev pub reading : Purpose → (List Row → Plan) → Plan
+reading scan rest = Do (Read scan) rest
+
+-- writes changes that need no new oid
+abbrev pub changing : List Change → Plan
+changing changes = writing (record { changes = changes; forced = []; new_oids = 0 })
+
+-- `add column`, by the rows of the table's columns: with those that were dropped they may become 1,600
+abbrev pub adding : Oid → List ℕ → ColType → List Row → Plan
+adding rel column col_type columns = if_passes (nat_lt (length columns) MOST_COLUMNS) errors.TooManyColumns (changing (Insert (rows.Att rel (length columns + 1) column col_type (negsuc 0) true) ∷ []))
+
+-- `add column`, once the descriptor is open
+abbrev pub add_column : List ℕ → ColType → Oid → Plan
+add_column column col_type rel = without_column rel column (reading (scans.Attribute rel) (adding rel column col_type))
+
+-- the name of a column once it is dropped; a number that no column has leaves the name
+abbrev pub name_dropped : ℕ → List ℕ → List ℕ
+name_dropped num own = if nat_le 1 num && nat_le num MOST_COLUMNS then dropped_name num else own
+
+-- the row of a column once it is dropped
+abbrev pub as_dropped : Row → Row
+as_dropped (rows.Att rel num own col_type stat live) = rows.Att rel num (name_dropped num own) col_type stat false
+as_dropped row = row
+
+-- the number of a column, by its row
+abbrev pub column_number : Row → ℕ
+column_number (rows.Att rel num own col_type stat live) = num
+column_number row = 0
+
+-- the row is the default of the column of this number
+abbrev pub is_default_of : ℕ → Row → Bool
+is_default_of num (rows.Def oid rel of word) = of == num
+is_default_of num row = false
+
+-- deletes a row, if there is one
+abbrev pub deleting : Option Row → List Change
+deleting None = []
+deleting (Some row) = Delete (key_of row) ∷ []
+
+-- `drop column`, by the rows of the table's defaults: that of the column goes with it
+abbrev pub dropping : Row → List Row → Plan
+dropping row defaults = changing (deleting (find (is_default_of (column_number row)) defaults) ++ Replace (as_dropped row) ∷ [])
+
+-- `drop column`, once the descriptor is open
+abbrev pub drop_column : List ℕ → Oid → Plan
+drop_column column rel = with_column rel column (λ row. reading (scans.AttrDef rel) (dropping row))
+
+-- the row of a column with another name
+abbrev pub with_name : List ℕ → Row → Row
+with_name to (rows.Att rel num own col_type stat live) = rows.Att rel num to col_type stat live
+with_name to row = row
+
+-- `rename column`, by the row of the column
+abbrev pub renaming : List ℕ → Oid → Row → Plan
+renaming to rel row = without_column rel to (changing (Replace (with_name to row) ∷ []))
+
+-- `rename column`, once the descriptor is open
+abbrev pub rename_column : List ℕ → List ℕ → Oid → Plan
+rename_column column to rel = with_column rel column (renaming to rel)
+
+-- the greatest statistics target
+abbrev pub most_stat : ℤ
+most_stat = pos 10000
+
+-- the row of a column with another statistics target
+abbrev pub with_stat : ℤ → Row → Row
+with_stat stat (rows.Att rel num own col_type old live) = rows.Att rel num own col_type stat live
+with_stat stat row = row
+
+-- `set statistics`, by the row of the column: a greater target than the greatest is written as that
+abbrev pub targeting : ℤ → Row → Plan
+targeting stat row = changing (Replace (with_stat (int_min stat most_stat) row) ∷ [])
+
+-- `set statistics`, once the descriptor is open: -1 is the least target
+abbrev pub set_statistics : List ℕ → ℤ → Oid → Plan
+set_statistics column stat rel = if_passes (not (int_lt stat (negsuc 0))) (errors.OutOfRange stat) (with_column rel column (targeting stat))
+
+-- the row of a relation with another fillfactor
+abbrev pub with_fill : ℕ → Row → Row
+with_fill fill (rows.Class oid own kind old) = rows.Class oid own kind (Some fill)
+with_fill fill row = row
+
+-- `set (fillfactor = N)`, by the table's row
+abbrev pub filling : ℕ → List Row → Plan
+filling fill [] = Done
+filling fill (row ∷ more) = changing (Replace (with_fill fill row) ∷ [])
+
+-- `set (fillfactor = N)`, once the descriptor is open: 10 to 100
+abbrev pub set_fillfactor : ℕ → Oid → Plan
+set_fillfactor fill rel = if_passes (nat_le 10 fill && nat_le fill 100) (errors.OutOfRange (pos fill)) (reading (scans.Class rel) (filling fill))
+
 -- what each command does; `held` are the relations that the session holds open
 abbrev pub plan_of : List Oid → Command → Plan
 plan_of held commands.Begin = Done
@@ -92,4 +210,19 @@ plan_of held (commands.Show name None) = looking_up name AccessShare showing
 plan_of held (commands.Show name (Some field)) = looking_up name AccessShare (showing_field name field)
 plan_of held (commands.LockTable name mode) = looking_up name mode (locking name)
 plan_of held (commands.CreateTable name columns) = creating name columns
+plan_of held (commands.AddColumn name column col_type) = looking_up name AccessExclusive (altering name (add_column column col_type))
+plan_of held (commands.DropColumn name column) = looking_up name AccessExclusive (altering name (drop_column column))
+plan_of held (commands.RenameColumn name column to) = looking_up name AccessExclusive (altering name (rename_column column to))
+plan_of held (commands.SetStatistics name column stat) = looking_up name ShareUpdateExclusive (altering name (set_statistics column stat))
+plan_of held (commands.SetFillfactor name fill) = looking_up name ShareUpdateExclusive (altering name (set_fillfactor fill))
 plan_of held command = NotBuilt
+
+-- the program runs the command: so far only some of those that have a plan
+abbrev pub runs : Command → Bool
+runs commands.Begin = true
+runs commands.Commit = true
+runs commands.Rollback = true
+runs (commands.Show name field) = true
+runs (commands.LockTable name mode) = true
+runs (commands.CreateTable name columns) = true
+runs command = false

@@ -1,11 +1,14 @@
 -- The plan that is left at each stage of a command, and what it wants.
-use Rattle.std.specs.Prelude.{ℕ}
-use Rattle.base_types.specs.declared.mode.Mode.TheVariants.{AccessShare}
+use Rattle.std.specs.Prelude.{ℕ, [], ◌∷◌, ◌++◌}
+use Rattle.base_types.specs.declared.scan.Purpose.TheVariants as scans
+use Rattle.ddl_effect.specs.declared.alteration.Alteration.TheVariants as alterations
+use Rattle.ddl_effect.specs.declared.altering.Altering.TheVariants as alters
 use Rattle.ddl_effect.specs.declared.exec.Exec.TheVariants as stages
+use Rattle.ddl_effect.specs.declared.planned.Planned.TheVariants.{Runs, Alters}
 use Rattle.ddl_effect.specs.declared.want.Want.TheVariants as wants
-use Rattle.ddl_effect.specs.Types.{Exec, Want}
+use Rattle.ddl_effect.specs.Types.{Oid, Mode, AccessShare, ShareUpdateExclusive, AccessExclusive, Table, Insert, Replace, Alteration, Altering, Exec, Planned, Want}
 use Rattle.ddl_effect.specs.Plans.{Act, Lookup, Open, Column, Read, Lock, Write, Plan, Done, Fails, Absent, Do, NotBuilt}
-use Rattle.ddl_effect.specs.Commands.{looking_up, showing, showing_field, locking, opening, writing}
+use Rattle.ddl_effect.specs.Commands.{looking_up, showing, showing_field, locking, opening, writing, altering, with_column, reading, changing, deleting, adding, add_column, dropping, drop_column, renaming, rename_column, targeting, set_statistics, filling, set_fillfactor}
 
 -- the plan that is left
 abbrev pub plan_at : Exec → Plan
@@ -17,6 +20,43 @@ plan_at (stages.FindingField name field) = looking_up name AccessShare (showing_
 plan_at (stages.Locking name mode) = looking_up name mode (locking name)
 plan_at (stages.Opening rel kind) = opening rel kind Done
 plan_at (stages.Writing draft) = writing draft
+
+-- the mode in which an alteration locks its table
+abbrev pub mode_of : Alteration → Mode
+mode_of (alterations.SetStatistics column stat) = ShareUpdateExclusive
+mode_of (alterations.SetFillfactor fill) = ShareUpdateExclusive
+mode_of alteration = AccessExclusive
+
+-- an alteration, once the descriptor is open
+abbrev pub altered : Alteration → Oid → Plan
+altered (alterations.AddColumn column col_type) rel = add_column column col_type rel
+altered (alterations.DropColumn column) rel = drop_column column rel
+altered (alterations.RenameColumn column to) rel = rename_column column to rel
+altered (alterations.SetStatistics column stat) rel = set_statistics column stat rel
+altered (alterations.SetFillfactor fill) rel = set_fillfactor fill rel
+
+-- the plan that is left of an alteration
+abbrev pub altering_at : Altering → Plan
+altering_at alters.Done = Done
+altering_at (alters.Failing error) = Fails error
+altering_at (alters.Missing name) = Absent name
+altering_at (alters.Finding name alteration) = looking_up name (mode_of alteration) (altering name (altered alteration))
+altering_at (alters.Opening rel alteration) = opening rel Table (altered alteration rel)
+altering_at (alters.AddingColumn rel column col_type) = add_column column col_type rel
+altering_at (alters.NumberingColumn rel column col_type) = reading (scans.Attribute rel) (adding rel column col_type)
+altering_at (alters.DroppingColumn rel column) = drop_column column rel
+altering_at (alters.DroppingDefault rel row) = reading (scans.AttrDef rel) (dropping row)
+altering_at (alters.RenamingColumn rel column to) = rename_column column to rel
+altering_at (alters.RenamingTo rel row to) = renaming to rel row
+altering_at (alters.SettingStatistics rel column stat) = with_column rel column (targeting stat)
+altering_at (alters.SettingFillfactor rel fill) = reading (scans.Class rel) (filling fill)
+altering_at (alters.Inserting row) = changing (Insert row ∷ [])
+altering_at (alters.Replacing deleted row) = changing (deleting deleted ++ Replace row ∷ [])
+
+-- the plan that is left of a command that has one, whether or not the program runs it
+abbrev pub planned_at : Planned → Plan
+planned_at (Runs exec) = plan_at exec
+planned_at (Alters altering) = altering_at altering
 
 -- what an act wants
 abbrev pub want_of_act : Act → Want
@@ -43,3 +83,24 @@ acts_left (stages.Locking name mode) = 1
 acts_left (stages.Opening rel kind) = 1
 acts_left (stages.Writing draft) = 1
 acts_left stage = 0
+
+-- at most so many acts of an alteration are left
+abbrev pub alter_acts_left : Altering → ℕ
+alter_acts_left (alters.Finding name alteration) = 5
+alter_acts_left (alters.Opening rel alteration) = 4
+alter_acts_left (alters.AddingColumn rel column col_type) = 3
+alter_acts_left (alters.NumberingColumn rel column col_type) = 2
+alter_acts_left (alters.DroppingColumn rel column) = 3
+alter_acts_left (alters.DroppingDefault rel row) = 2
+alter_acts_left (alters.RenamingColumn rel column to) = 3
+alter_acts_left (alters.RenamingTo rel row to) = 2
+alter_acts_left (alters.SettingStatistics rel column stat) = 2
+alter_acts_left (alters.SettingFillfactor rel fill) = 2
+alter_acts_left (alters.Inserting row) = 1
+alter_acts_left (alters.Replacing deleted row) = 1
+alter_acts_left stage = 0
+
+-- the same of a command that has a plan
+abbrev pub planned_acts_left : Planned → ℕ
+planned_acts_left (Runs exec) = acts_left exec
+planned_acts_left (Alters altering) = alter_acts_left altering

@@ -1,10 +1,11 @@
 -- The types by which the crate's other definitions name what they speak of.
 pub use Rattle.base_types.specs.declared.ids.Oid.{Oid}
 pub use Rattle.base_types.specs.declared.mode.Mode.{Mode}
-pub use Rattle.base_types.specs.declared.mode.Mode.TheVariants.{AccessShare, AccessExclusive}
+pub use Rattle.base_types.specs.declared.mode.Mode.TheVariants.{AccessShare, ShareUpdateExclusive, AccessExclusive}
 pub use Rattle.base_types.specs.declared.kind.Kind.{Kind}
 pub use Rattle.base_types.specs.declared.kind.Kind.TheVariants.{Table, Index}
 pub use Rattle.base_types.specs.declared.field.Field.{Field}
+pub use Rattle.base_types.specs.declared.col_type.ColType.{ColType}
 pub use Rattle.base_types.specs.declared.row.Row.{Row}
 pub use Rattle.base_types.specs.declared.change.Change.{Change}
 pub use Rattle.base_types.specs.declared.change.Change.TheVariants.{Insert, Replace, Delete}
@@ -14,7 +15,10 @@ pub use Rattle.base_types.specs.declared.command.NewColumn.{NewColumn}
 pub use Rattle.base_types.specs.Scenario.{Scenario}
 pub use Rattle.rel_desc.specs.declared.error.CommandError.{CommandError}
 pub use Rattle.ddl_effect.specs.declared.draft.Draft.{Draft}
+pub use Rattle.ddl_effect.specs.declared.alteration.Alteration.{Alteration}
+pub use Rattle.ddl_effect.specs.declared.altering.Altering.{Altering}
 pub use Rattle.ddl_effect.specs.declared.exec.Exec.{Exec}
+pub use Rattle.ddl_effect.specs.declared.planned.Planned.{Planned}
 pub use Rattle.ddl_effect.specs.declared.want.Want.{Want}
 pub use Rattle.ddl_effect.specs.declared.facts.Facts.{Facts}
 pub use Rattle.ddl_effect.specs.declared.facts.EffectRefusal.{EffectRefusal}

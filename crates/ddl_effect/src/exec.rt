@@ -1,6 +1,6 @@
 ghost use Rattle.std.specs.Prelude.{◌≡◌, ◌<◌, true, [], IfOk, MatchOption};
-ghost use Rattle.ddl_effect.specs.Plans.{is_built, after_act};
-ghost use Rattle.ddl_effect.specs.Commands.{plan_of, found as found_rows, locking, showing, showing_field, writing};
+ghost use Rattle.ddl_effect.specs.Plans.{after_act};
+ghost use Rattle.ddl_effect.specs.Commands.{plan_of, runs, found as found_rows, locking, showing, showing_field, writing};
 ghost use Rattle.ddl_effect.specs.Stages.{plan_at, want_of, acts_left};
 
 use crate::table::create_table;
@@ -9,7 +9,7 @@ use base_types::{Command, Field, Kind, Mode, Name, NoMemory, Oid, Row, has_field
 use rel_desc::CommandError;
 use std::alloc::Global;
 
-/// How far a command is: what is left of its plan.
+/// How far a command that the program runs is: what is left of its plan.
 #[derive(Drop)]
 pub enum Exec {
     /// It has done what it says.
@@ -31,9 +31,9 @@ pub enum Exec {
 }
 
 impl Exec {
-    /// A command at its beginning. Condition: it is built.
+    /// A command at its beginning. Condition: the program runs it.
     pub fn new(alloc: Global, command: &Command) -> Result<Exec, NoMemory>
-        requires { is_built (plan_of [] command.now) ≡ true }
+        requires { runs command.now ≡ true }
         ensures { IfOk result (λ exec. plan_at exec ≡ plan_of [] command.now) }
     {
         match command {

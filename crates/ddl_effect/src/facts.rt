@@ -3,9 +3,8 @@ ghost use Rattle.base_types.specs.Scans.{scan_of};
 ghost use Rattle.ddl_effect.specs.Plans.{is_built};
 ghost use Rattle.ddl_effect.specs.Commands.{plan_of};
 ghost use Rattle.ddl_effect.specs.Effects.{effect_of, given_for, no_changes, IsEffect};
-ghost use Rattle.ddl_effect.specs.Stages.{plan_at};
 
-use crate::{Draft, Exec, Want};
+use crate::{Draft, Planned, Want};
 use base_types::{Command, Listed, Name, NoMemory, Oid, Purpose, Row, put_in_order, selects};
 use rel_desc::CommandError;
 use std::alloc::Global;
@@ -28,26 +27,31 @@ pub enum EffectRefusal {
     NoMemory,
 }
 
-/// The changes that a command makes, worked out from facts alone. Condition: the command is built.
+/// The changes that a command makes, worked out from facts alone. Condition: the command has a plan.
 /// `Cause` and `Absent`: exactly where the facts show them.
 pub fn effect(alloc: Global, command: &Command, facts: &Facts) -> Result<Draft, EffectRefusal>
     requires { is_built (plan_of facts.now.opened command.now) ≡ true }
     ensures { IsEffect (effect_of (λ scan. scan_of scan facts.now.rows) (plan_of facts.now.opened command.now)) result }
 {
-    let Ok(mut exec) = Exec::new(alloc, command) else {
+    let Ok(mut planned) = Planned::new(alloc, command) else {
         return Err(EffectRefusal::NoMemory);
     };
     'acts: loop {
-        match exec.next() {
+        match planned.next() {
             Want::Done => return Ok(no_draft(alloc)),
             Want::Fails(error) => return Err(EffectRefusal::Cause(error)),
             Want::Absent(name) => return Err(EffectRefusal::Absent(name)),
-            Want::Write => return Ok(exec.into_draft()),
+            Want::Write => {
+                return match planned.into_draft(alloc) {
+                    Ok(draft) => Ok(draft),
+                    Err(NoMemory) => Err(EffectRefusal::NoMemory),
+                };
+            }
             want => {
                 let Ok(rows) = rows_for(alloc, &want, facts.rows.as_slice()) else {
                     return Err(EffectRefusal::NoMemory);
                 };
-                exec.give(&rows);
+                planned.give(&rows);
             }
         }
     }

@@ -7,16 +7,25 @@
 //! that the act gave. There is one clause of a plan for each command (`specs/Commands.antt`), and all
 //! that is said of commands elsewhere is said of plans.
 //!
-//! An [`Exec`] is how far a command is: the plan that is left of it.
+//! An [`Exec`] is how far a command is: the plan that is left of it. Alterations of tables have
+//! plans and effects already, but the program doesn't run them yet: an `Exec` is only of a command
+//! that it runs (`runs` in `specs/Commands.antt`).
 #![tactic(auto)]
 
+mod alteration;
+mod altered_rows;
+mod altering;
 mod draft;
 mod exec;
 mod facts;
+mod planned;
 mod table;
 mod want;
 
+pub(crate) use alteration::Alteration;
+pub(crate) use altering::Altering;
 pub use draft::Draft;
 pub use exec::Exec;
 pub use facts::{EffectRefusal, Facts, effect};
+pub(crate) use planned::Planned;
 pub use want::Want;

@@ -6,9 +6,7 @@ use Rattle.std.proofs.lemmas.List.Elements.{All-nil, All-cons}
 use Rattle.base_types.specs.declared.command.Command.{Command}
 use Rattle.base_types.specs.declared.command.Placed.{Placed}
 use Rattle.base_types.specs.Scenario.{Scenario, IsBackend}
-use Rattle.ddl_effect.specs.Plans.{is_built as is_built_plan}
-use Rattle.ddl_effect.specs.Commands.{plan_of, commands_of}
-use Rattle.cacheless.specs.Session.{none_open}
+use Rattle.ddl_effect.specs.Commands.{commands_of, runs}
 use Rattle.backend_core.specs.declared.backend.Backend.{Backend}
 use Rattle.backend_core.specs.Agrees.{IsNew, Stands}
 use Rattle.backend_core.proofs.Tables.{HasTables-start}
@@ -18,18 +16,18 @@ use Rattle.walk_run.proofs.ScheduleSteps.{StandsAs}
 
 -- a command can be run
 abbrev IsBuilt : Command → Type 0
-IsBuilt command = is_built_plan (plan_of none_open command) ≡ true
+IsBuilt command = runs command ≡ true
 
-built_among : (b : ℕ) (placed : List Placed) → list_all (λ p. is_built_plan (plan_of none_open p.command)) placed ≡ true → All IsBuilt (map (λ p. p.command) (filter (λ p. p.backend == b) placed))
+built_among : (b : ℕ) (placed : List Placed) → list_all (λ p. runs p.command) placed ≡ true → All IsBuilt (map (λ p. p.command) (filter (λ p. p.backend == b) placed))
 built_among b [] built = All-nil IsBuilt
-built_among b (p ∷ placed) built = by_owner (p.backend == b) refl (by_head (is_built_plan (plan_of none_open p.command)) refl built) (built_among b placed)
+built_among b (p ∷ placed) built = by_owner (p.backend == b) refl (by_head (runs p.command) refl built) (built_among b placed)
   where
-    by_head : (t : Bool) → is_built_plan (plan_of none_open p.command) ≡ t → (t && list_all (λ q. is_built_plan (plan_of none_open q.command)) placed) ≡ true → IsBuilt p.command × (list_all (λ q. is_built_plan (plan_of none_open q.command)) placed ≡ true)
+    by_head : (t : Bool) → runs p.command ≡ t → (t && list_all (λ q. runs q.command) placed) ≡ true → IsBuilt p.command × (list_all (λ q. runs q.command) placed ≡ true)
     by_head true is both = (is, both)
     by_head false is both = absurd (cc)
 
-    by_owner : (t : Bool) → (p.backend == b) ≡ t → IsBuilt p.command × (list_all (λ q. is_built_plan (plan_of none_open q.command)) placed ≡ true)
-        → (list_all (λ q. is_built_plan (plan_of none_open q.command)) placed ≡ true → All IsBuilt (map (λ q. q.command) (filter (λ q. q.backend == b) placed))) → All IsBuilt (map (λ q. q.command) (filter (λ q. q.backend == b) (p ∷ placed)))
+    by_owner : (t : Bool) → (p.backend == b) ≡ t → IsBuilt p.command × (list_all (λ q. runs q.command) placed ≡ true)
+        → (list_all (λ q. runs q.command) placed ≡ true → All IsBuilt (map (λ q. q.command) (filter (λ q. q.backend == b) placed))) → All IsBuilt (map (λ q. q.command) (filter (λ q. q.backend == b) (p ∷ placed)))
     by_owner true is each rest = rw is (All-cons IsBuilt p.command (map (λ q. q.command) (filter (λ q. q.backend == b) placed)) each.0 (rest each.1))
     by_owner false is each rest = rw is (rest each.1)
 

@@ -1,7 +1,5 @@
 ghost use Rattle.std.specs.Prelude.{◌≡◌};
-ghost use Rattle.ddl_effect.specs.Plans.{is_built as is_built_plan};
-ghost use Rattle.ddl_effect.specs.Commands.{plan_of};
-ghost use Rattle.cacheless.specs.Session.{none_open};
+ghost use Rattle.ddl_effect.specs.Commands.{runs};
 ghost use Rattle.walk_run.specs.Built.{is_built as is_built_scenario};
 
 use base_types::Command;
@@ -20,7 +18,7 @@ pub fn is_built(script: &Script) -> bool
 
 // The command can be run.
 fn is_built_command(command: &Command) -> bool
-    ensures { result ≡ is_built_plan (plan_of none_open command.now) }
+    ensures { result ≡ runs command.now }
 {
     matches!(
         command,

@@ -1,7 +1,5 @@
 ghost use Rattle.std.specs.Prelude.{◌≡◌, ◌++◌, map, filter, true, IfOk, OnOk};
-ghost use Rattle.ddl_effect.specs.Plans.{is_built as is_built_plan};
-ghost use Rattle.ddl_effect.specs.Commands.{plan_of, commands_of};
-ghost use Rattle.cacheless.specs.Session.{none_open};
+ghost use Rattle.ddl_effect.specs.Commands.{commands_of, runs};
 ghost use Rattle.walk_run.specs.Built.{is_built as is_built_scenario};
 
 use base_types::{Command, Listed, NewColumn, NoMemory};
@@ -29,7 +27,7 @@ pub(crate) fn own_commands(
 
 // A copy of a command that can be run.
 fn copied(alloc: Global, command: &Command) -> Result<Command, NoMemory>
-    requires { is_built_plan (plan_of none_open command.now) ≡ true }
+    requires { runs command.now ≡ true }
     ensures { IfOk result (λ copy. copy ≡ command.now) }
 {
     Ok(match command {

@@ -1,0 +1,366 @@
+ghost use Rattle.std.specs.Prelude.{◌≡◌, ◌<◌, ◌∷◌, ◌++◌, [], IfOk};
+ghost use Rattle.ddl_effect.specs.Plans.{after_act};
+ghost use Rattle.ddl_effect.specs.Commands.{found as found_rows, altering, column_there, column_free, reading, adding, dropping, renaming, targeting, filling, changing, deleting, with_name, writing};
+ghost use Rattle.ddl_effect.specs.Stages.{altered, altering_at, alter_acts_left, want_of};
+
+use crate::alteration::mode;
+use crate::altered_rows::{
+    MOST_STAT, column_number, default_of, dropped, filled, renamed, targeted,
+};
+use crate::{Alteration, Draft, Want};
+use base_types::{Change, ColType, Kind, Listed, MOST_COLUMNS, Name, NoMemory, Oid, Purpose, Row};
+use rel_desc::CommandError;
+use std::alloc::Global;
+
+/// How far an alteration of a table is: what is left of its plan (`ATExecAddColumn`,
+/// `ATExecDropColumn`, `renameatt_internal`, `ATExecSetStatistics` and `ATExecSetRelOptions` in
+/// `src/backend/commands/tablecmds.c`).
+#[derive(Clone, Copy)]
+pub(crate) enum Altering {
+    /// It has done what it says.
+    Done,
+    /// It failed.
+    Failing(CommandError),
+    /// It failed: no relation has the name.
+    Missing(Name),
+    /// It looks for the table, and locks it.
+    Finding {
+        name: Name,
+        alteration: Alteration,
+    },
+    /// It opens the table's descriptor.
+    Opening {
+        rel: Oid,
+        alteration: Alteration,
+    },
+    /// `add column`: it looks for a column of the name, which there may not be.
+    AddingColumn {
+        rel: Oid,
+        column: Name,
+        col_type: ColType,
+    },
+    /// `add column`: it reads the table's columns, to number the new one.
+    NumberingColumn {
+        rel: Oid,
+        column: Name,
+        col_type: ColType,
+    },
+    /// `drop column`: it looks for the column.
+    DroppingColumn {
+        rel: Oid,
+        column: Name,
+    },
+    /// `drop column`: it reads the table's defaults, for that of the column with this row.
+    DroppingDefault {
+        rel: Oid,
+        row: Row,
+    },
+    /// `rename column`: it looks for the column.
+    RenamingColumn {
+        rel: Oid,
+        column: Name,
+        to: Name,
+    },
+    /// `rename column`: it looks for a column of the new name, which there may not be.
+    RenamingTo {
+        rel: Oid,
+        row: Row,
+        to: Name,
+    },
+    /// `set statistics`: it looks for the column.
+    SettingStatistics {
+        rel: Oid,
+        column: Name,
+        stat: i32,
+    },
+    /// `set (fillfactor = N)`: it reads the table's row.
+    SettingFillfactor {
+        rel: Oid,
+        fill: u32,
+    },
+    /// It writes a new row.
+    Inserting {
+        row: Row,
+    },
+    /// It writes: it deletes a row, if there is one, and replaces the row with the key of this one.
+    Replacing {
+        deleted: Option<Row>,
+        row: Row,
+    },
+}
+
+impl Altering {
+    /// What it wants next.
+    pub(crate) fn next(&self) -> Want
+        ensures { result ≡ want_of (altering_at self.now) }
+    {
+        match self {
+            Altering::Done => Want::Done,
+            Altering::Failing(error) => Want::Fails(*error),
+            Altering::Missing(name) => Want::Absent(*name),
+            Altering::Finding { name, alteration } => Want::Lookup {
+                name: *name,
+                mode: mode(alteration),
+            },
+            Altering::Opening { rel, .. } => Want::Open {
+                rel: *rel,
+                kind: Kind::Table,
+            },
+            Altering::AddingColumn { rel, column, .. }
+            | Altering::DroppingColumn { rel, column }
+            | Altering::RenamingColumn { rel, column, .. }
+            | Altering::SettingStatistics { rel, column, .. } => Want::Column {
+                rel: *rel,
+                name: *column,
+            },
+            Altering::RenamingTo { rel, to, .. } => Want::Column {
+                rel: *rel,
+                name: *to,
+            },
+            Altering::NumberingColumn { rel, .. } => Want::Read(Purpose::Attribute(*rel)),
+            Altering::DroppingDefault { rel, .. } => Want::Read(Purpose::AttrDef(*rel)),
+            Altering::SettingFillfactor { rel, .. } => Want::Read(Purpose::Class(*rel)),
+            Altering::Inserting { .. } | Altering::Replacing { .. } => Want::Write,
+        }
+    }
+
+    /// How far it is once what it wanted was done, and gave these rows: those of the scan on which
+    /// the act rests.
+    pub(crate) fn after(self, rows: &[Row]) -> Altering
+        ensures plan { altering_at result ≡ after_act rows.now (altering_at self) }
+        ensures less { 0 < alter_acts_left self → alter_acts_left result < alter_acts_left self }
+    {
+        match self {
+            Altering::Finding { name, alteration } => found(name, alteration, rows),
+            Altering::Opening { rel, alteration } => opened(rel, alteration),
+            Altering::AddingColumn {
+                rel,
+                column,
+                col_type,
+            } => not_there(rel, column, col_type, rows),
+            Altering::NumberingColumn {
+                rel,
+                column,
+                col_type,
+            } => numbered(rel, column, col_type, rows),
+            Altering::DroppingColumn { rel, column } => to_drop(rel, column, rows),
+            Altering::DroppingDefault { row, .. } => without_default(row, rows),
+            Altering::RenamingColumn { rel, column, to } => to_rename(rel, column, to, rows),
+            Altering::RenamingTo { row, to, .. } => named(row, to, rows),
+            Altering::SettingStatistics { column, stat, .. } => with_target(column, stat, rows),
+            Altering::SettingFillfactor { fill, .. } => with_fillfactor(fill, rows),
+            Altering::Inserting { .. } | Altering::Replacing { .. } | Altering::Done =>
+                Altering::Done,
+            Altering::Failing(error) => Altering::Failing(error),
+            Altering::Missing(name) => Altering::Missing(name),
+        }
+    }
+
+    /// The draft that it wants written. Condition: it wants that.
+    pub(crate) fn into_draft(self, alloc: Global) -> Result<Draft, NoMemory>
+        requires { want_of (altering_at self) ≡ Want.Write }
+        ensures { IfOk result (λ draft. altering_at self ≡ writing draft) }
+    {
+        match self {
+            Altering::Inserting { row } => inserting(alloc, row),
+            Altering::Replacing { deleted, row } => replacing(alloc, deleted, row),
+            _ => unreachable!(),
+        }
+    }
+}
+
+// The draft that inserts a row.
+fn inserting(alloc: Global, row: Row) -> Result<Draft, NoMemory>
+    ensures { IfOk result (λ draft. changing (Change.Insert row ∷ []) ≡ writing draft) }
+{
+    let mut changes = Listed::new(alloc);
+    changes.push(Change::Insert(row))?;
+    Ok(draft_of(alloc, changes))
+}
+
+// The draft that deletes a row, if there is one, and replaces another.
+fn replacing(alloc: Global, deleted: Option<Row>, row: Row) -> Result<Draft, NoMemory>
+    ensures { IfOk result (λ draft. changing (deleting deleted ++ Change.Replace row ∷ []) ≡ writing draft) }
+{
+    let mut changes = Listed::new(alloc);
+    if let Some(other) = deleted {
+        changes.push(Change::Delete(other.key()))?;
+    }
+    changes.push(Change::Replace(row))?;
+    Ok(draft_of(alloc, changes))
+}
+
+// The draft of these changes, which need no new oid.
+fn draft_of(alloc: Global, changes: Listed<Change>) -> Draft
+    ensures { writing result ≡ changing changes }
+{
+    Draft {
+        changes,
+        forced: Listed::new(alloc),
+        new_oids: 0,
+    }
+}
+
+// After the lookup.
+fn found(name: Name, alteration: Alteration, rows: &[Row]) -> Altering
+    ensures plan { altering_at result ≡ found_rows name (altering name (altered alteration)) rows.now }
+    ensures left { alter_acts_left result < 5 }
+{
+    match rows.first() {
+        Some(
+            Row::Class {
+                oid,
+                kind: Kind::Table,
+                ..
+            },
+        ) => Altering::Opening {
+            rel: *oid,
+            alteration,
+        },
+        Some(Row::Class { .. }) => Altering::Failing(CommandError::NotTable { name }),
+        _ => Altering::Missing(name),
+    }
+}
+
+// Once the descriptor is open: a number is tested before any column is looked up.
+fn opened(rel: Oid, alteration: Alteration) -> Altering
+    ensures plan { altering_at result ≡ altered alteration rel }
+    ensures left { alter_acts_left result < 4 }
+{
+    match alteration {
+        Alteration::AddColumn { column, col_type } => Altering::AddingColumn {
+            rel,
+            column,
+            col_type,
+        },
+        Alteration::DropColumn { column } => Altering::DroppingColumn { rel, column },
+        Alteration::RenameColumn { column, to } => Altering::RenamingColumn { rel, column, to },
+        Alteration::SetStatistics { column, stat } => {
+            if stat < -1 {
+                return Altering::Failing(CommandError::OutOfRange {
+                    value: i64::from(stat),
+                });
+            }
+            Altering::SettingStatistics { rel, column, stat }
+        }
+        Alteration::SetFillfactor { fill } => {
+            if fill < 10 || fill > 100 {
+                return Altering::Failing(CommandError::OutOfRange {
+                    value: i64::from(fill),
+                });
+            }
+            Altering::SettingFillfactor { rel, fill }
+        }
+    }
+}
+
+// `add column`, after the lookup of its name.
+fn not_there(rel: Oid, column: Name, col_type: ColType, rows: &[Row]) -> Altering
+    ensures plan { altering_at result ≡ column_free column (reading (Purpose.Attribute rel) (adding rel column col_type)) rows.now }
+    ensures left { alter_acts_left result < 3 }
+{
+    if rows.is_empty() {
+        Altering::NumberingColumn {
+            rel,
+            column,
+            col_type,
+        }
+    } else {
+        Altering::Failing(CommandError::ColumnExists { name: column })
+    }
+}
+
+// `add column`, by the rows of the table's columns.
+fn numbered(rel: Oid, column: Name, col_type: ColType, columns: &[Row]) -> Altering
+    ensures plan { altering_at result ≡ adding rel column col_type columns.now }
+    ensures left { alter_acts_left result < 2 }
+{
+    if columns.len() >= MOST_COLUMNS as usize {
+        return Altering::Failing(CommandError::TooManyColumns);
+    }
+    let row = Row::Att {
+        rel,
+        num: columns.len() as u32 + 1,
+        name: column,
+        col_type,
+        stat: -1,
+        live: true,
+    };
+    Altering::Inserting { row }
+}
+
+// `drop column`, after the lookup of its name.
+fn to_drop(rel: Oid, column: Name, rows: &[Row]) -> Altering
+    ensures plan { altering_at result ≡ column_there column (λ row. reading (Purpose.AttrDef rel) (dropping row)) rows.now }
+    ensures left { alter_acts_left result < 3 }
+{
+    match rows.first() {
+        Some(row) => Altering::DroppingDefault { rel, row: *row },
+        None => Altering::Failing(CommandError::NoColumn { name: column }),
+    }
+}
+
+// `drop column`, by the rows of the table's defaults.
+fn without_default(row: Row, defaults: &[Row]) -> Altering
+    ensures plan { altering_at result ≡ dropping row defaults.now }
+    ensures left { alter_acts_left result < 2 }
+{
+    Altering::Replacing {
+        deleted: default_of(column_number(&row), defaults),
+        row: dropped(&row),
+    }
+}
+
+// `rename column`, after the lookup of its old name.
+fn to_rename(rel: Oid, column: Name, to: Name, rows: &[Row]) -> Altering
+    ensures plan { altering_at result ≡ column_there column (renaming to rel) rows.now }
+    ensures left { alter_acts_left result < 3 }
+{
+    match rows.first() {
+        Some(row) => Altering::RenamingTo { rel, row: *row, to },
+        None => Altering::Failing(CommandError::NoColumn { name: column }),
+    }
+}
+
+// `rename column`, after the lookup of its new name.
+fn named(row: Row, to: Name, rows: &[Row]) -> Altering
+    ensures plan { altering_at result ≡ column_free to (changing (Change.Replace (with_name to row) ∷ [])) rows.now }
+    ensures left { alter_acts_left result < 2 }
+{
+    if rows.is_empty() {
+        Altering::Replacing {
+            deleted: None,
+            row: renamed(&row, to),
+        }
+    } else {
+        Altering::Failing(CommandError::ColumnExists { name: to })
+    }
+}
+
+// `set statistics`, after the lookup of its column.
+fn with_target(column: Name, stat: i32, rows: &[Row]) -> Altering
+    ensures plan { altering_at result ≡ column_there column (targeting stat) rows.now }
+    ensures left { alter_acts_left result < 2 }
+{
+    match rows.first() {
+        Some(row) => Altering::Replacing {
+            deleted: None,
+            row: targeted(row, stat.min(MOST_STAT)),
+        },
+        None => Altering::Failing(CommandError::NoColumn { name: column }),
+    }
+}
+
+// `set (fillfactor = N)`, by the table's row.
+fn with_fillfactor(fill: u32, rows: &[Row]) -> Altering
+    ensures plan { altering_at result ≡ filling fill rows.now }
+    ensures left { alter_acts_left result < 2 }
+{
+    match rows.first() {
+        Some(row) => Altering::Replacing {
+            deleted: None,
+            row: filled(row, fill),
+        },
+        None => Altering::Done,
+    }
+}
