@@ -95,7 +95,7 @@ sees-same : (history after : List Entry) (b : ℕ) (v : Version) → OfStamps (�
 sees-same history after b v same = seen-same (counts after b) (counts history b) v same
 
 -- the stamps of the versions that a scan asks for count as before
-abbrev SameWhereAsked : List Entry → List Entry → ℕ → Purpose → Type 0
+abbrev pub SameWhereAsked : List Entry → List Entry → ℕ → Purpose → Type 0
 SameWhereAsked history after b d = AllByRecursion (OfStamps (λ s row. selects d row ≡ true → counts after b s ≡ counts history b s)) (versions_of history)
 
 seen_alike : (history after : List Entry) (b : ℕ) (d : Purpose) → SameWhereAsked history after b d → AllByRecursion (λ v. selects d v.row ≡ true → sees after b v ≡ sees history b v) (versions_of history)
@@ -109,11 +109,11 @@ seen_alike history after b d same = every-weaker (OfStamps (λ s row. selects d 
     at_row v is held = (held.0 is, of_ended v.row v.ended is held.1)
 
 -- where the versions stay
-answer-kept : (history after : List Entry) (b : ℕ) (d : Purpose) → versions_of after ≡ versions_of history → SameWhereAsked history after b d → answer_of after b d ≡ answer_of history b d
+pub answer-kept : (history after : List Entry) (b : ℕ) (d : Purpose) → versions_of after ≡ versions_of history → SameWhereAsked history after b d → answer_of after b d ≡ answer_of history b d
 answer-kept history after b d stay same = ap (λ vs. fold (put_in_order d) [] (asked d (sees after b) vs)) stay ∙ ap (fold (put_in_order d) []) (asked-same d (sees after b) (sees history b) (versions_of history) (seen_alike history after b d same))
 
 -- another's entry leaves what counts, but where it makes it visible
-counts-other : (history : List Entry) (a c : ℕ) (event : Event) (b : ℕ) (s : Stamp) → (a == b) ≡ false → makes_visible s.xid.0 event ≡ false → counts (history ++ entry_of a c event ∷ []) b s ≡ counts history b s
+pub counts-other : (history : List Entry) (a c : ℕ) (event : Event) (b : ℕ) (s : Stamp) → (a == b) ≡ false → makes_visible s.xid.0 event ≡ false → counts (history ++ entry_of a c event ∷ []) b s ≡ counts history b s
 counts-other history a c event b s other hidden =
     ap (λ t. t || runs_as (history ++ entry_of a c event ∷ []) b s.xid.0) (committed-more history (entry_of a c event) s.xid.0 ∙ ap (λ t. is_committed history s.xid.0 || t) hidden ∙ or-false (is_committed history s.xid.0))
     ∙ ap (λ r. is_committed history s.xid.0 || has_xid s.xid.0 r) (running-other history (entry_of a c event) b other)

@@ -123,12 +123,13 @@ one_guard held a b c c' rel agree guard other = any_with (guards a c rel) (λ g.
         by_backends true same ga kb one clash = sym ga ∙ eqb-true g.backend k.backend same ∙ kb
         by_backends false differ ga kb one clash = absurd (both_ways _ (agrees one differ) clash)
 
--- a guard after an event, while its transaction runs on
-guard_kept : (history : List Entry) (b c' : ℕ) (event : Event) (a x c : ℕ) (key : Oid) → GuardsLawfully history b c' event → ((a == b) ≡ true → has_xid x (running_by c' event (running_transaction_of history b)) ≡ true)
-    → ((a == b) ≡ true → list_any (is_of c) (lists_of history b) ≡ true) → IsGuarded (held_of history) a c key → IsGuarded (held_by b c' event (held_of history)) a c key
-guard_kept history b c' (events.LockOk rel mode) a x c key lawful runs there guard = any-left (guards a c key) (held_of history) _ guard
-guard_kept history b c' (events.Write xid changes) a x c key lawful runs there guard = any-left (guards a c key) (held_of history) _ guard
-guard_kept history b c' (events.Release from) a x c key lawful runs there guard = any-filter (guards a c key) (λ g. not ((g.backend == b) && nat_le from g.command)) stays (held_of history) guard
+-- a grant that passes a test of grants to the backend in this command or below, after an event, while the transaction runs on
+grants_kept : (history : List Entry) (b c' : ℕ) (event : Event) (a x c : ℕ) (test : Grant → Bool) → ((g : Grant) → test g ≡ true → (g.backend ≡ a) × (g.command ≤ c)) → GuardsLawfully history b c' event
+    → ((a == b) ≡ true → has_xid x (running_by c' event (running_transaction_of history b)) ≡ true) → ((a == b) ≡ true → list_any (is_of c) (lists_of history b) ≡ true)
+    → list_any test (held_of history) ≡ true → list_any test (held_by b c' event (held_of history)) ≡ true
+grants_kept history b c' (events.LockOk rel mode) a x c test parts lawful runs there some = any-left test (held_of history) _ some
+grants_kept history b c' (events.Write xid changes) a x c test parts lawful runs there some = any-left test (held_of history) _ some
+grants_kept history b c' (events.Release from) a x c test parts lawful runs there some = any-filter test (λ g. not ((g.backend == b) && nat_le from g.command)) stays (held_of history) some
   where
     runs_on : (r : Option Running) → has_xid x (after_release from (begun c' r)) ≡ true → ends_at from r ≡ false
     runs_on None is = refl
@@ -142,28 +143,35 @@ guard_kept history b c' (events.Release from) a x c key lawful runs there guard 
     below own = false_from_ne_true (nat_le from c) (λ above. both_ways _ (lawful (runs_on (running_transaction_of history b) (runs own)))
         (any-weaker (is_of c) (λ w. nat_le from w.command) (λ w is. ap (nat_le from) (eqb-true w.command c is) ∙ above) (lists_of history b) (there own)))
 
-    stays : (g : Grant) → guards a c key g ≡ true → not ((g.backend == b) && nat_le from g.command) ≡ true
-    stays g is =
-        let p = and_parts ((g.backend == a) && nat_le g.command c) (same_oid g.rel key && is_changing g.mode) is in
-        let q = and_parts (g.backend == a) (nat_le g.command c) p.0 in
-        by_owner (g.backend == b) refl (eqb-true g.backend a q.0) (leb-true g.command c q.1)
+    stays : (g : Grant) → test g ≡ true → not ((g.backend == b) && nat_le from g.command) ≡ true
+    stays g is = let p = parts g is in by_owner (g.backend == b) refl p.0 p.1
       where
         by_owner : (t : Bool) → (g.backend == b) ≡ t → g.backend ≡ a → g.command ≤ c → not (t && nat_le from g.command) ≡ true
         by_owner false other ga low = refl
         by_owner true own ga low =
             let short : c < from = leb-false from c (below (eq-eqb a b (sym ga ∙ eqb-true g.backend b own))) in
             not_from_false (nat_le from g.command) (lt-leb from g.command (omega arith))
-guard_kept history b c' event a x c key lawful runs there guard = guard
+grants_kept history b c' event a x c test parts lawful runs there some = some
+
+-- and so after an entry, of a stamp that is there
+pub grants-kept : (history : List Entry) (e : Entry) (s : Stamp) (row : Row) (a : ℕ) (test : Grant → Bool) → ((g : Grant) → test g ≡ true → (g.backend ≡ a) × (g.command ≤ s.command)) → IsLawful history e → GuardsLawfully history e.backend e.command e.event
+    → Touch history s row → runs_as (history ++ e ∷ []) a s.xid.0 ≡ true → (runs_as history a s.xid.0 ≡ true → list_any test (held_of history) ≡ true) → list_any test (held_of (history ++ e ∷ [])) ≡ true
+grants-kept history e s row a test parts lawful guarding touch is had = of (runs-before history e a s.xid.0 lawful is)
+  where
+    of : (runs_as history a s.xid.0 ≡ true) ⊎ Draws history e a s.xid.0 → list_any test (held_of (history ++ e ∷ [])) ≡ true
+    of (inr drew) = absurd (omega (arith, touch.bound, drew.new))
+    of (inl was) = subst (λ held. list_any test held ≡ true) (sym (held-more history e))
+        (grants_kept history e.backend e.command e.event a s.xid.0 s.command test parts guarding
+        (λ own. subst (λ o. has_xid s.xid.0 (running_by e.command e.event (running_transaction_of history o)) ≡ true) (eqb-true a e.backend own) (sym (ap (has_xid s.xid.0) (running-own history e a (eq-eqb e.backend a (sym (eqb-true a e.backend own))))) ∙ is))
+        (λ own. subst (λ o. list_any (is_of s.command) (lists_of history o) ≡ true) (eqb-true a e.backend own) (touch.written a was)) (had was))
+
+-- a grant of the backend in a command up to this one
+pub of_backend : (a c : ℕ) (g : Grant) → ((g.backend == a) && nat_le g.command c) ≡ true → (g.backend ≡ a) × (g.command ≤ c)
+of_backend a c g is = let q = and_parts (g.backend == a) (nat_le g.command c) is in (eqb-true g.backend a q.0, leb-true g.command c q.1)
 
 pub Guard-kept : (history : List Entry) (e : Entry) (s : Stamp) (row : Row) → IsLawful history e → GuardsLawfully history e.backend e.command e.event → Touch history s row → Guard history s row → Guard (history ++ e ∷ []) s row
-Guard-kept history e s row lawful guarding touch guard a is = of (runs-before history e a s.xid.0 lawful is)
-  where
-    of : (runs_as history a s.xid.0 ≡ true) ⊎ Draws history e a s.xid.0 → IsGuarded (held_of (history ++ e ∷ [])) a s.command (main_rel row)
-    of (inr drew) = absurd (omega (arith, touch.bound, drew.new))
-    of (inl had) = subst (λ held. IsGuarded held a s.command (main_rel row)) (sym (held-more history e))
-        (guard_kept history e.backend e.command e.event a s.xid.0 s.command (main_rel row) guarding
-        (λ own. subst (λ o. has_xid s.xid.0 (running_by e.command e.event (running_transaction_of history o)) ≡ true) (eqb-true a e.backend own) (sym (ap (has_xid s.xid.0) (running-own history e a (eq-eqb e.backend a (sym (eqb-true a e.backend own))))) ∙ is))
-        (λ own. subst (λ o. list_any (is_of s.command) (lists_of history o) ≡ true) (eqb-true a e.backend own) (touch.written a had)) (guard a had))
+Guard-kept history e s row lawful guarding touch guard a is = grants-kept history e s row a (guards a s.command (main_rel row))
+    (λ g here. of_backend a s.command g (and_parts ((g.backend == a) && nat_le g.command s.command) (same_oid g.rel (main_rel row) && is_changing g.mode) here).0) lawful guarding touch is (guard a)
 
 guards_by : (history : List Entry) (b c : ℕ) (event : Event) → IsLawful history (entry_of b c event) → GuardsLawfully history b c event → Runs history → Touched history → Guards history
     → AllByRecursion (OfStamps (Guard (history ++ entry_of b c event ∷ []))) (versions_by history b c event (versions_of history))

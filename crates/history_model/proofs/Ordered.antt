@@ -66,7 +66,7 @@ pub record Ordered (history : List Entry) : Type 0 where
   pub rels : OneRel history
   pub one : OneVersion history
 
-all_each : {X : Type 0} (p : X → Bool) (xs : List X) → list_all p xs ≡ true → AllByRecursion (λ x. p x ≡ true) xs
+pub all_each : {X : Type 0} (p : X → Bool) (xs : List X) → list_all p xs ≡ true → AllByRecursion (λ x. p x ≡ true) xs
 all_each p [] all = tt
 all_each p (x ∷ xs) all = let parts = and_parts (p x) (list_all p xs) all in (parts.0, all_each p xs parts.1)
 
@@ -83,7 +83,7 @@ all_kept p f (x ∷ xs) all = by_option (f x) all (all_kept p f xs)
     by_option None held rest = (tt, rest held)
     by_option (Some y) held rest = let parts = and_parts (p y) (list_all p (filter_map f xs)) held in (parts.0, rest parts.1)
 
-if_some : {X : Type 0} (P Q : X → Type 0) → ((x : X) → P x → Q x) → (o : Option X) → IfSome o P → IfSome o Q
+pub if_some : {X : Type 0} (P Q : X → Type 0) → ((x : X) → P x → Q x) → (o : Option X) → IfSome o P → IfSome o Q
 if_some P Q weaker None held = tt
 if_some P Q weaker (Some x) held = weaker x held
 
@@ -396,7 +396,7 @@ release_guards history b from true may not' = absurd (of (running_transaction_of
     of (Some t) is none = let same : t.first ≡ from = cc in both_ways _ none (eq-eqb t.first from same)
 release_guards history b from false may not' = may
 
-guards_lawful : (history : List Entry) (b c : ℕ) (event : Event) → AllowsEvent history b c event → Ordered history → AllByRecursion (λ g. g.backend ≡ b → g.command ≤ c) (held_of history) → GuardsLawfully history b c event
+pub guards_lawful : (history : List Entry) (b c : ℕ) (event : Event) → AllowsEvent history b c event → Ordered history → AllByRecursion (λ g. g.backend ≡ b → g.command ≤ c) (held_of history) → GuardsLawfully history b c event
 guards_lawful history b c (events.Write xid items) allows k early = guarded_items history b c xid items k allows early
 guards_lawful history b c (events.Release from) allows k early = release_guards history b from (is_visible (running_transaction_of history b)) allows.1
 guards_lawful history b c event allows k early = tt
@@ -463,7 +463,7 @@ Early-more history e follows lives early = subst (AllByRecursion On) (sym (held-
     of (events.Release from) = every-filter On (λ g. not ((g.backend == e.backend) && nat_le from g.command)) (held_of history) (every-weaker On (λ g. not ((g.backend == e.backend) && nat_le from g.command) ≡ true → On g) (λ g on is. on) (held_of history) old)
     of event = old
 
-early_at : (history : List Entry) (e : Entry) → Ordered history → FollowsLife (life_of history e.backend) e.command e.event → AllByRecursion (λ g. g.backend ≡ e.backend → g.command ≤ e.command) (held_of history)
+pub early_at : (history : List Entry) (e : Entry) → Ordered history → FollowsLife (life_of history e.backend) e.command e.event → AllByRecursion (λ g. g.backend ≡ e.backend → g.command ≤ e.command) (held_of history)
 early_at history e k follows = every-weaker (λ g. g.command ≤ command_of history g.backend) (λ g. g.backend ≡ e.backend → g.command ≤ e.command)
     (λ g low is. let same : command_of history g.backend ≡ command_of history e.backend = ap (command_of history) is in omega (arith, low, same, rises_at history e follows k.lives)) (held_of history) k.early
 
