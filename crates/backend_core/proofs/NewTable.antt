@@ -104,7 +104,7 @@ guards rel t = ap (λ s. (s || false) || t) (eq-eqb rel.0 rel.0 refl)
 
 columns_guarded : (before : List Entry) (b : ℕ) (rel : Oid) (numbered : List (ℕ × NewColumn)) → list_all (is_guarded before b (rel ∷ [])) (map (column_item rel) numbered) ≡ true
 columns_guarded before b rel [] = refl
-columns_guarded before b rel (column ∷ numbered) = λ i. (guards rel (holds (held_of before) b rel AccessExclusive) i && true) && columns_guarded before b rel numbered i
+columns_guarded before b rel (column ∷ numbered) = λ i. (guards rel (holds (held_of before) b rel AccessExclusive || false) i && true) && columns_guarded before b rel numbered i
 
 -- no version is of a relation whose oid is still to be drawn
 abbrev pub AreDrawn : ℕ → List Version → Type 0
@@ -212,7 +212,7 @@ may_add before b rel name columns drawn = record {
   keys = λ i. not (no_class rel numbered i) && columns_distinct rel 1 columns i;
   there = ap (list_all (has_row before b)) (columns_end rel numbered);
   kinds = (columns_keep before b rel numbered).0;
-  guarded = ap (λ l. list_all (is_guarded before b (rel ∷ l)) (table_items rel name numbered)) (columns_draw rel numbered).1 ∙ (λ i. (guards rel (holds (held_of before) b rel AccessExclusive) i && true) && columns_guarded before b rel numbered i);
+  guarded = ap (λ l. list_all (is_guarded before b (rel ∷ l)) (table_items rel name numbered)) (columns_draw rel numbered).1 ∙ (λ i. (guards rel (holds (held_of before) b rel AccessExclusive || false) i && true) && columns_guarded before b rel numbered i);
   fresh = λ i. elim (no_table rel (versions_of before) drawn i) [ true ↦ false | false ↦ true ] && columns_fresh before rel numbered drawn i;
   keeps = (columns_keep before b rel numbered).1;
   named = table_covered before b rel name numbered;

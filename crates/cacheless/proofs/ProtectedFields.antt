@@ -5,12 +5,9 @@ use Rattle.std.specs.Option.{option_map_or}
 use Rattle.std.proofs.lemmas.Bool.{both_ways, and_parts, or_cases}
 use Rattle.base_types.specs.Scenario.{Scenario}
 use Rattle.base_types.specs.declared.field.Field.{Field}
-use Rattle.base_types.specs.declared.field.Field.TheVariants as fields
 use Rattle.base_types.specs.declared.ids.Oid.{Oid}
 use Rattle.base_types.specs.declared.kind.Kind.{Kind}
-use Rattle.base_types.specs.declared.kind.Kind.TheVariants.{Table, Index}
 use Rattle.base_types.specs.declared.mode.Mode.{Mode}
-use Rattle.base_types.specs.declared.mode.Mode.TheVariants.{ShareUpdateExclusive, ShareRowExclusive, AccessExclusive}
 use Rattle.base_types.specs.Fields.{has_field, field_text, read_by}
 use Rattle.base_types.specs.Modes.{conflicts, writers_of}
 use Rattle.base_types.specs.Scans.{same_oid}
@@ -30,7 +27,7 @@ use Rattle.history_model.proofs.Every.{every-weaker, every-both}
 use Rattle.history_model.proofs.Asking.{oid_eq}
 use Rattle.history_model.proofs.Guards.{any_with}
 use Rattle.history_model.proofs.Exclude.{Agree}
-use Rattle.history_model.proofs.Locked.{HasStrongest, strongest_leaves}
+use Rattle.history_model.proofs.WeakChanges.{weak_visible}
 use Rattle.history_model.proofs.Observed.{Leaves, IsRead, IsDirty, IsWriting, IsBehind, observed}
 use Rattle.history_model.proofs.Ordered.{all_each, locks_exclude}
 use Rattle.history_model.proofs.Past.{IsPast, none_in_way}
@@ -113,32 +110,8 @@ kept_out_fresh scenario history b rel field modes leaves sound plays are usable 
     of (inr (inl writing)) = absurd (not_writing writing)
     of (inr (inr behind)) = absurd (not_behind behind)
 
--- each field that a kind has may be changed under AccessExclusive
-strongest_writes : (kind : Kind) (field : Field) → has_field kind field ≡ true → HasStrongest (writers_of kind field)
-strongest_writes Table fields.Name has = refl
-strongest_writes Table fields.Columns has = refl
-strongest_writes Table fields.Defaults has = refl
-strongest_writes Table fields.Statistics has = refl
-strongest_writes Table fields.Fillfactor has = refl
-strongest_writes Table fields.Constraints has = refl
-strongest_writes Table fields.Referenced has = refl
-strongest_writes Table fields.Indexes has = refl
-strongest_writes Table fields.Triggers has = refl
-strongest_writes Index fields.Name has = refl
-strongest_writes Index fields.Of has = refl
-strongest_writes Index fields.Valid has = refl
-strongest_writes kind field has = absurd (cc)
-
 -- a protected field is fresh
 pub protected_fresh : (scenario : Scenario) (history : List Entry) (b : ℕ) (rel : Oid) (kind : Kind) (field : Field) → IsSound history → Plays scenario history → has_field kind field ≡ true → is_protected scenario history b rel kind field ≡ true
     → is_usable history b (read_by field rel) ≡ true → fresh_text history b rel field ≡ field_text field rel (rows_read history b (read_by field rel))
-protected_fresh scenario history b rel kind field sound plays has protected usable = kept_out_fresh scenario history b rel field (writers_of kind field) (strongest_leaves field rel (writers_of kind field) (strongest_writes kind field has)) sound plays protected usable
-
--- the modes under which commands change rows of a relation
-abbrev pub changing_modes : List Mode
-changing_modes = ShareUpdateExclusive ∷ ShareRowExclusive ∷ AccessExclusive ∷ []
-
--- whoever keeps all of them out has read all fields right
-pub unchanged_fresh : (scenario : Scenario) (history : List Entry) (b : ℕ) (rel : Oid) (field : Field) → IsSound history → Plays scenario history → AreKeptOut scenario history b rel changing_modes
-    → is_usable history b (read_by field rel) ≡ true → fresh_text history b rel field ≡ field_text field rel (rows_read history b (read_by field rel))
-unchanged_fresh scenario history b rel field sound plays are usable = kept_out_fresh scenario history b rel field changing_modes (strongest_leaves field rel changing_modes refl) sound plays are usable
+protected_fresh scenario history b rel kind field sound plays has protected usable =
+    kept_out_fresh scenario history b rel field (writers_of kind field) (λ before a c xid o well comes other none. weak_visible before a c xid o kind field rel well comes other has none) sound plays protected usable

@@ -1,7 +1,7 @@
 -- What no history allows, and at the end what it allows beside it: a worked example up to a place, and one entry there.
-use Rattle.std.proofs.Common.{ℕ, Bool, List, negsuc, ◌≡◌, ◌++◌, true, false, None, [], ◌∷◌, codes, arith}
-use Rattle.base_types.specs.declared.mode.Mode.TheVariants.{AccessShare, AccessExclusive}
-use Rattle.base_types.specs.declared.kind.Kind.TheVariants.{Index}
+use Rattle.std.proofs.Common.{ℕ, ℤ, Bool, List, pos, negsuc, ◌≡◌, ◌++◌, true, false, Some, None, [], ◌∷◌, codes, arith}
+use Rattle.base_types.specs.declared.mode.Mode.TheVariants.{AccessShare, ShareUpdateExclusive, AccessExclusive}
+use Rattle.base_types.specs.declared.kind.Kind.TheVariants.{Table, Index}
 use Rattle.base_types.specs.declared.row.Row.{Row}
 use Rattle.base_types.specs.declared.row.Row.TheVariants.{Class, Att, Con, Trg}
 use Rattle.base_types.specs.declared.row.ConKind.TheVariants.{Foreign}
@@ -10,6 +10,7 @@ use Rattle.base_types.specs.declared.row_key.RowKey.TheVariants as keys
 use Rattle.base_types.specs.declared.scan.Purpose.TheVariants as scans
 use Rattle.event_kinds.specs.declared.entry.Event.TheVariants.{Start, Look, Fetch, FetchReset, LockOk, LockHeld, Unlock, Scan, Write, ClashRow, ClashRunning, Visible, Publish, Release, Gone, Fail, Stop}
 use Rattle.event_kinds.specs.declared.entry.Entry.{Entry}
+use Rattle.event_kinds.specs.declared.entry.Item.{Item}
 use Rattle.event_kinds.specs.declared.entry.Item.TheVariants.{Add, Put, Remove, Force}
 use Rattle.history_model.specs.Transactions.{Committed, InProgress, Aborted, status_of}
 use Rattle.history_model.specs.Legal.{MayFollow}
@@ -117,6 +118,30 @@ key_written_twice h = search arith
 -- a column for a relation on which the backend holds no lock
 pub unguarded_write : MayFollow creators.second_fetched (entry 2 2 (Write (xid 2) (new_column 16384 (codes "c") ∷ []))) → ⊥
 unguarded_write h = search arith
+
+-- ShareUpdateExclusive is held on a table
+abbrev pub weakly_locked : List Entry
+weakly_locked = creators.second_fetched ++ entry 2 2 (LockOk (oid 16384) ShareUpdateExclusive) ∷ []
+
+-- the table's column, with a name and a statistics target
+abbrev pub column_put : List ℕ → ℤ → List Item
+column_put name target = Put (Att (oid 16384) 1 name Int4 target true) ∷ []
+
+-- a column gets another name under a weak mode
+pub renamed_weakly : MayFollow weakly_locked (entry 2 2 (Write (xid 2) (column_put (codes "b") (negsuc 0)))) → ⊥
+renamed_weakly h = search arith
+
+-- a column gets another name beside its statistics target under a weak mode
+pub renamed_with_target : MayFollow weakly_locked (entry 2 2 (Write (xid 2) (column_put (codes "b") (pos 100)))) → ⊥
+renamed_with_target h = search arith
+
+-- a statistics target is set where no lock is held
+pub target_without_lock : MayFollow creators.second_fetched (entry 2 2 (Write (xid 2) (column_put (codes "a") (pos 100)))) → ⊥
+target_without_lock h = search arith
+
+-- a table gets another name under a weak mode
+pub table_renamed_weakly : MayFollow weakly_locked (entry 2 2 (Write (xid 2) (Put (Class (oid 16384) (codes "y") Table None) ∷ []))) → ⊥
+table_renamed_weakly h = search arith
 
 -- a row is replaced that the backend doesn't see
 pub unseen_row_replaced : MayFollow creators.first_written (entry 1 3 (Write (xid 1) (Put (Att (oid 16384) 2 (codes "b") Int4 (negsuc 0) true) ∷ []))) → ⊥
@@ -367,6 +392,18 @@ needless_scan h = search arith
 -- a backend's own locks don't conflict
 pub own_lock_no_conflict : MayFollow creators.first_written (entry 1 3 (LockOk (oid 16384) AccessShare))
 own_lock_no_conflict = search arith
+
+-- a statistics target is set under a weak mode
+pub target_set_weakly : MayFollow weakly_locked (entry 2 2 (Write (xid 2) (column_put (codes "a") (pos 100))))
+target_set_weakly = search arith
+
+-- a fillfactor is set under a weak mode
+pub fillfactor_set_weakly : MayFollow weakly_locked (entry 2 2 (Write (xid 2) (Put (Class (oid 16384) (codes "x") Table (Some 70)) ∷ [])))
+fillfactor_set_weakly = search arith
+
+-- a column gets another name under AccessExclusive
+pub renamed_exclusively : MayFollow (creators.second_fetched ++ entry 2 2 (LockOk (oid 16384) AccessExclusive) ∷ []) (entry 2 2 (Write (xid 2) (column_put (codes "b") (negsuc 0))))
+renamed_exclusively = search arith
 
 -- a name that was taken back is free
 pub name_free_after_rollback : MayFollow oids.looked (entry 1 4 (Write (xid 2) (new_table 16385 (codes "u") (codes "a"))))

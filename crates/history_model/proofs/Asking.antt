@@ -50,7 +50,7 @@ pub answer-same : (scan : Purpose) (f g : Version → Bool) (vs : List Version) 
     → scan_of scan (map (λ v. v.row) (filter f vs)) ≡ scan_of scan (map (λ v. v.row) (filter g vs))
 answer-same scan f g vs same = ap (fold (put_in_order scan) []) (asked-same scan f g vs same)
 
-bytes_same : (xs ys : List ℕ) → bytes_eq xs ys ≡ true → xs ≡ ys
+pub bytes_same : (xs ys : List ℕ) → bytes_eq xs ys ≡ true → xs ≡ ys
 bytes_same xs ys is = (bytes_eq-Decides xs ys).0 is
 
 pub oid_eq : (a b : Oid) → same_oid a b ≡ true → a ≡ b

@@ -88,6 +88,34 @@ marked history a x v runs guards some = by_place (or_cases (x == v.by.xid.0) (op
     by_place (inl here) = (v.by.command, guards.0 a (subst (λ y. runs_as history a y ≡ true) (eqb-true x v.by.xid.0 here) runs))
     by_place (inr there) = of v.ended there guards.1
 
+-- a stamp after a backend's own visibility step: for one who runs only what that backend runs, as it was for that backend
+pub visible_as : (history : List Entry) (a c : ℕ) (xid : Xid) (b : ℕ) (p : ℕ → Bool) → IsLawful history (entry_of a c (events.Visible xid)) → Runs history → (s : Stamp) (row : Row) → Touch history s row
+    → ((xid.0 == s.xid.0) ≡ false → runs_as history b s.xid.0 ≡ false) → counts_at (history ++ entry_of a c (events.Visible xid) ∷ []) b p s ≡ counts_at history a every_command s
+visible_as history a c xid b p lawful r s row touch not_b = by_xid (xid.0 == s.xid.0) refl
+  where
+    e : Entry
+    e = entry_of a c (events.Visible xid)
+
+    after : List Entry
+    after = history ++ e ∷ []
+
+    runs : runs_as history a xid.0 ≡ true
+    runs = lawful.1
+
+    of : (is_committed history s.xid.0 ≡ true) ⊎ (runs_as after b s.xid.0 ≡ runs_as history b s.xid.0) → (xid.0 == s.xid.0) ≡ false
+        → ((is_committed history s.xid.0 || false) || (runs_as after b s.xid.0 && p s.command)) ≡ (is_committed history s.xid.0 || (runs_as history a s.xid.0 && true))
+    of (inl was) differs = ap (λ t. (t || false) || (runs_as after b s.xid.0 && p s.command)) was ∙ sym (ap (λ t. t || (runs_as history a s.xid.0 && true)) was)
+    of (inr same) differs =
+        let not_a : runs_as history a s.xid.0 ≡ false = false_from_ne_true (runs_as history a s.xid.0) (λ is. both_ways _ differs (eq-eqb xid.0 s.xid.0 (one_xid xid.0 s.xid.0 (running_transaction_of history a) runs is))) in
+        ap (λ t. (is_committed history s.xid.0 || false) || (t && p s.command)) (same ∙ not_b differs) ∙ or-false (is_committed history s.xid.0 || false) ∙ sym (ap (λ t. is_committed history s.xid.0 || (t && true)) not_a)
+
+    by_xid : (t : Bool) → (xid.0 == s.xid.0) ≡ t → counts_at after b p s ≡ counts_at history a every_command s
+    by_xid true same =
+        ap (λ t. t || (runs_as after b s.xid.0 && p s.command)) (committed-more history e s.xid.0 ∙ ap (λ t. is_committed history s.xid.0 || t) same ∙ or-true (is_committed history s.xid.0))
+        ∙ sym (ap (λ t. is_committed history s.xid.0 || (t && true)) (subst (λ y. runs_as history a y ≡ true) (eqb-true xid.0 s.xid.0 same) runs) ∙ or-true (is_committed history s.xid.0))
+    by_xid false differs =
+        ap (λ t. t || (runs_as after b s.xid.0 && p s.command)) (committed-more history e s.xid.0 ∙ ap (λ t. is_committed history s.xid.0 || t) differs) ∙ of (runs-after history a c (events.Visible xid) b s row lawful r touch) differs
+
 -- what becomes visible: another that has touched neither sees as before; one that hasn't where this has sees as this did
 apart-visible : (history : List Entry) (a c : ℕ) (xid : Xid) → IsLawful history (entry_of a c (events.Visible xid)) → Runs history → LocksWell history → (v w : Version) → Stamped history v → Stamped history w
     → SameRel v w → Apart history v w → Apart (history ++ entry_of a c (events.Visible xid) ∷ []) v w
@@ -104,21 +132,7 @@ apart-visible history a c xid lawful r locks v w sv sw same_rel apart key b p do
 
     -- a stamp, where b runs only what a does: as a saw
     as_a : (s : Stamp) (row : Row) → Touch history s row → ((xid.0 == s.xid.0) ≡ false → runs_as history b s.xid.0 ≡ false) → counts_at after b p s ≡ counts_at history a every_command s
-    as_a s row touch not_b = by_xid (xid.0 == s.xid.0) refl
-      where
-        of : (is_committed history s.xid.0 ≡ true) ⊎ (runs_as after b s.xid.0 ≡ runs_as history b s.xid.0) → (xid.0 == s.xid.0) ≡ false
-            → ((is_committed history s.xid.0 || false) || (runs_as after b s.xid.0 && p s.command)) ≡ (is_committed history s.xid.0 || (runs_as history a s.xid.0 && true))
-        of (inl was) differs = ap (λ t. (t || false) || (runs_as after b s.xid.0 && p s.command)) was ∙ sym (ap (λ t. t || (runs_as history a s.xid.0 && true)) was)
-        of (inr same) differs =
-            let not_a : runs_as history a s.xid.0 ≡ false = false_from_ne_true (runs_as history a s.xid.0) (λ is. both_ways _ differs (eq-eqb xid.0 s.xid.0 (one_xid xid.0 s.xid.0 (running_transaction_of history a) runs is))) in
-            ap (λ t. (is_committed history s.xid.0 || false) || (t && p s.command)) (same ∙ not_b differs) ∙ or-false (is_committed history s.xid.0 || false) ∙ sym (ap (λ t. is_committed history s.xid.0 || (t && true)) not_a)
-
-        by_xid : (t : Bool) → (xid.0 == s.xid.0) ≡ t → counts_at after b p s ≡ counts_at history a every_command s
-        by_xid true same =
-            ap (λ t. t || (runs_as after b s.xid.0 && p s.command)) (committed-more history e s.xid.0 ∙ ap (λ t. is_committed history s.xid.0 || t) same ∙ or-true (is_committed history s.xid.0))
-            ∙ sym (ap (λ t. is_committed history s.xid.0 || (t && true)) (subst (λ y. runs_as history a y ≡ true) (eqb-true xid.0 s.xid.0 same) runs) ∙ or-true (is_committed history s.xid.0))
-        by_xid false differs =
-            ap (λ t. t || (runs_as after b s.xid.0 && p s.command)) (committed-more history e s.xid.0 ∙ ap (λ t. is_committed history s.xid.0 || t) differs) ∙ of (runs-after history a c (events.Visible xid) b s row lawful r touch) differs
+    as_a s row touch not_b = visible_as history a c xid b p lawful r s row touch not_b
 
     all_down : IsDown every_command
     all_down i j low is = refl
@@ -160,7 +174,7 @@ apart-visible history a c xid lawful r locks v w sv sw same_rel apart key b p do
     by_owner false is = by_marks is (marks xid.0 v) (marks xid.0 w) refl refl
 
 -- what is taken back
-gone_seen : (T : Stamp → Row → Type 0) (g h : Stamp → Bool) (back : Stamp → Bool) (v : Version) → ((s : Stamp) (row : Row) → T s row → back s ≡ false → g s ≡ h s) → ((s : Stamp) → back s ≡ true → h s ≡ false)
+pub gone_seen : (T : Stamp → Row → Type 0) (g h : Stamp → Bool) (back : Stamp → Bool) (v : Version) → ((s : Stamp) (row : Row) → T s row → back s ≡ false → g s ≡ h s) → ((s : Stamp) → back s ≡ true → h s ≡ false)
     → OfStamps T v → not (back v.by) ≡ true → seen_by g (end_back back v) ≡ true → seen_by h v ≡ true
 gone_seen T g h back v same none held stays seen =
     let parts = and_parts (g v.by) (not (option_map_or g (elim (option_map_or back v.ended false) [ true ↦ None | false ↦ v.ended ]) false)) seen in
@@ -175,25 +189,28 @@ gone_seen T g h back v same none held stays seen =
     of (Some s) touch free = by_test s (back s) refl touch free
 
 -- a test that stops before a command
-abbrev before_command : (ℕ → Bool) → ℕ → ℕ → Bool
+abbrev pub before_command : (ℕ → Bool) → ℕ → ℕ → Bool
 before_command p from k = p k && not (nat_le from k)
 
-before_down : (p : ℕ → Bool) (from : ℕ) → IsDown p → IsDown (before_command p from)
+pub before_down : (p : ℕ → Bool) (from : ℕ) → IsDown p → IsDown (before_command p from)
 before_down p from down i j low is =
     let parts = and_parts (p j) (not (nat_le from j)) is in
     let short : j < from = leb-false from j (not-true (nat_le from j) parts.1) in
     and_from (p i) (not (nat_le from i)) (down i j low parts.0) (ap not (lt-leb from i (omega arith)))
 
-apart-gone : (history : List Entry) (a c from : ℕ) → IsLawful history (entry_of a c (events.Gone from)) → Runs history → (v w : Version) → Stamped history v → Stamped history w → Apart history v w
-    → not (is_back history a from v.by) ≡ true → not (is_back history a from w.by) ≡ true
-    → Apart (history ++ entry_of a c (events.Gone from) ∷ []) (end_back (is_back history a from) v) (end_back (is_back history a from) w)
-apart-gone history a c from lawful r v w sv sw apart keeps_v keeps_w key b p down seen also = by_owner (a == b) refl
-  where
-    e : Entry
-    e = entry_of a c (events.Gone from)
+-- how far a backend saw before that which sees what it sees after writes were taken back
+pub record GoneView (history : List Entry) (a c from b : ℕ) (p : ℕ → Bool) : Type 0 where
+  pub passes : ℕ → Bool
+  pub down : IsDown passes
+  pub less : (k : ℕ) → passes k ≡ true → p k ≡ true
+  pub none : (s : Stamp) → is_back history a from s ≡ true → counts_at history b passes s ≡ false
+  pub same : (s : Stamp) (row : Row) → Touch history s row → is_back history a from s ≡ false → counts_at (history ++ entry_of a c (events.Gone from) ∷ []) b p s ≡ counts_at history b passes s
 
+pub gone_view : (history : List Entry) (a c from b : ℕ) (p : ℕ → Bool) → IsLawful history (entry_of a c (events.Gone from)) → Runs history → IsDown p → GoneView history a c from b p
+gone_view history a c from b p lawful r down = by_owner (a == b) refl
+  where
     after : List Entry
-    after = history ++ e ∷ []
+    after = history ++ entry_of a c (events.Gone from) ∷ []
 
     back : Stamp → Bool
     back = is_back history a from
@@ -209,11 +226,6 @@ apart-gone history a c from lawful r v w sv sw apart keeps_v keeps_w key b p dow
     foreign' other s is =
         ap (λ t. t || (runs_as history b s.xid.0 && p s.command)) (uncommitted s is)
         ∙ ap (λ t. t && p s.command) (false_from_ne_true (runs_as history b s.xid.0) (λ runs. both_ways _ other (eq-eqb a b (r.one a b s.xid.0 (and_parts (runs_as history a s.xid.0) (nat_le from s.command) is).0 runs))))
-
-    of_other : (a == b) ≡ false → ⊥
-    of_other other = apart key b p down
-        (gone_seen (Touch history) (counts_at after b p) (counts_at history b p) back v (λ s row touch is. same s row touch) (foreign' other) sv.0 keeps_v seen)
-        (gone_seen (Touch history) (counts_at after b p) (counts_at history b p) back w (λ s row touch is. same s row touch) (foreign' other) sw.0 keeps_w also)
 
     -- its own
     q : ℕ → Bool
@@ -246,14 +258,18 @@ apart-gone history a c from lawful r v w sv sw apart keeps_v keeps_w key b p dow
     own_same : a ≡ b → (s : Stamp) (row : Row) → Touch history s row → back s ≡ false → counts_at after b p s ≡ counts_at history b q s
     own_same one s row touch is = same s row touch ∙ capped s (is_committed history s.xid.0) (runs_as history b s.xid.0) (nat_le from s.command) (subst (λ o. (runs_as history o s.xid.0 && nat_le from s.command) ≡ false) one is)
 
-    of_own : a ≡ b → ⊥
-    of_own one = apart key b q (before_down p from down)
-        (gone_seen (Touch history) (counts_at after b p) (counts_at history b q) back v (own_same one) (own_back one) sv.0 keeps_v seen)
-        (gone_seen (Touch history) (counts_at after b p) (counts_at history b q) back w (own_same one) (own_back one) sw.0 keeps_w also)
+    by_owner : (t : Bool) → (a == b) ≡ t → GoneView history a c from b p
+    by_owner true is = let one = eqb-true a b is in record { passes = q; down = before_down p from down; less = λ k passes'. (and_parts (p k) (not (nat_le from k)) passes').0; none = own_back one; same = own_same one }
+    by_owner false other = record { passes = p; down = down; less = λ k passes'. passes'; none = foreign' other; same = λ s row touch is. same s row touch }
 
-    by_owner : (t : Bool) → (a == b) ≡ t → ⊥
-    by_owner true is = of_own (eqb-true a b is)
-    by_owner false is = of_other is
+apart-gone : (history : List Entry) (a c from : ℕ) → IsLawful history (entry_of a c (events.Gone from)) → Runs history → (v w : Version) → Stamped history v → Stamped history w → Apart history v w
+    → not (is_back history a from v.by) ≡ true → not (is_back history a from w.by) ≡ true
+    → Apart (history ++ entry_of a c (events.Gone from) ∷ []) (end_back (is_back history a from) v) (end_back (is_back history a from) w)
+apart-gone history a c from lawful r v w sv sw apart keeps_v keeps_w key b p down seen also =
+    let view = gone_view history a c from b p lawful r down in
+    apart key b view.passes view.down
+    (gone_seen (Touch history) (counts_at (history ++ entry_of a c (events.Gone from) ∷ []) b p) (counts_at history b view.passes) (is_back history a from) v view.same view.none sv.0 keeps_v seen)
+    (gone_seen (Touch history) (counts_at (history ++ entry_of a c (events.Gone from) ∷ []) b p) (counts_at history b view.passes) (is_back history a from) w view.same view.none sw.0 keeps_w also)
 
 -- what is needed of a write: commands don't fall, no key comes twice, and no version has the key of an added row
 abbrev pub IsOther : Item → Version → Type 0
@@ -267,7 +283,7 @@ abbrev pub KeysLawfully : List Entry → ℕ → ℕ → Event → Type 0
 KeysLawfully before b c (events.Write xid changes) = AllByRecursion (λ w. w.command ≤ c) (lists_of before b) × (are_distinct_keys (flat_map changed_key changes) ≡ true) × AllByRecursion (λ item. AllByRecursion (IsOther item) (versions_of before)) changes × AllByRecursion (λ item. AllByRecursion (KeepsRel item) (versions_of before)) changes
 KeysLawfully before b c event = ⊤
 
-distinct_split : (item : Item) (rest : List RowKey) → are_distinct_keys (changed_key item ++ rest) ≡ true → AllByRecursion (λ k. list_any (same_key k) rest ≡ false) (changed_key item) × (are_distinct_keys rest ≡ true)
+pub distinct_split : (item : Item) (rest : List RowKey) → are_distinct_keys (changed_key item ++ rest) ≡ true → AllByRecursion (λ k. list_any (same_key k) rest ≡ false) (changed_key item) × (are_distinct_keys rest ≡ true)
 distinct_split (forms.Add row) rest is = let parts = and_parts _ (are_distinct_keys rest) is in ((not-true (list_any (same_key (key_of row)) rest) parts.0, tt), parts.1)
 distinct_split (forms.Put row) rest is = let parts = and_parts _ (are_distinct_keys rest) is in ((not-true (list_any (same_key (key_of row)) rest) parts.0, tt), parts.1)
 distinct_split (forms.Remove key) rest is = let parts = and_parts _ (are_distinct_keys rest) is in ((not-true (list_any (same_key key) rest) parts.0, tt), parts.1)
@@ -277,13 +293,13 @@ none_same : (k : RowKey) (ks : List RowKey) → list_any (same_key k) ks ≡ fal
 none_same k [] none = tt
 none_same k (key ∷ ks) none = let parts = or_parts (same_key k key) (list_any (same_key k) ks) none in ((λ is. both_ways _ parts.0 (subst (λ x. same_key k x ≡ true) is (key_refl k))), none_same k ks parts.1)
 
-differ_from : (k : RowKey) (items : List Item) → list_any (same_key k) (flat_map changed_key items) ≡ false → AllByRecursion (λ item. AllByRecursion (λ key. k ≡ key → ⊥) (changed_key item)) items
+pub differ_from : (k : RowKey) (items : List Item) → list_any (same_key k) (flat_map changed_key items) ≡ false → AllByRecursion (λ item. AllByRecursion (λ key. k ≡ key → ⊥) (changed_key item)) items
 differ_from k [] none = tt
 differ_from k (item ∷ items) none =
     let parts = or_parts (list_any (same_key k) (changed_key item)) (list_any (same_key k) (flat_map changed_key items)) (sym (list_any-append (same_key k) (changed_key item) (flat_map changed_key items)) ∙ none) in
     (none_same k (changed_key item) parts.0, differ_from k items parts.1)
 
-added_key : (P : RowKey → Type 0) (item : Item) (row : Row) → added_row item ≡ Some row → AllByRecursion P (changed_key item) → P (key_of row)
+pub added_key : (P : RowKey → Type 0) (item : Item) (row : Row) → added_row item ≡ Some row → AllByRecursion P (changed_key item) → P (key_of row)
 added_key P (forms.Add new) row is all = let same : new ≡ row = cc in subst (λ r. P (key_of r)) same all.0
 added_key P (forms.Put new) row is all = let same : new ≡ row = cc in subst (λ r. P (key_of r)) same all.0
 added_key P (forms.Remove key) row is all = absurd (cc)

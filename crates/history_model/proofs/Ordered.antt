@@ -8,10 +8,9 @@ use Rattle.std.proofs.lemmas.Bool.{eqb-true, eq-eqb, both_ways, or_cases, or_par
 use Rattle.base_types.specs.declared.ids.Oid.{Oid}
 use Rattle.base_types.specs.declared.ids.Xid.{Xid}
 use Rattle.base_types.specs.declared.mode.Mode.{Mode}
-use Rattle.base_types.specs.declared.mode.Mode.TheVariants.{AccessExclusive}
+use Rattle.base_types.specs.declared.mode.Mode.TheVariants.{ShareUpdateExclusive, AccessExclusive}
 use Rattle.base_types.specs.declared.row.Row.{Row}
 use Rattle.base_types.specs.declared.row.Row.TheVariants as rows
-use Rattle.base_types.specs.declared.row.ConKind.TheVariants as demands
 use Rattle.base_types.specs.declared.row_key.RowKey.{RowKey}
 use Rattle.base_types.specs.RowKeys.{key_of, same_key}
 use Rattle.base_types.specs.Modes.{same_mode}
@@ -35,7 +34,7 @@ use Rattle.history_model.specs.Sent.{lists_of, messages_written, ends_transactio
 use Rattle.history_model.specs.Held.{granted_by, held_by, held_of}
 use Rattle.history_model.specs.Drawn.{made_by}
 use Rattle.history_model.specs.Covered.{scans_of, is_covered}
-use Rattle.history_model.specs.Writes.{has_row, relations_of, rows_named, is_guarded, IsWriteAllowed}
+use Rattle.history_model.specs.Writes.{has_row, relations_of, rows_named, modes_enough, is_guarded, IsWriteAllowed}
 use Rattle.history_model.specs.Legal.{FollowsVisible, MayRelease, AllowsEvent}
 use Rattle.history_model.specs.Orderly.{has_key, is_fresh, main_rel, keeps_relation, covers_named, IsOrderlyEvent, MayComeNext, IsSound}
 use Rattle.history_model.proofs.Prefixes.{each-keeps}
@@ -46,7 +45,8 @@ use Rattle.history_model.proofs.Asking.{oid_eq, scan_in}
 use Rattle.history_model.proofs.Runs.{Runs, Runs-start, Runs-more}
 use Rattle.history_model.proofs.Exclude.{AllAgree, LocksWell, LocksWell-more, LocksLawfully}
 use Rattle.history_model.proofs.Touched.{entry_of, OfStamps, Touched, Touched-more}
-use Rattle.history_model.proofs.Guards.{key_eq, key_refl, is_changing, guards, IsGuarded, IsGuardedItem, Guard, Guards, Guards-more, GuardsLawfully, one_guard}
+use Rattle.history_model.proofs.Guards.{key_eq, key_refl, is_changing, is_exclusive, is_update, exclusive_changes, update_changes, guards_in, IsHeldIn, held_in-weaker, IsGuarded, IsGuardedItem, Guard, Guards, Guards-more, GuardsLawfully, one_guard}
+use Rattle.history_model.proofs.FixedRows.{IsWeak, weak_or_strong, main_of}
 use Rattle.history_model.proofs.Seen.{counts_at, every_command, seen-same, Apart, Pairwise, OneVersion}
 use Rattle.history_model.proofs.OneVersion.{SameRel, OneRel, OneRel-more, IsOther, KeepsRel, KeysLawfully, OneVersion-more}
 use Rattle.history_model.proofs.Lives.{Lives, Lives-start, Lives-more, Begun, begun_at, rises, command_of, command-own, command-other}
@@ -94,40 +94,35 @@ both_rows p f None (Some new) all = ((all_flat p f (new ∷ []) all).0, tt)
 both_rows p f (Some old) None all = (tt, (all_flat p f (old ∷ []) all).0)
 both_rows p f (Some old) (Some new) all = let held = all_flat p f (old ∷ new ∷ []) all in (held.1.0, held.0)
 
-rel_in : (P : Oid → Bool) (row : Row) → list_all P (relations_of row) ≡ true → P (main_rel row) ≡ true
-rel_in P (rows.Class oid own kind fill) all = (and_parts (P oid) true all).0
-rel_in P (rows.Att rel num own col_type stat live) all = (and_parts (P rel) true all).0
-rel_in P (rows.Def oid rel num word) all = (and_parts (P rel) true all).0
-rel_in P (rows.Ind index table state nums) all = (and_parts (P index) _ all).0
-rel_in P (rows.Con oid rel own valid (demands.Foreign num refrel refnum)) all = (and_parts (P rel) _ all).0
-rel_in P (rows.Con oid rel own valid (demands.Check text)) all = (and_parts (P rel) true all).0
-rel_in P (rows.Trg oid rel own on) all = (and_parts (P rel) true all).0
+strong_alone : (mode : Mode) → same_mode mode AccessExclusive ≡ true → is_exclusive mode ≡ true
+strong_alone AccessExclusive is = refl
+strong_alone mode is = cc
 
-strong_changes : (mode : Mode) → same_mode mode AccessExclusive ≡ true → is_changing mode ≡ true
-strong_changes AccessExclusive is = refl
-strong_changes mode is = cc
+update_alone : (mode : Mode) → same_mode mode ShareUpdateExclusive ≡ true → is_update mode ≡ true
+update_alone ShareUpdateExclusive is = refl
+update_alone mode is = cc
 
--- AccessExclusive that is held guards
-held_guards : (b c : ℕ) (key : Oid) (gs : List Grant) → AllByRecursion (λ g. g.backend ≡ b → g.command ≤ c) gs → holds gs b key AccessExclusive ≡ true → IsGuarded gs b c key
-held_guards b c key [] early is = absurd (cc)
-held_guards b c key (g ∷ gs) early is = by_place (or_cases _ (holds gs b key AccessExclusive) is) (held_guards b c key gs early.1)
+-- a mode that is held is held by a grant of this command or below
+held_guards : (test : Mode → Bool) (enough : Mode) → ((mode : Mode) → same_mode mode enough ≡ true → test mode ≡ true) → (b c : ℕ) (key : Oid) (gs : List Grant) → AllByRecursion (λ g. g.backend ≡ b → g.command ≤ c) gs → holds gs b key enough ≡ true → IsHeldIn test gs b c key
+held_guards test enough alone b c key [] early is = absurd (cc)
+held_guards test enough alone b c key (g ∷ gs) early is = by_place (or_cases _ (holds gs b key enough) is) (held_guards test enough alone b c key gs early.1)
   where
-    here : ((g.backend == b) && same_oid g.rel key && same_mode g.mode AccessExclusive) ≡ true → guards b c key g ≡ true
-    here all = of (g.backend == b) refl (same_oid g.rel key) refl (same_mode g.mode AccessExclusive) refl all
+    here : ((g.backend == b) && same_oid g.rel key && same_mode g.mode enough) ≡ true → guards_in test b c key g ≡ true
+    here all = of (g.backend == b) refl (same_oid g.rel key) refl (same_mode g.mode enough) refl all
       where
-        of : (x : Bool) → (g.backend == b) ≡ x → (y : Bool) → same_oid g.rel key ≡ y → (z : Bool) → same_mode g.mode AccessExclusive ≡ z → (x && y && z) ≡ true → guards b c key g ≡ true
-        of true own true rel true same done = and_from ((g.backend == b) && nat_le g.command c) (same_oid g.rel key && is_changing g.mode)
-            (and_from (g.backend == b) (nat_le g.command c) own (le-leb g.command c (early.0 (eqb-true g.backend b own)))) (and_from (same_oid g.rel key) (is_changing g.mode) rel (strong_changes g.mode same))
+        of : (x : Bool) → (g.backend == b) ≡ x → (y : Bool) → same_oid g.rel key ≡ y → (z : Bool) → same_mode g.mode enough ≡ z → (x && y && z) ≡ true → guards_in test b c key g ≡ true
+        of true own true rel true same done = and_from ((g.backend == b) && nat_le g.command c) (same_oid g.rel key && test g.mode)
+            (and_from (g.backend == b) (nat_le g.command c) own (le-leb g.command c (early.0 (eqb-true g.backend b own)))) (and_from (same_oid g.rel key) (test g.mode) rel (alone g.mode same))
         of false own y rel z same done = absurd (cc)
         of true own false rel z same done = absurd (cc)
         of true own true rel false same done = absurd (cc)
 
-    by_place : (((g.backend == b) && same_oid g.rel key && same_mode g.mode AccessExclusive) ≡ true) ⊎ (holds gs b key AccessExclusive ≡ true) → (holds gs b key AccessExclusive ≡ true → IsGuarded gs b c key) → IsGuarded (g ∷ gs) b c key
-    by_place (inl one) rest = ap (λ t. t || list_any (guards b c key) gs) (here one)
-    by_place (inr there) rest = any-right (guards b c key) (g ∷ []) gs (rest there)
+    by_place : (((g.backend == b) && same_oid g.rel key && same_mode g.mode enough) ≡ true) ⊎ (holds gs b key enough ≡ true) → (holds gs b key enough ≡ true → IsHeldIn test gs b c key) → IsHeldIn test (g ∷ gs) b c key
+    by_place (inl one) rest = ap (λ t. t || list_any (guards_in test b c key) gs) (here one)
+    by_place (inr there) rest = any-right (guards_in test b c key) (g ∷ []) gs (rest there)
 
--- and so does the lock on a relation that the write makes
-made_guards : (b c : ℕ) (key : Oid) (items : List Item) → list_any (same_oid key) (flat_map made_by items) ≡ true → IsGuarded (flat_map (granted_by b c) items) b c key
+-- AccessExclusive is held on a relation that the write makes
+made_guards : (b c : ℕ) (key : Oid) (items : List Item) → list_any (same_oid key) (flat_map made_by items) ≡ true → IsHeldIn is_exclusive (flat_map (granted_by b c) items) b c key
 made_guards b c key [] some = absurd (cc)
 made_guards b c key (item ∷ items) some = by_place (or_cases (list_any (same_oid key) (made_by item)) (list_any (same_oid key) (flat_map made_by items)) (sym (list_any-append (same_oid key) (made_by item) (flat_map made_by items)) ∙ some)) (made_guards b c key items)
   where
@@ -135,21 +130,25 @@ made_guards b c key (item ∷ items) some = by_place (or_cases (list_any (same_o
     only true h = refl
     only false h = h
 
-    one : (item : Item) → list_any (same_oid key) (made_by item) ≡ true → IsGuarded (granted_by b c item) b c key
+    one : (item : Item) → list_any (same_oid key) (made_by item) ≡ true → IsHeldIn is_exclusive (granted_by b c item) b c key
     one (forms.Add (rows.Class oid own kind fill)) is = ap (λ t. t || false) (and_from ((b == b) && nat_le c c) (same_oid oid key && true) (and_from (b == b) (nat_le c c) (eq-eqb b b refl) (le-leb c c (omega arith)))
         (and_from (same_oid oid key) true (eq-eqb oid.0 key.0 (sym (eqb-true key.0 oid.0 (only (same_oid key oid) is)))) refl))
     one item is = absurd (cc)
 
-    by_place : (list_any (same_oid key) (made_by item) ≡ true) ⊎ (list_any (same_oid key) (flat_map made_by items) ≡ true) → (list_any (same_oid key) (flat_map made_by items) ≡ true → IsGuarded (flat_map (granted_by b c) items) b c key)
-        → IsGuarded (granted_by b c item ++ flat_map (granted_by b c) items) b c key
-    by_place (inl is) rest = any-left (guards b c key) (granted_by b c item) (flat_map (granted_by b c) items) (one item is)
-    by_place (inr is) rest = any-right (guards b c key) (granted_by b c item) (flat_map (granted_by b c) items) (rest is)
+    by_place : (list_any (same_oid key) (made_by item) ≡ true) ⊎ (list_any (same_oid key) (flat_map made_by items) ≡ true) → (list_any (same_oid key) (flat_map made_by items) ≡ true → IsHeldIn is_exclusive (flat_map (granted_by b c) items) b c key)
+        → IsHeldIn is_exclusive (granted_by b c item ++ flat_map (granted_by b c) items) b c key
+    by_place (inl is) rest = any-left (guards_in is_exclusive b c key) (granted_by b c item) (flat_map (granted_by b c) items) (one item is)
+    by_place (inr is) rest = any-right (guards_in is_exclusive b c key) (granted_by b c item) (flat_map (granted_by b c) items) (rest is)
+
+-- on each relation that the row names AccessExclusive is held, or the change is weak and ShareUpdateExclusive is held
+abbrev pub IsHeldFor : List Grant → ℕ → ℕ → Option Row → Item → Row → Type 0
+IsHeldFor held b c old item row = AllByRecursion (λ rel. IsHeldIn is_exclusive held b c rel ⊎ (IsWeak old item × IsHeldIn is_update held b c rel)) (relations_of row)
 
 -- the test that a write is guarded: the rows that its changes name are
-guarded_rows : (before : List Entry) (b c : ℕ) (xid : Xid) (items : List Item) → list_all (is_guarded before b (flat_map made_by items)) items ≡ true → AllByRecursion (λ g. g.backend ≡ b → g.command ≤ c) (held_of before)
-    → AllByRecursion (λ item. IfSome (added_row item) (λ row. IsGuarded (held_by b c (events.Write xid items) (held_of before)) b c (main_rel row)) × IfSome (old_row before b item) (λ row. IsGuarded (held_by b c (events.Write xid items) (held_of before)) b c (main_rel row))) items
+pub guarded_rows : (before : List Entry) (b c : ℕ) (xid : Xid) (items : List Item) → list_all (is_guarded before b (flat_map made_by items)) items ≡ true → AllByRecursion (λ g. g.backend ≡ b → g.command ≤ c) (held_of before)
+    → AllByRecursion (λ item. IfSome (added_row item) (IsHeldFor (held_by b c (events.Write xid items) (held_of before)) b c (old_row before b item) item) × IfSome (old_row before b item) (IsHeldFor (held_by b c (events.Write xid items) (held_of before)) b c (old_row before b item) item)) items
 guarded_rows before b c xid items guarded early =
-    every-weaker (λ item. is_guarded before b made item ≡ true) (λ item. IfSome (added_row item) (λ row. IsGuarded held b c (main_rel row)) × IfSome (old_row before b item) (λ row. IsGuarded held b c (main_rel row))) of items (all_each (is_guarded before b made) items guarded)
+    every-weaker (λ item. is_guarded before b made item ≡ true) (λ item. IfSome (added_row item) (IsHeldFor held b c (old_row before b item) item) × IfSome (old_row before b item) (IsHeldFor held b c (old_row before b item) item)) of items (all_each (is_guarded before b made) items guarded)
   where
     made : List Oid
     made = flat_map made_by items
@@ -157,23 +156,41 @@ guarded_rows before b c xid items guarded early =
     held : List Grant
     held = held_by b c (events.Write xid items) (held_of before)
 
-    P : Oid → Bool
-    P rel = list_any (same_oid rel) made || holds (held_of before) b rel AccessExclusive
+    old_held : (test : Mode → Bool) (rel : Oid) → IsHeldIn test (held_of before) b c rel → IsHeldIn test held b c rel
+    old_held test rel is = any-left (guards_in test b c rel) (held_of before) (flat_map (granted_by b c) items) is
 
-    guard : (rel : Oid) → P rel ≡ true → IsGuarded held b c rel
-    guard rel is = by_side (or_cases (list_any (same_oid rel) made) (holds (held_of before) b rel AccessExclusive) is)
-      where
-        by_side : (list_any (same_oid rel) made ≡ true) ⊎ (holds (held_of before) b rel AccessExclusive ≡ true) → IsGuarded held b c rel
-        by_side (inl new) = any-right (guards b c rel) (held_of before) (flat_map (granted_by b c) items) (made_guards b c rel items new)
-        by_side (inr old) = any-left (guards b c rel) (held_of before) (flat_map (granted_by b c) items) (held_guards b c rel (held_of before) early old)
-
-    on : (row : Row) → list_all P (relations_of row) ≡ true → IsGuarded held b c (main_rel row)
-    on row all = guard (main_rel row) (rel_in P row all)
-
-    of : (item : Item) → is_guarded before b made item ≡ true → IfSome (added_row item) (λ row. IsGuarded held b c (main_rel row)) × IfSome (old_row before b item) (λ row. IsGuarded held b c (main_rel row))
+    of : (item : Item) → is_guarded before b made item ≡ true → IfSome (added_row item) (IsHeldFor held b c (old_row before b item) item) × IfSome (old_row before b item) (IsHeldFor held b c (old_row before b item) item)
     of item is =
-        let both = both_rows P relations_of (old_row before b item) (added_row item) is in
-        (if_some (λ row. list_all P (relations_of row) ≡ true) (λ row. IsGuarded held b c (main_rel row)) on (added_row item) both.0, if_some (λ row. list_all P (relations_of row) ≡ true) (λ row. IsGuarded held b c (main_rel row)) on (old_row before b item) both.1)
+        let both = both_rows P relations_of old (added_row item) is in
+        (if_some (λ row. list_all P (relations_of row) ≡ true) (IsHeldFor held b c old item) on (added_row item) both.0, if_some (λ row. list_all P (relations_of row) ≡ true) (IsHeldFor held b c old item) on old both.1)
+      where
+        old : Option Row
+        old = old_row before b item
+
+        P : Oid → Bool
+        P rel = list_any (same_oid rel) made || list_any (holds (held_of before) b rel) (modes_enough old item)
+
+        guard : (rel : Oid) → P rel ≡ true → IsHeldIn is_exclusive held b c rel ⊎ (IsWeak old item × IsHeldIn is_update held b c rel)
+        guard rel here = by_side (or_cases (list_any (same_oid rel) made) (list_any (holds (held_of before) b rel) (modes_enough old item)) here)
+          where
+            by_mode : (holds (held_of before) b rel AccessExclusive ≡ true) ⊎ (IsWeak old item × (holds (held_of before) b rel ShareUpdateExclusive ≡ true)) → IsHeldIn is_exclusive held b c rel ⊎ (IsWeak old item × IsHeldIn is_update held b c rel)
+            by_mode (inl strong) = inl (old_held is_exclusive rel (held_guards is_exclusive AccessExclusive strong_alone b c rel (held_of before) early strong))
+            by_mode (inr weak) = inr (weak.0, old_held is_update rel (held_guards is_update ShareUpdateExclusive update_alone b c rel (held_of before) early weak.1))
+
+            by_side : (list_any (same_oid rel) made ≡ true) ⊎ (list_any (holds (held_of before) b rel) (modes_enough old item) ≡ true) → IsHeldIn is_exclusive held b c rel ⊎ (IsWeak old item × IsHeldIn is_update held b c rel)
+            by_side (inl new) = inl (any-right (guards_in is_exclusive b c rel) (held_of before) (flat_map (granted_by b c) items) (made_guards b c rel items new))
+            by_side (inr some) = by_mode (weak_or_strong (holds (held_of before) b rel) old item some)
+
+        on : (row : Row) → list_all P (relations_of row) ≡ true → IsHeldFor held b c old item row
+        on row all = every-weaker (λ rel. P rel ≡ true) (λ rel. IsHeldIn is_exclusive held b c rel ⊎ (IsWeak old item × IsHeldIn is_update held b c rel)) guard (relations_of row) (all_each P (relations_of row) all)
+
+-- so a mode under which rows are changed is held on the row's own relation
+main_guarded : (held : List Grant) (b c : ℕ) (old : Option Row) (item : Item) (row : Row) → IsHeldFor held b c old item row → IsGuarded held b c (main_rel row)
+main_guarded held b c old item row all = of (main_of (λ rel. IsHeldIn is_exclusive held b c rel ⊎ (IsWeak old item × IsHeldIn is_update held b c rel)) row all)
+  where
+    of : IsHeldIn is_exclusive held b c (main_rel row) ⊎ (IsWeak old item × IsHeldIn is_update held b c (main_rel row)) → IsGuarded held b c (main_rel row)
+    of (inl strong) = held_in-weaker is_exclusive is_changing exclusive_changes held b c (main_rel row) strong
+    of (inr weak) = held_in-weaker is_update is_changing update_changes held b c (main_rel row) weak.1
 
 -- the row that a change replaces is that of the one version which it ends
 found : (g : Version → Bool) (key : RowKey) (vs : List Version) → Pairwise (λ v w. key_of v.row ≡ key_of w.row → g v ≡ true → g w ≡ true → ⊥) vs
@@ -236,11 +253,21 @@ ended_named history b N item one named = of (ended_key item) named
 guarded_items : (history : List Entry) (b c : ℕ) (xid : Xid) (items : List Item) → Ordered history → IsWriteAllowed history b c xid items → AllByRecursion (λ g. g.backend ≡ b → g.command ≤ c) (held_of history)
     → AllByRecursion (IsGuardedItem history b (IsGuarded (held_by b c (events.Write xid items) (held_of history)) b c)) items
 guarded_items history b c xid items k allowed early =
-    every-weaker (λ item. IfSome (added_row item) (λ row. P (main_rel row)) × IfSome (old_row history b item) (λ row. P (main_rel row))) (IsGuardedItem history b P) (λ item held. (held.0, ended_named history b (λ row. P (main_rel row)) item k.one held.1)) items
+    every-weaker (λ item. IfSome (added_row item) (For item) × IfSome (old_row history b item) (For item)) (IsGuardedItem history b (IsGuarded held b c))
+    (λ item h. (
+      if_some (For item) On (main_guarded held b c (old_row history b item) item) (added_row item) h.0,
+      ended_named history b On item k.one (if_some (For item) On (main_guarded held b c (old_row history b item) item) (old_row history b item) h.1),
+    )) items
     (guarded_rows history b c xid items allowed.guarded early)
   where
-    P : Oid → Type 0
-    P = IsGuarded (held_by b c (events.Write xid items) (held_of history)) b c
+    held : List Grant
+    held = held_by b c (events.Write xid items) (held_of history)
+
+    For : Item → Row → Type 0
+    For item = IsHeldFor held b c (old_row history b item) item
+
+    On : Row → Type 0
+    On row = IsGuarded held b c (main_rel row)
 
 -- a change ends no version that another has ended and that runs
 ends_once : (history : List Entry) (b c : ℕ) (xid : Xid) (items : List Item) (item : Item) → LocksWell (history ++ entry_of b c (events.Write xid items) ∷ []) → Guards history

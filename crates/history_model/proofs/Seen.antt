@@ -95,7 +95,7 @@ xid-same history b x runs = of (running_transaction_of history b) runs
     of None is = absurd (cc)
     of (Some t) is = of_xid t.xid is
 
-no_write : (c : ℕ) (lists : List Written) → lists ≡ [] → HasWrite lists c → ⊥
+pub no_write : (c : ℕ) (lists : List Written) → lists ≡ [] → HasWrite lists c → ⊥
 no_write c lists none has = let e : false ≡ true = subst (λ ws. list_any (is_of c) ws ≡ true) none has in absurd (cc)
 
 -- whether a backend runs the transaction of a stamp that is there changes only where that is committed

@@ -1,5 +1,5 @@
 -- Which writes a history allows.
-use Rattle.std.specs.Prelude.{ℕ, Bool, true, false, Option, List, [], ◌∷◌, ◌≡◌, ◌==◌, ◌&&◌, ◌||◌, length}
+use Rattle.std.specs.Prelude.{ℕ, Bool, true, false, Option, Some, List, [], ◌∷◌, ◌≡◌, ◌==◌, ◌&&◌, ◌||◌, length}
 use Rattle.std.specs.Option.{option_map_or}
 use Rattle.std.specs.List.{flat_map, filter_map, list_any, list_all, range_with_len}
 use Rattle.base_types.specs.RowKeys.{key_of, are_distinct_keys}
@@ -8,13 +8,13 @@ use Rattle.base_types.specs.declared.row.ConKind.TheVariants as demands
 use Rattle.base_types.specs.declared.row.Row.TheVariants as rows
 use Rattle.base_types.specs.declared.scan.Purpose.TheVariants as scans
 use Rattle.lock_modes.specs.Grants.{holds}
-use Rattle.history_model.specs.Types.{Oid, Xid, AccessExclusive, Table, Index, Row, RowKey, Item, Add, Put, Remove, Force, Entry, Event, Write}
+use Rattle.history_model.specs.Types.{Oid, Xid, Mode, ShareUpdateExclusive, AccessExclusive, Table, Index, Row, RowKey, Item, Add, Put, Remove, Force, Entry, Event, Write}
 use Rattle.history_model.specs.Transactions.{xid_for}
 use Rattle.history_model.specs.Versions.{ended_key, added_row, old_row, row_with, answer_of}
 use Rattle.history_model.specs.Held.{held_of}
 use Rattle.history_model.specs.Drawn.{drawn_by, made_by, next_oid}
 use Rattle.history_model.specs.Names.{new_names, users_of}
-use Rattle.history_model.specs.Covered.{covers_changes}
+use Rattle.history_model.specs.Covered.{same_row, covers_changes}
 
 -- the key of the row that a change is of, if it is of one
 abbrev pub changed_key : Item → List RowKey
@@ -59,9 +59,21 @@ relations_of (rows.Trg oid rel name on) = rel ∷ []
 abbrev pub rows_named : Item → Option Row → List Row
 rows_named item old = filter_map (λ row. row) (old ∷ added_row item ∷ [])
 
--- a change is guarded: on each relation that its rows name, but those that the write makes, the backend holds AccessExclusive; weaker modes come with the commands that take them
+-- AccessExclusive is enough for any change, and ShareUpdateExclusive for one that passes a test
+abbrev pub enough_where : Bool → List Mode
+enough_where true = ShareUpdateExclusive ∷ AccessExclusive ∷ []
+enough_where false = AccessExclusive ∷ []
+
+-- the modes that are enough for a change of this row: ShareUpdateExclusive too, where nothing but its fillfactor or its statistics target changes
+abbrev pub modes_enough : Option Row → Item → List Mode
+modes_enough (Some (rows.Class oid own kind old)) (Put (rows.Class to name kind' fill)) = enough_where (same_row (rows.Class oid own kind fill) (rows.Class to name kind' fill))
+modes_enough (Some (rows.Att rel num own col_type old live)) (Put (rows.Att to num' name col_type' stat live')) = enough_where (same_row (rows.Att rel num own col_type stat live) (rows.Att to num' name col_type' stat live'))
+modes_enough old item = AccessExclusive ∷ []
+
+-- a change is guarded: on each relation that its rows name, but those that the write makes, the backend holds a mode that is enough for it
 abbrev pub is_guarded : List Entry → ℕ → List Oid → Item → Bool
-is_guarded before b made item = list_all (λ rel. list_any (same_oid rel) made || holds (held_of before) b rel AccessExclusive) (flat_map relations_of (rows_named item (old_row before b item)))
+is_guarded before b made item =
+    list_all (λ rel. list_any (same_oid rel) made || list_any (holds (held_of before) b rel) (modes_enough (old_row before b item) item)) (flat_map relations_of (rows_named item (old_row before b item)))
 
 -- two rows of relations are of one kind
 abbrev pub same_kind : Row → Row → Bool
