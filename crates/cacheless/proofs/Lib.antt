@@ -1,6 +1,9 @@
 pub mod Reading
 pub mod Settling
 pub mod HeldLocks
+pub mod Patient
+pub mod Clear
+pub mod ProtectedFields
 pub mod Given
 pub mod TwoCreators
 pub mod NewOids

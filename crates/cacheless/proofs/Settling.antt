@@ -85,7 +85,7 @@ pub finishes : (facts : Facts) (command : Command) (rest : List Command) (s : Se
     → settled facts (command ∷ rest) s ≡ settled facts rest (next_session command (first_of rest) s)
 finishes facts command rest s out none free = settled-finish facts command rest s (acted-out facts command s out) (simp (out, none, free))
 
-is_empty-after : {X : Type 0} (xs ys : List X) → is_empty ys ≡ false → is_empty (xs ++ ys) ≡ false
+pub is_empty-after : {X : Type 0} (xs ys : List X) → is_empty ys ≡ false → is_empty (xs ++ ys) ≡ false
 is_empty-after [] ys h = h
 is_empty-after (x ∷ xs) ys h = refl
 

@@ -26,7 +26,7 @@ use Rattle.history_model.proofs.Coming.{IsComing, IsAccounted, Placed, Placed-mo
 use Rattle.history_model.proofs.Staying.{Stays, stays-other, stays-kept, stays-scan}
 
 -- before its start a backend may rely on no scan
-abbrev Unread : List Entry → Type 0
+abbrev pub Unread : List Entry → Type 0
 Unread history = (b : ℕ) (d : Purpose) → life_of history b ≡ Unstarted → is_usable history b d ≡ false
 
 -- all scans that are usable are accounted for
@@ -66,16 +66,16 @@ after_other history a c event b d other lawful allows k (inr stays) = by_case (s
     by_case (inl spared) = inr (stays-other history (entry_of a c event) b d other (answer-other history a c event b d other lawful k.ordered.runs k.ordered.touched spared) stays)
     by_case (inr coming) = inl coming
 
-spared_is : (d : Purpose) (messages : List Message) → is_spared d messages ≡ true → is_covered messages d ≡ false
+pub spared_is : (d : Purpose) (messages : List Message) → is_spared d messages ≡ true → is_covered messages d ≡ false
 spared_is d messages is = not-true (is_covered messages d) is
 
 -- an own entry that leaves the scan usable spares it
-own_spared : (history : List Entry) (b c : ℕ) (event : Event) (d : Purpose) → spares_by history b c d event ≡ true → IsSparedByOwn history b c event d
+pub own_spared : (history : List Entry) (b c : ℕ) (event : Event) (d : Purpose) → spares_by history b c d event ≡ true → IsSparedByOwn history b c event d
 own_spared history b c (events.Write xid items) d is = spared_is d (messages_written history b items) is
 own_spared history b c (events.Gone from) d is = spared_is d (sent_in (lists_from from (lists_of history b))) is
 own_spared history b c event d is = tt
 
-no_start : (history : List Entry) (b c : ℕ) (d : Purpose) (life : Life) → life_of history b ≡ life → FollowsLife life c events.Start → Unread history → is_usable history b d ≡ true → ⊥
+pub no_start : (history : List Entry) (b c : ℕ) (d : Purpose) (life : Life) → life_of history b ≡ life → FollowsLife life c events.Start → Unread history → is_usable history b d ≡ true → ⊥
 no_start history b c d Unstarted is follows unread was = both_ways _ (unread b d is) was
 no_start history b c d (Alive last) is follows unread was = absurd follows
 no_start history b c d Stopped is follows unread was = absurd follows
@@ -89,7 +89,7 @@ own_coming history b c events.Start d lawful allows life k was is coming = absur
 own_coming history b c event d lawful allows life k was is coming = coming-more history (entry_of b c event) b d lawful allows k.placed (position_of-own history (entry_of b c event) b (eq-eqb b b refl)) coming
 
 -- the scan itself is spared
-scan_spared : (history : List Entry) (b c : ℕ) (event : Event) (d : Purpose) → is_scan_of d event ≡ true → IsSparedByOwn history b c event d
+pub scan_spared : (history : List Entry) (b c : ℕ) (event : Event) (d : Purpose) → is_scan_of d event ≡ true → IsSparedByOwn history b c event d
 scan_spared history b c (events.Write xid items) d it = absurd (cc)
 scan_spared history b c (events.Gone from) d it = absurd (cc)
 scan_spared history b c event d it = tt
@@ -139,3 +139,11 @@ usable_accounted history b d sound is = (each-keeps MayComeNext Carried carried-
 -- no backend is past the log's end
 pub sound_placed : (history : List Entry) → IsSound history → Placed history
 sound_placed history sound = (each-keeps MayComeNext Carried carried-start carried-more history sound).placed
+
+-- before its start a backend may rely on no scan
+pub sound_unread : (history : List Entry) → IsSound history → Unread history
+sound_unread history sound = (each-keeps MayComeNext Carried carried-start carried-more history sound).unread
+
+-- nothing is published of what isn't visible
+pub sound_unsent : (history : List Entry) → IsSound history → Unsent history
+sound_unsent history sound = (each-keeps MayComeNext Carried carried-start carried-more history sound).unsent

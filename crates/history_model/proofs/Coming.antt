@@ -116,7 +116,7 @@ abbrev pub published_by : List Entry → ℕ → Event → List Message
 published_by history b (events.Publish count) = take count (unsent_of history b)
 published_by history b event = []
 
-log-append : (history : List Entry) (b : ℕ) (event : Event) (old : List Message) → log_by history b event old ≡ old ++ published_by history b event
+pub log-append : (history : List Entry) (b : ℕ) (event : Event) (old : List Message) → log_by history b event old ≡ old ++ published_by history b event
 log-append history b (events.Publish count) old = refl
 log-append history b event old = sym (append-nil old)
 
@@ -208,7 +208,7 @@ any-flat-last p f [] y some = any-left p (f y) [] some
 any-flat-last p f (x ∷ xs) y some = any-right p (f x) (flat_map f (xs ++ y ∷ [])) (any-flat-last p f xs y some)
 
 -- what a backend has left, after any entry
-unpublished-more : (history : List Entry) (e : Entry) (d : Purpose) (a : ℕ) → IsLawfulEvent history e.backend e.command e.event → AllowsEvent history e.backend e.command e.event → is_covered (unpublished_of history a) d ≡ true
+pub unpublished-more : (history : List Entry) (e : Entry) (d : Purpose) (a : ℕ) → IsLawfulEvent history e.backend e.command e.event → AllowsEvent history e.backend e.command e.event → is_covered (unpublished_of history a) d ≡ true
     → (is_covered (unpublished_of (history ++ e ∷ []) a) d ≡ true) ⊎ (is_covered (published_by history e.backend e.event) d ≡ true)
 unpublished-more history e d a lawful allows some = by_owner (e.backend == a) refl
   where
@@ -297,18 +297,14 @@ coming-fetch history b c count d allows spared coming = by_side (any-sides (cove
     by_side (inl is) = of_left (all-more history e d tt allows is)
     by_side (inr is) = of_tail (any-sides (covers d) (take count tail) (drop count tail) (ap (λ ms. is_covered ms d) (take-append-drop count tail) ∙ is))
 
--- what becomes visible is on its way
-pub coming-visible : (history : List Entry) (a c : ℕ) (xid : Xid) (b : ℕ) (d : Purpose) → is_visible (running_transaction_of history a) ≡ false → Unsent history → is_covered (sent_of history a) d ≡ true
-    → IsComing (history ++ entry_of a c (events.Visible xid) ∷ []) b d
-coming-visible history a c xid b d hidden unsent covered =
-    any-left (covers d) (all_unpublished after) (drop (position_of after b) (log_of after))
-    (any-flat-last (covers d) (λ x. unpublished_of after x.backend) history e (ap (λ ms. is_covered ms d) unpublished_is ∙ covered))
+-- what becomes visible isn't published yet
+pub unpublished-visible : (history : List Entry) (a c : ℕ) (xid : Xid) → is_visible (running_transaction_of history a) ≡ false → Unsent history → unpublished_of (history ++ entry_of a c (events.Visible xid) ∷ []) a ≡ sent_of history a
+unpublished-visible history a c xid hidden unsent =
+    ap (unpublished_in (lists_of (history ++ e ∷ []) a)) (running-own history e a own) ∙ ap (λ ws. unpublished_in ws (running_by c (events.Visible xid) (running_transaction_of history a))) (lists-own history e a own)
+    ∙ whole (running_transaction_of history a) (unsent a hidden)
   where
     e : Entry
     e = entry_of a c (events.Visible xid)
-
-    after : List Entry
-    after = history ++ e ∷ []
 
     own : (a == a) ≡ true
     own = eq-eqb a a refl
@@ -317,6 +313,12 @@ coming-visible history a c xid b d hidden unsent covered =
     whole None none = refl
     whole (Some t) none = ap (λ k. drop k (sent_of history a)) none
 
-    unpublished_is : unpublished_of after a ≡ sent_of history a
-    unpublished_is = ap (unpublished_in (lists_of after a)) (running-own history e a own) ∙ ap (λ ws. unpublished_in ws (running_by c (events.Visible xid) (running_transaction_of history a))) (lists-own history e a own)
-        ∙ whole (running_transaction_of history a) (unsent a hidden)
+-- so it is on its way
+pub coming-visible : (history : List Entry) (a c : ℕ) (xid : Xid) (b : ℕ) (d : Purpose) → is_visible (running_transaction_of history a) ≡ false → Unsent history → is_covered (sent_of history a) d ≡ true
+    → IsComing (history ++ entry_of a c (events.Visible xid) ∷ []) b d
+coming-visible history a c xid b d hidden unsent covered =
+    any-left (covers d) (all_unpublished after) (drop (position_of after b) (log_of after))
+    (any-flat-last (covers d) (λ x. unpublished_of after x.backend) history (entry_of a c (events.Visible xid)) (ap (λ ms. is_covered ms d) (unpublished-visible history a c xid hidden unsent) ∙ covered))
+  where
+    after : List Entry
+    after = history ++ entry_of a c (events.Visible xid) ∷ []

@@ -21,7 +21,7 @@ use Rattle.history_model.specs.Drawn.{drawn_by, next_oid_by, next_oid}
 use Rattle.history_model.proofs.Reading.{held_of-more as held-more, next_oid-more as next-more}
 use Rattle.history_model.proofs.Every.{every-weaker, every-append, every-filter, every-both}
 
-conflicts-sym : (a b : Mode) → conflicts a b ≡ conflicts b a
+pub conflicts-sym : (a b : Mode) → conflicts a b ≡ conflicts b a
 conflicts-sym AccessShare AccessShare = refl
 conflicts-sym RowShare AccessShare = refl
 conflicts-sym RowExclusive AccessShare = refl
@@ -101,10 +101,10 @@ free_agrees b c rel mode k free same differ = by_tests (k.backend == b) (same_oi
     by_tests false false u own is last none = absurd (cc)
 
 -- a grant for a relation that the write adds
-record IsNew (b low high : ℕ) (g : Grant) : Type 0 where
-  by : g.backend ≡ b
-  above : low ≤ g.rel.0
-  below : g.rel.0 < high
+pub record IsNew (b low high : ℕ) (g : Grant) : Type 0 where
+  pub by : g.backend ≡ b
+  pub above : low ≤ g.rel.0
+  pub below : g.rel.0 < high
 
 granted_new : (b c low high : ℕ) (item : Item) → AllByRecursion (λ n. (low ≤ n) × (n < high)) (drawn_by item) → AllByRecursion (IsNew b low high) (granted_by b c item)
 granted_new b c low high (items.Add (rows.Class oid own kind fill)) drawn = (record { by = refl; above = drawn.0.0; below = drawn.0.1 }, tt)
@@ -114,13 +114,13 @@ every-parts : (P : ℕ → Type 0) (xs ys : List ℕ) → AllByRecursion P (xs +
 every-parts P [] ys all = (tt, all)
 every-parts P (x ∷ xs) ys all = let rest = every-parts P xs ys all.1 in ((all.0, rest.0), rest.1)
 
-all_granted_new : (b c low high : ℕ) (changes : List Item) → AllByRecursion (λ n. (low ≤ n) × (n < high)) (flat_map drawn_by changes) → AllByRecursion (IsNew b low high) (flat_map (granted_by b c) changes)
+pub all_granted_new : (b c low high : ℕ) (changes : List Item) → AllByRecursion (λ n. (low ≤ n) × (n < high)) (flat_map drawn_by changes) → AllByRecursion (IsNew b low high) (flat_map (granted_by b c) changes)
 all_granted_new b c low high [] drawn = tt
 all_granted_new b c low high (item ∷ changes) drawn =
     let parts = every-parts (λ n. (low ≤ n) × (n < high)) (drawn_by item) (flat_map drawn_by changes) drawn in
     every-append (IsNew b low high) (granted_by b c item) (flat_map (granted_by b c) changes) (granted_new b c low high item parts.0) (all_granted_new b c low high changes parts.1)
 
-in_range : (low high start len : ℕ) → low ≤ start → start + len ≤ high → AllByRecursion (λ n. (low ≤ n) × (n < high)) (range_with_len start len)
+pub in_range : (low high start len : ℕ) → low ≤ start → start + len ≤ high → AllByRecursion (λ n. (low ≤ n) × (n < high)) (range_with_len start len)
 in_range low high start zero above below = tt
 in_range low high start (suc len) above below = ((above, omega arith), in_range low high (start + 1) len (omega arith) (omega arith))
 

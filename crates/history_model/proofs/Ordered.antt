@@ -66,7 +66,7 @@ pub record Ordered (history : List Entry) : Type 0 where
   pub rels : OneRel history
   pub one : OneVersion history
 
-all_each : {X : Type 0} (p : X → Bool) (xs : List X) → list_all p xs ≡ true → AllByRecursion (λ x. p x ≡ true) xs
+pub all_each : {X : Type 0} (p : X → Bool) (xs : List X) → list_all p xs ≡ true → AllByRecursion (λ x. p x ≡ true) xs
 all_each p [] all = tt
 all_each p (x ∷ xs) all = let parts = and_parts (p x) (list_all p xs) all in (parts.0, all_each p xs parts.1)
 

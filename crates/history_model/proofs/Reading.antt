@@ -7,6 +7,8 @@ use Rattle.std.proofs.lemmas.List.{length_push}
 use Rattle.std.proofs.Math.Bool.{or-false}
 use Rattle.std.proofs.lemmas.List.Folds.{list_any-append}
 use Rattle.base_types.specs.declared.ids.TheConstants.{FIRST_OID}
+use Rattle.base_types.specs.declared.ids.Oid.{Oid}
+use Rattle.base_types.specs.declared.mode.Mode.{Mode}
 use Rattle.base_types.specs.declared.scan.Purpose.{Purpose}
 use Rattle.event_kinds.specs.declared.entry.Entry.{Entry}
 use Rattle.history_model.specs.Lives.{Unstarted, life_of, life_by, last_event_of}
@@ -15,6 +17,7 @@ use Rattle.history_model.specs.Versions.{versions_of, versions_by}
 use Rattle.history_model.specs.Sent.{lists_of, lists_by}
 use Rattle.history_model.specs.Log.{log_of, log_by, position_of, position_by}
 use Rattle.history_model.specs.Held.{held_of, held_by}
+use Rattle.history_model.specs.Reached.{reached_of, reached_by}
 use Rattle.history_model.specs.Drawn.{next_oid, next_oid_by}
 use Rattle.history_model.specs.Writes.{has_written, is_write}
 use Rattle.history_model.specs.Read.{read_at, is_scan_of, place_read, rows_read, rows_by, is_usable, usable_by}
@@ -31,6 +34,10 @@ log_of-more history e = along-more (λ before old y. log_by before y.backend y.e
 -- the grants after one more entry
 pub held_of-more : (history : List Entry) (e : Entry) → held_of (history ++ e ∷ []) ≡ held_by e.backend e.command e.event (held_of history)
 held_of-more history e = fold-append (λ old y. held_by y.backend y.command y.event old) [] history (e ∷ [])
+
+-- how far the log reached, after one more entry
+pub reached_of-more : (history : List Entry) (e : Entry) (rel : Oid) (mode : Mode) → reached_of (history ++ e ∷ []) rel mode ≡ reached_by history e.backend rel mode e.event (reached_of history rel mode)
+reached_of-more history e rel mode = along-more (λ before old y. reached_by before y.backend rel mode y.event old) 0 history e
 
 -- the next oid after one more entry
 pub next_oid-more : (history : List Entry) (e : Entry) → next_oid (history ++ e ∷ []) ≡ next_oid_by e.event (next_oid history)

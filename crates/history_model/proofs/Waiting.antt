@@ -30,10 +30,12 @@ waits_on false at n m waits longer = absurd (cc)
 abbrev WaitsStill : List Entry → ℕ → Type 0
 WaitsStill history b = has_waited history b ≡ true → is_waiting history b ≡ true
 
-waited_of-own : (before : List Entry) (e : Entry) (b : ℕ) → (e.backend == b) ≡ true → has_waited (before ++ e ∷ []) b ≡ waited_by (before ++ e ∷ []) b e.event (has_waited before b)
+-- what has waited, after the backend's own entry
+pub waited_of-own : (before : List Entry) (e : Entry) (b : ℕ) → (e.backend == b) ≡ true → has_waited (before ++ e ∷ []) b ≡ waited_by (before ++ e ∷ []) b e.event (has_waited before b)
 waited_of-own before e b own = own-own b (λ h old y. waited_by (h ++ y ∷ []) b y.event old) false before e own
 
-waited_of-other : (before : List Entry) (e : Entry) (b : ℕ) → (e.backend == b) ≡ false → has_waited (before ++ e ∷ []) b ≡ has_waited before b
+-- and after another's
+pub waited_of-other : (before : List Entry) (e : Entry) (b : ℕ) → (e.backend == b) ≡ false → has_waited (before ++ e ∷ []) b ≡ has_waited before b
 waited_of-other before e b other = own-other b (λ h old y. waited_by (h ++ y ∷ []) b y.event old) false before e other
 
 -- an entry that leaves the backend alive or not, and its position

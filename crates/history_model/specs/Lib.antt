@@ -7,6 +7,7 @@ pub mod Versions
 pub mod Sent
 pub mod Log
 pub mod Held
+pub mod Reached
 pub mod Drawn
 pub mod Names
 pub mod Covered

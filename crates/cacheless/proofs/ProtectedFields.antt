@@ -1,0 +1,117 @@
+-- A protected field is fresh: what a backend has read of it by a scan that still serves is its text in the whole history.
+use Rattle.std.proofs.Common.{◌≡◌, ◌≤◌, ◌-◌, ◌⊎◌, inl, inr, ℕ, Bool, true, false, Option, Some, None, List, [], ◌∷◌, ◌==◌, ◌&&◌, refl, subst, filter, map, take, drop, arith, cond}
+use Rattle.std.specs.List.{AllByRecursion, list_any, list_all}
+use Rattle.std.specs.Option.{option_map_or}
+use Rattle.std.proofs.lemmas.Bool.{both_ways, and_parts, or_cases}
+use Rattle.base_types.specs.Scenario.{Scenario}
+use Rattle.base_types.specs.declared.field.Field.{Field}
+use Rattle.base_types.specs.declared.ids.Oid.{Oid}
+use Rattle.base_types.specs.declared.kind.Kind.{Kind}
+use Rattle.base_types.specs.declared.mode.Mode.{Mode}
+use Rattle.base_types.specs.Fields.{has_field, field_text, read_by}
+use Rattle.base_types.specs.Modes.{conflicts, writers_of}
+use Rattle.base_types.specs.Scans.{same_oid}
+use Rattle.event_kinds.specs.declared.entry.Entry.{Entry}
+use Rattle.lock_modes.specs.declared.own_lock.OwnLock.{OwnLock}
+use Rattle.lock_modes.specs.Grants.{holds}
+use Rattle.lock_modes.specs.Own.{clear_modes}
+use Rattle.history_model.specs.Transactions.{running_transaction_of, is_visible}
+use Rattle.history_model.specs.Versions.{fresh_text}
+use Rattle.history_model.specs.Log.{log_of, position_of}
+use Rattle.history_model.specs.Held.{held_of}
+use Rattle.history_model.specs.Reached.{is_writer, reached_of}
+use Rattle.history_model.specs.Covered.{is_covered}
+use Rattle.history_model.specs.Read.{rows_read, is_usable}
+use Rattle.history_model.specs.Orderly.{IsSound}
+use Rattle.history_model.proofs.Every.{every-weaker, every-both}
+use Rattle.history_model.proofs.Asking.{oid_eq}
+use Rattle.history_model.proofs.Guards.{any_with}
+use Rattle.history_model.proofs.Exclude.{Agree}
+use Rattle.history_model.proofs.WeakChanges.{weak_visible}
+use Rattle.history_model.proofs.Observed.{Leaves, IsRead, IsDirty, IsWriting, IsBehind, observed}
+use Rattle.history_model.proofs.Ordered.{all_each, locks_exclude}
+use Rattle.history_model.proofs.Past.{IsPast, none_in_way}
+use Rattle.cacheless.specs.Session.{Session}
+use Rattle.cacheless.specs.Sessions.{session_of}
+use Rattle.cacheless.specs.Protected.{clear_modes_of, is_protected}
+use Rattle.cacheless.specs.Plays.{Plays}
+use Rattle.cacheless.proofs.HeldLocks.{grant_of, locks_of}
+use Rattle.cacheless.proofs.Clear.{on_locks, clear_reached}
+
+-- each of these modes conflicts with one that the backend holds clear on the relation
+abbrev pub AreKeptOut : Scenario → List Entry → ℕ → Oid → List Mode → Type 0
+AreKeptOut scenario history b rel modes = list_all (λ writer. list_any (conflicts writer) (clear_modes_of scenario history b rel)) modes ≡ true
+
+-- nobody else holds the mode on the relation, and the backend is past all that was changed under it
+record IsKeptOut (history : List Entry) (b : ℕ) (rel : Oid) (writer : Mode) : Type 0 where
+  past : reached_of history rel writer ≤ position_of history b
+  free : (a : ℕ) → (a == b) ≡ false → holds (held_of history) a rel writer ≡ false
+
+-- by a lock that keeps it out
+by_lock : (rel : Oid) (writer : Mode) (Q : OwnLock → Type 0) (C : Type 0) → ((lock : OwnLock) → lock.clear ≡ true → lock.rel ≡ rel → conflicts writer lock.mode ≡ true → Q lock → C)
+    → (locks : List OwnLock) → AllByRecursion Q locks → list_any (conflicts writer) (clear_modes locks rel) ≡ true → C
+by_lock rel writer Q C of [] all some = absurd (cc)
+by_lock rel writer Q C of (lock ∷ locks) all some = by_test (lock.clear && same_oid lock.rel rel) refl some (by_lock rel writer Q C of locks all.1)
+  where
+    rest : List Mode
+    rest = clear_modes locks rel
+
+    by_mode : (lock.clear && same_oid lock.rel rel) ≡ true → (conflicts writer lock.mode ≡ true) ⊎ (list_any (conflicts writer) rest ≡ true) → (list_any (conflicts writer) rest ≡ true → C) → C
+    by_mode is (inl clash) later = let parts = and_parts lock.clear (same_oid lock.rel rel) is in of lock parts.0 (oid_eq lock.rel rel parts.1) clash all.0
+    by_mode is (inr there) later = later there
+
+    by_test : (t : Bool) → (lock.clear && same_oid lock.rel rel) ≡ t → list_any (conflicts writer) (map (λ l. l.mode) (cond t (lock ∷ filter (λ l. l.clear && same_oid l.rel rel) locks) (filter (λ l. l.clear && same_oid l.rel rel) locks))) ≡ true
+        → (list_any (conflicts writer) rest ≡ true → C) → C
+    by_test true is has later = by_mode is (or_cases (conflicts writer lock.mode) (list_any (conflicts writer) rest) has) later
+    by_test false is has later = later has
+
+clear_is : (s : Option Session) (rel : Oid) (P : List Mode → Type 0) → P (option_map_or (λ x. clear_modes x.locks rel) s []) → P (clear_modes (locks_of s) rel)
+clear_is None rel P p = p
+clear_is (Some s) rel P p = p
+
+kept_out : (scenario : Scenario) (history : List Entry) (b : ℕ) (rel : Oid) (modes : List Mode) → IsSound history → Plays scenario history → AreKeptOut scenario history b rel modes → AllByRecursion (IsKeptOut history b rel) modes
+kept_out scenario history b rel modes sound plays are =
+    every-weaker (λ writer. list_any (conflicts writer) (clear_modes_of scenario history b rel) ≡ true) (IsKeptOut history b rel) one modes (all_each (λ writer. list_any (conflicts writer) (clear_modes_of scenario history b rel)) modes are)
+  where
+    Q : OwnLock → Type 0
+    Q lock = (lock.clear ≡ true → IsPast history b lock.rel lock.mode) × AllByRecursion (Agree (grant_of b lock)) (held_of history)
+
+    all : AllByRecursion Q (locks_of (session_of scenario history b))
+    all = every-both (λ lock. lock.clear ≡ true → IsPast history b lock.rel lock.mode) (λ lock. AllByRecursion (Agree (grant_of b lock)) (held_of history)) (locks_of (session_of scenario history b)) (clear_reached scenario history b sound plays)
+        (on_locks scenario history b (λ g. AllByRecursion (Agree g) (held_of history)) sound (locks_exclude history sound).agree)
+
+    one : (writer : Mode) → list_any (conflicts writer) (clear_modes_of scenario history b rel) ≡ true → IsKeptOut history b rel writer
+    one writer some = by_lock rel writer Q (IsKeptOut history b rel writer) (λ lock is same clash q. record {
+      past = subst (λ o. reached_of history o writer ≤ position_of history b) same (q.0 is writer clash);
+      free = λ a other. none_in_way (held_of history) (grant_of b lock) a rel writer q.1 same other clash;
+    }) (locks_of (session_of scenario history b)) all (clear_is (session_of scenario history b) rel (λ ms. list_any (conflicts writer) ms ≡ true) some)
+
+-- of a sound history in which backends do what their commands say: where only those who hold one of the modes on the relation change the field's text for others, and the backend keeps all these modes out by clear locks, what it has read of the field by a scan that still serves is the field's text
+pub kept_out_fresh : (scenario : Scenario) (history : List Entry) (b : ℕ) (rel : Oid) (field : Field) (modes : List Mode) → Leaves field rel modes → IsSound history → Plays scenario history → AreKeptOut scenario history b rel modes
+    → is_usable history b (read_by field rel) ≡ true → fresh_text history b rel field ≡ field_text field rel (rows_read history b (read_by field rel))
+kept_out_fresh scenario history b rel field modes leaves sound plays are usable = of (observed field rel modes leaves history b sound usable)
+  where
+    out : AllByRecursion (IsKeptOut history b rel) modes
+    out = kept_out scenario history b rel modes sound plays are
+
+    not_writing : IsWriting history b rel modes (read_by field rel) → ⊥
+    not_writing w = any_with (is_writer history w.writer rel) (IsKeptOut history b rel) ⊥
+        (λ mode is kept. both_ways _ (kept.free w.writer w.other) (and_parts (is_visible (running_transaction_of history w.writer)) (holds (held_of history) w.writer rel mode) is).1) modes w.writes out
+
+    nothing : (n : ℕ) → n ≡ 0 → is_covered (take n (drop (position_of history b) (log_of history))) (read_by field rel) ≡ true → ⊥
+    nothing n zero' is = let e : false ≡ true = subst (λ k. is_covered (take k (drop (position_of history b) (log_of history))) (read_by field rel) ≡ true) zero' is in absurd (cc)
+
+    not_behind : IsBehind history b rel modes (read_by field rel) → ⊥
+    not_behind some = any_with (λ mode. is_covered (take (reached_of history rel mode - position_of history b) (drop (position_of history b) (log_of history))) (read_by field rel)) (IsKeptOut history b rel) ⊥
+        (λ mode is kept. nothing (reached_of history rel mode - position_of history b) (omega (arith, kept.past)) is) modes some out
+
+    of : IsRead history b field rel ⊎ IsDirty history b rel modes (read_by field rel) → IsRead history b field rel
+    of (inl read) = read
+    of (inr (inl writing)) = absurd (not_writing writing)
+    of (inr (inr behind)) = absurd (not_behind behind)
+
+-- a protected field is fresh
+pub protected_fresh : (scenario : Scenario) (history : List Entry) (b : ℕ) (rel : Oid) (kind : Kind) (field : Field) → IsSound history → Plays scenario history → has_field kind field ≡ true → is_protected scenario history b rel kind field ≡ true
+    → is_usable history b (read_by field rel) ≡ true → fresh_text history b rel field ≡ field_text field rel (rows_read history b (read_by field rel))
+protected_fresh scenario history b rel kind field sound plays has protected usable =
+    kept_out_fresh scenario history b rel field (writers_of kind field) (λ before a c xid o well comes other none. weak_visible before a c xid o kind field rel well comes other has none) sound plays protected usable
