@@ -15,5 +15,6 @@ pub mod RefusedLock
 pub mod ThreeHolders
 pub mod RefusedCommands
 pub mod NoField
+pub mod ProtectedColumns
 pub mod WrongEntries
 pub mod WrongPlays
