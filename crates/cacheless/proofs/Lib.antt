@@ -16,5 +16,6 @@ pub mod ThreeHolders
 pub mod RefusedCommands
 pub mod NoField
 pub mod WeakTargets
+pub mod ProtectedColumns
 pub mod WrongEntries
 pub mod WrongPlays
