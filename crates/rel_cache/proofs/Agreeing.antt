@@ -1,9 +1,9 @@
 -- The index and the pool after a change of one relation's descriptor.
-use Rattle.std.proofs.Common.{◌≡◌, ◌≢◌, ◌∙◌, ◌⊎◌, inl, inr, ◌==◌, ◌-◌, ℕ, Bool, true, false, Option, Some, None, sym, ap, refl, nat_eq, if◌then◌else◌, unwrap_or}
+use Rattle.std.proofs.Common.{◌≡◌, ◌≢◌, ◌∙◌, ◌⊎◌, inl, inr, ◌==◌, ℕ, Bool, true, false, Option, Some, None, sym, ap, refl, nat_eq, unwrap_or}
 use Rattle.std.proofs.lemmas.Bool.{eqb-true, eqb-false}
 use Rattle.std.specs.Option.{option_map, option_and_then}
 use Rattle.indexmap.specs.IndexMap.{IndexMap, get}
-use Rattle.pin_pool.specs.Entries.{Entry, unpinned}
+use Rattle.pin_pool.specs.Entries.{Entry}
 use Rattle.pin_pool.specs.Pools.{entry_of, Changes}
 use Rattle.pin_pool.specs.declared.pool.Pool.{Pool}
 use Rattle.pin_pool.specs.declared.reference.Ref.{Ref}

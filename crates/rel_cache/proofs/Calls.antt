@@ -1,5 +1,5 @@
 -- What each call leaves in the index and in the pool.
-use Rattle.std.proofs.Common.{◌≡◌, ◌≢◌, ◌∙◌, ◌<◌, ◌+◌, ◌-◌, ◌==◌, ◌&&◌, ℕ, Bool, true, false, Option, Some, None, sym, ap, subst, refl, nat_eq, if◌then◌else◌, arith}
+use Rattle.std.proofs.Common.{◌≡◌, ◌≢◌, ◌∙◌, ◌<◌, ◌-◌, ◌==◌, ◌&&◌, ℕ, true, false, Option, Some, None, sym, ap, subst, refl, nat_eq, if◌then◌else◌, arith}
 use Rattle.std.proofs.lemmas.Bool.{ne_eqb, eq-eqb}
 use Rattle.std.specs.Option.{option_map, option_and_then}
 use Rattle.indexmap.specs.IndexMap.{IndexMap, get}
@@ -8,7 +8,7 @@ use Rattle.pin_pool.specs.Pools.{entry_of, Changes}
 use Rattle.pin_pool.specs.declared.pool.Pool.{Pool}
 use Rattle.pin_pool.specs.declared.reference.Ref.{Ref}
 use Rattle.rel_cache.specs.Descriptors.{Held, opened_once, closed_once, renewed, told, new_held}
-use Rattle.rel_cache.specs.Named.{whose, AreIndexed, ArePlaced, with_mark}
+use Rattle.rel_cache.specs.Named.{AreIndexed, ArePlaced, with_mark}
 use Rattle.rel_cache.specs.Caches.{held_at}
 use Rattle.rel_cache.specs.declared.kept.Kept.{Kept}
 use Rattle.rel_cache.specs.declared.kept.Place.{Place}

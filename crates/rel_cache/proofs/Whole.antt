@@ -1,14 +1,12 @@
 -- The same of whole caches.
-use Rattle.std.proofs.Common.{◌≡◌, ◌≢◌, ◌∙◌, ◌⊎◌, inl, inr, ◌<◌, ◌≤◌, ◌&&◌, ◌+◌, ◌-◌, ℕ, Bool, true, false, not, nat_lt, Option, Some, None, IsTrue, IsSomeAnd, IfSome, IfNone, slice_index, slice_get, sym, ap, subst, refl, nat_eq, if◌then◌else◌, arith}
+use Rattle.std.proofs.Common.{◌≡◌, ◌≢◌, ◌∙◌, ◌⊎◌, inl, inr, ◌<◌, ◌≤◌, ◌&&◌, ◌+◌, ℕ, Bool, true, false, not, nat_lt, Option, Some, None, IsTrue, IsSomeAnd, IfSome, IfNone, slice_index, slice_get, sym, ap, subst, refl, nat_eq, arith}
 use Rattle.std.proofs.lemmas.Bool.{cases_eq, and_parts, both_ways}
 use Rattle.std.specs.Option.{option_map, option_and_then, option_map_or, ForSome}
 use Rattle.indexmap.specs.IndexMap.{get, keys, index_map_len}
 use Rattle.base_types.specs.declared.ids.Oid.{Oid}
-use Rattle.pin_pool.specs.Entries.{Entry}
 use Rattle.pin_pool.specs.Pools.{entry_of}
 use Rattle.rel_cache.specs.Descriptors.{Held, told}
 use Rattle.rel_cache.specs.Caches.{held_at, held_of, ChangesHeld, awaits, AreTold, relation_at}
-use Rattle.rel_cache.specs.declared.kept.Kept.{Kept}
 use Rattle.rel_cache.specs.declared.kept.Place.{Place}
 use Rattle.rel_cache.specs.declared.rel_cache.RelCache.{RelCache}
 use Rattle.rel_cache.proofs.Agreeing.{Leaves, mapped_from, held_there}

@@ -1,4 +1,4 @@
-use Rattle.std.proofs.Common.{◌≡◌, ◌∙◌, ◌≤◌, ℕ, nat_eq, sym, ap, is_some, refl, arith}
+use Rattle.std.proofs.Common.{◌∙◌, sym, ap, is_some, arith}
 use Rattle.std.proofs.lemmas.Bool.{ne_eqb}
 use Rattle.rel_cache.proofs.Agreeing.{stands_at}
 use Rattle.rel_cache.proofs.Messages.{notes_pinned, notes_free}

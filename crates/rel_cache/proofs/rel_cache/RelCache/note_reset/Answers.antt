@@ -1,5 +1,5 @@
 use Rattle.std.proofs.Common.{◌-◌, refl, arith}
-use Rattle.rel_cache.specs.Caches.{held_of, AreTold, relation_at}
+use Rattle.rel_cache.specs.Caches.{held_of, relation_at}
 use Rattle.rel_cache.proofs.Whole.{told_alike, told_whole}
 use Rattle.rel_cache.proofs.rel_cache.RelCache.note_reset.Goals as goal
 

@@ -1,4 +1,4 @@
-use Rattle.std.proofs.Common.{◌≡◌, ◌<◌, ◌∙◌, IsSomeAnd, sym, ap, subst, refl, if◌then◌else◌}
+use Rattle.std.proofs.Common.{◌<◌, ◌∙◌, IsSomeAnd, sym, ap, subst, refl, if◌then◌else◌}
 use Rattle.rel_cache.specs.Descriptors.{opened}
 use Rattle.rel_cache.specs.declared.opened.Opened.TheVariants.{Valid, Invalid}
 use Rattle.rel_cache.proofs.Agreeing.{stands_at, held_there}
