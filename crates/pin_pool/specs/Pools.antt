@@ -1,5 +1,5 @@
 -- What a reference names in a pool, and what a call may change.
-use Rattle.std.specs.Prelude.{◌≡◌, ◌≢◌, ℕ, ◌+◌, ◌<◌, ◌==◌, Option, Some, None, slice_index, if◌then◌else◌}
+use Rattle.std.specs.Prelude.{◌≡◌, ◌≢◌, ℕ, ◌+◌, ◌<◌, ◌==◌, Option, None, slice_index, if◌then◌else◌}
 use Rattle.slab.specs.Slab.{get}
 use Rattle.pin_pool.specs.Entries.{Entry}
 use Rattle.pin_pool.specs.Slots.{held_at}

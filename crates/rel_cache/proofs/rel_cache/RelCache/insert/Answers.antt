@@ -1,0 +1,18 @@
+use Rattle.std.proofs.Common.{◌∙◌, ap, refl, nat_eq}
+use Rattle.std.specs.Map.{lookup}
+use Rattle.rel_cache.proofs.Calls.{adding}
+use Rattle.rel_cache.proofs.Whole.{changes}
+use Rattle.rel_cache.proofs.rel_cache.RelCache.insert.Goals as goal
+
+pub invariant_of-self-in-Ok-add : goal.invariant_of-self-in-Ok-add
+invariant_of-self-in-Ok-add g c =
+    let cache = c.args.self.now in
+    let l = adding cache.descriptors c.add.new.self cache.index c.put.new.index c.args.rel.0 c.in-Ok-add.at (record { rel = c.args.rel; value = c.args.value }) refl cache.indexed cache.placed c.requires c.in-Ok-add.ensures.unnamed c.in-Ok-add.ensures.entry
+    c.put.ensures.at (λ k other. c.put.ensures.others k other ∙ ap (lookup (nat_eq k)) c.reserve.ensures.entries) in
+    record { indexed = l.indexed; placed = l.placed }
+
+pub returns-in-Ok-add-clause-held : goal.returns-in-Ok-add-clause-held
+returns-in-Ok-add-clause-held g c =
+    let cache = c.args.self.now in
+    changes cache _ c.args.rel _ (adding cache.descriptors c.add.new.self cache.index c.put.new.index c.args.rel.0 c.in-Ok-add.at (record { rel = c.args.rel; value = c.args.value }) refl cache.indexed cache.placed c.requires c.in-Ok-add.ensures.unnamed c.in-Ok-add.ensures.entry
+    c.put.ensures.at (λ k other. c.put.ensures.others k other ∙ ap (lookup (nat_eq k)) c.reserve.ensures.entries))
