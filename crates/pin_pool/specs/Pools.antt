@@ -24,14 +24,16 @@ module _ {T : Type 0} where
     pub given : WasGiven pool r
     pub gone : entry_of pool r ≡ None
 
-  -- every reference names what it named
+  -- every reference names what it named, and the same have gone
   pub record IsSame (old new : Pool T) : Type 0 where
     pub entries : (r : Ref) → entry_of new r ≡ entry_of old r
     pub gone : (r : Ref) → HasGone old r → HasGone new r
+    pub no_more : (r : Ref) → HasGone new r → HasGone old r
 
-  -- the reference names this now, or its entry has gone; every other names what it named; what has gone stays gone
+  -- the reference names this now, or its entry has gone; every other names what it named; what has gone stays gone, and no other goes
   pub record Changes (old new : Pool T) (r : Ref) (entry : Option (Entry T)) : Type 0 where
     pub at : entry_of new r ≡ entry
     pub went : entry ≡ None → HasGone new r
     pub others : (other : Ref) → other ≢ r → entry_of new other ≡ entry_of old other
     pub gone : (other : Ref) → HasGone old other → HasGone new other
+    pub no_more : (other : Ref) → other ≢ r → HasGone new other → HasGone old other

@@ -88,5 +88,5 @@ module _ {D S : Type 0} where
       let test : (s.entry.pins == 0) ≡ false = ne_eqb s.entry.pins 0 (λ none. omega (arith, none, held)) in
       let some : option_and_then told (option_and_then (held_at pool) (get nat_eq before rel)) ≡ Some (record { at = r; value = s.entry.value.value; pins = s.entry.pins; valid = false }) =
       ap (option_and_then told) (held_under pool before rel r s) ∙ ap (λ t. if t then None else Some (record { at = r; value = s.entry.value.value; pins = s.entry.pins; valid = false })) test in
-      let same : Changes pool pool r (Some s.entry) = record { at = s.is; went = λ none. absurd (some_none _ none); others = λ other differs. refl; gone = λ other gone. gone } in
+      let same : Changes pool pool r (Some s.entry) = record { at = s.is; went = λ none. absurd (some_none _ none); others = λ other differs. refl; gone = λ other gone. gone; no_more = λ other differs gone. gone } in
       leaves_as pool pool before after rel r _ _ (sym some) (leaves_one pool pool before after rel r indexed placed (stood pool before rel r s) s.entry (with_mark false s.place) s.own s.at same (there ∙ ap (option_map (with_mark false)) s.there) rest)
