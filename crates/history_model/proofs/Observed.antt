@@ -1,4 +1,4 @@
--- What a backend has read of a field is its text, as long as the scan still serves and whoever may change the field has made all changes known to it.
+-- What a backend has read by a scan is what the scan would give, and so of a field its text, as long as the scan still serves and whoever may change it has made all changes known to it.
 use Rattle.std.proofs.Common.{◌≡◌, ◌≤◌, ◌+◌, ◌-◌, ◌∙◌, ◌⊎◌, inl, inr, ℕ, zero, suc, Bool, true, false, Option, Some, None, List, [], ◌∷◌, ◌++◌, ◌==◌, ◌||◌, ◌&&◌, not, refl, sym, ap, subst, arith, append-nil, length, take, drop}
 use Rattle.std.specs.Prelude.{nat_le, ⊤}
 use Rattle.std.specs.List.{list_any}
@@ -20,7 +20,7 @@ use Rattle.lock_modes.specs.declared.grant.Grant.{Grant}
 use Rattle.lock_modes.specs.Grants.{is_lock, holds, stays}
 use Rattle.history_model.specs.Lives.{life_of, FollowsLife}
 use Rattle.history_model.specs.Transactions.{Running, running_transaction_of, running_by, is_visible}
-use Rattle.history_model.specs.Versions.{answer_of, fresh_text}
+use Rattle.history_model.specs.Versions.{answer_of}
 use Rattle.history_model.specs.Sent.{lists_of, sent_of, left_in}
 use Rattle.history_model.specs.Log.{log_of, position_of, fetched_by}
 use Rattle.history_model.specs.Held.{held_by, held_of}
@@ -57,14 +57,22 @@ IsBehind history b rel modes scan = list_any (λ mode. is_covered (take (reached
 abbrev pub IsDirty : List Entry → ℕ → Oid → List Mode → Purpose → Type 0
 IsDirty history b rel modes scan = IsWriting history b rel modes scan ⊎ IsBehind history b rel modes scan
 
+-- what is made of the rows that the backend's last such scan gave is what is made of the scan's answer
+abbrev pub IsReadAs : {X : Type 0} → (List Row → X) → Purpose → List Entry → ℕ → Type 0
+IsReadAs read d history b = read (answer_of history b d) ≡ read (rows_read history b d)
+
+-- what becomes visible by a backend that holds none of the modes on the relation leaves what is made of the scan's answer for all others
+abbrev pub LeavesRead : {X : Type 0} → (List Row → X) → Purpose → Oid → List Mode → Type 0
+LeavesRead read d rel modes = (history : List Entry) (a c : ℕ) (xid : Xid) (b : ℕ) → IsSound history → MayComeNext history (entry_of a c (events.Visible xid)) → (a == b) ≡ false → list_any (holds (held_of history) a rel) modes ≡ false
+    → read (answer_of (history ++ entry_of a c (events.Visible xid) ∷ []) b d) ≡ read (answer_of history b d)
+
 -- what the backend last read of the field is its text
 abbrev pub IsRead : List Entry → ℕ → Field → Oid → Type 0
-IsRead history b field rel = fresh_text history b rel field ≡ field_text field rel (rows_read history b (read_by field rel))
+IsRead history b field rel = IsReadAs (field_text field rel) (read_by field rel) history b
 
--- what becomes visible by a backend that holds none of the modes on the relation leaves the text of the field for all others
+-- and so for the text of a field
 abbrev pub Leaves : Field → Oid → List Mode → Type 0
-Leaves field rel modes = (history : List Entry) (a c : ℕ) (xid : Xid) (b : ℕ) → IsSound history → MayComeNext history (entry_of a c (events.Visible xid)) → (a == b) ≡ false → list_any (holds (held_of history) a rel) modes ≡ false
-    → fresh_text (history ++ entry_of a c (events.Visible xid) ∷ []) b rel field ≡ fresh_text history b rel field
+Leaves field rel modes = LeavesRead (field_text field rel) (read_by field rel) rel modes
 
 front-more : (p : Message → Bool) (k k' : ℕ) (xs ys : List Message) → k ≤ k' → list_any p (take k xs) ≡ true → list_any p (take k' (xs ++ ys)) ≡ true
 front-more p zero k' xs ys longer some = absurd (cc)
@@ -274,26 +282,23 @@ writer_step history w c (events.Release from) b rel modes d other lawful allows 
 writer_step history w c event b rel modes d other lawful allows visible placed writes coming = absurd (subst (λ v. FollowsVisible v event) (writer_visible history w rel modes writes) visible)
 
 -- what another's entry leaves of what was read
-read_other : (field : Field) (rel : Oid) (modes : List Mode) → Leaves field rel modes → (history : List Entry) (a c : ℕ) (event : Event) (b : ℕ) → (a == b) ≡ false → IsSound history → MayComeNext history (entry_of a c event) → IsLawful history (entry_of a c event)
-    → IsRead history b field rel → IsRead (history ++ entry_of a c event ∷ []) b field rel ⊎ IsDirty (history ++ entry_of a c event ∷ []) b rel modes (read_by field rel)
-read_other field rel modes leaves history a c (events.Visible xid) b other sound comes lawful read = by_cover (is_covered (sent_of history a) d) refl
+read_other : {X : Type 0} (read : List Row → X) (d : Purpose) (rel : Oid) (modes : List Mode) → LeavesRead read d rel modes → (history : List Entry) (a c : ℕ) (event : Event) (b : ℕ) → (a == b) ≡ false → IsSound history → MayComeNext history (entry_of a c event)
+    → IsLawful history (entry_of a c event) → IsReadAs read d history b → IsReadAs read d (history ++ entry_of a c event ∷ []) b ⊎ IsDirty (history ++ entry_of a c event ∷ []) b rel modes d
+read_other read d rel modes leaves history a c (events.Visible xid) b other sound comes lawful was = by_cover (is_covered (sent_of history a) d) refl
   where
-    d : Purpose
-    d = read_by field rel
-
     e : Entry
     e = entry_of a c (events.Visible xid)
 
     after : List Entry
     after = history ++ e ∷ []
 
-    stays' : fresh_text after b rel field ≡ fresh_text history b rel field → IsRead after b field rel
-    stays' same = same ∙ read ∙ ap (field_text field rel) (sym (rows_read-other history e b d other))
+    stays' : read (answer_of after b d) ≡ read (answer_of history b d) → IsReadAs read d after b
+    stays' same = same ∙ was ∙ ap read (sym (rows_read-other history e b d other))
 
     writes : (mode : Mode) → holds (held_of history) a rel mode ≡ true → is_writer after a rel mode ≡ true
     writes mode held = and_from (is_visible (running_transaction_of after a)) (holds (held_of after) a rel mode) (ap is_visible (running-own history e a (eq-eqb a a refl))) (subst (λ gs. holds gs a rel mode ≡ true) (sym (held-more history e)) held)
 
-    by_holds : is_covered (sent_of history a) d ≡ true → (t : Bool) → list_any (holds (held_of history) a rel) modes ≡ t → IsRead after b field rel ⊎ IsDirty after b rel modes d
+    by_holds : is_covered (sent_of history a) d ≡ true → (t : Bool) → list_any (holds (held_of history) a rel) modes ≡ t → IsReadAs read d after b ⊎ IsDirty after b rel modes d
     by_holds covered false none = inl (stays' (leaves history a c xid b sound comes other none))
     by_holds covered true held = inr (inl (record {
       writer = a;
@@ -302,12 +307,12 @@ read_other field rel modes leaves history a c (events.Visible xid) b other sound
       coming = any-left (covers d) (unpublished_of after a) (drop (position_of after b) (log_of after)) (ap (λ ms. is_covered ms d) (unpublished-visible history a c xid lawful.0 (sound_unsent history sound)) ∙ covered);
     }))
 
-    by_cover : (t : Bool) → is_covered (sent_of history a) d ≡ t → IsRead after b field rel ⊎ IsDirty after b rel modes d
-    by_cover false none = let k = sound_ordered history sound in inl (stays' (ap (field_text field rel) (answer-other history a c (events.Visible xid) b d other lawful k.runs k.touched none)))
+    by_cover : (t : Bool) → is_covered (sent_of history a) d ≡ t → IsReadAs read d after b ⊎ IsDirty after b rel modes d
+    by_cover false none = let k = sound_ordered history sound in inl (stays' (ap read (answer-other history a c (events.Visible xid) b d other lawful k.runs k.touched none)))
     by_cover true covered = by_holds covered (list_any (holds (held_of history) a rel) modes) refl
-read_other field rel modes leaves history a c event b other sound comes lawful read =
+read_other read d rel modes leaves history a c event b other sound comes lawful was =
     let k = sound_ordered history sound in
-    inl (ap (field_text field rel) (answer-other history a c event b (read_by field rel) other lawful k.runs k.touched tt) ∙ read ∙ ap (field_text field rel) (sym (rows_read-other history (entry_of a c event) b (read_by field rel) other)))
+    inl (ap read (answer-other history a c event b d other lawful k.runs k.touched tt) ∙ was ∙ ap read (sym (rows_read-other history (entry_of a c event) b d other)))
 
 -- and of a change that may be unknown
 dirty_other : (history : List Entry) (e : Entry) (b : ℕ) (rel : Oid) (modes : List Mode) (d : Purpose) → (e.backend == b) ≡ false → IsSound history → MayComeNext history e → IsLawful history e → IsDirty history b rel modes d → IsDirty (history ++ e ∷ []) b rel modes d
@@ -337,16 +342,13 @@ dirty_own history b c event rel modes d sound life was spared (inl writing) =
 dirty_own history b c event rel modes d sound life was spared (inr behind) = inr (behind-more history (entry_of b c event) b rel modes d (sound_placed history sound) (position-own history (entry_of b c event) b (eq-eqb b b refl)) behind)
 
 -- each backend has read right what it may rely on, or a change may be unknown to it
-abbrev Observed : Field → Oid → List Mode → List Entry → Type 0
-Observed field rel modes history = (b : ℕ) → is_usable history b (read_by field rel) ≡ true → IsRead history b field rel ⊎ IsDirty history b rel modes (read_by field rel)
+abbrev Observed : {X : Type 0} → (List Row → X) → Purpose → Oid → List Mode → List Entry → Type 0
+Observed read d rel modes history = (b : ℕ) → is_usable history b d ≡ true → IsReadAs read d history b ⊎ IsDirty history b rel modes d
 
-observed_own : (field : Field) (rel : Oid) (modes : List Mode) (history : List Entry) (b c : ℕ) (event : Event) → IsSound history → MayComeNext history (entry_of b c event) → Observed field rel modes history → usable_by history b c (read_by field rel) event (is_usable history b (read_by field rel)) ≡ true
-    → IsRead (history ++ entry_of b c event ∷ []) b field rel ⊎ IsDirty (history ++ entry_of b c event ∷ []) b rel modes (read_by field rel)
-observed_own field rel modes history b c event sound comes observed' is = by_scan (is_scan_of d event) refl is
+observed_own : {X : Type 0} (read : List Row → X) (d : Purpose) (rel : Oid) (modes : List Mode) (history : List Entry) (b c : ℕ) (event : Event) → IsSound history → MayComeNext history (entry_of b c event) → Observed read d rel modes history
+    → usable_by history b c d event (is_usable history b d) ≡ true → IsReadAs read d (history ++ entry_of b c event ∷ []) b ⊎ IsDirty (history ++ entry_of b c event ∷ []) b rel modes d
+observed_own read d rel modes history b c event sound comes observed' is = by_scan (is_scan_of d event) refl is
   where
-    d : Purpose
-    d = read_by field rel
-
     e : Entry
     e = entry_of b c event
 
@@ -362,36 +364,38 @@ observed_own field rel modes history b c event sound comes observed' is = by_sca
     rows_are : (t : Bool) → is_scan_of d event ≡ t → rows_read after b d ≡ elim t as (λ x. List Row) [ true ↦ answer_of history b d | false ↦ rows_read history b d ]
     rows_are t it = rows_read-own history e b d (eq-eqb b b refl) ∙ ap (λ u. elim u [ true ↦ answer_of history b d | false ↦ rows_read history b d ]) it
 
-    on : is_scan_of d event ≡ false → is_usable history b d ≡ true → spares_by history b c d event ≡ true → IsRead history b field rel ⊎ IsDirty history b rel modes d → IsRead after b field rel ⊎ IsDirty after b rel modes d
-    on not_it was spared (inl read) = inl (ap (field_text field rel) (kept (own_spared history b c event d spared)) ∙ read ∙ ap (field_text field rel) (sym (rows_are false not_it)))
-    on not_it was spared (inr dirty) = inr (dirty_own history b c event rel modes d sound comes.follows.life was spared dirty)
+    on : is_scan_of d event ≡ false → is_usable history b d ≡ true → spares_by history b c d event ≡ true → IsReadAs read d history b ⊎ IsDirty history b rel modes d → IsReadAs read d after b ⊎ IsDirty after b rel modes d
+    on not_it used spared (inl was) = inl (ap read (kept (own_spared history b c event d spared)) ∙ was ∙ ap read (sym (rows_are false not_it)))
+    on not_it used spared (inr dirty) = inr (dirty_own history b c event rel modes d sound comes.follows.life used spared dirty)
 
-    by_scan : (t : Bool) → is_scan_of d event ≡ t → (t || (spares_by history b c d event && is_usable history b d)) ≡ true → IsRead after b field rel ⊎ IsDirty after b rel modes d
-    by_scan true it used = inl (ap (field_text field rel) (kept (scan_spared history b c event d it)) ∙ ap (field_text field rel) (sym (rows_are true it)))
+    by_scan : (t : Bool) → is_scan_of d event ≡ t → (t || (spares_by history b c d event && is_usable history b d)) ≡ true → IsReadAs read d after b ⊎ IsDirty after b rel modes d
+    by_scan true it used = inl (ap read (kept (scan_spared history b c event d it)) ∙ ap read (sym (rows_are true it)))
     by_scan false not_it used = let parts = and_parts (spares_by history b c d event) (is_usable history b d) used in on not_it parts.1 parts.0 (observed' b parts.1)
 
-Observed-more : (field : Field) (rel : Oid) (modes : List Mode) → Leaves field rel modes → (history : List Entry) (e : Entry) → IsSound history → MayComeNext history e → Observed field rel modes history → Observed field rel modes (history ++ e ∷ [])
-Observed-more field rel modes leaves history e sound comes observed' b is = by_owner (e.backend == b) refl
+Observed-more : {X : Type 0} (read : List Row → X) (d : Purpose) (rel : Oid) (modes : List Mode) → LeavesRead read d rel modes → (history : List Entry) (e : Entry) → IsSound history → MayComeNext history e → Observed read d rel modes history
+    → Observed read d rel modes (history ++ e ∷ [])
+Observed-more read d rel modes leaves history e sound comes observed' b is = by_owner (e.backend == b) refl
   where
-    d : Purpose
-    d = read_by field rel
-
     after : List Entry
     after = history ++ e ∷ []
 
     lawful : IsLawful history e
     lawful = lawful_of history e (sound_ordered history sound) comes
 
-    theirs : (e.backend == b) ≡ false → IsRead history b field rel ⊎ IsDirty history b rel modes d → IsRead after b field rel ⊎ IsDirty after b rel modes d
-    theirs other (inl read) = read_other field rel modes leaves history e.backend e.command e.event b other sound comes lawful read
+    theirs : (e.backend == b) ≡ false → IsReadAs read d history b ⊎ IsDirty history b rel modes d → IsReadAs read d after b ⊎ IsDirty after b rel modes d
+    theirs other (inl was) = read_other read d rel modes leaves history e.backend e.command e.event b other sound comes lawful was
     theirs other (inr dirty) = inr (dirty_other history e b rel modes d other sound comes lawful dirty)
 
-    by_owner : (t : Bool) → (e.backend == b) ≡ t → IsRead after b field rel ⊎ IsDirty after b rel modes d
-    by_owner true own = subst (λ o. is_usable after o d ≡ true → IsRead after o field rel ⊎ IsDirty after o rel modes d) (eqb-true e.backend b own)
-        (λ used. observed_own field rel modes history e.backend e.command e.event sound comes observed' (sym (is_usable-own history e e.backend d (eq-eqb e.backend e.backend refl)) ∙ used)) is
+    by_owner : (t : Bool) → (e.backend == b) ≡ t → IsReadAs read d after b ⊎ IsDirty after b rel modes d
+    by_owner true own = subst (λ o. is_usable after o d ≡ true → IsReadAs read d after o ⊎ IsDirty after o rel modes d) (eqb-true e.backend b own)
+        (λ used. observed_own read d rel modes history e.backend e.command e.event sound comes observed' (sym (is_usable-own history e e.backend d (eq-eqb e.backend e.backend refl)) ∙ used)) is
     by_owner false other = theirs other (observed' b (sym (is_usable-other history e b d other) ∙ is))
 
--- of a sound history: where only those who hold one of the modes on the relation change the field's text for others, what a backend has read of the field by a scan that still serves is its text, or a change under one of the modes may be unknown to it
+-- of a sound history: where only those who hold one of the modes on the relation change for others what is made of a scan's answer, it is made of what a backend has read by such a scan that still serves, or a change under one of the modes may be unknown to it
+pub observed_as : {X : Type 0} (read : List Row → X) (d : Purpose) (rel : Oid) (modes : List Mode) → LeavesRead read d rel modes → (history : List Entry) (b : ℕ) → IsSound history → is_usable history b d ≡ true → IsReadAs read d history b ⊎ IsDirty history b rel modes d
+observed_as read d rel modes leaves history b sound is =
+    (each-keeps MayComeNext (λ h. IsSound h × Observed read d rel modes h) (tt, λ o used. absurd (cc)) (λ before e k comes. (EachEntry-more MayComeNext before e k.0 comes, Observed-more read d rel modes leaves before e k.0 comes k.1)) history sound).1 b is
+
+-- so it is of the text of a field
 pub observed : (field : Field) (rel : Oid) (modes : List Mode) → Leaves field rel modes → (history : List Entry) (b : ℕ) → IsSound history → is_usable history b (read_by field rel) ≡ true → IsRead history b field rel ⊎ IsDirty history b rel modes (read_by field rel)
-observed field rel modes leaves history b sound is =
-    (each-keeps MayComeNext (λ h. IsSound h × Observed field rel modes h) (tt, λ o used. absurd (cc)) (λ before e k comes. (EachEntry-more MayComeNext before e k.0 comes, Observed-more field rel modes leaves before e k.0 comes k.1)) history sound).1 b is
+observed field rel modes leaves history b sound is = observed_as (field_text field rel) (read_by field rel) rel modes leaves history b sound is

@@ -1,5 +1,5 @@
 -- Laws of what holds of each entry and of folds along a history: one more entry, and a prefix.
-use Rattle.std.proofs.Common.{◌≡◌, ◌∙◌, ℕ, true, false, List, [], ◌∷◌, ◌++◌, ◌==◌, if◌then◌else◌, refl, ap, append_assoc, append-nil, subst, rules}
+use Rattle.std.proofs.Common.{◌≡◌, ◌∙◌, ℕ, true, false, List, [], ◌∷◌, ◌++◌, ◌==◌, if◌then◌else◌, refl, sym, ap, append_assoc, append-nil, subst, rules}
 use Rattle.event_kinds.specs.declared.entry.Entry.{Entry}
 use Rattle.history_model.specs.Prefixes.{EachFrom, EachEntry, along_from, along, along_own}
 
@@ -27,7 +27,21 @@ EachFrom-prefix P before (e ∷ prefix) rest each = (each.0, EachFrom-prefix P (
 pub EachEntry-prefix : (P : List Entry → Entry → Type 0) (prefix rest : List Entry) → EachEntry P (prefix ++ rest) → EachEntry P prefix
 EachEntry-prefix P prefix rest each = EachFrom-prefix P [] prefix rest each
 
-EachFrom-keeps : (P : List Entry → Entry → Type 0) (Inv : List Entry → Type 0) → ((before : List Entry) (e : Entry) → Inv before → P before e → Inv (before ++ e ∷ []))
+EachFrom-rest : (P : List Entry → Entry → Type 0) (before prefix rest : List Entry) → EachFrom P before (prefix ++ rest) → EachFrom P (before ++ prefix) rest
+EachFrom-rest P before [] rest each = subst (λ front. EachFrom P front rest) (sym (append-nil before)) each
+EachFrom-rest P before (e ∷ prefix) rest each = subst (λ front. EachFrom P front rest) (append_assoc before (e ∷ []) prefix) (EachFrom-rest P (before ++ e ∷ []) prefix rest each.1)
+
+-- so it does of the entries after a prefix
+pub EachEntry-rest : (P : List Entry → Entry → Type 0) (prefix rest : List Entry) → EachEntry P (prefix ++ rest) → EachFrom P prefix rest
+EachEntry-rest P prefix rest each = EachFrom-rest P [] prefix rest each
+
+-- two properties of the same entries
+pub EachFrom-both : (P Q : List Entry → Entry → Type 0) (before history : List Entry) → EachFrom P before history → EachFrom Q before history → EachFrom (λ front e. P front e × Q front e) before history
+EachFrom-both P Q before [] each also = tt
+EachFrom-both P Q before (e ∷ rest) each also = ((each.0, also.0), EachFrom-both P Q (before ++ e ∷ []) rest each.1 also.1)
+
+-- what holds before some entries, and is kept by each of which P holds, holds after them
+pub EachFrom-keeps : (P : List Entry → Entry → Type 0) (Inv : List Entry → Type 0) → ((before : List Entry) (e : Entry) → Inv before → P before e → Inv (before ++ e ∷ []))
     → (before history : List Entry) → Inv before → EachFrom P before history → Inv (before ++ history)
 EachFrom-keeps P Inv more before [] held each = rw append-nil held
 EachFrom-keeps P Inv more before (x ∷ xs) held each = subst Inv (append_assoc before (x ∷ []) xs) (EachFrom-keeps P Inv more (before ++ x ∷ []) xs (more before x held each.0) each.1)

@@ -3,6 +3,7 @@ use Rattle.std.proofs.Common.{◌≡◌, ◌∙◌, ◌⊎◌, inl, inr, ℕ, Bo
 use Rattle.std.specs.Prelude.{⊤, nat_le}
 use Rattle.std.specs.List.{AllByRecursion, list_any, filter_map, cons_option, join_by}
 use Rattle.std.specs.Option.{IfSome}
+use Rattle.std.specs.Str.{bytes_eq}
 use Rattle.std.proofs.Math.Bool.{or-false}
 use Rattle.std.proofs.lemmas.Bool.{eqb-true, eq-eqb, both_ways, and_parts, and_from, or_cases, or_parts, or_left, or_right, false_from_ne_true}
 use Rattle.base_types.specs.declared.ids.Oid.{Oid}
@@ -132,22 +133,26 @@ not_held test modes held a c rel among none is = any_with (guards_in test a c re
         let r = and_parts (same_oid g.rel rel) (test g.mode) p.1 in
         any_with (same_mode g.mode) (λ mode. is_lock a rel mode g ≡ false) ⊥ (λ mode same not_lock. both_ways _ not_lock (and_from ((g.backend == a) && same_oid g.rel rel) (same_mode g.mode mode) (and_from (g.backend == a) (same_oid g.rel rel) q.0 r.0) same)) modes (among g.mode r.1) free
 
--- what holds of each relation that a row names holds of the one for which a scan asks for it
-abbrev OfScan : (Oid → Type 0) → Purpose → Type 0
-OfScan Q (scans.Class rel) = Q rel
-OfScan Q (scans.Attribute rel) = Q rel
-OfScan Q (scans.AttrDef rel) = Q rel
-OfScan Q (scans.Constraint rel) = Q rel
-OfScan Q (scans.Index rel) = Q rel
-OfScan Q (scans.Trigger rel) = Q rel
-OfScan Q (scans.IndexRow rel) = Q rel
-OfScan Q d = ⊤
+-- the relation whose oid a scan names, if it names one
+abbrev pub relation_asked : Purpose → Option Oid
+relation_asked (scans.RelName name) = None
+relation_asked (scans.RelOid rel) = Some rel
+relation_asked (scans.AttName rel name) = Some rel
+relation_asked (scans.AttList rel) = Some rel
+relation_asked (scans.Class rel) = Some rel
+relation_asked (scans.Attribute rel) = Some rel
+relation_asked (scans.AttrDef rel) = Some rel
+relation_asked (scans.Constraint rel) = Some rel
+relation_asked (scans.Index rel) = Some rel
+relation_asked (scans.Trigger rel) = Some rel
+relation_asked (scans.IndexRow rel) = Some rel
 
-of_scan : (Q : Oid → Type 0) (d : Purpose) (row : Row) → selects d row ≡ true → AllByRecursion Q (relations_of row) → OfScan Q d
+-- what holds of each relation that a row names holds of the one for which a scan asks for it
+of_scan : (Q : Oid → Type 0) (d : Purpose) (row : Row) → selects d row ≡ true → AllByRecursion Q (relations_of row) → IfSome (relation_asked d) Q
 of_scan Q (scans.RelName name) row is all = tt
-of_scan Q (scans.RelOid rel) row is all = tt
-of_scan Q (scans.AttName rel name) row is all = tt
-of_scan Q (scans.AttList rel) row is all = tt
+of_scan Q (scans.RelOid rel) (rows.Class oid own kind fill) is all = subst Q (oid_eq oid rel is) all.0
+of_scan Q (scans.AttName rel name) (rows.Att of num own col_type stat live) is all = subst Q (oid_eq of rel (and_parts (same_oid of rel) (bytes_eq own name) is).0) all.0
+of_scan Q (scans.AttList rel) (rows.Att of num own col_type stat live) is all = subst Q (oid_eq of rel is) all.0
 of_scan Q (scans.Class rel) (rows.Class oid own kind fill) is all = subst Q (oid_eq oid rel is) all.0
 of_scan Q (scans.Attribute rel) (rows.Att of num own col_type stat live) is all = subst Q (oid_eq of rel is) all.0
 of_scan Q (scans.AttrDef rel) (rows.Def oid of num word) is all = subst Q (oid_eq of rel is) all.0
@@ -162,18 +167,37 @@ of_scan Q (scans.IndexRow rel) (rows.Ind index table state nums) is all = subst 
 of_scan Q (scans.Trigger rel) (rows.Trg oid of own on) is all = subst Q (oid_eq of rel is) all.0
 of_scan Q d row is all = absurd (cc)
 
-of_field : (Q : Oid → Type 0) (f : Field) (rel : Oid) (row : Row) → selects (read_by f rel) row ≡ true → AllByRecursion Q (relations_of row) → Q rel
-of_field Q fields.Name rel row is all = of_scan Q (scans.Class rel) row is all
-of_field Q fields.Columns rel row is all = of_scan Q (scans.Attribute rel) row is all
-of_field Q fields.Defaults rel row is all = of_scan Q (scans.AttrDef rel) row is all
-of_field Q fields.Statistics rel row is all = of_scan Q (scans.Attribute rel) row is all
-of_field Q fields.Fillfactor rel row is all = of_scan Q (scans.Class rel) row is all
-of_field Q fields.Constraints rel row is all = of_scan Q (scans.Constraint rel) row is all
-of_field Q fields.Referenced rel row is all = of_scan Q (scans.Constraint rel) row is all
-of_field Q fields.Indexes rel row is all = of_scan Q (scans.Index rel) row is all
-of_field Q fields.Triggers rel row is all = of_scan Q (scans.Trigger rel) row is all
-of_field Q fields.Of rel row is all = of_scan Q (scans.IndexRow rel) row is all
-of_field Q fields.Valid rel row is all = of_scan Q (scans.IndexRow rel) row is all
+-- each row that the scan asks for names the relation
+abbrev pub AsksOf : Purpose → Oid → Type 0
+AsksOf d rel = (row : Row) → selects d row ≡ true → list_any (same_oid rel) (relations_of row) ≡ true
+
+each_named : (rels : List Oid) → AllByRecursion (λ o. list_any (same_oid o) rels ≡ true) rels
+each_named [] = tt
+each_named (rel ∷ rels) = (
+  or_left (same_oid rel rel) (list_any (same_oid rel) rels) (eq-eqb rel.0 rel.0 refl),
+  every-weaker (λ o. list_any (same_oid o) rels ≡ true) (λ o. list_any (same_oid o) (rel ∷ rels) ≡ true) (λ o is. or_right (same_oid o rel) (list_any (same_oid o) rels) is) rels (each_named rels),
+)
+
+-- so does each row that a scan asks for by the relation's oid
+pub asks_of : (d : Purpose) (rel : Oid) → relation_asked d ≡ Some rel → AsksOf d rel
+asks_of d rel named row is = subst (λ o. IfSome o (λ of. list_any (same_oid of) (relations_of row) ≡ true)) named (of_scan (λ of. list_any (same_oid of) (relations_of row) ≡ true) d row is (each_named (relations_of row)))
+
+field_asked : (f : Field) (rel : Oid) → relation_asked (read_by f rel) ≡ Some rel
+field_asked fields.Name rel = refl
+field_asked fields.Columns rel = refl
+field_asked fields.Defaults rel = refl
+field_asked fields.Statistics rel = refl
+field_asked fields.Fillfactor rel = refl
+field_asked fields.Constraints rel = refl
+field_asked fields.Referenced rel = refl
+field_asked fields.Indexes rel = refl
+field_asked fields.Triggers rel = refl
+field_asked fields.Of rel = refl
+field_asked fields.Valid rel = refl
+
+-- each mode under which a row that the scan asks for may be changed is among these
+abbrev pub AreModesOf : List Mode → Purpose → Type 0
+AreModesOf modes d = (row : Row) → selects d row ≡ true → (mode : Mode) → changes_under row mode ≡ true → list_any (same_mode mode) modes ≡ true
 
 -- a weak mode may change the rows that are read for the field, but not the field
 abbrev is_in_part : Kind → Field → Bool
@@ -220,22 +244,28 @@ exclusive_only : (mode : Mode) → is_exclusive mode ≡ true → list_any (same
 exclusive_only AccessExclusive is = refl
 exclusive_only mode is = absurd (cc)
 
--- where none of the rows that are read for the field was changed
-whole_kept : (history : List Entry) (a c : ℕ) (xid : Xid) (b : ℕ) (kind : Kind) (f : Field) (rel : Oid) → Ordered history → HeldForAll history → IsLawful history (entry_of a c (events.Visible xid)) → (a == b) ≡ false → has_field kind f ≡ true → is_in_part kind f ≡ false
-    → list_any (holds (held_of history) a rel) (writers_of kind f) ≡ false → answer_of (history ++ entry_of a c (events.Visible xid) ∷ []) b (read_by f rel) ≡ answer_of history b (read_by f rel)
-whole_kept history a c xid b kind f rel k held lawful other has whole none =
-    answer-kept history after b (read_by f rel) (versions-more history (entry_of a c (events.Visible xid)))
-    (every-weaker (OfStamps (GuardBy ByAll history)) (OfStamps (λ s row. selects (read_by f rel) row ≡ true → counts after b s ≡ counts history b s)) (stamps-weaker (GuardBy ByAll history) (λ s row. selects (read_by f rel) row ≡ true → counts after b s ≡ counts history b s) same) (versions_of history) held)
+-- what becomes visible leaves the answer of a scan that asks for rows of the relation, where its backend holds on it none of the modes under which they are changed
+pub unheld_visible : (history : List Entry) (a c : ℕ) (xid : Xid) (b : ℕ) (rel : Oid) (d : Purpose) (modes : List Mode) → IsSound history → MayComeNext history (entry_of a c (events.Visible xid)) → (a == b) ≡ false → AsksOf d rel → AreModesOf modes d
+    → list_any (holds (held_of history) a rel) modes ≡ false → answer_of (history ++ entry_of a c (events.Visible xid) ∷ []) b d ≡ answer_of history b d
+unheld_visible history a c xid b rel d modes sound comes other asks among none =
+    answer-kept history after b d (versions-more history (entry_of a c (events.Visible xid)))
+    (every-weaker (OfStamps (GuardBy ByAll history)) (OfStamps (λ s row. selects d row ≡ true → counts after b s ≡ counts history b s)) (stamps-weaker (GuardBy ByAll history) (λ s row. selects d row ≡ true → counts after b s ≡ counts history b s) same) (versions_of history) (sound_held history sound))
   where
     after : List Entry
     after = history ++ entry_of a c (events.Visible xid) ∷ []
 
-    same : (s : Stamp) (row : Row) → GuardBy ByAll history s row → selects (read_by f rel) row ≡ true → counts after b s ≡ counts history b s
-    same s row guard asks = by_xid (xid.0 == s.xid.0) refl
+    lawful : IsLawful history (entry_of a c (events.Visible xid))
+    lawful = lawful_of history (entry_of a c (events.Visible xid)) (sound_ordered history sound) comes
+
+    not_held_for : (s : Stamp) (row : Row) → selects d row ≡ true → AllByRecursion (λ o. IsHeldIn (changes_under row) (held_of history) a s.command o) (relations_of row) → ⊥
+    not_held_for s row is held = any_with (same_oid rel) (λ o. IsHeldIn (changes_under row) (held_of history) a s.command o) ⊥
+        (λ o one here. not_held (changes_under row) modes (held_of history) a s.command rel (among row is) none (subst (λ r. IsHeldIn (changes_under row) (held_of history) a s.command r) (sym (oid_eq rel o one)) here)) (relations_of row) (asks row is) held
+
+    same : (s : Stamp) (row : Row) → GuardBy ByAll history s row → selects d row ≡ true → counts after b s ≡ counts history b s
+    same s row guard is = by_xid (xid.0 == s.xid.0) refl
       where
         by_xid : (t : Bool) → (xid.0 == s.xid.0) ≡ t → counts after b s ≡ counts history b s
-        by_xid true one = absurd (not_held (changes_under row) (writers_of kind f) (held_of history) a s.command rel (among_writers kind f rel row has whole asks) none
-            (of_field (λ o. IsHeldIn (changes_under row) (held_of history) a s.command o) f rel row asks (guard a (subst (λ x. runs_as history a x ≡ true) (eqb-true xid.0 s.xid.0 one) lawful.1))))
+        by_xid true one = absurd (not_held_for s row is (guard a (subst (λ x. runs_as history a x ≡ true) (eqb-true xid.0 s.xid.0 one) lawful.1)))
         by_xid false differs = counts-other history a c (events.Visible xid) b s other differs
 
 -- where a weak mode may have changed them: another sees the same rows of the relation, but for what such a mode changes
@@ -296,11 +326,11 @@ part_kept history a c xid b x k steady lawful other none = by_held (list_any (ch
     by_held false free = idle free
 
 -- a scan by which the rows of one relation are told apart by their numbers
-record TellsApart (d : Purpose) (rel : Oid) : Type 0 where
-  main : (row : Row) → selects d row ≡ true → main_rel row ≡ rel
-  fixes : (row : Row) → selects d (fixed row) ≡ selects d row
-  keyed : (row other : Row) → selects d row ≡ true → selects d other ≡ true → row_number row ≡ row_number other → key_of row ≡ key_of other
-  by_number : (found : List Row) → IsByNumber d (filter (selects d) found)
+pub record TellsApart (d : Purpose) (rel : Oid) : Type 0 where
+  pub main : (row : Row) → selects d row ≡ true → main_rel row ≡ rel
+  pub fixes : (row : Row) → selects d (fixed row) ≡ selects d row
+  pub keyed : (row other : Row) → selects d row ≡ true → selects d other ≡ true → row_number row ≡ row_number other → key_of row ≡ key_of other
+  pub by_number : (found : List Row) → IsByNumber d (filter (selects d) found)
 
 class_main : (rel : Oid) (row : Row) → selects (scans.Class rel) row ≡ true → main_rel row ≡ rel
 class_main rel (rows.Class oid own kind fill) is = oid_eq oid rel is
@@ -327,7 +357,7 @@ every_filtered keep P of xs = every-filter P keep xs (all xs)
     all [] = tt
     all (y ∷ ys) = (of y, all ys)
 
-class_apart : (rel : Oid) → TellsApart (scans.Class rel) rel
+pub class_apart : (rel : Oid) → TellsApart (scans.Class rel) rel
 class_apart rel = record {
   main = class_main rel;
   fixes = class_fixes rel;
@@ -409,12 +439,10 @@ columns_fixed rel (rows.Class oid own kind fill) = refl
 columns_fixed rel (rows.Att of num own col_type stat live) = refl
 columns_fixed rel row = refl
 
-part_text : (history : List Entry) (a c : ℕ) (xid : Xid) (b : ℕ) (f : Field) (rel : Oid) (d : Purpose) → TellsApart d rel → ((row : Row) → item_of f rel (fixed row) ≡ item_of f rel row)
-    → IsSound history → MayComeNext history (entry_of a c (events.Visible xid)) → (a == b) ≡ false → holds (held_of history) a rel AccessExclusive ≡ false
-    → field_text f rel (answer_of (history ++ entry_of a c (events.Visible xid) ∷ []) b d) ≡ field_text f rel (answer_of history b d)
-part_text history a c xid b f rel d apart same sound comes other none =
-    ap (λ vs. field_text f rel (scan_of d (map (λ v. v.row) (filter (sees after b) vs)))) stay
-    ∙ ap (λ items. or_dash (join_by (λ item. item) (codes " ") items)) (sym (items_fixed f rel same (scan_of d now)) ∙ ap (filter_map (item_of f rel)) given ∙ items_fixed f rel same (scan_of d before))
+-- what becomes visible leaves another's answer but for what a weak mode changes, where its backend doesn't hold AccessExclusive on the relation
+pub fixed_visible : (history : List Entry) (a c : ℕ) (xid : Xid) (b : ℕ) (rel : Oid) (d : Purpose) → TellsApart d rel → IsSound history → MayComeNext history (entry_of a c (events.Visible xid)) → (a == b) ≡ false → holds (held_of history) a rel AccessExclusive ≡ false
+    → map fixed (answer_of (history ++ entry_of a c (events.Visible xid) ∷ []) b d) ≡ map fixed (answer_of history b d)
+fixed_visible history a c xid b rel d apart sound comes other none = ap (λ vs. map fixed (scan_of d (map (λ v. v.row) (filter (sees after b) vs)))) stay ∙ given
   where
     e : Entry
     e = entry_of a c (events.Visible xid)
@@ -448,6 +476,13 @@ part_text history a c xid b f rel d apart same sound comes other none =
         (asked_differ d rel apart (sees after b) vs one_after) (asked_differ d rel apart (sees history b) vs (one_seen history b vs k.one))
         (asked_too d rel apart vs (counts after b) (counts history b) (λ x is. (shows x is).0)) (asked_too d rel apart vs (counts history b) (counts after b) (λ x is. (shows x is).1))
 
+part_text : (history : List Entry) (a c : ℕ) (xid : Xid) (b : ℕ) (f : Field) (rel : Oid) (d : Purpose) → TellsApart d rel → ((row : Row) → item_of f rel (fixed row) ≡ item_of f rel row)
+    → IsSound history → MayComeNext history (entry_of a c (events.Visible xid)) → (a == b) ≡ false → holds (held_of history) a rel AccessExclusive ≡ false
+    → field_text f rel (answer_of (history ++ entry_of a c (events.Visible xid) ∷ []) b d) ≡ field_text f rel (answer_of history b d)
+part_text history a c xid b f rel d apart same sound comes other none =
+    ap (λ items. or_dash (join_by (λ item. item) (codes " ") items)) (sym (items_fixed f rel same (answer_of (history ++ entry_of a c (events.Visible xid) ∷ []) b d))
+    ∙ ap (filter_map (item_of f rel)) (fixed_visible history a c xid b rel d apart sound comes other none) ∙ items_fixed f rel same (answer_of history b d))
+
 -- what becomes visible leaves the text of a field for others, where its backend holds on the relation none of the modes of the field's writers
 pub weak_visible : (history : List Entry) (a c : ℕ) (xid : Xid) (b : ℕ) (kind : Kind) (f : Field) (rel : Oid) → IsSound history → MayComeNext history (entry_of a c (events.Visible xid)) → (a == b) ≡ false
     → has_field kind f ≡ true → list_any (holds (held_of history) a rel) (writers_of kind f) ≡ false
@@ -455,5 +490,4 @@ pub weak_visible : (history : List Entry) (a c : ℕ) (xid : Xid) (b : ℕ) (kin
 weak_visible history a c xid b Table fields.Name rel sound comes other has none = part_text history a c xid b fields.Name rel (scans.Class rel) (class_apart rel) (name_fixed rel) sound comes other (sym (or-false (holds (held_of history) a rel AccessExclusive)) ∙ none)
 weak_visible history a c xid b Table fields.Columns rel sound comes other has none = part_text history a c xid b fields.Columns rel (scans.Attribute rel) (column_apart rel) (columns_fixed rel) sound comes other (sym (or-false (holds (held_of history) a rel AccessExclusive)) ∙ none)
 weak_visible history a c xid b kind f rel sound comes other has none =
-    let k = sound_ordered history sound in
-    ap (field_text f rel) (whole_kept history a c xid b kind f rel k (sound_held history sound) (lawful_of history (entry_of a c (events.Visible xid)) k comes) other has refl none)
+    ap (field_text f rel) (unheld_visible history a c xid b rel (read_by f rel) (writers_of kind f) sound comes other (asks_of (read_by f rel) rel (field_asked f rel)) (λ row asks. among_writers kind f rel row has refl asks) none)

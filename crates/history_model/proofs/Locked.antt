@@ -1,0 +1,253 @@
+-- Under a lock that keeps out those who change a relation's rows, a backend's answers stay, and under any lock a relation that is seen is still seen.
+use Rattle.std.proofs.Common.{◌≡◌, ◌∙◌, ℕ, Bool, true, false, not, Option, None, List, [], ◌∷◌, ◌++◌, ◌==◌, ◌||◌, ◌&&◌, refl, sym, ap, subst, map}
+use Rattle.std.specs.Prelude.{nat_le, ⊤}
+use Rattle.std.specs.List.{AllByRecursion, list_any, list_all}
+use Rattle.std.proofs.lemmas.Bool.{eqb-true, eq-eqb, both_ways, and_parts, and_from}
+use Rattle.base_types.specs.declared.ids.Oid.{Oid}
+use Rattle.base_types.specs.declared.kind.Kind.{Kind}
+use Rattle.base_types.specs.declared.mode.Mode.{Mode}
+use Rattle.base_types.specs.declared.mode.Mode.TheVariants.{AccessShare, RowShare, RowExclusive, ShareUpdateExclusive, Share, ShareRowExclusive, Exclusive, AccessExclusive}
+use Rattle.base_types.specs.declared.row.Row.{Row}
+use Rattle.base_types.specs.declared.row.Row.TheVariants as rows
+use Rattle.base_types.specs.declared.scan.Purpose.{Purpose}
+use Rattle.base_types.specs.declared.scan.Purpose.TheVariants as scans
+use Rattle.base_types.specs.Modes.{mode_number, same_mode, conflicting_modes, conflicts}
+use Rattle.base_types.specs.Scans.{same_oid}
+use Rattle.event_kinds.specs.declared.entry.Entry.{Entry}
+use Rattle.event_kinds.specs.declared.entry.Event.{Event}
+use Rattle.event_kinds.specs.declared.entry.Event.TheVariants as events
+use Rattle.lock_modes.specs.declared.grant.Grant.{Grant}
+use Rattle.lock_modes.specs.Grants.{is_lock, holds, stays}
+use Rattle.history_model.specs.Prefixes.{EachFrom}
+use Rattle.history_model.specs.Versions.{answer_of}
+use Rattle.history_model.specs.Held.{held_by, held_of}
+use Rattle.history_model.specs.Orderly.{MayComeNext, IsSound}
+use Rattle.history_model.proofs.Prefixes.{EachEntry-more, EachEntry-prefix, EachEntry-rest, EachFrom-both, EachFrom-keeps}
+use Rattle.history_model.proofs.Reading.{held_of-more as held-more}
+use Rattle.history_model.proofs.Every.{every-weaker, any-weaker, any-filter, any-left}
+use Rattle.history_model.proofs.Asking.{oid_eq}
+use Rattle.history_model.proofs.Touched.{entry_of}
+use Rattle.history_model.proofs.Guards.{any_with}
+use Rattle.history_model.proofs.FixedRows.{fixed, is_loose}
+use Rattle.history_model.proofs.Exclude.{Agree, AllAgree}
+use Rattle.history_model.proofs.Granted.{lock_parts}
+use Rattle.history_model.proofs.Ordered.{all_each, locks_exclude}
+use Rattle.history_model.proofs.Past.{none_in_way}
+use Rattle.history_model.proofs.Answers.{other_answers, own_answers}
+use Rattle.history_model.proofs.WeakChanges.{AsksOf, AreModesOf, changes_under, class_apart, unheld_visible, fixed_visible}
+use Rattle.history_model.proofs.Observed.{LeavesRead}
+
+-- the modes under which rows are changed
+abbrev pub changing_modes : List Mode
+changing_modes = ShareUpdateExclusive ∷ ShareRowExclusive ∷ AccessExclusive ∷ []
+
+-- a grant to the backend on the relation that conflicts with the mode
+abbrev pub bars : ℕ → Oid → Mode → Grant → Bool
+bars b rel mode g = (g.backend == b) && (same_oid g.rel rel && conflicts mode g.mode)
+
+-- by a grant of its own the backend keeps others from holding the mode on the relation
+abbrev pub IsBarred : List Grant → ℕ → Oid → Mode → Type 0
+IsBarred held b rel mode = list_any (bars b rel mode) held ≡ true
+
+-- and so for each of these modes
+abbrev pub AreBarred : List Grant → ℕ → Oid → List Mode → Type 0
+AreBarred held b rel modes = AllByRecursion (IsBarred held b rel) modes
+
+-- a mode that is held bars those that it conflicts with
+pub held_bars : (held : List Grant) (b : ℕ) (rel : Oid) (mode writer : Mode) → holds held b rel mode ≡ true → conflicts writer mode ≡ true → IsBarred held b rel writer
+held_bars held b rel mode writer has clash = any-weaker (is_lock b rel mode) (bars b rel writer) of held has
+  where
+    of : (g : Grant) → is_lock b rel mode g ≡ true → bars b rel writer g ≡ true
+    of g lock =
+        let parts = lock_parts b rel mode g lock in
+        let number : mode_number g.mode ≡ mode_number mode = eqb-true (mode_number g.mode) (mode_number mode) parts.2 in
+        and_from (g.backend == b) (same_oid g.rel rel && conflicts writer g.mode) parts.0
+        (and_from (same_oid g.rel rel) (conflicts writer g.mode) parts.1 (ap (λ n. list_any (λ m. n == mode_number m) (conflicting_modes writer)) number ∙ clash))
+
+-- it bars each of these modes where it conflicts with each
+pub held_bars_all : (held : List Grant) (b : ℕ) (rel : Oid) (mode : Mode) (modes : List Mode) → holds held b rel mode ≡ true → list_all (λ writer. conflicts writer mode) modes ≡ true → AreBarred held b rel modes
+held_bars_all held b rel mode modes has clash =
+    every-weaker (λ writer. conflicts writer mode ≡ true) (IsBarred held b rel) (λ writer one. held_bars held b rel mode writer has one) modes (all_each (λ writer. conflicts writer mode) modes clash)
+
+all_conflict : (mode : Mode) → conflicts AccessExclusive mode ≡ true
+all_conflict AccessShare = refl
+all_conflict RowShare = refl
+all_conflict RowExclusive = refl
+all_conflict ShareUpdateExclusive = refl
+all_conflict Share = refl
+all_conflict ShareRowExclusive = refl
+all_conflict Exclusive = refl
+all_conflict AccessExclusive = refl
+
+-- each mode bars AccessExclusive
+pub held_bars_exclusive : (held : List Grant) (b : ℕ) (rel : Oid) (mode : Mode) → holds held b rel mode ≡ true → AreBarred held b rel (AccessExclusive ∷ [])
+held_bars_exclusive held b rel mode has = (held_bars held b rel mode AccessExclusive has (all_conflict mode), tt)
+
+barred_free : (held : List Grant) (b a : ℕ) (rel : Oid) (mode : Mode) → AllAgree held held → (a == b) ≡ false → IsBarred held b rel mode → holds held a rel mode ≡ false
+barred_free held b a rel mode agree other barred = any_with (bars b rel mode) (λ g. AllByRecursion (Agree g) held) (holds held a rel mode ≡ false) of held barred agree
+  where
+    of : (g : Grant) → bars b rel mode g ≡ true → AllByRecursion (Agree g) held → holds held a rel mode ≡ false
+    of g is agrees =
+        let p = and_parts (g.backend == b) (same_oid g.rel rel && conflicts mode g.mode) is in
+        let q = and_parts (same_oid g.rel rel) (conflicts mode g.mode) p.1 in
+        none_in_way held g a rel mode agrees (oid_eq g.rel rel q.0) (subst (λ o. (a == o) ≡ false) (sym (eqb-true g.backend b p.0)) other) q.1
+
+-- nobody else holds a mode that is barred
+pub none_held : (held : List Grant) (b a : ℕ) (rel : Oid) (modes : List Mode) → AllAgree held held → (a == b) ≡ false → AreBarred held b rel modes → list_any (holds held a rel) modes ≡ false
+none_held held b a rel [] agree other barred = refl
+none_held held b a rel (mode ∷ modes) agree other barred = ap (λ t. t || list_any (holds held a rel) modes) (barred_free held b a rel mode agree other barred.0) ∙ none_held held b a rel modes agree other barred.1
+
+-- rows are changed under these modes alone
+pub changed_under : (row : Row) (mode : Mode) → changes_under row mode ≡ true → list_any (same_mode mode) changing_modes ≡ true
+changed_under row AccessExclusive is = refl
+changed_under row ShareUpdateExclusive is = refl
+changed_under row mode is = absurd (both_ways _ (of (is_loose row)) is)
+  where
+    of : (t : Bool) → (t && false) ≡ false
+    of true = refl
+    of false = refl
+
+-- what becomes visible leaves the answers of scans that ask for rows of a relation, where its backend holds no mode on it under which rows are changed
+pub unheld_leaves : (d : Purpose) (rel : Oid) → AsksOf d rel → LeavesRead (λ given. given) d rel changing_modes
+unheld_leaves d rel asks history a c xid b sound comes other none = unheld_visible history a c xid b rel d changing_modes sound comes other asks (λ row is. changed_under row) none
+
+other_barred : (history : List Entry) (a c : ℕ) (event : Event) (b : ℕ) (rel : Oid) (d : Purpose) (modes : List Mode) → IsSound history → MayComeNext history (entry_of a c event) → (a == b) ≡ false → AsksOf d rel → AreModesOf modes d → AreBarred (held_of history) b rel modes
+    → answer_of (history ++ entry_of a c event ∷ []) b d ≡ answer_of history b d
+other_barred history a c (events.Visible xid) b rel d modes sound comes other asks among barred =
+    unheld_visible history a c xid b rel d modes sound comes other asks among (none_held (held_of history) b a rel modes (locks_exclude history sound).agree other barred)
+other_barred history a c event b rel d modes sound comes other asks among barred = other_answers history (entry_of a c event) b d sound comes other tt
+
+-- any entry of another leaves the answer of a scan that asks for rows of a relation, where the backend keeps others from holding on it each mode under which they are changed
+pub barred_answers : (history : List Entry) (e : Entry) (b : ℕ) (rel : Oid) (d : Purpose) (modes : List Mode) → IsSound history → MayComeNext history e → (e.backend == b) ≡ false → AsksOf d rel → AreModesOf modes d → AreBarred (held_of history) b rel modes
+    → answer_of (history ++ e ∷ []) b d ≡ answer_of history b d
+barred_answers history e b rel d modes sound comes other asks among barred = other_barred history e.backend e.command e.event b rel d modes sound comes other asks among barred
+
+-- it does so where the backend holds on the relation a mode, clear or not, that conflicts with each mode under which rows are changed
+pub locked_answers : (history : List Entry) (e : Entry) (b : ℕ) (rel : Oid) (d : Purpose) → IsSound history → MayComeNext history e → (e.backend == b) ≡ false → AsksOf d rel → AreBarred (held_of history) b rel changing_modes
+    → answer_of (history ++ e ∷ []) b d ≡ answer_of history b d
+locked_answers history e b rel d sound comes other asks barred = barred_answers history e b rel d changing_modes sound comes other asks (λ row is. changed_under row) barred
+
+-- an event that neither writes nor takes writes back
+abbrev pub IsNoChange : Event → Type 0
+IsNoChange (events.Write xid items) = ⊥
+IsNoChange (events.Gone from) = ⊥
+IsNoChange event = ⊤
+
+-- nor releases locks
+abbrev pub IsQuiet : Event → Type 0
+IsQuiet (events.Write xid items) = ⊥
+IsQuiet (events.Gone from) = ⊥
+IsQuiet (events.Release from) = ⊥
+IsQuiet event = ⊤
+
+quiet_keeps : (event : Event) → IsQuiet event → IsNoChange event
+quiet_keeps (events.Write xid items) quiet = quiet
+quiet_keeps (events.Gone from) quiet = quiet
+quiet_keeps event quiet = tt
+
+own_unchanged : (history : List Entry) (b c : ℕ) (event : Event) (d : Purpose) → IsSound history → MayComeNext history (entry_of b c event) → IsNoChange event → answer_of (history ++ entry_of b c event ∷ []) b d ≡ answer_of history b d
+own_unchanged history b c (events.Write xid items) d sound comes none = absurd none
+own_unchanged history b c (events.Gone from) d sound comes none = absurd none
+own_unchanged history b c event d sound comes none = own_answers history (entry_of b c event) d sound comes tt
+
+-- an own entry that is no change leaves all answers
+pub unchanged_answers : (history : List Entry) (e : Entry) (b : ℕ) (d : Purpose) → IsSound history → MayComeNext history e → (e.backend == b) ≡ true → IsNoChange e.event → answer_of (history ++ e ∷ []) b d ≡ answer_of history b d
+unchanged_answers history e b d sound comes own none =
+    subst (λ o. answer_of (history ++ e ∷ []) o d ≡ answer_of history o d) (eqb-true e.backend b own) (own_unchanged history e.backend e.command e.event d sound comes none)
+
+-- before the entry the backend keeps others from holding these modes on the relation, and the entry is no change of its own
+abbrev pub IsUndisturbed : ℕ → Oid → List Mode → List Entry → Entry → Type 0
+IsUndisturbed b rel modes before e = AreBarred (held_of before) b rel modes × ((e.backend == b) ≡ true → IsNoChange e.event)
+
+undisturbed_answers : (history : List Entry) (e : Entry) (b : ℕ) (rel : Oid) (d : Purpose) (modes : List Mode) → IsSound history → MayComeNext history e → AsksOf d rel → AreModesOf modes d → IsUndisturbed b rel modes history e
+    → answer_of (history ++ e ∷ []) b d ≡ answer_of history b d
+undisturbed_answers history e b rel d modes sound comes asks among still = by_owner (e.backend == b) refl
+  where
+    by_owner : (t : Bool) → (e.backend == b) ≡ t → answer_of (history ++ e ∷ []) b d ≡ answer_of history b d
+    by_owner true own = unchanged_answers history e b d sound comes own (still.1 own)
+    by_owner false other = barred_answers history e b rel d modes sound comes other asks among still.0
+
+-- what each entry after a prefix keeps
+between : (Inv : List Entry → Type 0) (Q : List Entry → Entry → Type 0) → ((before : List Entry) (e : Entry) → IsSound before → MayComeNext before e → Q before e → Inv before → Inv (before ++ e ∷ []))
+    → (history more : List Entry) → IsSound (history ++ more) → Inv history → EachFrom Q history more → Inv (history ++ more)
+between Inv Q keeps history more sound start each =
+    (EachFrom-keeps (λ before e. MayComeNext before e × Q before e) (λ h. IsSound h × Inv h) (λ before e k next. (EachEntry-more MayComeNext before e k.0 next.0, keeps before e k.0 next.0 next.1 k.1)) history more
+    (EachEntry-prefix MayComeNext history more sound, start) (EachFrom-both MayComeNext Q history more (EachEntry-rest MayComeNext history more sound) each)).1
+
+-- between two places of a sound history, if before each entry between them the backend keeps others from holding the modes under which the rows are changed, and none is a change of its own, the answer is the same
+pub barred_between : (history more : List Entry) (b : ℕ) (rel : Oid) (d : Purpose) (modes : List Mode) → IsSound (history ++ more) → AsksOf d rel → AreModesOf modes d → EachFrom (IsUndisturbed b rel modes) history more → answer_of (history ++ more) b d ≡ answer_of history b d
+barred_between history more b rel d modes sound asks among still =
+    between (λ h. answer_of h b d ≡ answer_of history b d) (IsUndisturbed b rel modes) (λ before e well comes one same. undisturbed_answers before e b rel d modes well comes asks among one ∙ same) history more sound refl still
+
+-- and so for the modes under which any rows are changed
+pub locked_between : (history more : List Entry) (b : ℕ) (rel : Oid) (d : Purpose) → IsSound (history ++ more) → AsksOf d rel → EachFrom (IsUndisturbed b rel changing_modes) history more → answer_of (history ++ more) b d ≡ answer_of history b d
+locked_between history more b rel d sound asks still = barred_between history more b rel d changing_modes sound asks (λ row is. changed_under row) still
+
+barred_kept : (a c : ℕ) (event : Event) (held : List Grant) (b : ℕ) (rel : Oid) (mode : Mode) → ((a == b) ≡ true → IsQuiet event) → IsBarred held b rel mode → IsBarred (held_by a c event held) b rel mode
+barred_kept a c (events.LockOk on in') held b rel mode quiet barred = any-left (bars b rel mode) held _ barred
+barred_kept a c (events.Write xid items) held b rel mode quiet barred = any-left (bars b rel mode) held _ barred
+barred_kept a c (events.Release from) held b rel mode quiet barred = any-filter (bars b rel mode) (stays a from) kept held barred
+  where
+    kept : (g : Grant) → bars b rel mode g ≡ true → stays a from g ≡ true
+    kept g is = by_owner (g.backend == a) refl
+      where
+        by_owner : (t : Bool) → (g.backend == a) ≡ t → not (t && nat_le from g.command) ≡ true
+        by_owner false theirs = refl
+        by_owner true mine = absurd (quiet (eq-eqb a b (sym (eqb-true g.backend a mine) ∙ eqb-true g.backend b (and_parts (g.backend == b) (same_oid g.rel rel && conflicts mode g.mode) is).0)))
+barred_kept a c event held b rel mode quiet barred = barred
+
+-- the entry isn't a write of the backend, takes none back and releases nothing of its own
+abbrev pub IsIdle : ℕ → List Entry → Entry → Type 0
+IsIdle b before e = (e.backend == b) ≡ true → IsQuiet e.event
+
+-- a backend that keeps others from holding some modes, and then neither changes nor releases anything, goes on to do so
+pub stays_undisturbed : (history more : List Entry) (b : ℕ) (rel : Oid) (modes : List Mode) → AreBarred (held_of history) b rel modes → EachFrom (IsIdle b) history more → EachFrom (IsUndisturbed b rel modes) history more
+stays_undisturbed history [] b rel modes barred idle = tt
+stays_undisturbed history (e ∷ more) b rel modes barred idle = ((barred, λ own. quiet_keeps e.event (idle.0 own)), stays_undisturbed (history ++ e ∷ []) more b rel modes still idle.1)
+  where
+    still : AreBarred (held_of (history ++ e ∷ [])) b rel modes
+    still = every-weaker (IsBarred (held_of history) b rel) (IsBarred (held_of (history ++ e ∷ [])) b rel)
+        (λ mode is. subst (λ held. IsBarred held b rel mode) (sym (held-more history e)) (barred_kept e.backend e.command e.event (held_of history) b rel mode idle.0 is)) modes barred
+
+-- a lookup by its oid shows the backend one relation, with this name and kind
+abbrev pub IsSeenAs : List Entry → ℕ → Oid → List ℕ → Kind → Type 0
+IsSeenAs history b rel name kind = (fill : Option ℕ) × (answer_of history b (scans.Class rel) ≡ rows.Class rel name kind fill ∷ [])
+
+abbrev refilled : Option ℕ → Row → Row
+refilled fill (rows.Class oid own kind old) = rows.Class oid own kind fill
+refilled fill row = row
+
+class_of : (row : Row) (rel : Oid) (name : List ℕ) (kind : Kind) → fixed row ≡ rows.Class rel name kind None → (fill : Option ℕ) × (row ≡ rows.Class rel name kind fill)
+class_of (rows.Class oid own kind' fill) rel name kind is = (fill, ap (refilled fill) is)
+class_of (rows.Att of num own col_type stat live) rel name kind is = absurd (cc)
+class_of row rel name kind is = absurd (cc)
+
+one_class : (given : List Row) (rel : Oid) (name : List ℕ) (kind : Kind) → map fixed given ≡ rows.Class rel name kind None ∷ [] → (fill : Option ℕ) × (given ≡ rows.Class rel name kind fill ∷ [])
+one_class [] rel name kind is = absurd (cc)
+one_class (row ∷ []) rel name kind is =
+    let same : fixed row ≡ rows.Class rel name kind None = cc in
+    let of = class_of row rel name kind same in
+    (of.0, ap (λ r. r ∷ []) of.1)
+one_class (row ∷ other ∷ given) rel name kind is = absurd (cc)
+
+other_found : (history : List Entry) (a c : ℕ) (event : Event) (b : ℕ) (rel : Oid) (name : List ℕ) (kind : Kind) → IsSound history → MayComeNext history (entry_of a c event) → (a == b) ≡ false → IsBarred (held_of history) b rel AccessExclusive
+    → IsSeenAs history b rel name kind → IsSeenAs (history ++ entry_of a c event ∷ []) b rel name kind
+other_found history a c (events.Visible xid) b rel name kind sound comes other barred seen =
+    one_class (answer_of (history ++ entry_of a c (events.Visible xid) ∷ []) b (scans.Class rel)) rel name kind
+    (fixed_visible history a c xid b rel (scans.Class rel) (class_apart rel) sound comes other (barred_free (held_of history) b a rel AccessExclusive (locks_exclude history sound).agree other barred) ∙ ap (map fixed) seen.1)
+other_found history a c event b rel name kind sound comes other barred seen = (seen.0, other_answers history (entry_of a c event) b (scans.Class rel) sound comes other tt ∙ seen.1)
+
+-- a relation on which the backend holds any mode, and which it sees, it still sees after any entry that is no change of its own: with the same name and kind
+pub found_stays : (history : List Entry) (e : Entry) (b : ℕ) (rel : Oid) (name : List ℕ) (kind : Kind) → IsSound history → MayComeNext history e → IsUndisturbed b rel (AccessExclusive ∷ []) history e → IsSeenAs history b rel name kind
+    → IsSeenAs (history ++ e ∷ []) b rel name kind
+found_stays history e b rel name kind sound comes still seen = by_owner (e.backend == b) refl
+  where
+    by_owner : (t : Bool) → (e.backend == b) ≡ t → IsSeenAs (history ++ e ∷ []) b rel name kind
+    by_owner true own = (seen.0, unchanged_answers history e b (scans.Class rel) sound comes own (still.1 own) ∙ seen.1)
+    by_owner false other = other_found history e.backend e.command e.event b rel name kind sound comes other still.0.0 seen
+
+-- and so after all entries between two places
+pub found_between : (history more : List Entry) (b : ℕ) (rel : Oid) (name : List ℕ) (kind : Kind) → IsSound (history ++ more) → EachFrom (IsUndisturbed b rel (AccessExclusive ∷ [])) history more → IsSeenAs history b rel name kind
+    → IsSeenAs (history ++ more) b rel name kind
+found_between history more b rel name kind sound still seen =
+    between (λ h. IsSeenAs h b rel name kind) (IsUndisturbed b rel (AccessExclusive ∷ [])) (λ before e well comes one was. found_stays before e b rel name kind well comes one was) history more sound seen still
