@@ -42,7 +42,7 @@ differ_inserted [] (suc n) row pairs all = (tt, tt)
 differ_inserted (x ∷ given) (suc n) row pairs all = (every_inserted (Differ x) given n row pairs.0 (λ same. all.0 (sym same)), differ_inserted given n row pairs.1 all.1)
 
 -- what a scan gives has what it found
-every_given : (P : Row → Type 0) (d : Purpose) (given rows : List Row) → AllByRecursion P given → AllByRecursion P rows → AllByRecursion P (fold (put_in_order d) given rows)
+pub every_given : (P : Row → Type 0) (d : Purpose) (given rows : List Row) → AllByRecursion P given → AllByRecursion P rows → AllByRecursion P (fold (put_in_order d) given rows)
 every_given P d given [] all also = all
 every_given P d given (row ∷ rows) all also = every_given P d (put_in_order d given row) rows (every_inserted P given (position_or_len (goes_before d row) given) row all also.0) also.1
 

@@ -1,5 +1,5 @@
 -- Under a lock that keeps out those who change a relation's rows, a backend's answers stay, and under any lock a relation that is seen is still seen.
-use Rattle.std.proofs.Common.{◌≡◌, ◌∙◌, ℕ, Bool, true, false, not, Option, None, List, [], ◌∷◌, ◌++◌, ◌==◌, ◌||◌, ◌&&◌, refl, sym, ap, subst, map}
+use Rattle.std.proofs.Common.{◌≡◌, ◌∙◌, inl, inr, ℕ, Bool, true, false, not, Option, None, List, [], ◌∷◌, ◌++◌, ◌==◌, ◌||◌, ◌&&◌, refl, sym, ap, subst, map, filter, fold}
 use Rattle.std.specs.Prelude.{nat_le, ⊤}
 use Rattle.std.specs.List.{AllByRecursion, list_any, list_all}
 use Rattle.std.proofs.lemmas.Bool.{eqb-true, eq-eqb, both_ways, and_parts, and_from}
@@ -11,30 +11,33 @@ use Rattle.base_types.specs.declared.row.Row.{Row}
 use Rattle.base_types.specs.declared.row.Row.TheVariants as rows
 use Rattle.base_types.specs.declared.scan.Purpose.{Purpose}
 use Rattle.base_types.specs.declared.scan.Purpose.TheVariants as scans
-use Rattle.base_types.specs.Modes.{mode_number, same_mode, conflicting_modes, conflicts}
-use Rattle.base_types.specs.Scans.{same_oid}
+use Rattle.base_types.specs.Modes.{mode_number, conflicting_modes, conflicts}
+use Rattle.base_types.specs.Scans.{same_oid, selects, row_number, put_in_order}
 use Rattle.event_kinds.specs.declared.entry.Entry.{Entry}
 use Rattle.event_kinds.specs.declared.entry.Event.{Event}
 use Rattle.event_kinds.specs.declared.entry.Event.TheVariants as events
 use Rattle.lock_modes.specs.declared.grant.Grant.{Grant}
 use Rattle.lock_modes.specs.Grants.{is_lock, holds, stays}
 use Rattle.history_model.specs.Prefixes.{EachFrom}
-use Rattle.history_model.specs.Versions.{answer_of}
+use Rattle.history_model.specs.Versions.{versions_of, sees, rows_of, answer_of}
 use Rattle.history_model.specs.Held.{held_by, held_of}
+use Rattle.history_model.specs.Read.{is_scan_of, rows_read}
 use Rattle.history_model.specs.Orderly.{MayComeNext, IsSound}
 use Rattle.history_model.proofs.Prefixes.{EachEntry-more, EachEntry-prefix, EachEntry-rest, EachFrom-both, EachFrom-keeps}
-use Rattle.history_model.proofs.Reading.{held_of-more as held-more}
-use Rattle.history_model.proofs.Every.{every-weaker, any-weaker, any-filter, any-left}
+use Rattle.history_model.proofs.Reading.{held_of-more as held-more, rows_read-own, rows_read-other}
+use Rattle.history_model.proofs.Every.{every-weaker, every-filter, any-weaker, any-filter, any-left, some-weaker, some-filter}
 use Rattle.history_model.proofs.Asking.{oid_eq}
 use Rattle.history_model.proofs.Touched.{entry_of}
 use Rattle.history_model.proofs.Guards.{any_with}
 use Rattle.history_model.proofs.FixedRows.{fixed, is_loose}
 use Rattle.history_model.proofs.Exclude.{Agree, AllAgree}
 use Rattle.history_model.proofs.Granted.{lock_parts}
-use Rattle.history_model.proofs.Ordered.{all_each, locks_exclude}
+use Rattle.history_model.proofs.Seen.{Pairwise}
+use Rattle.history_model.proofs.InOrder.{IsIn, Differ, every_given}
+use Rattle.history_model.proofs.Ordered.{all_each, locks_exclude, one_version, one_seen}
 use Rattle.history_model.proofs.Past.{none_in_way}
 use Rattle.history_model.proofs.Answers.{other_answers, own_answers}
-use Rattle.history_model.proofs.WeakChanges.{AsksOf, AreModesOf, changes_under, class_apart, unheld_visible, fixed_visible}
+use Rattle.history_model.proofs.WeakChanges.{AsksOf, AreModesOf, class_apart, class_numbers, every_self, asked_differ, unheld_visible, fixed_visible}
 use Rattle.history_model.proofs.Observed.{LeavesRead}
 
 -- the modes under which rows are changed
@@ -97,19 +100,19 @@ pub none_held : (held : List Grant) (b a : ℕ) (rel : Oid) (modes : List Mode) 
 none_held held b a rel [] agree other barred = refl
 none_held held b a rel (mode ∷ modes) agree other barred = ap (λ t. t || list_any (holds held a rel) modes) (barred_free held b a rel mode agree other barred.0) ∙ none_held held b a rel modes agree other barred.1
 
--- rows are changed under these modes alone
-pub changed_under : (row : Row) (mode : Mode) → changes_under row mode ≡ true → list_any (same_mode mode) changing_modes ≡ true
-changed_under row AccessExclusive is = refl
-changed_under row ShareUpdateExclusive is = refl
-changed_under row mode is = absurd (both_ways _ (of (is_loose row)) is)
+-- any row is changed under these modes alone
+pub changed_under : (d : Purpose) → AreModesOf changing_modes d
+changed_under d row asks AccessExclusive is = refl
+changed_under d row asks ShareUpdateExclusive is = refl
+changed_under d row asks mode is = absurd (both_ways _ (of (is_loose row)) is)
   where
     of : (t : Bool) → (t && false) ≡ false
     of true = refl
     of false = refl
 
--- what becomes visible leaves the answers of scans that ask for rows of a relation, where its backend holds no mode on it under which rows are changed
-pub unheld_leaves : (d : Purpose) (rel : Oid) → AsksOf d rel → LeavesRead (λ given. given) d rel changing_modes
-unheld_leaves d rel asks history a c xid b sound comes other none = unheld_visible history a c xid b rel d changing_modes sound comes other asks (λ row is. changed_under row) none
+-- what becomes visible leaves the answer of a scan that asks for rows of a relation, where its backend holds on it no mode under which they are changed
+pub unheld_leaves : (d : Purpose) (rel : Oid) (modes : List Mode) → AsksOf d rel → AreModesOf modes d → LeavesRead (λ given. given) d rel modes
+unheld_leaves d rel modes asks among history a c xid b sound comes other none = unheld_visible history a c xid b rel d modes sound comes other asks among none
 
 other_barred : (history : List Entry) (a c : ℕ) (event : Event) (b : ℕ) (rel : Oid) (d : Purpose) (modes : List Mode) → IsSound history → MayComeNext history (entry_of a c event) → (a == b) ≡ false → AsksOf d rel → AreModesOf modes d → AreBarred (held_of history) b rel modes
     → answer_of (history ++ entry_of a c event ∷ []) b d ≡ answer_of history b d
@@ -125,7 +128,7 @@ barred_answers history e b rel d modes sound comes other asks among barred = oth
 -- it does so where the backend holds on the relation a mode, clear or not, that conflicts with each mode under which rows are changed
 pub locked_answers : (history : List Entry) (e : Entry) (b : ℕ) (rel : Oid) (d : Purpose) → IsSound history → MayComeNext history e → (e.backend == b) ≡ false → AsksOf d rel → AreBarred (held_of history) b rel changing_modes
     → answer_of (history ++ e ∷ []) b d ≡ answer_of history b d
-locked_answers history e b rel d sound comes other asks barred = barred_answers history e b rel d changing_modes sound comes other asks (λ row is. changed_under row) barred
+locked_answers history e b rel d sound comes other asks barred = barred_answers history e b rel d changing_modes sound comes other asks (changed_under d) barred
 
 -- an event that neither writes nor takes writes back
 abbrev pub IsNoChange : Event → Type 0
@@ -181,7 +184,37 @@ barred_between history more b rel d modes sound asks among still =
 
 -- and so for the modes under which any rows are changed
 pub locked_between : (history more : List Entry) (b : ℕ) (rel : Oid) (d : Purpose) → IsSound (history ++ more) → AsksOf d rel → EachFrom (IsUndisturbed b rel changing_modes) history more → answer_of (history ++ more) b d ≡ answer_of history b d
-locked_between history more b rel d sound asks still = barred_between history more b rel d changing_modes sound asks (λ row is. changed_under row) still
+locked_between history more b rel d sound asks still = barred_between history more b rel d changing_modes sound asks (changed_under d) still
+
+scan_unchanged : (d : Purpose) (event : Event) → is_scan_of d event ≡ true → IsNoChange event
+scan_unchanged d (events.Write xid items) it = absurd (cc)
+scan_unchanged d (events.Gone from) it = absurd (cc)
+scan_unchanged d event it = tt
+
+rows_scanned : (history : List Entry) (e : Entry) (b : ℕ) (d : Purpose) (t : Bool) → (e.backend == b) ≡ true → is_scan_of d e.event ≡ t → rows_read (history ++ e ∷ []) b d ≡ elim t as (λ x. List Row) [ true ↦ answer_of history b d | false ↦ rows_read history b d ]
+rows_scanned history e b d t own it = rows_read-own history e b d own ∙ ap (λ u. elim u [ true ↦ answer_of history b d | false ↦ rows_read history b d ]) it
+
+-- right after a scan its answer is what it gave
+pub scanned_answers : (history : List Entry) (e : Entry) (b : ℕ) (d : Purpose) → IsSound history → MayComeNext history e → (e.backend == b) ≡ true → is_scan_of d e.event ≡ true → answer_of (history ++ e ∷ []) b d ≡ rows_read (history ++ e ∷ []) b d
+scanned_answers history e b d sound comes own it = unchanged_answers history e b d sound comes own (scan_unchanged d e.event it) ∙ sym (rows_scanned history e b d true own it)
+
+undisturbed_read : (history : List Entry) (e : Entry) (b : ℕ) (rel : Oid) (d : Purpose) (modes : List Mode) → IsSound history → MayComeNext history e → AsksOf d rel → AreModesOf modes d → IsUndisturbed b rel modes history e → answer_of history b d ≡ rows_read history b d
+    → answer_of (history ++ e ∷ []) b d ≡ rows_read (history ++ e ∷ []) b d
+undisturbed_read history e b rel d modes sound comes asks among still was = undisturbed_answers history e b rel d modes sound comes asks among still ∙ by_owner (e.backend == b) refl
+  where
+    by_scan : (e.backend == b) ≡ true → (t : Bool) → is_scan_of d e.event ≡ t → answer_of history b d ≡ rows_read (history ++ e ∷ []) b d
+    by_scan own true it = sym (rows_scanned history e b d true own it)
+    by_scan own false it = was ∙ sym (rows_scanned history e b d false own it)
+
+    by_owner : (t : Bool) → (e.backend == b) ≡ t → answer_of history b d ≡ rows_read (history ++ e ∷ []) b d
+    by_owner true own = by_scan own (is_scan_of d e.event) refl
+    by_owner false other = was ∙ sym (rows_read-other history e b d other)
+
+-- and so it goes on, whether the scan still serves or not, while before each entry the backend keeps others from holding the modes under which the rows are changed, and no entry is a change of its own
+pub read_between : (history more : List Entry) (b : ℕ) (rel : Oid) (d : Purpose) (modes : List Mode) → IsSound (history ++ more) → AsksOf d rel → AreModesOf modes d → EachFrom (IsUndisturbed b rel modes) history more → answer_of history b d ≡ rows_read history b d
+    → answer_of (history ++ more) b d ≡ rows_read (history ++ more) b d
+read_between history more b rel d modes sound asks among still was =
+    between (λ h. answer_of h b d ≡ rows_read h b d) (IsUndisturbed b rel modes) (λ before e well comes one same. undisturbed_read before e b rel d modes well comes asks among one same) history more sound was still
 
 barred_kept : (a c : ℕ) (event : Event) (held : List Grant) (b : ℕ) (rel : Oid) (mode : Mode) → ((a == b) ≡ true → IsQuiet event) → IsBarred held b rel mode → IsBarred (held_by a c event held) b rel mode
 barred_kept a c (events.LockOk on in') held b rel mode quiet barred = any-left (bars b rel mode) held _ barred
@@ -251,3 +284,29 @@ pub found_between : (history more : List Entry) (b : ℕ) (rel : Oid) (name : Li
     → IsSeenAs (history ++ more) b rel name kind
 found_between history more b rel name kind sound still seen =
     between (λ h. IsSeenAs h b rel name kind) (IsUndisturbed b rel (AccessExclusive ∷ [])) (λ before e well comes one was. found_stays before e b rel name kind well comes one was) history more sound seen still
+
+one_number : (n : ℕ) (row : Row) (given : List Row) → IsIn row given → Pairwise Differ given → AllByRecursion (λ r. row_number r ≡ n) given → given ≡ row ∷ []
+one_number n row [] there apart all = absurd there
+one_number n row (x ∷ []) (inl is) apart all = ap (λ r. r ∷ []) (sym is)
+one_number n row (x ∷ []) (inr more) apart all = absurd more
+one_number n row (x ∷ y ∷ given) there apart all = absurd (apart.0.0 (all.0 ∙ sym all.1.0))
+
+-- a relation of which a scan shows the row first, as one that looks it up by its name, its oid shows alone
+pub found_first : (history : List Entry) (b : ℕ) (d : Purpose) (rel : Oid) (name : List ℕ) (kind : Kind) (fill : Option ℕ) (more : List Row) → IsSound history → answer_of history b d ≡ rows.Class rel name kind fill ∷ more → IsSeenAs history b rel name kind
+found_first history b d rel name kind fill more sound first = (fill, ap (fold (put_in_order (scans.Class rel)) []) (one_number rel.0 row found there apart (class_numbers rel (rows_of history b))))
+  where
+    row : Row
+    row = rows.Class rel name kind fill
+
+    found : List Row
+    found = filter (selects (scans.Class rel)) (rows_of history b)
+
+    seen : IsIn row (rows_of history b)
+    seen = (subst (AllByRecursion (λ r. IsIn r (rows_of history b))) first (every_given (λ r. IsIn r (rows_of history b)) d [] (filter (selects d) (rows_of history b)) tt
+        (every-filter (λ r. IsIn r (rows_of history b)) (selects d) (rows_of history b) (every-weaker (λ r. IsIn r (rows_of history b)) (λ r. selects d r ≡ true → IsIn r (rows_of history b)) (λ r is asks. is) (rows_of history b) (every_self (rows_of history b)))))).0
+
+    there : IsIn row found
+    there = some-filter (λ r. row ≡ r) (selects (scans.Class rel)) (rows_of history b) (some-weaker (λ r. row ≡ r) (λ r. (selects (scans.Class rel) r ≡ true) × (row ≡ r)) (λ r is. (subst (λ x. selects (scans.Class rel) x ≡ true) is (eq-eqb rel.0 rel.0 refl), is)) (rows_of history b) seen)
+
+    apart : Pairwise Differ found
+    apart = asked_differ (scans.Class rel) rel (class_apart rel) (sees history b) (versions_of history) (one_seen history b (versions_of history) (one_version history sound))

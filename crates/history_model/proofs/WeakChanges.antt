@@ -357,12 +357,16 @@ every_filtered keep P of xs = every-filter P keep xs (all xs)
     all [] = tt
     all (y ∷ ys) = (of y, all ys)
 
+-- a relation's rows have its oid for a number
+pub class_numbers : (rel : Oid) (found : List Row) → AllByRecursion (λ row. row_number row ≡ rel.0) (filter (selects (scans.Class rel)) found)
+class_numbers rel found = every_filtered (selects (scans.Class rel)) (λ row. row_number row ≡ rel.0) (class_number rel) found
+
 pub class_apart : (rel : Oid) → TellsApart (scans.Class rel) rel
 class_apart rel = record {
   main = class_main rel;
   fixes = class_fixes rel;
   keyed = class_keyed rel;
-  by_number = λ found. inr (rel.0, every_filtered (selects (scans.Class rel)) (λ row. row_number row ≡ rel.0) (class_number rel) found);
+  by_number = λ found. inr (rel.0, class_numbers rel found);
 }
 
 column_main : (rel : Oid) (row : Row) → selects (scans.Attribute rel) row ≡ true → main_rel row ≡ rel
@@ -387,7 +391,7 @@ column_apart rel = record {
   by_number = λ found. inl (λ row other. refl);
 }
 
-every_self : {X : Type 0} (xs : List X) → AllByRecursion (λ x. IsIn x xs) xs
+pub every_self : {X : Type 0} (xs : List X) → AllByRecursion (λ x. IsIn x xs) xs
 every_self [] = tt
 every_self (x ∷ xs) = (inl refl, every-weaker (λ y. IsIn y xs) (λ y. IsIn y (x ∷ xs)) (λ y there. inr there) xs (every_self xs))
 
@@ -409,7 +413,7 @@ asked_too d rel apart vs f g shows = every-filter Found (selects d) (map (λ v. 
         Wanted : Row → Type 0
         Wanted other = (selects d other ≡ true) × (fixed v.row ≡ fixed other)
 
-asked_differ : (d : Purpose) (rel : Oid) → TellsApart d rel → (f : Version → Bool) (vs : List Version) → Pairwise (λ v w. key_of v.row ≡ key_of w.row → f v ≡ true → f w ≡ true → ⊥) vs → Pairwise Differ (asked d f vs)
+pub asked_differ : (d : Purpose) (rel : Oid) → TellsApart d rel → (f : Version → Bool) (vs : List Version) → Pairwise (λ v w. key_of v.row ≡ key_of w.row → f v ≡ true → f w ≡ true → ⊥) vs → Pairwise Differ (asked d f vs)
 asked_differ d rel apart f vs pairs =
     pair-filter Differ (selects d) (map (λ v. v.row) (filter f vs)) (pair-map (λ row other. selects d row ≡ true → selects d other ≡ true → Differ row other) (λ v. v.row) (filter f vs)
     (pair-filter (λ v w. selects d v.row ≡ true → selects d w.row ≡ true → Differ v.row w.row) f vs
