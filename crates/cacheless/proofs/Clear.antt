@@ -15,7 +15,6 @@ use Rattle.lock_modes.specs.declared.grant.Grant.{Grant}
 use Rattle.lock_modes.specs.declared.own_lock.OwnLock.{OwnLock}
 use Rattle.lock_modes.specs.Grants.{stays}
 use Rattle.lock_modes.specs.Own.{cleared}
-use Rattle.history_model.specs.Prefixes.{EachFrom}
 use Rattle.history_model.specs.Reached.{reached_of}
 use Rattle.history_model.specs.Lives.{life_of, is_alive, last_event_of}
 use Rattle.history_model.specs.Transactions.{Running, running_transaction_of, after_release, begun, is_visible}
@@ -24,7 +23,7 @@ use Rattle.history_model.specs.Held.{granted_by, held_by, held_of}
 use Rattle.history_model.specs.Legal.{MayRelease}
 use Rattle.history_model.specs.Orderly.{MayComeNext, IsSound}
 use Rattle.history_model.specs.Writes.{is_empty}
-use Rattle.history_model.proofs.Prefixes.{EachEntry-more, EachEntry-weaker, each-keeps}
+use Rattle.history_model.proofs.Prefixes.{EachEntry-more, EachEntry-weaker, EachFrom-both, each-keeps}
 use Rattle.history_model.proofs.Reading.{held_of-more, life_of-own, last_event_of-own, last_event_of-other, running_transaction_of-own, log_of-more, position_of-own}
 use Rattle.history_model.proofs.Every.{every-weaker, every, every-append, every-filter, every-both}
 use Rattle.history_model.proofs.Waiting.{waited_of-own, waited_of-other}
@@ -332,12 +331,8 @@ carried-more scenario history e k may = record { sound = sound_after; comes = co
         by_owner true own = subst (Cleared scenario (history ++ e ∷ [])) (eqb-true e.backend b own) (cleared_own scenario history e.backend e.command e.event k.sound sound_after (comes_after e.backend) (k.cleared e.backend))
         by_owner false other = cleared_other scenario history e b other k.sound (k.cleared b)
 
-each-both : (P Q : List Entry → Entry → Type 0) (before history : List Entry) → EachFrom P before history → EachFrom Q before history → EachFrom (λ h e. P h e × Q h e) before history
-each-both P Q before [] one two = tt
-each-both P Q before (e ∷ rest) one two = ((one.0, two.0), each-both P Q (before ++ e ∷ []) rest one.1 two.1)
-
 -- of a sound history in which backends do what their commands say: with each lock that is clear a backend is past what visible holders of modes in its way had changed as they last let the relation go
 pub clear_reached : (scenario : Scenario) (history : List Entry) (b : ℕ) → IsSound history → Plays scenario history
     → AllByRecursion (λ lock. lock.clear ≡ true → (writer : Mode) → conflicts writer lock.mode ≡ true → reached_of history lock.rel writer ≤ position_of history b) (locks_of (session_of scenario history b))
 clear_reached scenario history b sound plays =
-    (each-keeps (MayComeAndPlay scenario) (Carried scenario) (record { sound = tt; comes = λ o. tt; cleared = λ o. tt }) (carried-more scenario) history (each-both MayComeNext (IsNext scenario) [] history sound plays)).cleared b
+    (each-keeps (MayComeAndPlay scenario) (Carried scenario) (record { sound = tt; comes = λ o. tt; cleared = λ o. tt }) (carried-more scenario) history (EachFrom-both MayComeNext (IsNext scenario) [] history sound plays)).cleared b

@@ -1,4 +1,4 @@
--- A protected field is fresh: what a backend has read of it by a scan that still serves is its text in the whole history.
+-- A protected field is fresh: what a backend has read of it by a scan that still serves is its text in the whole history. So is a whole answer, where all who change rows are kept out.
 use Rattle.std.proofs.Common.{◌≡◌, ◌≤◌, ◌-◌, ◌⊎◌, inl, inr, ℕ, Bool, true, false, Option, Some, None, List, [], ◌∷◌, ◌==◌, ◌&&◌, refl, subst, filter, map, take, drop, arith, cond}
 use Rattle.std.specs.List.{AllByRecursion, list_any, list_all}
 use Rattle.std.specs.Option.{option_map_or}
@@ -8,6 +8,8 @@ use Rattle.base_types.specs.declared.field.Field.{Field}
 use Rattle.base_types.specs.declared.ids.Oid.{Oid}
 use Rattle.base_types.specs.declared.kind.Kind.{Kind}
 use Rattle.base_types.specs.declared.mode.Mode.{Mode}
+use Rattle.base_types.specs.declared.row.Row.{Row}
+use Rattle.base_types.specs.declared.scan.Purpose.{Purpose}
 use Rattle.base_types.specs.Fields.{has_field, field_text, read_by}
 use Rattle.base_types.specs.Modes.{conflicts, writers_of}
 use Rattle.base_types.specs.Scans.{same_oid}
@@ -16,7 +18,7 @@ use Rattle.lock_modes.specs.declared.own_lock.OwnLock.{OwnLock}
 use Rattle.lock_modes.specs.Grants.{holds}
 use Rattle.lock_modes.specs.Own.{clear_modes}
 use Rattle.history_model.specs.Transactions.{running_transaction_of, is_visible}
-use Rattle.history_model.specs.Versions.{fresh_text}
+use Rattle.history_model.specs.Versions.{answer_of, fresh_text}
 use Rattle.history_model.specs.Log.{log_of, position_of}
 use Rattle.history_model.specs.Held.{held_of}
 use Rattle.history_model.specs.Reached.{is_writer, reached_of}
@@ -27,8 +29,9 @@ use Rattle.history_model.proofs.Every.{every-weaker, every-both}
 use Rattle.history_model.proofs.Asking.{oid_eq}
 use Rattle.history_model.proofs.Guards.{any_with}
 use Rattle.history_model.proofs.Exclude.{Agree}
-use Rattle.history_model.proofs.WeakChanges.{weak_visible}
-use Rattle.history_model.proofs.Observed.{Leaves, IsRead, IsDirty, IsWriting, IsBehind, observed}
+use Rattle.history_model.proofs.WeakChanges.{AsksOf, AreModesOf, weak_visible}
+use Rattle.history_model.proofs.Observed.{IsReadAs, LeavesRead, Leaves, IsDirty, IsWriting, IsBehind, observed_as}
+use Rattle.history_model.proofs.Locked.{changing_modes, changed_under, unheld_leaves}
 use Rattle.history_model.proofs.Ordered.{all_each, locks_exclude}
 use Rattle.history_model.proofs.Past.{IsPast, none_in_way}
 use Rattle.cacheless.specs.Session.{Session}
@@ -86,29 +89,44 @@ kept_out scenario history b rel modes sound plays are =
       free = λ a other. none_in_way (held_of history) (grant_of b lock) a rel writer q.1 same other clash;
     }) (locks_of (session_of scenario history b)) all (clear_is (session_of scenario history b) rel (λ ms. list_any (conflicts writer) ms ≡ true) some)
 
--- of a sound history in which backends do what their commands say: where only those who hold one of the modes on the relation change the field's text for others, and the backend keeps all these modes out by clear locks, what it has read of the field by a scan that still serves is the field's text
-pub kept_out_fresh : (scenario : Scenario) (history : List Entry) (b : ℕ) (rel : Oid) (field : Field) (modes : List Mode) → Leaves field rel modes → IsSound history → Plays scenario history → AreKeptOut scenario history b rel modes
-    → is_usable history b (read_by field rel) ≡ true → fresh_text history b rel field ≡ field_text field rel (rows_read history b (read_by field rel))
-kept_out_fresh scenario history b rel field modes leaves sound plays are usable = of (observed field rel modes leaves history b sound usable)
+-- of a sound history in which backends do what their commands say: where only those who hold one of the modes on the relation change for others what is made of a scan's answer, and the backend keeps all these modes out by clear locks, it is what is made of the rows that the backend has read by such a scan that still serves
+pub kept_out_read : {X : Type 0} (scenario : Scenario) (history : List Entry) (b : ℕ) (rel : Oid) (read : List Row → X) (d : Purpose) (modes : List Mode) → LeavesRead read d rel modes → IsSound history → Plays scenario history → AreKeptOut scenario history b rel modes
+    → is_usable history b d ≡ true → read (answer_of history b d) ≡ read (rows_read history b d)
+kept_out_read scenario history b rel read d modes leaves sound plays are usable = of (observed_as read d rel modes leaves history b sound usable)
   where
     out : AllByRecursion (IsKeptOut history b rel) modes
     out = kept_out scenario history b rel modes sound plays are
 
-    not_writing : IsWriting history b rel modes (read_by field rel) → ⊥
+    not_writing : IsWriting history b rel modes d → ⊥
     not_writing w = any_with (is_writer history w.writer rel) (IsKeptOut history b rel) ⊥
         (λ mode is kept. both_ways _ (kept.free w.writer w.other) (and_parts (is_visible (running_transaction_of history w.writer)) (holds (held_of history) w.writer rel mode) is).1) modes w.writes out
 
-    nothing : (n : ℕ) → n ≡ 0 → is_covered (take n (drop (position_of history b) (log_of history))) (read_by field rel) ≡ true → ⊥
-    nothing n zero' is = let e : false ≡ true = subst (λ k. is_covered (take k (drop (position_of history b) (log_of history))) (read_by field rel) ≡ true) zero' is in absurd (cc)
+    nothing : (n : ℕ) → n ≡ 0 → is_covered (take n (drop (position_of history b) (log_of history))) d ≡ true → ⊥
+    nothing n zero' is = let e : false ≡ true = subst (λ k. is_covered (take k (drop (position_of history b) (log_of history))) d ≡ true) zero' is in absurd (cc)
 
-    not_behind : IsBehind history b rel modes (read_by field rel) → ⊥
-    not_behind some = any_with (λ mode. is_covered (take (reached_of history rel mode - position_of history b) (drop (position_of history b) (log_of history))) (read_by field rel)) (IsKeptOut history b rel) ⊥
+    not_behind : IsBehind history b rel modes d → ⊥
+    not_behind some = any_with (λ mode. is_covered (take (reached_of history rel mode - position_of history b) (drop (position_of history b) (log_of history))) d) (IsKeptOut history b rel) ⊥
         (λ mode is kept. nothing (reached_of history rel mode - position_of history b) (omega (arith, kept.past)) is) modes some out
 
-    of : IsRead history b field rel ⊎ IsDirty history b rel modes (read_by field rel) → IsRead history b field rel
-    of (inl read) = read
+    of : IsReadAs read d history b ⊎ IsDirty history b rel modes d → IsReadAs read d history b
+    of (inl was) = was
     of (inr (inl writing)) = absurd (not_writing writing)
     of (inr (inr behind)) = absurd (not_behind behind)
+
+-- so it is of the text of a field
+pub kept_out_fresh : (scenario : Scenario) (history : List Entry) (b : ℕ) (rel : Oid) (field : Field) (modes : List Mode) → Leaves field rel modes → IsSound history → Plays scenario history → AreKeptOut scenario history b rel modes
+    → is_usable history b (read_by field rel) ≡ true → fresh_text history b rel field ≡ field_text field rel (rows_read history b (read_by field rel))
+kept_out_fresh scenario history b rel field modes leaves sound plays are usable = kept_out_read scenario history b rel (field_text field rel) (read_by field rel) modes leaves sound plays are usable
+
+-- and of the answer of a scan that asks for rows of the relation, where all modes are kept out under which they are changed
+pub kept_out_given : (scenario : Scenario) (history : List Entry) (b : ℕ) (rel : Oid) (d : Purpose) (modes : List Mode) → AsksOf d rel → AreModesOf modes d → IsSound history → Plays scenario history → AreKeptOut scenario history b rel modes
+    → is_usable history b d ≡ true → answer_of history b d ≡ rows_read history b d
+kept_out_given scenario history b rel d modes asks among sound plays are usable = kept_out_read scenario history b rel (λ given. given) d modes (unheld_leaves d rel modes asks among) sound plays are usable
+
+-- as where all modes are kept out under which any rows are changed
+pub kept_out_answers : (scenario : Scenario) (history : List Entry) (b : ℕ) (rel : Oid) (d : Purpose) → AsksOf d rel → IsSound history → Plays scenario history → AreKeptOut scenario history b rel changing_modes
+    → is_usable history b d ≡ true → answer_of history b d ≡ rows_read history b d
+kept_out_answers scenario history b rel d asks sound plays are usable = kept_out_given scenario history b rel d changing_modes asks (changed_under d) sound plays are usable
 
 -- a protected field is fresh
 pub protected_fresh : (scenario : Scenario) (history : List Entry) (b : ℕ) (rel : Oid) (kind : Kind) (field : Field) → IsSound history → Plays scenario history → has_field kind field ≡ true → is_protected scenario history b rel kind field ≡ true
