@@ -1,11 +1,11 @@
 -- The locks of a backend's session are its grants among those that are held.
 use Rattle.std.proofs.Common.{◌≡◌, ◌+◌, ◌∙◌, ℕ, Bool, true, false, not, Option, Some, None, List, [], ◌∷◌, ◌++◌, ◌==◌, ◌&&◌, ◌||◌, cond, refl, sym, ap, subst, map, filter, length, arith}
 use Rattle.std.specs.Prelude.{nat_le, nat_lt}
-use Rattle.std.specs.List.{flat_map, list_any}
+use Rattle.std.specs.List.{flat_map, list_any, list_all}
 use Rattle.std.specs.Option.{option_map_or}
 use Rattle.std.proofs.lemmas.Bool.{eqb-true, eq-eqb, both_ways, leb-true, leb-false, lt-ltb, ltb-true, false_from_ne_true}
 use Rattle.base_types.specs.Scans.{same_oid}
-use Rattle.base_types.specs.Modes.{same_mode}
+use Rattle.base_types.specs.Modes.{same_mode, conflicts}
 use Rattle.base_types.specs.Scenario.{Scenario}
 use Rattle.base_types.specs.declared.command.Command.{Command}
 use Rattle.base_types.specs.declared.ids.Oid.{Oid}
@@ -28,8 +28,10 @@ use Rattle.ddl_effect.specs.Blocks.{no_block}
 use Rattle.history_model.specs.Prefixes.{EachEntry}
 use Rattle.history_model.specs.Lives.{Life, Unstarted, Alive, Stopped, life_by, life_of, FollowsLife}
 use Rattle.history_model.specs.Held.{granted_by, held_by, held_of}
-use Rattle.history_model.proofs.Prefixes.{each-keeps}
+use Rattle.history_model.specs.Orderly.{MayComeNext, IsSound}
+use Rattle.history_model.proofs.Prefixes.{EachEntry-weaker, each-keeps}
 use Rattle.history_model.proofs.Reading.{held_of-more, life_of-own, life_of-other}
+use Rattle.history_model.proofs.Locked.{AreBarred, held_bars_all}
 use Rattle.cacheless.specs.Facts.{Facts, facts_of, facts_by}
 use Rattle.cacheless.specs.Locks.{locked_by, locks_by}
 use Rattle.cacheless.specs.Session.{Session, first_of, at_command}
@@ -289,3 +291,9 @@ lock_is_held b rel mode gs locks same = sym (of_own gs) ∙ ap (list_any (λ g. 
             → list_any (λ g. same_oid g.rel rel && same_mode g.mode mode) (cond t (h ∷ own_grants b hs) (own_grants b hs)) ≡ ((t && same_oid h.rel rel && same_mode h.mode mode) || holds hs b rel mode)
         by_test true rest = ap (λ t. (same_oid h.rel rel && same_mode h.mode mode) || t) rest
         by_test false rest = rest
+
+-- a mode that the session holds keeps others from holding those that it conflicts with
+pub lock_bars : (scenario : Scenario) (history : List Entry) (b : ℕ) (rel : Oid) (mode : Mode) (modes : List Mode) → IsSound history → has_lock (locks_of (session_of scenario history b)) rel mode ≡ true → list_all (λ writer. conflicts writer mode) modes ≡ true
+    → AreBarred (held_of history) b rel modes
+lock_bars scenario history b rel mode modes sound has clash = held_bars_all (held_of history) b rel mode modes
+    (lock_is_held b rel mode (held_of history) (locks_of (session_of scenario history b)) (locks_are_held scenario history b (EachEntry-weaker MayComeNext Follows (λ before e comes. comes.follows.life) history sound)) ∙ has) clash

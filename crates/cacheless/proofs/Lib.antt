@@ -16,6 +16,7 @@ pub mod ThreeHolders
 pub mod RefusedCommands
 pub mod NoField
 pub mod WeakTargets
+pub mod LockedColumns
 pub mod ProtectedColumns
 pub mod WrongEntries
 pub mod WrongPlays
