@@ -28,7 +28,7 @@ use Rattle.history_model.proofs.Reading.{held_of-more as held-more, rows_read-ow
 use Rattle.history_model.proofs.Every.{every-weaker, every-filter, any-weaker, any-filter, any-left, some-weaker, some-filter}
 use Rattle.history_model.proofs.Asking.{oid_eq}
 use Rattle.history_model.proofs.Touched.{entry_of}
-use Rattle.history_model.proofs.Guards.{any_with}
+use Rattle.history_model.proofs.Guards.{is_changing, any_with}
 use Rattle.history_model.proofs.FixedRows.{fixed, is_loose}
 use Rattle.history_model.proofs.Exclude.{Agree, AllAgree}
 use Rattle.history_model.proofs.Granted.{lock_parts}
@@ -71,6 +71,13 @@ held_bars held b rel mode writer has clash = any-weaker (is_lock b rel mode) (ba
 pub held_bars_all : (held : List Grant) (b : ℕ) (rel : Oid) (mode : Mode) (modes : List Mode) → holds held b rel mode ≡ true → list_all (λ writer. conflicts writer mode) modes ≡ true → AreBarred held b rel modes
 held_bars_all held b rel mode modes has clash =
     every-weaker (λ writer. conflicts writer mode ≡ true) (IsBarred held b rel) (λ writer one. held_bars held b rel mode writer has one) modes (all_each (λ writer. conflicts writer mode) modes clash)
+
+-- it bars all modes under which rows are changed where it conflicts with each
+pub held_bars_changing : (held : List Grant) (b : ℕ) (rel : Oid) (mode : Mode) → holds held b rel mode ≡ true → ((writer : Mode) → is_changing writer ≡ true → conflicts writer mode ≡ true) → AreBarred held b rel changing_modes
+held_bars_changing held b rel mode has clash = (one ShareUpdateExclusive refl, (one ShareRowExclusive refl, (one AccessExclusive refl, tt)))
+  where
+    one : (writer : Mode) → is_changing writer ≡ true → IsBarred held b rel writer
+    one writer is = held_bars held b rel mode writer has (clash writer is)
 
 all_conflict : (mode : Mode) → conflicts AccessExclusive mode ≡ true
 all_conflict AccessShare = refl

@@ -47,7 +47,7 @@ use Rattle.history_model.proofs.Lawful.{IsLawful}
 use Rattle.history_model.proofs.Asking.{asked, oid_eq}
 use Rattle.history_model.proofs.Touched.{entry_of, OfStamps, stamps-weaker, Touch}
 use Rattle.history_model.proofs.Guards.{is_exclusive, is_update, guards_in, IsHeldIn, held_in-weaker, Demand, GuardBy, Guard, GuardsBy, GuardsBy-more, GuardsLawfully, IsOfHeld, MayChange, changes_on, guard_changes, one_changer, any_with}
-use Rattle.history_model.proofs.FixedRows.{fixed, is_loose, IsWeak}
+use Rattle.history_model.proofs.FixedRows.{fixed, is_loose, IsWeak, main_of}
 use Rattle.history_model.proofs.Seen.{counts_at, every_command, Pairwise, OneVersion, pair-weaker, pair-map, pair-filter}
 use Rattle.history_model.proofs.OneVersion.{visible_as}
 use Rattle.history_model.proofs.Ordered.{Ordered, Ordered-start, Ordered-more, IsHeldFor, guarded_rows, guards_lawful, ended_named, early_at, lawful_of, one_seen, sound_ordered}
@@ -181,6 +181,10 @@ each_named (rel ∷ rels) = (
 -- so does each row that a scan asks for by the relation's oid
 pub asks_of : (d : Purpose) (rel : Oid) → relation_asked d ≡ Some rel → AsksOf d rel
 asks_of d rel named row is = subst (λ o. IfSome o (λ of. list_any (same_oid of) (relations_of row) ≡ true)) named (of_scan (λ of. list_any (same_oid of) (relations_of row) ≡ true) d row is (each_named (relations_of row)))
+
+-- and each of which the relation is the main one
+pub asks_main : (d : Purpose) (rel : Oid) → ((row : Row) → selects d row ≡ true → main_rel row ≡ rel) → AsksOf d rel
+asks_main d rel main row is = subst (λ o. list_any (same_oid o) (relations_of row) ≡ true) (main row is) (main_of (λ o. list_any (same_oid o) (relations_of row) ≡ true) row (each_named (relations_of row)))
 
 field_asked : (f : Field) (rel : Oid) → relation_asked (read_by f rel) ≡ Some rel
 field_asked fields.Name rel = refl
