@@ -1,5 +1,11 @@
 pub mod Reading
 pub mod Settling
+pub mod Ways
+pub mod EffectAlong
+pub mod ActOrder
+pub mod FewActs
+pub mod FollowedPlans
+pub mod WrittenBy
 pub mod HeldLocks
 pub mod Patient
 pub mod Clear

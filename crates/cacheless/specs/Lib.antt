@@ -5,6 +5,7 @@ pub mod Session
 pub mod Owed
 pub mod Ends
 pub mod Settled
+pub mod ActsDone
 pub mod Sessions
 pub mod Plays
 pub mod Protected

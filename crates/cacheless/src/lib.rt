@@ -10,6 +10,7 @@
 //!
 //! specs/ is to be read in this order: Facts, Locks, Session, Owed, Ends, Settled, Sessions, Plays,
 //! Protected, Lines, Schedule, Output. The worked examples hold of them by computation (proofs/).
+//! ActsDone, how far a command is by the rows that its acts gave, is for the proofs, here and above.
 #![tactic(auto)]
 
 mod opening;

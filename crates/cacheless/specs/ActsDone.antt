@@ -1,0 +1,60 @@
+-- What is left of a plan after acts, by the rows that they gave; what these acts made; and that what they gave is so still.
+use Rattle.std.specs.Prelude.{◌≡◌, ⊤, ℕ, Option, List, [], ◌∷◌, ◌++◌}
+use Rattle.base_types.specs.declared.row.Row.TheVariants as rows
+use Rattle.base_types.specs.declared.scan.Purpose.TheVariants as scans
+use Rattle.ddl_effect.specs.Plans.{Act, Lookup, Column, Read, Write, Plan, Do, after_act}
+use Rattle.cacheless.specs.Types.{Oid, Kind, Row, Purpose, Opening}
+use Rattle.cacheless.specs.Settled.{opened_by}
+
+-- the plan after its first act, which gave these rows; a write isn't passed
+abbrev pub after_given : List Row → Plan → Plan
+after_given given (Do (Write draft) rest) = Do (Write draft) rest
+after_given given plan = after_act given plan
+
+-- the plan after acts that gave these rows, one list an act
+abbrev pub reached : List (List Row) → Plan → Plan
+reached [] plan = plan
+reached (given ∷ gave) plan = reached gave (after_given given plan)
+
+-- what the first act of a plan makes, by the rows that it gave
+abbrev pub made_first : {X : Type 0} → (Act → List Row → List X) → List Row → Plan → List X
+made_first makes given (Do act rest) = makes act given
+made_first makes given plan = []
+
+-- what the acts on the way make
+abbrev pub made_in : {X : Type 0} → (Act → List Row → List X) → List (List Row) → Plan → List X
+made_in makes [] plan = []
+made_in makes (given ∷ gave) plan = made_first makes given plan ++ made_in makes gave (after_given given plan)
+
+-- the descriptor that an act opens, whatever it gave
+abbrev pub opening_by : Act → List Row → List Opening
+opening_by act given = opened_by act
+
+-- the relation that a lookup found, with its kind
+abbrev pub relation_by : Act → List Row → List Opening
+relation_by (Lookup name mode) (rows.Class rel own kind fill ∷ more) = record { rel = rel; kind = kind } ∷ []
+relation_by act given = []
+
+-- rows that begin with a relation's, of this kind; its name and its fillfactor may be any
+pub record BeginWith (rel : Oid) (kind : Kind) (given : List Row) : Type 0 where
+  pub name : List ℕ
+  pub fill : Option ℕ
+  pub more : List Row
+  pub are : given ≡ rows.Class rel name kind fill ∷ more
+
+-- what an act gave is so still: of a lookup the relation and its kind, of a column and of a scan for a descriptor the rows
+abbrev pub IsStill : (Purpose → List Row) → Act → List Row → Type 0
+IsStill now (Lookup name mode) (rows.Class rel own kind fill ∷ more) = BeginWith rel kind (now (scans.Class rel))
+IsStill now (Column rel name) given = now (scans.AttName rel name) ≡ given
+IsStill now (Read scan) given = now scan ≡ given
+IsStill now act given = ⊤
+
+-- the same of the first act of a plan, if there is one
+abbrev pub IsFirstStill : (Purpose → List Row) → Plan → List Row → Type 0
+IsFirstStill now (Do act rest) given = IsStill now act given
+IsFirstStill now plan given = ⊤
+
+-- and of each act on the way
+abbrev pub AreStill : (Purpose → List Row) → Plan → List (List Row) → Type 0
+AreStill now plan [] = ⊤
+AreStill now plan (given ∷ gave) = IsFirstStill now plan given × AreStill now (after_given given plan) gave
