@@ -2,6 +2,7 @@
 use Rattle.std.proofs.Common.{◌≡◌, ◌∙◌, ◌<◌, ◌-◌, ◌+◌, ◌⊎◌, inl, inr, ℕ, ℤ, Bool, true, false, Option, Some, None, List, [], ◌∷◌, ◌++◌, ◌&&◌, Contains, refl, sym, ap, subst, map, length, nat_le, nat_lt, not, int_lt, negsuc, pos, arith}
 use Rattle.std.specs.Prelude.{⊤}
 use Rattle.base_types.specs.Fields.{has_field}
+use Rattle.base_types.specs.Modes.{conflicts}
 use Rattle.base_types.specs.Scans.{build_scans}
 use Rattle.base_types.specs.declared.change.Change.{Change}
 use Rattle.base_types.specs.declared.change.Change.TheVariants.{Insert, Replace}
@@ -44,18 +45,23 @@ FollowsOpen most rel kind (Do (Read scan) rest) = (0 < most) × Contains (build_
 FollowsOpen most rel kind (Do (Write draft) rest) = (0 < most) × IsRowsDraft draft × (kind ≡ Table) × ((given : List Row) → rest given ≡ Done)
 FollowsOpen most rel kind plan = ⊥
 
--- a plan once a relation is found: it opens its descriptor, or is over
-abbrev pub FollowsFound : Oid → Kind → Plan → Type 0
-FollowsFound rel kind Done = ⊤
-FollowsFound rel kind (Fails error) = ⊤
-FollowsFound rel kind (Do (Open of as_kind) rest) = (of ≡ rel) × (as_kind ≡ kind) × ((given : List Row) → rest given ≡ rest []) × FollowsOpen 3 rel kind (rest [])
-FollowsFound rel kind plan = ⊥
+-- a plan once a descriptor is open under a lock of this mode: unless it is over, no two backends may hold the mode
+abbrev pub OpensUnder : Mode → Plan → Type 0
+OpensUnder mode Done = ⊤
+OpensUnder mode plan = conflicts mode mode ≡ true
+
+-- a plan once a relation is found and locked in this mode: it opens its descriptor, or is over
+abbrev pub FollowsFound : Mode → Oid → Kind → Plan → Type 0
+FollowsFound mode rel kind Done = ⊤
+FollowsFound mode rel kind (Fails error) = ⊤
+FollowsFound mode rel kind (Do (Open of as_kind) rest) = (of ≡ rel) × (as_kind ≡ kind) × ((given : List Row) → rest given ≡ rest []) × FollowsOpen 3 rel kind (rest []) × OpensUnder mode (rest [])
+FollowsFound mode rel kind plan = ⊥
 
 -- a plan from its beginning: it looks up a relation, whose rows decide by the relation and its kind alone, or it writes a new table, or is over
 abbrev pub FollowsOrder : Plan → Type 0
 FollowsOrder Done = ⊤
 FollowsOrder (Fails error) = ⊤
-FollowsOrder (Do (Lookup name mode) rest) = ((given : List Row) → rest given ≡ found name (λ rel kind. rest (plain_row rel kind)) given) × ((rel : Oid) (kind : Kind) → FollowsFound rel kind (rest (plain_row rel kind)))
+FollowsOrder (Do (Lookup name mode) rest) = ((given : List Row) → rest given ≡ found name (λ rel kind. rest (plain_row rel kind)) given) × ((rel : Oid) (kind : Kind) → FollowsFound mode rel kind (rest (plain_row rel kind)))
 FollowsOrder (Do (Write draft) rest) = IsTableDraft draft × ((given : List Row) → rest given ≡ Done)
 FollowsOrder plan = ⊥
 
@@ -65,22 +71,26 @@ FollowsUnfound (Absent name) = ⊤
 FollowsUnfound plan = FollowsOrder plan
 
 -- each former of plans makes such a plan of such plans
-found_if_passes : (rel : Oid) (kind : Kind) (passes : Bool) (error : CommandError) (plan : Plan) → FollowsFound rel kind plan → FollowsFound rel kind (if_passes passes error plan)
-found_if_passes rel kind true error plan follows = follows
-found_if_passes rel kind false error plan follows = tt
+found_if_passes : (mode : Mode) (rel : Oid) (kind : Kind) (passes : Bool) (error : CommandError) (plan : Plan) → FollowsFound mode rel kind plan → FollowsFound mode rel kind (if_passes passes error plan)
+found_if_passes mode rel kind true error plan follows = follows
+found_if_passes mode rel kind false error plan follows = tt
 
-found_opening : (rel : Oid) (kind : Kind) (plan : Plan) → FollowsOpen 3 rel kind plan → FollowsFound rel kind (opening rel kind plan)
-found_opening rel kind plan follows = (refl, refl, λ given. refl, follows)
+found_opening : (mode : Mode) (rel : Oid) (kind : Kind) (plan : Plan) → FollowsOpen 3 rel kind plan → OpensUnder mode plan → FollowsFound mode rel kind (opening rel kind plan)
+found_opening mode rel kind plan follows under = (refl, refl, λ given. refl, follows, under)
 
-found_altering : (name : List ℕ) (further : Oid → Plan) → ((rel : Oid) → FollowsOpen 3 rel Table (further rel)) → (rel : Oid) (kind : Kind) → FollowsFound rel kind (altering name further rel kind)
-found_altering name further follows rel Table = found_opening rel Table (further rel) (follows rel)
-found_altering name further follows rel kind = tt
+opens_under : (mode : Mode) (plan : Plan) → conflicts mode mode ≡ true → OpensUnder mode plan
+opens_under mode Done excludes = tt
+opens_under mode plan excludes = excludes
 
-order_looking_up : (name : List ℕ) (mode : Mode) (further : Oid → Kind → Plan) → ((rel : Oid) (kind : Kind) → FollowsFound rel kind (further rel kind)) → FollowsOrder (looking_up name mode further)
+found_altering : (name : List ℕ) (mode : Mode) (further : Oid → Plan) → conflicts mode mode ≡ true → ((rel : Oid) → FollowsOpen 3 rel Table (further rel)) → (rel : Oid) (kind : Kind) → FollowsFound mode rel kind (altering name further rel kind)
+found_altering name mode further excludes follows rel Table = found_opening mode rel Table (further rel) (follows rel) (opens_under mode (further rel) excludes)
+found_altering name mode further excludes follows rel kind = tt
+
+order_looking_up : (name : List ℕ) (mode : Mode) (further : Oid → Kind → Plan) → ((rel : Oid) (kind : Kind) → FollowsFound mode rel kind (further rel kind)) → FollowsOrder (looking_up name mode further)
 order_looking_up name mode further follows = (λ given. refl, follows)
 
-order_altering : (name : List ℕ) (mode : Mode) (further : Oid → Plan) → ((rel : Oid) → FollowsOpen 3 rel Table (further rel)) → FollowsOrder (looking_up name mode (altering name further))
-order_altering name mode further follows = order_looking_up name mode (altering name further) (found_altering name further follows)
+order_altering : (name : List ℕ) (mode : Mode) (further : Oid → Plan) → conflicts mode mode ≡ true → ((rel : Oid) → FollowsOpen 3 rel Table (further rel)) → FollowsOrder (looking_up name mode (altering name further))
+order_altering name mode further excludes follows = order_looking_up name mode (altering name further) (found_altering name mode further excludes follows)
 
 order_creating : (passes : Bool) (twice : Option (List ℕ)) (name : List ℕ) (columns : List NewColumn) → FollowsOrder (if_passes passes errors.TooManyColumns (if_no_column twice (writing (new_table name columns))))
 order_creating false twice name columns = tt
@@ -111,16 +121,31 @@ open_adding most rel passes changes some = open_if_passes most rel Table passes 
 
 -- the alterations, once the descriptor is open
 open_add_column : (column : List ℕ) (col_type : ColType) (rel : Oid) → FollowsOpen 3 rel Table (add_column column col_type rel)
-open_add_column column col_type rel = (omega arith, refl, refl, open_free 2 rel Table column (reading (scans.Attribute rel) (adding rel column col_type))
-    (omega arith, (1, omega arith, refl), λ given. open_adding 1 rel (nat_lt (length given) MOST_COLUMNS) (Insert (rows.Att rel (length given + 1) column col_type (negsuc 0) true) ∷ []) (omega arith)))
+open_add_column column col_type rel = (
+  omega arith,
+  refl,
+  refl,
+  open_free 2 rel Table column (reading (scans.Attribute rel) (adding rel column col_type))
+      (omega arith, (1, omega arith, refl), λ given. open_adding 1 rel (nat_lt (length given) MOST_COLUMNS) (Insert (rows.Att rel (length given + 1) column col_type (negsuc 0) true) ∷ []) (omega arith)),
+)
 
 open_drop_column : (column : List ℕ) (rel : Oid) → FollowsOpen 3 rel Table (drop_column column rel)
-open_drop_column column rel = (omega arith, refl, refl, open_there 2 rel Table column (λ row. reading (scans.AttrDef rel) (dropping row))
-    (λ row. (omega arith, (2, omega arith, refl), λ given. (omega arith, record { changes = _; is = refl }, refl, λ wrote. refl))))
+open_drop_column column rel = (
+  omega arith,
+  refl,
+  refl,
+  open_there 2 rel Table column (λ row. reading (scans.AttrDef rel) (dropping row))
+      (λ row. (omega arith, (2, omega arith, refl), λ given. (omega arith, record { changes = _; is = refl }, refl, λ wrote. refl))),
+)
 
 open_rename_column : (column to : List ℕ) (rel : Oid) → FollowsOpen 3 rel Table (rename_column column to rel)
-open_rename_column column to rel = (omega arith, refl, refl, open_there 2 rel Table column (renaming to rel)
-    (λ row. (omega arith, refl, refl, open_free 1 rel Table to (changing (Replace (with_name to row) ∷ [])) (open_changing 1 rel (Replace (with_name to row) ∷ []) (omega arith)))))
+open_rename_column column to rel = (
+  omega arith,
+  refl,
+  refl,
+  open_there 2 rel Table column (renaming to rel)
+      (λ row. (omega arith, refl, refl, open_free 1 rel Table to (changing (Replace (with_name to row) ∷ [])) (open_changing 1 rel (Replace (with_name to row) ∷ []) (omega arith)))),
+)
 
 open_set_statistics : (column : List ℕ) (stat : ℤ) (rel : Oid) → FollowsOpen 3 rel Table (set_statistics column stat rel)
 open_set_statistics column stat rel = open_if_passes 3 rel Table (not (int_lt stat (negsuc 0))) (errors.OutOfRange stat) (with_column rel column (targeting stat))
@@ -135,16 +160,16 @@ pub follows_order : (held : List Oid) (command : Command) → is_built (plan_of 
 follows_order held commands.Begin built = tt
 follows_order held commands.Commit built = tt
 follows_order held commands.Rollback built = tt
-follows_order held (commands.Show name None) built = order_looking_up name AccessShare showing (λ rel kind. found_opening rel kind Done tt)
+follows_order held (commands.Show name None) built = order_looking_up name AccessShare showing (λ rel kind. found_opening AccessShare rel kind Done tt tt)
 follows_order held (commands.Show name (Some field)) built = order_looking_up name AccessShare (showing_field name field)
-    (λ rel kind. found_if_passes rel kind (has_field kind field) (errors.NoField name field) (opening rel kind Done) (found_opening rel kind Done tt))
-follows_order held (commands.LockTable name mode) built = order_looking_up name mode (locking name) (λ rel kind. found_if_passes rel kind (is_table kind) (errors.NotTable name) Done tt)
+    (λ rel kind. found_if_passes AccessShare rel kind (has_field kind field) (errors.NoField name field) (opening rel kind Done) (found_opening AccessShare rel kind Done tt tt))
+follows_order held (commands.LockTable name mode) built = order_looking_up name mode (locking name) (λ rel kind. found_if_passes mode rel kind (is_table kind) (errors.NotTable name) Done tt)
 follows_order held (commands.CreateTable name columns) built = order_creating (nat_le (length columns) MOST_COLUMNS) (first_twice [] (map (λ (c : NewColumn). c.name) columns)) name columns
-follows_order held (commands.AddColumn name column col_type) built = order_altering name AccessExclusive (add_column column col_type) (open_add_column column col_type)
-follows_order held (commands.DropColumn name column) built = order_altering name AccessExclusive (drop_column column) (open_drop_column column)
-follows_order held (commands.RenameColumn name column to) built = order_altering name AccessExclusive (rename_column column to) (open_rename_column column to)
-follows_order held (commands.SetStatistics name column stat) built = order_altering name ShareUpdateExclusive (set_statistics column stat) (open_set_statistics column stat)
-follows_order held (commands.SetFillfactor name fill) built = order_altering name ShareUpdateExclusive (set_fillfactor fill) (open_set_fillfactor fill)
+follows_order held (commands.AddColumn name column col_type) built = order_altering name AccessExclusive (add_column column col_type) refl (open_add_column column col_type)
+follows_order held (commands.DropColumn name column) built = order_altering name AccessExclusive (drop_column column) refl (open_drop_column column)
+follows_order held (commands.RenameColumn name column to) built = order_altering name AccessExclusive (rename_column column to) refl (open_rename_column column to)
+follows_order held (commands.SetStatistics name column stat) built = order_altering name ShareUpdateExclusive (set_statistics column stat) refl (open_set_statistics column stat)
+follows_order held (commands.SetFillfactor name fill) built = order_altering name ShareUpdateExclusive (set_fillfactor fill) refl (open_set_fillfactor fill)
 follows_order held command built = absurd (cc)
 
 -- the commands that the program runs have one
@@ -176,17 +201,17 @@ goes_open most rel kind (Do (Read scan) rest) follows = λ given. goes_open (mos
 goes_open most rel kind (Do (Lock of mode) rest) follows = absurd follows
 goes_open most rel kind (Do (Write draft) rest) follows = tt
 
-goes_found : (rel : Oid) (kind : Kind) (plan : Plan) → FollowsFound rel kind plan → GoesByRelation plan
-goes_found rel kind Done follows = tt
-goes_found rel kind (Fails error) follows = tt
-goes_found rel kind (Do (Open of as_kind) rest) follows = (follows.2, λ given. subst GoesByRelation (sym (follows.2 given)) (goes_open 3 rel kind (rest []) follows.3))
-goes_found rel kind (Absent name) follows = absurd follows
-goes_found rel kind NotBuilt follows = absurd follows
-goes_found rel kind (Do (Lookup name mode) rest) follows = absurd follows
-goes_found rel kind (Do (Column of name) rest) follows = absurd follows
-goes_found rel kind (Do (Read scan) rest) follows = absurd follows
-goes_found rel kind (Do (Lock of mode) rest) follows = absurd follows
-goes_found rel kind (Do (Write draft) rest) follows = absurd follows
+goes_found : (mode : Mode) (rel : Oid) (kind : Kind) (plan : Plan) → FollowsFound mode rel kind plan → GoesByRelation plan
+goes_found mode rel kind Done follows = tt
+goes_found mode rel kind (Fails error) follows = tt
+goes_found mode rel kind (Do (Open of as_kind) rest) follows = (follows.2, λ given. subst GoesByRelation (sym (follows.2 given)) (goes_open 3 rel kind (rest []) follows.3))
+goes_found mode rel kind (Absent name) follows = absurd follows
+goes_found mode rel kind NotBuilt follows = absurd follows
+goes_found mode rel kind (Do (Lookup name as_mode) rest) follows = absurd follows
+goes_found mode rel kind (Do (Column of name) rest) follows = absurd follows
+goes_found mode rel kind (Do (Read scan) rest) follows = absurd follows
+goes_found mode rel kind (Do (Lock of as_mode) rest) follows = absurd follows
+goes_found mode rel kind (Do (Write draft) rest) follows = absurd follows
 
 pub goes_order : (plan : Plan) → FollowsOrder plan → GoesByRelation plan
 goes_order Done follows = tt
@@ -195,7 +220,7 @@ goes_order (Do (Lookup name mode) rest) follows = (follows.0, λ given. by_rows 
   where
     by_rows : (l : List Row) → rest l ≡ found name (λ rel kind. rest (plain_row rel kind)) l → GoesByRelation (rest l)
     by_rows [] is = subst GoesByRelation (sym is) tt
-    by_rows (rows.Class rel own kind fill ∷ more) is = subst GoesByRelation (sym is) (goes_found rel kind (rest (plain_row rel kind)) (follows.1 rel kind))
+    by_rows (rows.Class rel own kind fill ∷ more) is = subst GoesByRelation (sym is) (goes_found mode rel kind (rest (plain_row rel kind)) (follows.1 rel kind))
     by_rows (row ∷ more) is = subst GoesByRelation (sym is) tt
 goes_order (Do (Write draft) rest) follows = tt
 goes_order (Absent name) follows = absurd follows
@@ -218,7 +243,7 @@ pub record HasOpen (relation opened : Opening) (plan : Plan) : Type 0 where
 -- what is left of a plan, by the relations that its lookups found and the descriptors that it opened
 abbrev pub HasCome : List Opening → List Opening → Plan → Type 0
 HasCome [] [] plan = FollowsUnfound plan
-HasCome (relation ∷ []) [] plan = FollowsFound relation.rel relation.kind plan
+HasCome (relation ∷ []) [] plan = (mode : Mode) × FollowsFound mode relation.rel relation.kind plan
 HasCome (relation ∷ []) (opened ∷ []) plan = HasOpen relation opened plan
 HasCome relations opened plan = ⊥
 
@@ -264,19 +289,19 @@ come_open rel kind of as_kind gave plan same_rel same_kind stays =
     opened : Opening
     opened = record { rel = of; kind = as_kind }
 
-come_found : (rel : Oid) (kind : Kind) (gave : List (List Row)) (plan : Plan) → FollowsFound rel kind plan → HasCome (record { rel = rel; kind = kind } ∷ made_in relation_by gave plan) (made_in opening_by gave plan) (reached gave plan)
-come_found rel kind [] plan follows = follows
-come_found rel kind (given ∷ gave) Done follows = come_found rel kind gave Done tt
-come_found rel kind (given ∷ gave) (Fails error) follows = come_found rel kind gave (Fails error) tt
-come_found rel kind (given ∷ gave) (Do (Open of as_kind) rest) follows = come_open rel kind of as_kind gave (rest given) follows.0 follows.1
+come_found : (mode : Mode) (rel : Oid) (kind : Kind) (gave : List (List Row)) (plan : Plan) → FollowsFound mode rel kind plan → HasCome (record { rel = rel; kind = kind } ∷ made_in relation_by gave plan) (made_in opening_by gave plan) (reached gave plan)
+come_found mode rel kind [] plan follows = (mode, follows)
+come_found mode rel kind (given ∷ gave) Done follows = come_found mode rel kind gave Done tt
+come_found mode rel kind (given ∷ gave) (Fails error) follows = come_found mode rel kind gave (Fails error) tt
+come_found mode rel kind (given ∷ gave) (Do (Open of as_kind) rest) follows = come_open rel kind of as_kind gave (rest given) follows.0 follows.1
     (stays_open 3 rel kind gave (rest given) (subst (FollowsOpen 3 rel kind) (sym (follows.2 given)) follows.3))
-come_found rel kind (given ∷ gave) (Absent name) follows = absurd follows
-come_found rel kind (given ∷ gave) NotBuilt follows = absurd follows
-come_found rel kind (given ∷ gave) (Do (Lookup name mode) rest) follows = absurd follows
-come_found rel kind (given ∷ gave) (Do (Column of name) rest) follows = absurd follows
-come_found rel kind (given ∷ gave) (Do (Read scan) rest) follows = absurd follows
-come_found rel kind (given ∷ gave) (Do (Lock of mode) rest) follows = absurd follows
-come_found rel kind (given ∷ gave) (Do (Write draft) rest) follows = absurd follows
+come_found mode rel kind (given ∷ gave) (Absent name) follows = absurd follows
+come_found mode rel kind (given ∷ gave) NotBuilt follows = absurd follows
+come_found mode rel kind (given ∷ gave) (Do (Lookup name as_mode) rest) follows = absurd follows
+come_found mode rel kind (given ∷ gave) (Do (Column of name) rest) follows = absurd follows
+come_found mode rel kind (given ∷ gave) (Do (Read scan) rest) follows = absurd follows
+come_found mode rel kind (given ∷ gave) (Do (Lock of as_mode) rest) follows = absurd follows
+come_found mode rel kind (given ∷ gave) (Do (Write draft) rest) follows = absurd follows
 
 come_absent : (name : List ℕ) (gave : List (List Row)) → HasCome (made_in relation_by gave (Absent name)) (made_in opening_by gave (Absent name)) (reached gave (Absent name))
 come_absent name [] = tt
@@ -292,7 +317,7 @@ come_lookup name mode rest given gave follows = by_rows given (follows.0 given)
     by_rows : (l : List Row) → rest l ≡ found name (λ rel kind. rest (plain_row rel kind)) l → HasCome (relation_by (Lookup name mode) l ++ made_in relation_by gave (rest l)) (made_in opening_by gave (rest l)) (reached gave (rest l))
     by_rows [] is = absent [] is
     by_rows (rows.Class rel own kind fill ∷ more) is = subst (λ p. HasCome (record { rel = rel; kind = kind } ∷ made_in relation_by gave p) (made_in opening_by gave p) (reached gave p)) (sym is)
-        (come_found rel kind gave (rest (plain_row rel kind)) (follows.1 rel kind))
+        (come_found mode rel kind gave (rest (plain_row rel kind)) (follows.1 rel kind))
     by_rows (row ∷ more) is = absent (row ∷ more) is
 
 unfound : (plan : Plan) → FollowsOrder plan → FollowsUnfound plan
@@ -316,14 +341,14 @@ has_come (given ∷ gave) (Do (Lock of mode) rest) follows = absurd follows
 -- before a lookup nothing is found and nothing is open
 pub at_lookup : (relations opened : List Opening) (name : List ℕ) (mode : Mode) (rest : List Row → Plan) → HasCome relations opened (Do (Lookup name mode) rest) → (relations ≡ []) × (opened ≡ []) × FollowsOrder (Do (Lookup name mode) rest)
 at_lookup [] [] name mode rest come = (refl, refl, come)
-at_lookup (relation ∷ []) [] name mode rest come = absurd come
+at_lookup (relation ∷ []) [] name mode rest come = absurd come.1
 at_lookup (relation ∷ []) (one ∷ []) name mode rest come = absurd come.follows
 at_lookup relations opened name mode rest come = absurd come
 
 -- an opening is of the relation found, and nothing is open before it
 pub at_opening : (relations opened : List Opening) (rel : Oid) (kind : Kind) (rest : List Row → Plan) → HasCome relations opened (Do (Open rel kind) rest) → (relations ≡ record { rel = rel; kind = kind } ∷ []) × (opened ≡ []) × ((given : List Row) → rest given ≡ rest [])
 at_opening [] [] rel kind rest come = absurd come
-at_opening (relation ∷ []) [] rel kind rest come = (λ i. record { rel = sym come.0 i; kind = sym come.1 i } ∷ [], refl, come.2)
+at_opening (relation ∷ []) [] rel kind rest come = (λ i. record { rel = sym come.1.0 i; kind = sym come.1.1 i } ∷ [], refl, come.1.2)
 at_opening (relation ∷ []) (one ∷ []) rel kind rest come = absurd come.follows
 at_opening relations opened rel kind rest come = absurd come
 
@@ -331,7 +356,7 @@ at_opening relations opened rel kind rest come = absurd come
 pub at_column : (relations opened : List Opening) (rel : Oid) (name : List ℕ) (rest : List Row → Plan) → HasCome relations opened (Do (Column rel name) rest)
     → (relations ≡ record { rel = rel; kind = Table } ∷ []) × (opened ≡ record { rel = rel; kind = Table } ∷ [])
 at_column [] [] rel name rest come = absurd come
-at_column (relation ∷ []) [] rel name rest come = absurd come
+at_column (relation ∷ []) [] rel name rest come = absurd come.1
 at_column (relation ∷ []) (one ∷ []) rel name rest come = (λ i. is i ∷ [], ap (λ o. o ∷ []) (come.same ∙ is))
   where
     is : relation ≡ record { rel = rel; kind = Table }
@@ -348,7 +373,7 @@ pub record ReadsOpen (relations opened : List Opening) (scan : Purpose) : Type 0
 
 pub at_read : (relations opened : List Opening) (scan : Purpose) (rest : List Row → Plan) → HasCome relations opened (Do (Read scan) rest) → ReadsOpen relations opened scan
 at_read [] [] scan rest come = absurd come
-at_read (relation ∷ []) [] scan rest come = absurd come
+at_read (relation ∷ []) [] scan rest come = absurd come.1
 at_read (relation ∷ []) (one ∷ []) scan rest come = record { rel = relation.rel; kind = relation.kind; found_is = refl; opened_is = ap (λ o. o ∷ []) come.same; of = come.follows.1 }
 at_read relations opened scan rest come = absurd come
 
@@ -368,7 +393,7 @@ pub record WritesRows (relations opened : List Opening) (draft : Draft) : Type 0
 pub at_write : (relations opened : List Opening) (draft : Draft) (rest : List Row → Plan) → HasCome relations opened (Do (Write draft) rest)
     → ((given : List Row) → rest given ≡ Done) × (WritesTable relations opened draft ⊎ WritesRows relations opened draft)
 at_write [] [] draft rest come = (come.1, inl (record { unfound = refl; unopened = refl; table = come.0 }))
-at_write (relation ∷ []) [] draft rest come = absurd come
+at_write (relation ∷ []) [] draft rest come = absurd come.1
 at_write (relation ∷ []) (one ∷ []) draft rest come = (come.follows.3, inr (record { rel = relation.rel; found_is = λ i. is i ∷ []; opened_is = ap (λ o. o ∷ []) (come.same ∙ is); rows_are = come.follows.1 }))
   where
     is : relation ≡ record { rel = relation.rel; kind = Table }

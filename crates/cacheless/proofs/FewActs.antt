@@ -30,19 +30,19 @@ few_open most rel kind (given ∷ gave) (Do (Read scan) more) act rest follows i
 few_open most rel kind (given ∷ gave) (Do (Lock of mode) more) act rest follows is passed = absurd follows
 few_open most rel kind (given ∷ gave) (Do (Write draft) more) act rest follows is passed = absurd (let both : false ≡ true = ap goes_past (sym (write_stays gave draft more) ∙ is) ∙ passed in cc both)
 
-few_found : (rel : Oid) (kind : Kind) (gave : List (List Row)) (plan : Plan) (act : Act) (rest : List Row → Plan) → FollowsFound rel kind plan → reached gave plan ≡ Do act rest → is_passed act ≡ true → length gave < 4
-few_found rel kind [] plan act rest follows is passed = omega arith
-few_found rel kind (given ∷ gave) Done act rest follows is passed = absurd (none_reached gave Done act rest refl is)
-few_found rel kind (given ∷ gave) (Fails error) act rest follows is passed = absurd (none_reached gave (Fails error) act rest refl is)
-few_found rel kind (given ∷ gave) (Do (Open of as_kind) more) act rest follows is passed =
+few_found : (mode : Mode) (rel : Oid) (kind : Kind) (gave : List (List Row)) (plan : Plan) (act : Act) (rest : List Row → Plan) → FollowsFound mode rel kind plan → reached gave plan ≡ Do act rest → is_passed act ≡ true → length gave < 4
+few_found mode rel kind [] plan act rest follows is passed = omega arith
+few_found mode rel kind (given ∷ gave) Done act rest follows is passed = absurd (none_reached gave Done act rest refl is)
+few_found mode rel kind (given ∷ gave) (Fails error) act rest follows is passed = absurd (none_reached gave (Fails error) act rest refl is)
+few_found mode rel kind (given ∷ gave) (Do (Open of as_kind) more) act rest follows is passed =
     let less = few_open 3 rel kind gave (more given) act rest (subst (FollowsOpen 3 rel kind) (sym (follows.2 given)) follows.3) is passed in omega (arith, less)
-few_found rel kind (given ∷ gave) (Absent name) act rest follows is passed = absurd follows
-few_found rel kind (given ∷ gave) NotBuilt act rest follows is passed = absurd follows
-few_found rel kind (given ∷ gave) (Do (Lookup name mode) more) act rest follows is passed = absurd follows
-few_found rel kind (given ∷ gave) (Do (Column of name) more) act rest follows is passed = absurd follows
-few_found rel kind (given ∷ gave) (Do (Read scan) more) act rest follows is passed = absurd follows
-few_found rel kind (given ∷ gave) (Do (Lock of mode) more) act rest follows is passed = absurd follows
-few_found rel kind (given ∷ gave) (Do (Write draft) more) act rest follows is passed = absurd follows
+few_found mode rel kind (given ∷ gave) (Absent name) act rest follows is passed = absurd follows
+few_found mode rel kind (given ∷ gave) NotBuilt act rest follows is passed = absurd follows
+few_found mode rel kind (given ∷ gave) (Do (Lookup name as_mode) more) act rest follows is passed = absurd follows
+few_found mode rel kind (given ∷ gave) (Do (Column of name) more) act rest follows is passed = absurd follows
+few_found mode rel kind (given ∷ gave) (Do (Read scan) more) act rest follows is passed = absurd follows
+few_found mode rel kind (given ∷ gave) (Do (Lock of as_mode) more) act rest follows is passed = absurd follows
+few_found mode rel kind (given ∷ gave) (Do (Write draft) more) act rest follows is passed = absurd follows
 
 few_lookup : (name : List ℕ) (mode : Mode) (more : List Row → Plan) (given : List Row) (gave : List (List Row)) (act : Act) (rest : List Row → Plan) → FollowsOrder (Do (Lookup name mode) more) → reached gave (more given) ≡ Do act rest → is_passed act ≡ true
     → length gave < 4
@@ -50,7 +50,7 @@ few_lookup name mode more given gave act rest follows is passed = by_rows given 
   where
     by_rows : (l : List Row) → more l ≡ found name (λ rel kind. more (plain_row rel kind)) l → reached gave (more l) ≡ Do act rest → length gave < 4
     by_rows [] at on = absurd (none_reached gave (Absent name) act rest refl (ap (reached gave) (sym at) ∙ on))
-    by_rows (rows.Class rel own kind fill ∷ others) at on = few_found rel kind gave (more (plain_row rel kind)) act rest (follows.1 rel kind) (ap (reached gave) (sym at) ∙ on) passed
+    by_rows (rows.Class rel own kind fill ∷ others) at on = few_found mode rel kind gave (more (plain_row rel kind)) act rest (follows.1 rel kind) (ap (reached gave) (sym at) ∙ on) passed
     by_rows (row ∷ others) at on = absurd (none_reached gave (Absent name) act rest refl (ap (reached gave) (sym at) ∙ on))
 
 -- what is passed before an act that is passed

@@ -7,7 +7,7 @@ use Rattle.base_types.specs.declared.kind.Kind.TheVariants.{Table}
 use Rattle.base_types.specs.declared.row.Row.TheVariants as rows
 use Rattle.ddl_effect.specs.Plans.{Plan, Done, Fails, Absent, NotBuilt, Do, Lookup, Open, Column, Read, Lock, Write, is_built}
 use Rattle.ddl_effect.specs.Commands.{plan_of, found}
-use Rattle.cacheless.specs.Types.{Oid, Kind, Row, Purpose, Command}
+use Rattle.cacheless.specs.Types.{Oid, Mode, Kind, Row, Purpose, Command}
 use Rattle.cacheless.specs.ActsDone.{after_given, reached, made_first, made_in, relation_by}
 use Rattle.cacheless.proofs.EffectAlong.{plain_row}
 use Rattle.cacheless.proofs.ActOrder.{IsTableDraft, IsRowsDraft, FollowsOpen, FollowsFound, FollowsOrder, follows_order}
@@ -49,22 +49,22 @@ can_open P most rel kind (Do (Read scan) rest) holds follows = (record { rel = r
 can_open P most rel kind (Do (Lock of mode) rest) holds follows = absurd follows
 can_open P most rel kind (Do (Write draft) rest) holds follows = (inr follows.1, follows.3)
 
-can_found : (P : Oid → Kind → Type 0) (rel : Oid) (kind : Kind) (plan : Plan) → P rel kind → FollowsFound rel kind plan → CanFollow P plan
-can_found P rel kind Done holds follows = tt
-can_found P rel kind (Fails error) holds follows = tt
-can_found P rel kind (Do (Open of as_kind) rest) holds follows = (subst (λ o. P o as_kind) (sym follows.0) (subst (P rel) (sym follows.1) holds), follows.2, can_open P 3 rel kind (rest []) holds follows.3)
-can_found P rel kind (Absent name) holds follows = absurd follows
-can_found P rel kind NotBuilt holds follows = absurd follows
-can_found P rel kind (Do (Lookup name mode) rest) holds follows = absurd follows
-can_found P rel kind (Do (Column of name) rest) holds follows = absurd follows
-can_found P rel kind (Do (Read scan) rest) holds follows = absurd follows
-can_found P rel kind (Do (Lock of mode) rest) holds follows = absurd follows
-can_found P rel kind (Do (Write draft) rest) holds follows = absurd follows
+can_found : (P : Oid → Kind → Type 0) (mode : Mode) (rel : Oid) (kind : Kind) (plan : Plan) → P rel kind → FollowsFound mode rel kind plan → CanFollow P plan
+can_found P mode rel kind Done holds follows = tt
+can_found P mode rel kind (Fails error) holds follows = tt
+can_found P mode rel kind (Do (Open of as_kind) rest) holds follows = (subst (λ o. P o as_kind) (sym follows.0) (subst (P rel) (sym follows.1) holds), follows.2, can_open P 3 rel kind (rest []) holds follows.3)
+can_found P mode rel kind (Absent name) holds follows = absurd follows
+can_found P mode rel kind NotBuilt holds follows = absurd follows
+can_found P mode rel kind (Do (Lookup name as_mode) rest) holds follows = absurd follows
+can_found P mode rel kind (Do (Column of name) rest) holds follows = absurd follows
+can_found P mode rel kind (Do (Read scan) rest) holds follows = absurd follows
+can_found P mode rel kind (Do (Lock of as_mode) rest) holds follows = absurd follows
+can_found P mode rel kind (Do (Write draft) rest) holds follows = absurd follows
 
 pub can_order : (P : Oid → Kind → Type 0) (plan : Plan) → FollowsOrder plan → CanFollow P plan
 can_order P Done follows = tt
 can_order P (Fails error) follows = tt
-can_order P (Do (Lookup name mode) rest) follows = (follows.0, λ rel kind holds. can_found P rel kind (rest (plain_row rel kind)) holds (follows.1 rel kind))
+can_order P (Do (Lookup name mode) rest) follows = (follows.0, λ rel kind holds. can_found P mode rel kind (rest (plain_row rel kind)) holds (follows.1 rel kind))
 can_order P (Do (Write draft) rest) follows = (inl follows.0, follows.1)
 can_order P (Absent name) follows = absurd follows
 can_order P NotBuilt follows = absurd follows

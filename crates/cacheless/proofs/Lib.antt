@@ -5,6 +5,7 @@ pub mod EffectAlong
 pub mod ActOrder
 pub mod FewActs
 pub mod FollowedPlans
+pub mod StillAfter
 pub mod WrittenBy
 pub mod HeldLocks
 pub mod Patient
