@@ -8,6 +8,7 @@ use Rattle.ddl_effect.specs.Blocks.{Block, Outside, Inside, Failed, no_block, en
 use Rattle.ddl_effect.specs.Stages.{plan_at}
 use Rattle.cacheless.specs.Owed.{Owes, OwesLook}
 use Rattle.cacheless.specs.Session.{Badly, outcome_of, is_settled, none_open, refused_first, plan_admitted, plan_first}
+use Rattle.cacheless.proofs.Ways.{acts, acts_before}
 use Rattle.backend_core.specs.Types.{Oid, Kind, Command, CommandError, Purpose, Entry, Backend}
 use Rattle.backend_core.specs.NewTables.{SeesRelation}
 use Rattle.backend_core.specs.State.{is_ended, begins_in, builds_missing, act_missing, scans_missing, Rest, HasCommand}
@@ -17,7 +18,6 @@ use Rattle.backend_core.specs.Way.{OnItsWay, Way}
 use Rattle.backend_core.proofs.CanFollow.{CanGoOn, can_go_on, can_follow, can_reach}
 use Rattle.backend_core.proofs.Carry.{none_missing, none_missing_well, missing_at}
 use Rattle.backend_core.proofs.Ending.{built_at}
-use Rattle.backend_core.proofs.Ways.{acts, acts_before}
 
 -- the command of a backend that is about to do an act: nothing has ended it, and its transaction runs
 pub record IsActing (seen : List Entry) (s : Backend) (rest : Rest) (command : Command) : Type 0 where

@@ -15,14 +15,14 @@ use Rattle.history_model.specs.Versions.{answer_of}
 use Rattle.cacheless.specs.Lines.{answer_well, answer_by, effect_judged, answer_judged}
 use Rattle.cacheless.specs.Session.{none_open, outcome_of, is_settled}
 use Rattle.cacheless.specs.Settled.{found_by}
+use Rattle.cacheless.specs.ActsDone.{made_in}
 use Rattle.backend_core.specs.Types.{Row, Purpose, Command, CommandError, Entry, Backend}
 use Rattle.backend_core.specs.State.{is_accepting, is_out, owed_first, Rest}
 use Rattle.backend_core.specs.Agrees.{OpensLast, RunsBy, TransactionFits, EndFits, Well, PlaceFits, CommandFits, Agrees}
 use Rattle.backend_core.specs.Steps.{AgreesNow, IsWorking}
-use Rattle.backend_core.specs.NewTables.{SeesRelation}
-use Rattle.backend_core.specs.Way.{made_in, OnItsWay, HasWritten, Way}
+use Rattle.backend_core.specs.Way.{OnItsWay, HasWritten, Way}
 use Rattle.backend_core.specs.Answering.{answer_done, answer_left, answer_at, IsToldText}
-use Rattle.backend_core.proofs.CanFollow.{can_go_on, can_follow, effect_on}
+use Rattle.backend_core.proofs.CanFollow.{effect_on}
 use Rattle.backend_core.proofs.Ending.{built_at}
 use Rattle.backend_core.proofs.Nexting.{the_command}
 use Rattle.backend_core.proofs.Showing.{finished_at, show_answers, show_field_answers}
@@ -58,7 +58,7 @@ way_answers scenario seen s agrees command way built out =
     ap (λ t. answer_by scenario seen s.id (finished_at s agrees.rest) command (effect_judged seen s.id (finished_at s agrees.rest) t command)) way.unwritten
     ∙ ap (answer_by scenario seen s.id (finished_at s agrees.rest) command) (
     ap (λ l. effect_at given l plan) (way.found ∙ sym (append-nil (made_in found_by way.gave plan)))
-    ∙ effect_on seen s.id way.gave plan [] (can_go_on (SeesRelation seen s.id) plan (can_follow (SeesRelation seen s.id) command built)) way.sees
+    ∙ effect_on seen s.id command way.gave [] built way.sees
     ∙ ap (effect_at given []) (sym way.plan)
     )
     ∙ out_answers scenario seen s agrees.rest command (plan_at s.exec) s.read out agrees.command.given_at (well_answers scenario seen s agrees command (inl way))

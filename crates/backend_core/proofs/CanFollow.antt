@@ -1,5 +1,5 @@
 -- Plans that a backend can follow so far, and that each command's plan is one.
-use Rattle.std.proofs.Common.{◌≡◌, ◌∙◌, ℕ, Bool, true, false, Option, Some, None, List, [], ◌∷◌, ◌++◌, refl, sym, ap, subst, map, length, nat_le}
+use Rattle.std.proofs.Common.{◌≡◌, ℕ, Bool, true, false, Option, Some, None, List, [], ◌∷◌, ◌++◌, refl, sym, subst, map, length, nat_le}
 use Rattle.std.specs.Prelude.{⊤}
 use Rattle.std.specs.List.{AllByRecursion}
 use Rattle.base_types.specs.Fields.{has_field}
@@ -10,18 +10,18 @@ use Rattle.base_types.specs.declared.command.Command.TheVariants as commands
 use Rattle.rel_desc.specs.declared.error.CommandError.TheVariants as errors
 use Rattle.ddl_effect.specs.Plans.{Plan, Done, Fails, Absent, NotBuilt, Do, Lookup, Open, Column, Read, Lock, Write}
 use Rattle.ddl_effect.specs.Commands.{plan_of, runs, found, looking_up, if_passes, if_no_column, first_twice, writing, opening, showing, showing_field, is_table, locking, creating, new_table}
-use Rattle.ddl_effect.specs.Effects.{effect_at, row_found}
+use Rattle.ddl_effect.specs.Effects.{effect_at}
 use Rattle.history_model.specs.Versions.{answer_of}
 use Rattle.cacheless.specs.Session.{none_open}
-use Rattle.cacheless.specs.Settled.{class_oid, found_by}
+use Rattle.cacheless.specs.Settled.{found_by}
+use Rattle.cacheless.specs.ActsDone.{after_given, reached, made_first, made_in, relation_by, IsStill, IsFirstStill, AreStill}
+use Rattle.cacheless.proofs.EffectAlong.{plain_row, effect_along}
+use Rattle.cacheless.proofs.ActOrder.{runs_built, goes_by_relation}
+use Rattle.cacheless.proofs.FollowedPlans.{all_both}
 use Rattle.backend_core.specs.Types.{Oid, Mode, Kind, Field, NewColumn, Row, Command, CommandError, Draft, Entry}
 use Rattle.backend_core.specs.NewTables.{IsNewTable, SeesRelation}
 use Rattle.backend_core.specs.Agrees.{PlaceFits}
-use Rattle.backend_core.specs.Way.{after_given, reached, made_first, made_in, relation_by, SeesAll}
-
--- a relation's row, as far as its oid and its kind say
-abbrev pub plain_row : Oid → Kind → List Row
-plain_row rel kind = rows.Class rel [] kind None ∷ []
+use Rattle.backend_core.specs.Way.{SeesAll}
 
 -- a plan that a backend can follow so far, where P holds of each relation that a lookup finds:
 -- a lookup's rows decide by their relation alone, or that there is none; the descriptors are of such relations; and at most the last act writes, a new table
@@ -107,46 +107,38 @@ can_after P given (Do (Column rel name) rest) can all = absurd can
 can_after P given (Do (Read scan) rest) can all = absurd can
 can_after P given (Do (Lock rel mode) rest) can all = absurd can
 
--- what holds of two lists together, holds of each
-all_first : {X : Type 0} (P : X → Type 0) (xs ys : List X) → AllByRecursion P (xs ++ ys) → AllByRecursion P xs × AllByRecursion P ys
-all_first P [] ys all = (tt, all)
-all_first P (x ∷ xs) ys all = let more = all_first P xs ys all.1 in ((all.0, more.0), more.1)
-
 -- and after any acts
 pub can_reach : (P : Oid → Kind → Type 0) (gave : List (List Row)) (plan : Plan) → CanGoOn P plan → AllByRecursion (λ o. P o.rel o.kind) (made_in relation_by gave plan) → CanGoOn P (reached gave plan)
 can_reach P [] plan can all = can
 can_reach P (given ∷ gave) plan can all =
-    let both = all_first (λ o. P o.rel o.kind) (made_first relation_by given plan) (made_in relation_by gave (after_given given plan)) all in
+    let both = all_both (λ o. P o.rel o.kind) (made_first relation_by given plan) (made_in relation_by gave (after_given given plan)) all in
     can_reach P gave (after_given given plan) (can_after P given plan can both.0) both.1
 
--- a lookup's rows come to what the row of their relation comes to, while the relation is seen
-row_again : (seen : List Entry) (b : ℕ) (name : List ℕ) (mode : Mode) (rest : List Row → Plan) (given : List Row) → CanFollow (SeesRelation seen b) (Do (Lookup name mode) rest) → SeesAll seen b (relation_by (Lookup name mode) given)
-    → rest (row_found (answer_of seen b) (class_oid given)) ≡ rest given
-row_again seen b name mode rest [] can sees = refl
-row_again seen b name mode rest (rows.Class rel own kind fill ∷ more) can sees = ap rest sees.0.row ∙ can.0 (rows.Class rel sees.0.name kind sees.0.fill ∷ []) ∙ sym (can.0 (rows.Class rel own kind fill ∷ more))
-row_again seen b name mode rest (row ∷ more) can sees = can.0 [] ∙ sym (can.0 (row ∷ more))
+-- what a lookup found is so still while the relation is seen
+found_still : (seen : List Entry) (b : ℕ) (name : List ℕ) (mode : Mode) (given : List Row) → SeesAll seen b (relation_by (Lookup name mode) given) → IsStill (answer_of seen b) (Lookup name mode) given
+found_still seen b name mode [] sees = tt
+found_still seen b name mode (rows.Class rel own kind fill ∷ more) sees = record { name = sees.0.name; fill = sees.0.fill; more = []; are = sees.0.row }
+found_still seen b name mode (row ∷ more) sees = tt
+
+first_still : (seen : List Entry) (b : ℕ) (plan : Plan) (given : List Row) → CanGoOn (SeesRelation seen b) plan → SeesAll seen b (made_first relation_by given plan) → IsFirstStill (answer_of seen b) plan given
+first_still seen b (Do (Lookup name mode) rest) given can sees = found_still seen b name mode given sees
+first_still seen b (Do (Column rel name) rest) given can sees = absurd can
+first_still seen b (Do (Read scan) rest) given can sees = absurd can
+first_still seen b plan given can sees = tt
+
+-- and so is all that acts gave
+are_still : (seen : List Entry) (b : ℕ) (plan : Plan) (gave : List (List Row)) → CanGoOn (SeesRelation seen b) plan → SeesAll seen b (made_in relation_by gave plan) → AreStill (answer_of seen b) plan gave
+are_still seen b plan [] can sees = tt
+are_still seen b plan (given ∷ gave) can sees =
+    let both = all_both (λ o. SeesRelation seen b o.rel o.kind) (made_first relation_by given plan) (made_in relation_by gave (after_given given plan)) sees in
+    (first_still seen b plan given can both.0, are_still seen b (after_given given plan) gave (can_after (SeesRelation seen b) given plan can both.0) both.1)
 
 -- what a command comes to is what its plan on the way comes to
-pub effect_on : (seen : List Entry) (b : ℕ) (gave : List (List Row)) (plan : Plan) (later : List (Option Oid)) → CanGoOn (SeesRelation seen b) plan → SeesAll seen b (made_in relation_by gave plan)
-    → effect_at (answer_of seen b) (made_in found_by gave plan ++ later) plan ≡ effect_at (answer_of seen b) later (reached gave plan)
-effect_on seen b [] plan later can sees = refl
-effect_on seen b (given ∷ gave) plan later can sees =
-    let both = all_first (λ o. SeesRelation seen b o.rel o.kind) (made_first relation_by given plan) (made_in relation_by gave (after_given given plan)) sees in
-    by_plan plan can both.0 (effect_on seen b gave (after_given given plan) later (can_after (SeesRelation seen b) given plan can both.0) both.1)
-  where
-    by_plan : (p : Plan) → CanGoOn (SeesRelation seen b) p → SeesAll seen b (made_first relation_by given p)
-        → effect_at (answer_of seen b) (made_in found_by gave (after_given given p) ++ later) (after_given given p) ≡ effect_at (answer_of seen b) later (reached gave (after_given given p))
-        → effect_at (answer_of seen b) ((made_first found_by given p ++ made_in found_by gave (after_given given p)) ++ later) p ≡ effect_at (answer_of seen b) later (reached gave (after_given given p))
-    by_plan Done can' all same = same
-    by_plan (Fails error) can' all same = same
-    by_plan (Absent name) can' all same = same
-    by_plan NotBuilt can' all same = same
-    by_plan (Do (Lookup name mode) rest) can' all same = ap (effect_at (answer_of seen b) (made_in found_by gave (rest given) ++ later)) (row_again seen b name mode rest given can' all) ∙ same
-    by_plan (Do (Open rel kind) rest) can' all same = ap (effect_at (answer_of seen b) (made_in found_by gave (rest given) ++ later)) (sym (can'.1 given)) ∙ same
-    by_plan (Do (Write draft) rest) can' all same = same
-    by_plan (Do (Column rel name) rest) can' all same = absurd can'
-    by_plan (Do (Read scan) rest) can' all same = absurd can'
-    by_plan (Do (Lock rel mode) rest) can' all same = absurd can'
+pub effect_on : (seen : List Entry) (b : ℕ) (command : Command) (gave : List (List Row)) (later : List (Option Oid)) → runs command ≡ true → SeesAll seen b (made_in relation_by gave (plan_of none_open command))
+    → effect_at (answer_of seen b) (made_in found_by gave (plan_of none_open command) ++ later) (plan_of none_open command) ≡ effect_at (answer_of seen b) later (reached gave (plan_of none_open command))
+effect_on seen b command gave later built sees =
+    effect_along (answer_of seen b) (plan_of none_open command) gave later (goes_by_relation none_open command (runs_built none_open command built))
+    (are_still seen b (plan_of none_open command) gave (can_go_on (SeesRelation seen b) (plan_of none_open command) (can_follow (SeesRelation seen b) command built)) sees)
 
 -- the place of a scan by name, where none is made yet
 pub place_unread : (P : Oid → Kind → Type 0) (seen : List Entry) (b : ℕ) (plan : Plan) (at : ℕ) → CanFollow P plan → PlaceFits seen b plan false at

@@ -37,13 +37,14 @@ use Rattle.cacheless.specs.Settled.{settled, finished_as}
 use Rattle.cacheless.specs.Sessions.{accepted}
 use Rattle.cacheless.specs.Lines.{answer_judged}
 use Rattle.cacheless.specs.Schedule.{LooksTruly}
+use Rattle.cacheless.specs.ActsDone.{made_in, relation_by}
 use Rattle.backend_core.specs.Types.{Oid, Mode, Kind, Command, Row, Purpose, Entry, Event, Opening, OwnLock, KeptScan, Phase, OwnTransaction, Backend}
 use Rattle.backend_core.specs.declared.phase.Phase.TheVariants as phases
 use Rattle.backend_core.specs.NewTables.{AddsTables, HasTables, SeesRelation, is_own_gone}
 use Rattle.backend_core.specs.State.{owed_at, is_accepting, locks_accepted, is_out, is_visible_at, is_taken_back, is_ended, running_in, running_at, is_kept, missing, builds_missing, act_missing, scans_missing, begins_in, owed_first, Rest, session_at, HasCommand}
 use Rattle.backend_core.specs.Agrees.{IsPlayed, RowsFit, FactsFit, OpensLast, IsFoundLocked, RunsBy, TransactionFits, EndFits, Well, PlaceFits, GivenSeen, CommandFits, KeptFits, AnswerFits, Agrees}
 use Rattle.backend_core.specs.Steps.{IsWorking}
-use Rattle.backend_core.specs.Way.{made_in, relation_by, SeesAll, Way}
+use Rattle.backend_core.specs.Way.{SeesAll, Way}
 use Rattle.cacheless.proofs.Settling.{waits-scans}
 use Rattle.backend_core.proofs.SeesRelation.{other_not_gone, SeesRelation-more}
 use Rattle.backend_core.proofs.StaysRead.{StaysRead-more}

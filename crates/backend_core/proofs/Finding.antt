@@ -17,20 +17,21 @@ use Rattle.cacheless.specs.Facts.{Facts, facts_of}
 use Rattle.cacheless.specs.Session.{none_open, outcome_of, is_settled}
 use Rattle.cacheless.specs.Owed.{act_owed}
 use Rattle.cacheless.specs.Settled.{if_locked, looked_up, gives, opened_by, found_by, sought_by, act_done, done_here, settled}
+use Rattle.cacheless.specs.ActsDone.{after_given, made_first, made_in, opening_by, relation_by}
 use Rattle.cacheless.proofs.Settling.{settled-act}
+use Rattle.cacheless.proofs.Ways.{acts, reached-push, made_in-push}
 use Rattle.backend_core.specs.Types.{Oid, Mode, Kind, Row, Command, Entry, Opening, OwnLock, Exec, KeptScan, Backend}
 use Rattle.backend_core.specs.NewTables.{SeesRelation}
 use Rattle.backend_core.specs.State.{is_accepting, missing, builds_missing, act_missing, is_out, owed_first, unlocked_of, Rest, session_at}
 use Rattle.backend_core.specs.Agrees.{RowsFit, FactsFit, RunsBy, TransactionFits, EndFits, OpensLast, Well, PlaceFits, GivenSeen, Agrees}
 use Rattle.backend_core.specs.Steps.{AgreesNow, IsWorking, NextFind, NextOpen}
-use Rattle.backend_core.specs.Way.{after_given, made_first, made_in, opening_by, relation_by, SeesAll, OnItsWay}
+use Rattle.backend_core.specs.Way.{SeesAll, OnItsWay}
 use Rattle.backend_core.proofs.Acting.{IsActing, is_acting}
 use Rattle.backend_core.proofs.Beginning.{given_unread}
 use Rattle.backend_core.proofs.CanFollow.{CanGoOn, place_unread, place_found}
 use Rattle.backend_core.proofs.Carry.{no_answer, left_command, builds_same, act_same, nothing_first, none_opened, none_missing}
 use Rattle.backend_core.proofs.Nexting.{the_command}
 use Rattle.backend_core.proofs.Stages.{opens_last}
-use Rattle.backend_core.proofs.Ways.{acts, reached-push, made_in-push}
 
 -- the backend after a silent act
 abbrev pub silent : Backend → Exec → List Opening → Backend

@@ -2,7 +2,6 @@ pub mod Tables
 pub mod CountsFor
 pub mod StaysRead
 pub mod SeesRelation
-pub mod Ways
 pub mod CanFollow
 pub mod Stages
 pub mod Stepping

@@ -33,6 +33,7 @@ use Rattle.cacheless.specs.Sessions.{placed_at}
 use Rattle.cacheless.specs.Plays.{IsLock, MayPlayIn}
 use Rattle.cacheless.proofs.HeldLocks.{Follows, grant_of, locks_of, locks_are_held, lock_is_held}
 use Rattle.cacheless.proofs.Settling.{waits-act}
+use Rattle.cacheless.proofs.Ways.{acts}
 use Rattle.backend_core.specs.Types.{Oid, Mode, Row, Purpose, Command, Entry, Event, OwnLock, Backend}
 use Rattle.backend_core.specs.declared.phase.Phase.TheVariants as phases
 use Rattle.backend_core.specs.State.{owed_at, is_absent, is_accepting, looks_due, is_taken_back, is_ended, running_in, scans_missing, unlocked_of, Rest, session_at, HasCommand}
@@ -42,7 +43,6 @@ use Rattle.backend_core.proofs.Stepping.{Waits, facts_after, session_after, rest
 use Rattle.backend_core.proofs.Carry.{MayCome, may_come, Leaves, own_leaves, has_written-quiet, kept-more, command-more, no_answer, waits_at, scans_same, none_opened, none_missing, missing_at, owed_scans, clear_at, accepted-clear, transaction-more, end_free, runs_on, rows_fit-locked, runs_unowed}
 use Rattle.backend_core.proofs.Looks.{not_empty-after}
 use Rattle.backend_core.proofs.Acting.{IsActing, is_acting}
-use Rattle.backend_core.proofs.Ways.{acts}
 
 -- no scan is missing: what the act gives decides
 pub given_here : (facts : Facts) (s : Backend) (rest : Rest) (act : Act) (plan : List Row → Plan) → FactsFit facts s → plan_at s.exec ≡ Do act plan → scans_missing s ≡ [] → done_here facts (session_at s rest) act (Do act plan) ≡ gives facts s.locks.items act

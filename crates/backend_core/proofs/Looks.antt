@@ -24,6 +24,7 @@ use Rattle.cacheless.specs.Owed.{Owes, OwesFetch, OwesLook, begins, owed_at_star
 use Rattle.cacheless.specs.Sessions.{placed_at}
 use Rattle.cacheless.specs.Plays.{may_look, MayPlayIn}
 use Rattle.cacheless.proofs.Settling.{waits-owed}
+use Rattle.cacheless.proofs.Ways.{acts}
 use Rattle.backend_core.specs.Types.{Command, Mode, OwnLock, Row, Entry, KeptScan, Phase, OwnTransaction, Backend}
 use Rattle.backend_core.specs.declared.phase.Phase.TheVariants as phases
 use Rattle.backend_core.specs.State.{owed_at, is_accepting, looks_due, phase_looked, locks_accepted, published_at, is_absent, is_visible_at, is_taken_back, is_ended, one_if, running_in, begun_own, begins_in, owed_first, scans_missing, Rest, session_at, HasCommand}
@@ -32,7 +33,6 @@ use Rattle.backend_core.specs.Steps.{OwesLookNow, IsWorking, Enters}
 use Rattle.backend_core.proofs.Stepping.{Waits, facts_after, session_after, rest_after, own_enters}
 use Rattle.backend_core.proofs.Carry.{MayCome, may_come, Leaves, own_leaves, kept-more, command-more, no_answer, look_true, look_call, waits_at, waits_scan, left_command, start_owed, clear_at, transaction-more, none_opened, none_missing, missing_at, is_locked-accepted, rows_fit-more, found_locked-more, runs_unowed}
 use Rattle.backend_core.proofs.Acting.{IsActing, is_acting, missing_acts}
-use Rattle.backend_core.proofs.Ways.{acts}
 
 one_at_most : (t : Bool) → one_if t ≤ 1
 one_at_most true = omega arith

@@ -28,6 +28,7 @@ use Rattle.cacheless.specs.Owed.{unusable, act_owed, act_next, is_next_scan}
 use Rattle.cacheless.specs.Locks.{is_locked}
 use Rattle.cacheless.specs.Sessions.{placed_at, is_wanted}
 use Rattle.cacheless.specs.Plays.{MayPlayIn, started_in, has_looked}
+use Rattle.cacheless.proofs.Ways.{acts}
 use Rattle.backend_core.specs.Types.{Oid, Kind, Row, Purpose, Mode, Entry, Event, Opening, KeptScan, OwnTransaction, Backend}
 use Rattle.backend_core.specs.declared.phase.Phase.TheVariants as phases
 use Rattle.backend_core.specs.NewTables.{StaysRead, SeesRelation, relation_of}
@@ -40,7 +41,6 @@ use Rattle.backend_core.proofs.Carry.{transaction-more, end_free, waits_scan, ru
 use Rattle.backend_core.proofs.Acting.{IsActing, is_acting}
 use Rattle.backend_core.proofs.CanFollow.{CanGoOn}
 use Rattle.backend_core.proofs.Nexting.{the_command}
-use Rattle.backend_core.proofs.Ways.{acts}
 
 -- the same state but for its reading: where it works, it stays well
 pub reads_well : (was : Backend) (looked read : Bool) (given : Vec Row Global) (given_at : ℕ) (kept : List KeptScan) → IsWorking was → is_out was ≡ false → Well was

@@ -20,16 +20,17 @@ use Rattle.cacheless.specs.Facts.{facts_of}
 use Rattle.cacheless.specs.Lines.{first_found, shown_fields, shown_row, answer_well}
 use Rattle.cacheless.specs.Session.{Finished, none_open, outcome_of}
 use Rattle.cacheless.specs.Settled.{settled, found_by, finished_as}
+use Rattle.cacheless.specs.ActsDone.{reached, made_in, opening_by, relation_by}
 use Rattle.cacheless.proofs.HeldLocks.{settled-locks}
+use Rattle.cacheless.proofs.Ways.{NeverWrites, never_reaches, reached-over, made_in-over}
 use Rattle.backend_core.specs.Types.{Oid, Mode, Kind, Field, Row, Command, CommandError, Answer, Entry, Opening, Backend}
 use Rattle.backend_core.specs.State.{missing, builds_missing, Rest, session_at}
 use Rattle.backend_core.specs.Agrees.{ReadRight, KeptFits, Agrees}
 use Rattle.backend_core.specs.NewTables.{SeesRelation}
-use Rattle.backend_core.specs.Way.{reached, made_in, opening_by, relation_by, SeesAll, Way}
+use Rattle.backend_core.specs.Way.{SeesAll, Way}
 use Rattle.backend_core.specs.Answering.{shown_all, shown_kept, of_open, answer_done}
 use Rattle.backend_core.proofs.Carry.{none_missing_well}
 use Rattle.backend_core.proofs.Shown.{CanShow, field_shown, all_shown}
-use Rattle.backend_core.proofs.Ways.{NeverWrites, never_reaches, reached-over, made_in-over}
 
 -- the running command as it will be kept
 abbrev pub finished_at : Backend → Rest → Finished

@@ -38,15 +38,17 @@ use Rattle.cacheless.specs.Session.{Session, none_open, outcome_of, is_settled, 
 use Rattle.cacheless.specs.Owed.{Owes, OwesLook, OwesScan, builds_owed, owed_of}
 use Rattle.cacheless.specs.Sessions.{written, placed_at}
 use Rattle.cacheless.specs.Plays.{IsWrite, MayPlayIn}
+use Rattle.cacheless.specs.ActsDone.{reached}
 use Rattle.cacheless.proofs.HeldLocks.{Follows as Follows', grant_of, locks_of, locks_are_held, lock_is_held}
 use Rattle.cacheless.proofs.Settling.{waits-act}
+use Rattle.cacheless.proofs.Ways.{acts}
 use Rattle.backend_core.specs.Types.{Oid, Xid, Row, Command, Scenario, Entry, Event, Item, Message, Phase, Draft, Exec, Opening, OwnLock, OwnTransaction, KeptScan, Backend}
 use Rattle.backend_core.specs.declared.phase.Phase.TheVariants as phases
 use Rattle.backend_core.specs.NewTables.{IsNewTable, SeesRelation}
 use Rattle.backend_core.specs.State.{is_accepting, published_at, is_visible_at, is_taken_back, is_ended, is_out, begins_in, owed_first, running_in, lists_at, kept_spared, owed_at, one_if, session_at}
 use Rattle.backend_core.specs.Agrees.{IsPlayed, ReadRight, FactsFit, KeptFits, RunsBy, TransactionFits, EndFits, Well, Agrees}
 use Rattle.backend_core.specs.Steps.{IsWorking, Enters}
-use Rattle.backend_core.specs.Way.{reached, OnItsWay}
+use Rattle.backend_core.specs.Way.{OnItsWay}
 use Rattle.backend_core.proofs.Acting.{IsActing, is_acting}
 use Rattle.backend_core.proofs.CanFollow.{CanGoOn}
 use Rattle.backend_core.proofs.Stepping.{Waits, facts_after, session_after, rest_after, Keeps, Follows, Suits, GoesOn, own_enters}
@@ -54,7 +56,6 @@ use Rattle.backend_core.proofs.Carry.{may_request, waits_at, none_missing, missi
 use Rattle.backend_core.proofs.NewTable.{new_table_may_write, new_table_locks}
 use Rattle.backend_core.proofs.Nexting.{the_command}
 use Rattle.backend_core.proofs.Sparing.{is_kept-spared, all-spared}
-use Rattle.backend_core.proofs.Ways.{acts}
 use Rattle.backend_core.proofs.WriteMessages.{registered_is, spared_alike}
 
 -- while a command works its transaction runs as the blocks say

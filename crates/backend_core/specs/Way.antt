@@ -1,45 +1,16 @@
 -- How far a command is in what its plan says.
-use Rattle.std.specs.Prelude.{◌≡◌, ◌+◌, ◌++◌, ◌⊎◌, ℕ, true, false, List, [], ◌∷◌}
+use Rattle.std.specs.Prelude.{◌≡◌, ◌+◌, ◌⊎◌, ℕ, true, false, List}
 use Rattle.std.specs.List.{AllByRecursion}
-use Rattle.base_types.specs.declared.row.Row.TheVariants as rows
-use Rattle.ddl_effect.specs.Plans.{Act, Lookup, Write, Plan, Done, Do, after_act}
+use Rattle.ddl_effect.specs.Plans.{Write, Plan, Done, Do}
 use Rattle.ddl_effect.specs.Commands.{plan_of}
 use Rattle.ddl_effect.specs.Stages.{plan_at}
 use Rattle.history_model.specs.Writes.{has_written}
 use Rattle.cacheless.specs.Session.{none_open}
-use Rattle.cacheless.specs.Settled.{found_by, opened_by}
+use Rattle.cacheless.specs.Settled.{found_by}
+use Rattle.cacheless.specs.ActsDone.{reached, made_in, opening_by, relation_by}
 use Rattle.backend_core.specs.Types.{Row, Command, Draft, Entry, Opening, Backend}
 use Rattle.backend_core.specs.NewTables.{SeesRelation}
 use Rattle.backend_core.specs.State.{Rest}
-
--- the plan after its first act, which gave these rows; a write isn't passed
-abbrev pub after_given : List Row → Plan → Plan
-after_given given (Do (Write draft) rest) = Do (Write draft) rest
-after_given given plan = after_act given plan
-
--- the plan after acts that gave these rows, one list an act
-abbrev pub reached : List (List Row) → Plan → Plan
-reached [] plan = plan
-reached (given ∷ gave) plan = reached gave (after_given given plan)
-
--- what the first act of a plan makes, by the rows that it gave
-abbrev pub made_first : {X : Type 0} → (Act → List Row → List X) → List Row → Plan → List X
-made_first makes given (Do act rest) = makes act given
-made_first makes given plan = []
-
--- what the acts on the way make
-abbrev pub made_in : {X : Type 0} → (Act → List Row → List X) → List (List Row) → Plan → List X
-made_in makes [] plan = []
-made_in makes (given ∷ gave) plan = made_first makes given plan ++ made_in makes gave (after_given given plan)
-
--- the descriptor that an act opens, whatever it gave
-abbrev pub opening_by : Act → List Row → List Opening
-opening_by act given = opened_by act
-
--- the relation that a lookup found, with its kind
-abbrev pub relation_by : Act → List Row → List Opening
-relation_by (Lookup name mode) (rows.Class rel own kind fill ∷ more) = record { rel = rel; kind = kind } ∷ []
-relation_by act given = []
 
 -- the backend sees these relations
 abbrev pub SeesAll : List Entry → ℕ → List Opening → Type 0
