@@ -16,7 +16,8 @@ use Rattle.base_types.specs.declared.row.Row.TheVariants as rows
 use Rattle.base_types.specs.declared.scan.Purpose.TheVariants as scans
 use Rattle.rel_desc.specs.declared.error.CommandError.TheVariants as errors
 use Rattle.ddl_effect.specs.Plans.{Plan, Done, Fails, Absent, NotBuilt, Do, Lookup, Open, Column, Read, Lock, Write, is_built}
-use Rattle.ddl_effect.specs.Commands.{plan_of, runs, found, looking_up, if_passes, if_no_column, first_twice, writing, opening, showing, showing_field, is_table, locking, new_table, altering, column_there, with_column, column_free, reading, changing, adding, add_column, dropping, drop_column, with_name, renaming, rename_column, targeting, set_statistics, filling, set_fillfactor}
+use Rattle.ddl_effect.specs.Commands.{plan_of, found, looking_up, if_passes, if_no_column, first_twice, writing, opening, showing, showing_field, is_table, locking, new_table, altering, column_there, with_column, column_free, reading, changing, adding, add_column, dropping, drop_column, with_name, renaming, rename_column, targeting, set_statistics, filling, set_fillfactor}
+use Rattle.cacheless.specs.Runs.{runs}
 use Rattle.cacheless.specs.Types.{Oid, Mode, AccessExclusive, Kind, Row, Purpose, Command, CommandError, Draft, Opening}
 use Rattle.cacheless.specs.ActsDone.{after_given, reached, made_first, made_in, opening_by, relation_by}
 use Rattle.cacheless.proofs.EffectAlong.{plain_row, GoesByRelation}
@@ -186,6 +187,11 @@ runs_built held (commands.Show name None) is = refl
 runs_built held (commands.Show name (Some field)) is = refl
 runs_built held (commands.LockTable name mode) is = refl
 runs_built held (commands.CreateTable name columns) is = built_creating (nat_le (length columns) MOST_COLUMNS) (first_twice [] (map (λ (c : NewColumn). c.name) columns)) (new_table name columns)
+runs_built held (commands.AddColumn name column col_type) is = refl
+runs_built held (commands.DropColumn name column) is = refl
+runs_built held (commands.RenameColumn name column to) is = refl
+runs_built held (commands.SetStatistics name column stat) is = refl
+runs_built held (commands.SetFillfactor name fill) is = refl
 runs_built held command is = absurd (cc)
 
 -- it goes on by relations alone

@@ -7,22 +7,12 @@ use Rattle.base_types.specs.declared.row.Row.TheVariants as rows
 use Rattle.base_types.specs.declared.scan.Purpose.TheVariants as scans
 use Rattle.ddl_effect.specs.Plans.{Plan, Act, Done, Fails, Absent, NotBuilt, Do, Lookup, Open, Column, Read, Lock, Write}
 use Rattle.ddl_effect.specs.Commands.{found}
-use Rattle.cacheless.specs.Types.{Oid, Mode, Kind, Row, Purpose}
-use Rattle.cacheless.specs.ActsDone.{made_in, BeginWith, IsStill, AreStill}
+use Rattle.history_model.proofs.Every.{every-append}
+use Rattle.cacheless.specs.Types.{Oid, Mode, Kind, Row, Purpose, Opening}
+use Rattle.cacheless.specs.ActsDone.{LockedRelation, locked_relation_by, after_given, reached, made_first, made_in, relation_by, BeginWith, IsStill, IsFirstStill, AreStill}
 use Rattle.cacheless.proofs.EffectAlong.{plain_row}
 use Rattle.cacheless.proofs.Ways.{acts}
 use Rattle.cacheless.proofs.ActOrder.{OpensUnder, FollowsOpen, FollowsFound, FollowsOrder}
-
--- a relation that a lookup found, with the mode in which it is locked
-pub record LockedRelation : Type 0 where
-  pub rel : Oid
-  pub kind : Kind
-  pub mode : Mode
-
--- the relation that a lookup found, with its kind and the lookup's mode
-abbrev pub locked_by : Act → List Row → List LockedRelation
-locked_by (Lookup name mode) (rows.Class rel own kind fill ∷ more) = record { rel = rel; kind = kind; mode = mode } ∷ []
-locked_by act given = []
 
 -- a scan for a column of a relation, or for its descriptor
 abbrev pub IsOf : Oid → Kind → Purpose → Type 0
@@ -80,13 +70,13 @@ still_found now later o (given ∷ gave) (Do (Lock of mode) rest) stays follows 
 still_found now later o (given ∷ gave) (Do (Write draft) rest) stays follows still = absurd follows
 
 still_lookup : (now later : Purpose → List Row) (name : List ℕ) (mode : Mode) (rest : List Row → Plan) (given : List Row) (gave : List (List Row)) → FollowsOrder (Do (Lookup name mode) rest)
-    → AllByRecursion (RowsStay now later) (locked_by (Lookup name mode) given ++ made_in locked_by gave (rest given)) → IsStill now (Lookup name mode) given → AreStill now (rest given) gave → IsStill later (Lookup name mode) given × AreStill later (rest given) gave
+    → AllByRecursion (RowsStay now later) (locked_relation_by (Lookup name mode) given ++ made_in locked_relation_by gave (rest given)) → IsStill now (Lookup name mode) given → AreStill now (rest given) gave → IsStill later (Lookup name mode) given × AreStill later (rest given) gave
 still_lookup now later name mode rest given gave follows = by_rows given (follows.0 given)
   where
     absent : (l : List Row) → rest l ≡ Absent name → AreStill later (rest l) gave
     absent l is = subst (λ p. AreStill later p gave) (sym is) (still_over later gave (Absent name) refl)
 
-    by_rows : (l : List Row) → rest l ≡ found name (λ rel kind. rest (plain_row rel kind)) l → AllByRecursion (RowsStay now later) (locked_by (Lookup name mode) l ++ made_in locked_by gave (rest l))
+    by_rows : (l : List Row) → rest l ≡ found name (λ rel kind. rest (plain_row rel kind)) l → AllByRecursion (RowsStay now later) (locked_relation_by (Lookup name mode) l ++ made_in locked_relation_by gave (rest l))
         → IsStill now (Lookup name mode) l → AreStill now (rest l) gave → IsStill later (Lookup name mode) l × AreStill later (rest l) gave
     by_rows [] is stay first still = (tt, absent [] is)
     by_rows (rows.Class rel own kind fill ∷ more) is stay first still = (
@@ -97,7 +87,7 @@ still_lookup now later name mode rest given gave follows = by_rows given (follow
     by_rows (row ∷ more) is stay first still = (tt, absent (row ∷ more) is)
 
 -- what a command's acts gave is so still later, where each relation found stays
-pub still_after : (now later : Purpose → List Row) (gave : List (List Row)) (plan : Plan) → FollowsOrder plan → AllByRecursion (RowsStay now later) (made_in locked_by gave plan) → AreStill now plan gave → AreStill later plan gave
+pub still_after : (now later : Purpose → List Row) (gave : List (List Row)) (plan : Plan) → FollowsOrder plan → AllByRecursion (RowsStay now later) (made_in locked_relation_by gave plan) → AreStill now plan gave → AreStill later plan gave
 still_after now later [] plan follows stay still = tt
 still_after now later (given ∷ gave) Done follows stay still = still_over later (given ∷ gave) Done refl
 still_after now later (given ∷ gave) (Fails error) follows stay still = still_over later (given ∷ gave) (Fails error) refl
@@ -109,3 +99,28 @@ still_after now later (given ∷ gave) (Do (Open of as_kind) rest) follows stay 
 still_after now later (given ∷ gave) (Do (Column of name) rest) follows stay still = absurd follows
 still_after now later (given ∷ gave) (Do (Read scan) rest) follows stay still = absurd follows
 still_after now later (given ∷ gave) (Do (Lock of mode) rest) follows stay still = absurd follows
+
+-- one more act on the way, whose rows are so
+pub still-push : (now : Purpose → List Row) (gave : List (List Row)) (given : List Row) (plan : Plan) → AreStill now plan gave → IsFirstStill now (reached gave plan) given → AreStill now plan (gave ++ given ∷ [])
+still-push now [] given plan still first = (first, tt)
+still-push now (g ∷ gave) given plan still first = (still.0, still-push now gave given (after_given g plan) still.1 first)
+
+-- each relation that was found is found still
+abbrev pub IsFoundStill : (Purpose → List Row) → Opening → Type 0
+IsFoundStill now o = BeginWith o.rel o.kind (now (scans.Class o.rel))
+
+first_found_still : (now : Purpose → List Row) (given : List Row) (plan : Plan) → IsFirstStill now plan given → AllByRecursion (IsFoundStill now) (made_first relation_by given plan)
+first_found_still now [] (Do (Lookup name mode) rest) still = tt
+first_found_still now (rows.Class rel own kind fill ∷ more) (Do (Lookup name mode) rest) still = (still, tt)
+first_found_still now (row ∷ more) (Do (Lookup name mode) rest) still = tt
+first_found_still now given (Do (Open rel kind) rest) still = tt
+first_found_still now given (Do (Column rel name) rest) still = tt
+first_found_still now given (Do (Read scan) rest) still = tt
+first_found_still now given (Do (Lock rel mode) rest) still = tt
+first_found_still now given (Do (Write draft) rest) still = tt
+first_found_still now given plan still = tt
+
+pub all_found_still : (now : Purpose → List Row) (gave : List (List Row)) (plan : Plan) → AreStill now plan gave → AllByRecursion (IsFoundStill now) (made_in relation_by gave plan)
+all_found_still now [] plan still = tt
+all_found_still now (given ∷ gave) plan still =
+    every-append (IsFoundStill now) (made_first relation_by given plan) (made_in relation_by gave (after_given given plan)) (first_found_still now given plan still.0) (all_found_still now gave (after_given given plan) still.1)

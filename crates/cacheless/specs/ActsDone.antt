@@ -1,9 +1,13 @@
 -- What is left of a plan after acts, by the rows that they gave; what these acts made; and that what they gave is so still.
-use Rattle.std.specs.Prelude.{◌≡◌, ⊤, ℕ, Option, List, [], ◌∷◌, ◌++◌}
+use Rattle.std.specs.Prelude.{◌≡◌, ⊤, ℕ, true, Option, List, [], ◌∷◌, ◌++◌}
+use Rattle.std.specs.List.{AllByRecursion}
 use Rattle.base_types.specs.declared.row.Row.TheVariants as rows
 use Rattle.base_types.specs.declared.scan.Purpose.TheVariants as scans
+use Rattle.lock_modes.specs.Grants.{holds}
+use Rattle.history_model.specs.Held.{held_of}
+use Rattle.history_model.specs.Versions.{answer_of}
 use Rattle.ddl_effect.specs.Plans.{Act, Lookup, Column, Read, Write, Plan, Do, after_act}
-use Rattle.cacheless.specs.Types.{Oid, Kind, Row, Purpose, Opening}
+use Rattle.cacheless.specs.Types.{Oid, Mode, Kind, Row, Purpose, Opening, Entry}
 use Rattle.cacheless.specs.Settled.{opened_by}
 
 -- the plan after its first act, which gave these rows; a write isn't passed
@@ -35,6 +39,17 @@ abbrev pub relation_by : Act → List Row → List Opening
 relation_by (Lookup name mode) (rows.Class rel own kind fill ∷ more) = record { rel = rel; kind = kind } ∷ []
 relation_by act given = []
 
+-- a relation that a lookup found, with the mode in which it is locked
+pub record LockedRelation : Type 0 where
+  pub rel : Oid
+  pub kind : Kind
+  pub mode : Mode
+
+-- the relation that a lookup found, with its kind and the lookup's mode
+abbrev pub locked_relation_by : Act → List Row → List LockedRelation
+locked_relation_by (Lookup name mode) (rows.Class rel own kind fill ∷ more) = record { rel = rel; kind = kind; mode = mode } ∷ []
+locked_relation_by act given = []
+
 -- rows that begin with a relation's, of this kind; its name and its fillfactor may be any
 pub record BeginWith (rel : Oid) (kind : Kind) (given : List Row) : Type 0 where
   pub name : List ℕ
@@ -58,3 +73,12 @@ IsFirstStill now plan given = ⊤
 abbrev pub AreStill : (Purpose → List Row) → Plan → List (List Row) → Type 0
 AreStill now plan [] = ⊤
 AreStill now plan (given ∷ gave) = IsFirstStill now plan given × AreStill now (after_given given plan) gave
+
+-- the lock of a relation that was found is held
+abbrev pub IsHeld : List Entry → ℕ → LockedRelation → Type 0
+IsHeld history b o = holds (held_of history) b o.rel o.mode ≡ true
+
+-- the locks of the relations that a command found are held, and what its acts gave is so still
+pub record WayHolds (history : List Entry) (b : ℕ) (gave : List (List Row)) (plan : Plan) : Type 0 where
+  pub locked : AllByRecursion (IsHeld history b) (made_in locked_relation_by gave plan)
+  pub still : AreStill (answer_of history b) plan gave

@@ -1,4 +1,5 @@
 pub mod Types
+pub mod Runs
 pub mod Facts
 pub mod Locks
 pub mod Session
@@ -8,6 +9,7 @@ pub mod Settled
 pub mod ActsDone
 pub mod Sessions
 pub mod Plays
+pub mod TableWrites
 pub mod Protected
 pub mod Lines
 pub mod Schedule

@@ -1,5 +1,5 @@
 -- A scan that a backend may still rely on is accounted for: it stays true, or a message that covers it is on its way.
-use Rattle.std.proofs.Common.{◌≡◌, ◌∙◌, ◌⊎◌, inl, inr, ℕ, Bool, true, false, List, [], ◌∷◌, ◌++◌, ◌==◌, ◌||◌, ◌&&◌, refl, sym, subst, arith}
+use Rattle.std.proofs.Common.{◌≡◌, ◌∙◌, ◌⊎◌, inl, inr, ◌+◌, ℕ, Bool, true, false, Some, List, [], ◌∷◌, ◌++◌, ◌==◌, ◌||◌, ◌&&◌, refl, sym, ap, subst, unwrap_or, length, arith}
 use Rattle.std.proofs.lemmas.Bool.{eqb-true, eq-eqb, both_ways, and_parts, not-true}
 use Rattle.base_types.specs.declared.scan.Purpose.{Purpose}
 use Rattle.event_kinds.specs.declared.entry.Entry.{Entry}
@@ -12,17 +12,18 @@ use Rattle.history_model.specs.Lives.{Life, Unstarted, Alive, Stopped, life_of, 
 use Rattle.history_model.specs.Sent.{messages_written, lists_of, sent_of}
 use Rattle.history_model.specs.Log.{fetched_by}
 use Rattle.history_model.specs.Covered.{is_covered}
+use Rattle.history_model.specs.Coming.{IsComing, IsAccounted}
 use Rattle.history_model.specs.Legal.{AllowsEvent}
-use Rattle.history_model.specs.Read.{is_scan_of, place_read, rows_read, spares_by, usable_by, is_usable}
+use Rattle.history_model.specs.Read.{read_at, is_scan_of, place_read, rows_read, spares_by, usable_by, is_usable}
 use Rattle.history_model.specs.Orderly.{MayComeNext, IsSound}
-use Rattle.history_model.proofs.Prefixes.{each-keeps}
-use Rattle.history_model.proofs.Reading.{life_of-own, life_of-other, position_of-own, position_of-other, is_usable-own, is_usable-other}
+use Rattle.history_model.proofs.Prefixes.{each-keeps, along-keeps}
+use Rattle.history_model.proofs.Reading.{life_of-own, life_of-other, position_of-own, position_of-other, is_usable-own, is_usable-other, read_at-own, read_at-other}
 use Rattle.history_model.proofs.Lawful.{CoversLawfully, IsLawful}
 use Rattle.history_model.proofs.Lives.{not_unstarted}
 use Rattle.history_model.proofs.Touched.{entry_of}
 use Rattle.history_model.proofs.Ordered.{Ordered, Ordered-start, Ordered-more, lawful_of, covers_of}
 use Rattle.history_model.proofs.Answers.{IsSparedByOther, IsSparedByOwn, answer-other, answer-own}
-use Rattle.history_model.proofs.Coming.{IsComing, IsAccounted, Placed, Placed-more, Unsent, Unsent-more, coming-more, coming-fetch, coming-visible}
+use Rattle.history_model.proofs.Coming.{Placed, Placed-more, Unsent, Unsent-more, coming-more, coming-fetch, coming-visible}
 use Rattle.history_model.proofs.Staying.{Stays, stays-other, stays-kept, stays-scan}
 
 -- before its start a backend may rely on no scan
@@ -147,3 +148,23 @@ sound_unread history sound = (each-keeps MayComeNext Carried carried-start carri
 -- nothing is published of what isn't visible
 pub sound_unsent : (history : List Entry) → IsSound history → Unsent history
 sound_unsent history sound = (each-keeps MayComeNext Carried carried-start carried-more history sound).unsent
+
+-- what a backend may rely on it has read
+pub usable_read : (history : List Entry) (b : ℕ) (d : Purpose) → is_usable history b d ≡ true → read_at history b d ≡ Some (place_read history b d)
+usable_read history b d = along-keeps {X = Unit {0}} (λ before x. is_usable before b d ≡ true → read_at before b d ≡ Some (place_read before b d)) (λ before x e. x) (λ before x e was. more before e was) tt history (λ none. absurd (cc none))
+  where
+    more : (before : List Entry) (e : Entry) → (is_usable before b d ≡ true → read_at before b d ≡ Some (place_read before b d)) → is_usable (before ++ e ∷ []) b d ≡ true → read_at (before ++ e ∷ []) b d ≡ Some (place_read (before ++ e ∷ []) b d)
+    more before e was is = by_owner (e.backend == b) refl
+      where
+        same : read_at (before ++ e ∷ []) b d ≡ read_at before b d → is_usable before b d ≡ true → read_at (before ++ e ∷ []) b d ≡ Some (place_read (before ++ e ∷ []) b d)
+        same stays used = stays ∙ was used ∙ ap (λ o. Some (unwrap_or o 0)) (sym stays)
+
+        by_scan : (e.backend == b) ≡ true → (t : Bool) → is_scan_of d e.event ≡ t → read_at (before ++ e ∷ []) b d ≡ Some (place_read (before ++ e ∷ []) b d)
+        by_scan own true it = let at = read_at-own before e b d own ∙ ap (λ t. elim t [ true ↦ Some (length before + 1) | false ↦ read_at before b d ]) it in at ∙ ap (λ o. Some (unwrap_or o 0)) (sym at)
+        by_scan own false it =
+            same (read_at-own before e b d own ∙ ap (λ t. elim t [ true ↦ Some (length before + 1) | false ↦ read_at before b d ]) it)
+            (and_parts (spares_by before b e.command d e.event) (is_usable before b d) (sym (ap (λ t. t || (spares_by before b e.command d e.event && is_usable before b d)) it) ∙ sym (is_usable-own before e b d own) ∙ is)).1
+
+        by_owner : (t : Bool) → (e.backend == b) ≡ t → read_at (before ++ e ∷ []) b d ≡ Some (place_read (before ++ e ∷ []) b d)
+        by_owner true own = by_scan own (is_scan_of d e.event) refl
+        by_owner false other = same (read_at-other before e b d other) (sym (is_usable-other before e b d other) ∙ is)

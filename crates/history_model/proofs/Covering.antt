@@ -17,7 +17,8 @@ use Rattle.history_model.specs.Orderly.{covers_named, IsSound}
 use Rattle.history_model.proofs.Every.{every-weaker, every-append, every-map, every-filter}
 use Rattle.history_model.proofs.Ordered.{all_flat, both_rows, ended_named, one_version}
 
-flat_all : {X Y : Type 0} (p : Y → Bool) (f : X → List Y) (xs : List X) → AllByRecursion (λ x. list_all p (f x) ≡ true) xs → list_all p (flat_map f xs) ≡ true
+-- what each list passes they pass joined
+pub flat_all : {X Y : Type 0} (p : Y → Bool) (f : X → List Y) (xs : List X) → AllByRecursion (λ x. list_all p (f x) ≡ true) xs → list_all p (flat_map f xs) ≡ true
 flat_all p f [] all = refl
 flat_all p f (x ∷ xs) all = list_all-append p (f x) (flat_map f xs) ∙ and_from (list_all p (f x)) (list_all p (flat_map f xs)) all.0 (flat_all p f xs all.1)
 

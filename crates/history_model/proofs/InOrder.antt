@@ -46,7 +46,7 @@ pub every_given : (P : Row → Type 0) (d : Purpose) (given rows : List Row) →
 every_given P d given [] all also = all
 every_given P d given (row ∷ rows) all also = every_given P d (put_in_order d given row) rows (every_inserted P given (position_or_len (goes_before d row) given) row all also.0) also.1
 
-some_given : (P : Row → Type 0) (d : Purpose) (given rows : List Row) → SomeOf P given ⊎ SomeOf P rows → SomeOf P (fold (put_in_order d) given rows)
+pub some_given : (P : Row → Type 0) (d : Purpose) (given rows : List Row) → SomeOf P given ⊎ SomeOf P rows → SomeOf P (fold (put_in_order d) given rows)
 some_given P d given [] (inl there) = there
 some_given P d given [] (inr none) = absurd none
 some_given P d given (row ∷ rows) (inl there) = some_given P d (put_in_order d given row) rows (inl (in_inserted P given (position_or_len (goes_before d row) given) row (inr there)))
@@ -131,7 +131,7 @@ in_order_by before other same [] order = tt
 in_order_by before other same (row ∷ given) order = (every-weaker (λ x. before x row ≡ false) (λ x. other x row ≡ false) (λ x is. sym (same x row) ∙ is) given order.0, in_order_by before other same given order.1)
 
 -- what such a scan gives rises, where the numbers of its rows differ
-given_rises : (d : Purpose) (rows : List Row) → IsInOrder (goes_before d) (fold (put_in_order d) [] rows) → IsByNumber d rows → Pairwise Differ rows → Rises (fold (put_in_order d) [] rows)
+pub given_rises : (d : Purpose) (rows : List Row) → IsInOrder (goes_before d) (fold (put_in_order d) [] rows) → IsByNumber d rows → Pairwise Differ rows → Rises (fold (put_in_order d) [] rows)
 given_rises d rows order by_number pairs = of by_number
   where
     apart : Pairwise Differ (fold (put_in_order d) [] rows)

@@ -150,7 +150,7 @@ IsQuiet (events.Gone from) = ⊥
 IsQuiet (events.Release from) = ⊥
 IsQuiet event = ⊤
 
-quiet_keeps : (event : Event) → IsQuiet event → IsNoChange event
+pub quiet_keeps : (event : Event) → IsQuiet event → IsNoChange event
 quiet_keeps (events.Write xid items) quiet = quiet
 quiet_keeps (events.Gone from) quiet = quiet
 quiet_keeps event quiet = tt
@@ -223,18 +223,22 @@ pub read_between : (history more : List Entry) (b : ℕ) (rel : Oid) (d : Purpos
 read_between history more b rel d modes sound asks among still was =
     between (λ h. answer_of h b d ≡ rows_read h b d) (IsUndisturbed b rel modes) (λ before e well comes one same. undisturbed_read before e b rel d modes well comes asks among one same) history more sound was still
 
-barred_kept : (a c : ℕ) (event : Event) (held : List Grant) (b : ℕ) (rel : Oid) (mode : Mode) → ((a == b) ≡ true → IsQuiet event) → IsBarred held b rel mode → IsBarred (held_by a c event held) b rel mode
-barred_kept a c (events.LockOk on in') held b rel mode quiet barred = any-left (bars b rel mode) held _ barred
-barred_kept a c (events.Write xid items) held b rel mode quiet barred = any-left (bars b rel mode) held _ barred
-barred_kept a c (events.Release from) held b rel mode quiet barred = any-filter (bars b rel mode) (stays a from) kept held barred
+-- a grant of the backend stays while it releases nothing
+pub grant_kept : (a c : ℕ) (event : Event) (held : List Grant) (b : ℕ) (p : Grant → Bool) → ((g : Grant) → p g ≡ true → (g.backend == b) ≡ true) → ((a == b) ≡ true → IsQuiet event) → list_any p held ≡ true → list_any p (held_by a c event held) ≡ true
+grant_kept a c (events.LockOk on in') held b p own quiet some = any-left p held _ some
+grant_kept a c (events.Write xid items) held b p own quiet some = any-left p held _ some
+grant_kept a c (events.Release from) held b p own quiet some = any-filter p (stays a from) kept held some
   where
-    kept : (g : Grant) → bars b rel mode g ≡ true → stays a from g ≡ true
+    kept : (g : Grant) → p g ≡ true → stays a from g ≡ true
     kept g is = by_owner (g.backend == a) refl
       where
         by_owner : (t : Bool) → (g.backend == a) ≡ t → not (t && nat_le from g.command) ≡ true
         by_owner false theirs = refl
-        by_owner true mine = absurd (quiet (eq-eqb a b (sym (eqb-true g.backend a mine) ∙ eqb-true g.backend b (and_parts (g.backend == b) (same_oid g.rel rel && conflicts mode g.mode) is).0)))
-barred_kept a c event held b rel mode quiet barred = barred
+        by_owner true mine = absurd (quiet (eq-eqb a b (sym (eqb-true g.backend a mine) ∙ eqb-true g.backend b (own g is))))
+grant_kept a c event held b p own quiet some = some
+
+barred_kept : (a c : ℕ) (event : Event) (held : List Grant) (b : ℕ) (rel : Oid) (mode : Mode) → ((a == b) ≡ true → IsQuiet event) → IsBarred held b rel mode → IsBarred (held_by a c event held) b rel mode
+barred_kept a c event held b rel mode quiet barred = grant_kept a c event held b (bars b rel mode) (λ g is. (and_parts (g.backend == b) (same_oid g.rel rel && conflicts mode g.mode) is).0) quiet barred
 
 -- the entry isn't a write of the backend, takes none back and releases nothing of its own
 abbrev pub IsIdle : ℕ → List Entry → Entry → Type 0

@@ -39,7 +39,8 @@ use Rattle.history_model.proofs.Granted.{lock_parts}
 use Rattle.history_model.proofs.Reached.{reached-rises}
 use Rattle.history_model.proofs.Ordered.{Ordered, lawful_of, covers_of, sound_ordered}
 use Rattle.history_model.proofs.Answers.{IsSparedByOwn, answer-other, answer-own}
-use Rattle.history_model.proofs.Coming.{unpublished_in, unpublished_of, published_by, log-append, unpublished-more, unpublished-visible, Placed}
+use Rattle.history_model.specs.Coming.{unpublished_in, unpublished_of}
+use Rattle.history_model.proofs.Coming.{published_by, log-append, unpublished-more, unpublished-visible, Placed}
 use Rattle.history_model.proofs.Accounted.{spared_is, own_spared, scan_spared, no_start, sound_placed, sound_unsent, sound_unread}
 
 -- another backend has made visible what it did and still holds one of the modes on the relation; a message that covers the scan isn't published by it yet, or the backend isn't past it

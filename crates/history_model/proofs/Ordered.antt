@@ -74,7 +74,7 @@ pub all_flat : {X Y : Type 0} (p : Y → Bool) (f : X → List Y) (xs : List X) 
 all_flat p f [] all = tt
 all_flat p f (x ∷ xs) all = let parts = and_parts (list_all p (f x)) (list_all p (flat_map f xs)) (sym (list_all-append p (f x) (flat_map f xs)) ∙ all) in (parts.0, all_flat p f xs parts.1)
 
-all_kept : {X Y : Type 0} (p : Y → Bool) (f : X → Option Y) (xs : List X) → list_all p (filter_map f xs) ≡ true → AllByRecursion (λ x. IfSome (f x) (λ y. p y ≡ true)) xs
+pub all_kept : {X Y : Type 0} (p : Y → Bool) (f : X → Option Y) (xs : List X) → list_all p (filter_map f xs) ≡ true → AllByRecursion (λ x. IfSome (f x) (λ y. p y ≡ true)) xs
 all_kept p f [] all = tt
 all_kept p f (x ∷ xs) all = by_option (f x) all (all_kept p f xs)
   where
@@ -185,7 +185,7 @@ guarded_rows before b c xid items guarded early =
         on row all = every-weaker (λ rel. P rel ≡ true) (λ rel. IsHeldIn is_exclusive held b c rel ⊎ (IsWeak old item × IsHeldIn is_update held b c rel)) guard (relations_of row) (all_each P (relations_of row) all)
 
 -- so a mode under which rows are changed is held on the row's own relation
-main_guarded : (held : List Grant) (b c : ℕ) (old : Option Row) (item : Item) (row : Row) → IsHeldFor held b c old item row → IsGuarded held b c (main_rel row)
+pub main_guarded : (held : List Grant) (b c : ℕ) (old : Option Row) (item : Item) (row : Row) → IsHeldFor held b c old item row → IsGuarded held b c (main_rel row)
 main_guarded held b c old item row all = of (main_of (λ rel. IsHeldIn is_exclusive held b c rel ⊎ (IsWeak old item × IsHeldIn is_update held b c rel)) row all)
   where
     of : IsHeldIn is_exclusive held b c (main_rel row) ⊎ (IsWeak old item × IsHeldIn is_update held b c (main_rel row)) → IsGuarded held b c (main_rel row)
@@ -344,7 +344,7 @@ find_holds Q p g o (v ∷ vs) all is = by_tests (g v) is (find_holds Q p g o vs 
     by_tests true here rest = in_row (p v.row) here rest
     by_tests false here rest = rest here
 
-find_passes : (p : Row → Bool) (o : Row) (seen : List Row) → find p seen ≡ Some o → p o ≡ true
+pub find_passes : (p : Row → Bool) (o : Row) (seen : List Row) → find p seen ≡ Some o → p o ≡ true
 find_passes p o [] is = absurd (cc)
 find_passes p o (row ∷ seen) is = by_test (p row) refl is (find_passes p o seen)
   where

@@ -66,7 +66,8 @@ reached-kept history e rel mode other = reached_of-more history e rel mode ∙ o
 abbrev Unreached : List Entry → Type 0
 Unreached history = (rel : Oid) (mode : Mode) → next_oid history ≤ rel.0 → reached_of history rel mode ≡ 0
 
-next_rises : (history : List Entry) (e : Entry) → next_oid history ≤ next_oid (history ++ e ∷ [])
+-- the next oid never falls
+pub next_rises : (history : List Entry) (e : Entry) → next_oid history ≤ next_oid (history ++ e ∷ [])
 next_rises history e = omega (arith, next-more history e, of e.event (next_oid history))
   where
     of : (event : Event) (next : ℕ) → next ≤ next_oid_by event next

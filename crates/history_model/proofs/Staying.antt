@@ -6,9 +6,9 @@ use Rattle.base_types.specs.declared.row.Row.{Row}
 use Rattle.base_types.specs.declared.scan.Purpose.{Purpose}
 use Rattle.event_kinds.specs.declared.entry.Entry.{Entry}
 use Rattle.history_model.specs.Versions.{answer_of}
+use Rattle.history_model.specs.Coming.{StaysRead}
 use Rattle.history_model.specs.Read.{read_at, is_scan_of, place_read, rows_read}
 use Rattle.history_model.proofs.Reading.{read_at-own, place_read-other, rows_read-own, rows_read-other}
-use Rattle.history_model.proofs.Coming.{StaysRead}
 
 -- what the backend's last such scan gave stays its answer
 abbrev pub Stays : List Entry → ℕ → Purpose → Type 0

@@ -174,10 +174,11 @@ write_back x f history w stamp shown C (item ∷ items) vs adds from some =
 abbrev Lasts : Row → (Stamp → Bool) → List Entry → ℕ → List Item → Version → Type 0
 Lasts x f history w items v = Shows f x v × AllByRecursion (λ item. ends history w item v ≡ true → Adds x item) items
 
-not_ended : (history : List Entry) (w : ℕ) (stamp : Stamp) (row : Row) (item : Item) → AllByRecursion (λ key. key_of row ≡ key → ⊥) (changed_key item) → ends history w item (added_at stamp row) ≡ true → ⊥
-not_ended history w stamp row (forms.Put new) differs ends' = differs.0 (key_eq (key_of row) (key_of new) (and_parts (same_key (key_of row) (key_of new)) (sees history w (added_at stamp row)) ends').0)
-not_ended history w stamp row (forms.Remove key) differs ends' = differs.0 (key_eq (key_of row) key (and_parts (same_key (key_of row) key) (sees history w (added_at stamp row)) ends').0)
-not_ended history w stamp row item differs ends' = absurd (cc)
+-- a change ends no version of another key
+pub not_ended : (history : List Entry) (w : ℕ) (v : Version) (item : Item) → AllByRecursion (λ key. key_of v.row ≡ key → ⊥) (changed_key item) → ends history w item v ≡ true → ⊥
+not_ended history w v (forms.Put new) differs ends' = differs.0 (key_eq (key_of v.row) (key_of new) (and_parts (same_key (key_of v.row) (key_of new)) (sees history w v) ends').0)
+not_ended history w v (forms.Remove key) differs ends' = differs.0 (key_eq (key_of v.row) key (and_parts (same_key (key_of v.row) key) (sees history w v) ends').0)
+not_ended history w v item differs ends' = absurd (cc)
 
 write_forth : (x : Row) (f : Stamp → Bool) (history : List Entry) (w : ℕ) (stamp : Stamp) → f stamp ≡ true → (items : List Item) (vs : List Version) → are_distinct_keys (flat_map changed_key items) ≡ true
     → SomeOf (Lasts x f history w items) vs → SomeOf (Shows f x) (fold (change_by history w stamp) vs items)
@@ -200,7 +201,7 @@ write_forth x f history w stamp shown (item ∷ items) vs distinct some =
         by_test false is = inl (h.0, h.1.1)
 
     never : (row : Row) → added_row item ≡ Some row → AllByRecursion (λ i. ends history w i (added_at stamp row) ≡ true → Adds x i) items
-    never row is = every-weaker (λ i. AllByRecursion (λ key. key_of row ≡ key → ⊥) (changed_key i)) (λ i. ends history w i (added_at stamp row) ≡ true → Adds x i) (λ i differs ends'. absurd (not_ended history w stamp row i differs ends')) items
+    never row is = every-weaker (λ i. AllByRecursion (λ key. key_of row ≡ key → ⊥) (changed_key i)) (λ i. ends history w i (added_at stamp row) ≡ true → Adds x i) (λ i differs ends'. absurd (not_ended history w (added_at stamp row) i differs ends')) items
         (differ_from (key_of row) items (added_key (λ k. list_any (same_key k) (flat_map changed_key items) ≡ false) item row is parts.0))
 
     of : SomeOf (λ v. Lasts x f history w items (change v)) vs ⊎ Adds x item → SomeOf (Lasts x f history w items) (change_by history w stamp vs item)
@@ -208,7 +209,8 @@ write_forth x f history w stamp shown (item ∷ items) vs distinct some =
     of (inr new) = some-right (Lasts x f history w items) (map change vs) (version_of stamp (added_row item))
         (subst (λ o. SomeOf (Lasts x f history w items) (version_of stamp o)) (sym new.1) (inl ((and_from (f stamp) true shown refl, new.2), never new.0 new.1)))
 
-find_some : (p : Row → Bool) (g : Version → Bool) (o : Row) (vs : List Version) → find p (map (λ w. w.row) (filter g vs)) ≡ Some o → SomeOf (λ v. (g v ≡ true) × (v.row ≡ o)) vs
+-- a row that is found is that of a version which is seen
+pub find_some : (p : Row → Bool) (g : Version → Bool) (o : Row) (vs : List Version) → find p (map (λ w. w.row) (filter g vs)) ≡ Some o → SomeOf (λ v. (g v ≡ true) × (v.row ≡ o)) vs
 find_some p g o [] is = absurd (cc)
 find_some p g o (v ∷ vs) is = by_tests (g v) refl is (find_some p g o vs)
   where

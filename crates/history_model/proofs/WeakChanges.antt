@@ -387,7 +387,7 @@ column_keyed rel (rows.Att of num own col_type stat live) (rows.Att of' num' own
 column_keyed rel (rows.Att of num own col_type stat live) other is also same = absurd (cc)
 column_keyed rel row other is also same = absurd (cc)
 
-column_apart : (rel : Oid) → TellsApart (scans.Attribute rel) rel
+pub column_apart : (rel : Oid) → TellsApart (scans.Attribute rel) rel
 column_apart rel = record {
   main = column_main rel;
   fixes = column_fixes rel;

@@ -11,6 +11,7 @@ pub mod Reached
 pub mod Drawn
 pub mod Names
 pub mod Covered
+pub mod Coming
 pub mod Writes
 pub mod Legal
 pub mod Read
