@@ -3,21 +3,22 @@ use Rattle.std.proofs.Common.{◌≡◌, ◌≢◌, inl, inr, ◌∙◌, Bool, t
 use Rattle.base_types.specs.Scenario.{Scenario}
 use Rattle.base_types.specs.declared.command.Command.TheVariants as commands
 use Rattle.ddl_effect.specs.Plans.{Plan, Done, Fails, Absent, NotBuilt, Do}
-use Rattle.ddl_effect.specs.Commands.{plan_of, runs}
+use Rattle.ddl_effect.specs.Commands.{plan_of}
+use Rattle.cacheless.specs.Runs.{runs}
 use Rattle.ddl_effect.specs.Blocks.{Block, Outside, Inside, Failed, no_block, ends_block, ends_failure, refused_in, refused_by}
 use Rattle.ddl_effect.specs.Stages.{plan_at}
 use Rattle.cacheless.specs.Owed.{Owes, OwesLook}
 use Rattle.cacheless.specs.Session.{Badly, outcome_of, is_settled, none_open, refused_first, plan_admitted, plan_first}
 use Rattle.cacheless.proofs.Ways.{acts, acts_before}
 use Rattle.backend_core.specs.Types.{Oid, Kind, Command, CommandError, Purpose, Entry, Backend}
-use Rattle.backend_core.specs.NewTables.{SeesRelation}
-use Rattle.backend_core.specs.State.{is_ended, begins_in, builds_missing, act_missing, scans_missing, Rest, HasCommand}
+use Rattle.backend_core.specs.State.{is_ended, begins_in, builds_missing, act_missing, scans_missing, Rest, HasCommand, is_out}
 use Rattle.backend_core.specs.Agrees.{Well, RunsBy, TransactionFits, Agrees}
 use Rattle.backend_core.specs.Steps.{IsWorking}
+use Rattle.cacheless.specs.ActsDone.{made_in, opening_by, relation_by}
+use Rattle.cacheless.proofs.ActOrder.{HasCome, follows_order, runs_built, has_come}
 use Rattle.backend_core.specs.Way.{OnItsWay, Way}
-use Rattle.backend_core.proofs.CanFollow.{CanGoOn, can_go_on, can_follow, can_reach}
-use Rattle.backend_core.proofs.Carry.{none_missing, none_missing_well, missing_at}
-use Rattle.backend_core.proofs.Ending.{built_at}
+use Rattle.backend_core.proofs.Carry.{none_missing_well, missing_at}
+use Rattle.backend_core.proofs.Stages.{stage_built}
 
 -- the command of a backend that is about to do an act: nothing has ended it, and its transaction runs
 pub record IsActing (seen : List Entry) (s : Backend) (rest : Rest) (command : Command) : Type 0 where
@@ -26,7 +27,7 @@ pub record IsActing (seen : List Entry) (s : Backend) (rest : Rest) (command : C
   pub unblocked : s.blocked ≡ false
   pub goes : ends_block command ≡ false
   pub way : OnItsWay seen s rest command
-  pub can : CanGoOn (SeesRelation seen s.id) (plan_at s.exec)
+  pub come : HasCome (made_in relation_by way.gave (plan_of none_open command)) (made_in opening_by way.gave (plan_of none_open command)) (plan_at s.exec)
   pub runs : is_some s.running ≡ true
 
 -- a command that only ends blocks has no act
@@ -97,12 +98,10 @@ runs_at s works well unblocked other = by_block s.blocks.block refl
     by_block Inside is fits = fits.runs
     by_block Failed is fits = failed is (ap (λ b. is_some (refused_in b command)) (sym is) ∙ unrefused)
 
--- what is left of its plan it can go on with
-pub way_can : (seen : List Entry) (s : Backend) (rest : Rest) (command : Command) → OnItsWay seen s rest command → runs command ≡ true → CanGoOn (SeesRelation seen s.id) (plan_at s.exec)
-way_can seen s rest command way built = subst (CanGoOn P) (sym way.plan) (can_reach P way.gave (plan_of none_open command) (can_go_on P (plan_of none_open command) (can_follow P command built)) way.sees)
-  where
-    P : Oid → Kind → Type 0
-    P = SeesRelation seen s.id
+-- how far its plan has come
+way_come : (seen : List Entry) (s : Backend) (rest : Rest) (command : Command) (way : OnItsWay seen s rest command) → HasCome (made_in relation_by way.gave (plan_of none_open command)) (made_in opening_by way.gave (plan_of none_open command)) (plan_at s.exec)
+way_come seen s rest command way = subst (HasCome (made_in relation_by way.gave (plan_of none_open command)) (made_in opening_by way.gave (plan_of none_open command))) (sym way.plan)
+    (has_come way.gave (plan_of none_open command) (follows_order none_open command (runs_built none_open command way.runs)))
 
 -- so it is about to act
 pub is_acting : (scenario : Scenario) (seen : List Entry) (s : Backend) (agrees : Agrees scenario seen s) (works : IsWorking s) → acts (plan_at s.exec) ≡ true → IsActing seen s agrees.rest works.has.command
@@ -112,7 +111,7 @@ is_acting scenario seen s agrees works acting = record {
   unblocked = unblocked;
   goes = ends_less works.has.command other;
   way = way;
-  can = way_can seen s agrees.rest works.has.command way (built_at s.commands s.finished works.has.command agrees.well.built works.has.at);
+  come = way_come seen s agrees.rest works.has.command way;
   runs = runs_at s works agrees.well unblocked other;
 }
   where
@@ -147,6 +146,15 @@ is_acting scenario seen s agrees works acting = record {
     other : ends_failure works.has.command ≡ false
     other = acts_command works.has.command (acts_before way.gave (plan_of none_open works.has.command) (ap acts (sym way.plan) ∙ acting))
 
+-- an act is left where the command hasn't come out
+pub inside_acts : (s : Backend) → is_out s ≡ false → acts (plan_at s.exec) ≡ true
+inside_acts s inside = by_plan (plan_at s.exec) refl inside
+  where
+    by_plan : (p : Plan) → plan_at s.exec ≡ p → is_settled (outcome_of p) ≡ false → acts p ≡ true
+    by_plan (Do act more) at un = refl
+    by_plan NotBuilt at un = absurd (stage_built s.exec at)
+    by_plan p at un = absurd (cc)
+
 -- an act is left where a scan is missing
 pub missing_acts : (s : Backend) → Well s → scans_missing s ≢ [] → acts (plan_at s.exec) ≡ true
 missing_acts s well some = by_plan (plan_at s.exec) refl
@@ -159,4 +167,4 @@ missing_acts s well some = by_plan (plan_at s.exec) refl
     by_plan Done at = absurd (some (missing_at s Done (none_missing_well s well (ap outcome_of at)) at))
     by_plan (Fails error) at = absurd (some (badly (Fails error) at refl))
     by_plan (Absent name) at = absurd (some (badly (Absent name) at refl))
-    by_plan NotBuilt at = absurd (some (missing_at s NotBuilt (none_missing s well (ap (λ p. is_settled (outcome_of p)) at)) at))
+    by_plan NotBuilt at = absurd (stage_built s.exec at)

@@ -1,17 +1,18 @@
 -- A command at its beginning.
 use Rattle.std.proofs.Common.{All, ◌≡◌, ◌≢◌, ◌<◌, ◌+◌, ◌∙◌, inl, ℕ, true, false, Option, Some, None, List, [], refl, sym, ap, subst, is_some, slice_get, arith}
-use Rattle.std.specs.Prelude.{⊤}
 use Rattle.base_types.specs.declared.command.Command.TheVariants as commands
 use Rattle.ddl_effect.specs.Plans.{Plan, Done, Fails, Absent, Do, Lookup}
-use Rattle.ddl_effect.specs.Commands.{plan_of, runs}
+use Rattle.ddl_effect.specs.Commands.{plan_of}
+use Rattle.cacheless.specs.Runs.{runs}
 use Rattle.ddl_effect.specs.Blocks.{Blocks, ends_block, refused_by}
 use Rattle.ddl_effect.specs.Stages.{plan_at}
 use Rattle.history_model.specs.Writes.{has_written}
 use Rattle.cacheless.specs.Session.{none_open, plan_admitted, plan_first, refused_first, outcome_of, is_settled}
-use Rattle.backend_core.specs.Types.{Oid, Kind, Row, Command, CommandError, Entry, Backend}
+use Rattle.backend_core.specs.Types.{Row, Command, CommandError, Entry, Backend}
 use Rattle.backend_core.specs.State.{is_out, is_absent, owed_first, Rest, HasCommand}
 use Rattle.backend_core.specs.Agrees.{PlaceFits, GivenSeen, EndsAlone, CommandFits}
-use Rattle.backend_core.proofs.CanFollow.{CanFollow, can_follow, place_unread}
+use Rattle.cacheless.proofs.ActOrder.{follows_order, runs_built}
+use Rattle.backend_core.proofs.NextPlaces.{order_there, place_unread}
 use Rattle.backend_core.proofs.Ending.{built_at}
 
 -- what is left of a command at its beginning, and whether the blocks refuse it
@@ -35,10 +36,14 @@ ends_done commands.Commit ends = refl
 ends_done commands.Rollback ends = refl
 ends_done command ends = absurd (cc)
 
+-- a command begins with no lookup that found nothing
+there : (command : Command) → runs command ≡ true → is_absent (plan_of none_open command) ≡ false
+there command built = order_there (plan_of none_open command) (follows_order none_open command (runs_built none_open command built))
+
 -- no scan by name is made yet
 place_admitted : (seen : List Entry) (b : ℕ) (r : Option CommandError) (command : Command) (at : ℕ) → runs command ≡ true → PlaceFits seen b (plan_admitted r command) false at
 place_admitted seen b (Some error) command at built = tt
-place_admitted seen b None command at built = place_unread (λ rel kind. ⊤) seen b (plan_of none_open command) at (can_follow (λ rel kind. ⊤) command built)
+place_admitted seen b None command at built = place_unread seen b (plan_of none_open command) at (there command built)
 
 place_first : (seen : List Entry) (s : Backend) (o : Option Command) (at : ℕ) → All (λ c. runs c ≡ true) s.commands → slice_get s.commands s.finished ≡ o → PlaceFits seen s.id (plan_first s.blocks o) false at
 place_first seen s None at built here = tt
@@ -57,13 +62,9 @@ past_at s begins nothing past = (ap (λ p. is_settled (outcome_of p)) (begins.pl
 pub plain_at : (s : Backend) → Begins s → s.opened ≡ [] → EndsAlone s
 plain_at s begins nothing command at ends admitted = (begins.plan ∙ admitted_plan s.blocks (slice_get s.commands s.finished) command at (unrefused (refused_first s.blocks (slice_get s.commands s.finished)) (sym begins.blocked ∙ admitted)) ∙ ends_done command ends, nothing)
 
-not_absent : (P : Oid → Kind → Type 0) (plan : Plan) → CanFollow P plan → is_absent plan ≡ false
-not_absent P (Absent name) can = absurd can
-not_absent P plan can = refl
-
 absent_admitted : (r : Option CommandError) (command : Command) → runs command ≡ true → is_absent (plan_admitted r command) ≡ false
 absent_admitted (Some error) command built = refl
-absent_admitted None command built = not_absent (λ rel kind. ⊤) (plan_of none_open command) (can_follow (λ rel kind. ⊤) command built)
+absent_admitted None command built = there command built
 
 absent_first : (s : Backend) (o : Option Command) → All (λ c. runs c ≡ true) s.commands → slice_get s.commands s.finished ≡ o → is_absent (plan_first s.blocks o) ≡ false
 absent_first s None built here = refl
@@ -83,7 +84,8 @@ command_at seen s rest begins built refused found opened unread unwritten = reco
     found = found;
     plan = begins.plan ∙ admitted_plan s.blocks (slice_get s.commands s.finished) command at (sym refused ∙ none);
     opened = opened;
-    sees = tt;
+    runs = built_at s.commands s.finished command built at;
+    holds = record { locked = tt; still = tt };
     unwritten = unwritten (s.finished + 1) (omega arith);
   });
   later = λ c after. unwritten c (omega (arith, after));

@@ -2,7 +2,7 @@
 use Rattle.std.proofs.Common.{cond, not, ◌≡◌, ◌≢◌, ◌≤◌, ◌<◌, ◌+◌, ◌⊎◌, inl, inr, ◌∙◌, ℕ, Bool, true, false, Option, Some, None, List, [], ◌∷◌, ◌++◌, ◌==◌, ◌&&◌, ◌||◌, refl, sym, ap, subst, length, drop, take, map, All, get_or, is_none, is_some, slice_get, unwrap_or, arith, Fits, w32, if◌then◌else◌}
 use Rattle.std.specs.Option.{option_map_or}
 use Rattle.std.proofs.Math.Bool.{and-false, or-false}
-use Rattle.std.proofs.lemmas.Bool.{or_right}
+use Rattle.std.proofs.lemmas.Bool.{both_ways, or_right}
 use Rattle.std.proofs.lemmas.List.{drop_more, take-append-le}
 use Rattle.std.proofs.lemmas.Option.{slice_get_within, get_or_from_slice_get}
 use Rattle.base_types.specs.Scans.{build_scans, is_build_scan}
@@ -19,6 +19,7 @@ use Rattle.ddl_effect.specs.Blocks.{Block, Outside, Inside, Failed, innermost, e
 use Rattle.ddl_effect.specs.Stages.{plan_at}
 use Rattle.history_model.specs.Legal.{AllowsEvent}
 use Rattle.history_model.specs.Orderly.{MayComeNext, IsSound}
+use Rattle.history_model.specs.Prefixes.{EachEntry}
 use Rattle.history_model.specs.Read.{is_scan_of, read_at, place_read}
 use Rattle.history_model.specs.Transactions.{begun, is_visible}
 use Rattle.history_model.specs.Writes.{has_written, is_write, is_empty}
@@ -37,29 +38,31 @@ use Rattle.cacheless.specs.Settled.{settled, finished_as}
 use Rattle.cacheless.specs.Sessions.{accepted}
 use Rattle.cacheless.specs.Lines.{answer_judged}
 use Rattle.cacheless.specs.Schedule.{LooksTruly}
-use Rattle.cacheless.specs.ActsDone.{made_in, relation_by}
+use Rattle.cacheless.specs.TableWrites.{WritesTables}
+use Rattle.cacheless.specs.ActsDone.{WayHolds}
 use Rattle.backend_core.specs.Types.{Oid, Mode, Kind, Command, Row, Purpose, Entry, Event, Opening, OwnLock, KeptScan, Phase, OwnTransaction, Backend}
 use Rattle.backend_core.specs.declared.phase.Phase.TheVariants as phases
-use Rattle.backend_core.specs.NewTables.{AddsTables, HasTables, SeesRelation, is_own_gone}
-use Rattle.backend_core.specs.State.{owed_at, is_accepting, locks_accepted, is_out, is_visible_at, is_taken_back, is_ended, running_in, running_at, is_kept, missing, builds_missing, act_missing, scans_missing, begins_in, owed_first, Rest, session_at, HasCommand}
-use Rattle.backend_core.specs.Agrees.{IsPlayed, RowsFit, FactsFit, OpensLast, IsFoundLocked, RunsBy, TransactionFits, EndFits, Well, PlaceFits, GivenSeen, CommandFits, KeptFits, AnswerFits, Agrees}
+use Rattle.backend_core.specs.State.{owed_at, is_accepting, locks_accepted, is_out, is_visible_at, is_taken_back, is_ended, running_in, running_at, is_kept, missing, builds_missing, act_missing, scans_missing, begins_in, owed_first, Rest, session_at, HasCommand, lacks_builds, is_in_accept}
+use Rattle.backend_core.specs.Agrees.{IsPlayed, RowsFit, FactsFit, IsFoundLocked, RunsBy, TransactionFits, EndFits, Well, PlaceFits, GivenSeen, CommandFits, KeptAt, AnswerFits, Agrees, OpenedFit}
 use Rattle.backend_core.specs.Steps.{IsWorking}
-use Rattle.backend_core.specs.Way.{SeesAll, Way}
+use Rattle.backend_core.specs.Way.{SeesRelation, Way}
 use Rattle.cacheless.proofs.Settling.{waits-scans}
-use Rattle.backend_core.proofs.SeesRelation.{other_not_gone, SeesRelation-more}
-use Rattle.backend_core.proofs.StaysRead.{StaysRead-more}
+use Rattle.cacheless.proofs.StillSeen.{IsNoGone, relation_stays}
+use Rattle.cacheless.proofs.StillLocked.{way_stays}
+use Rattle.cacheless.proofs.ActOrder.{FollowsOrder, follows_order, runs_built}
+use Rattle.history_model.proofs.Locked.{IsQuiet, IsIdle}
 use Rattle.backend_core.proofs.Stages.{ReadsBuilds, stage_reads}
 use Rattle.backend_core.proofs.Stepping.{Waits}
 
--- an entry that may come next, and adds tables alone
+-- an entry that may come next, after a sound history in which each write keeps tables, as it does itself
 pub record MayCome (history : List Entry) (e : Entry) : Type 0 where
   pub sound : IsSound history
-  pub tables : HasTables history
+  pub tables : EachEntry WritesTables history
   pub comes : MayComeNext history e
-  pub adds : AddsTables history e.event
+  pub keeps : WritesTables history e
 
-pub may_come : (scenario : Scenario) (seen : List Entry) (e : Entry) → IsPlayed scenario seen → MayComeNext seen e → AddsTables seen e.event → MayCome seen e
-may_come scenario seen e played comes adds = record { sound = played.sound; tables = played.tables; comes = comes; adds = adds }
+pub may_come : (scenario : Scenario) (seen : List Entry) (e : Entry) → IsPlayed scenario seen → MayComeNext seen e → WritesTables seen e → MayCome seen e
+may_come scenario seen e played comes keeps = record { sound = played.sound; tables = played.tables; comes = comes; keeps = keeps }
 
 -- the place of a scan, after an entry that isn't this scan
 pub place_read-more : (history : List Entry) (e : Entry) (b : ℕ) (scan : Purpose) → is_scan_of scan e.event ≡ false → place_read (history ++ e ∷ []) b scan ≡ place_read history b scan
@@ -81,19 +84,13 @@ has_written-quiet history e b c quiet = has_written-more history e b c ∙ ap (�
 pub has_written-other : (history : List Entry) (e : Entry) (b c : ℕ) → (e.backend == b) ≡ false → has_written (history ++ e ∷ []) b c ≡ has_written history b c
 has_written-other history e b c other = has_written-more history e b c ∙ ap (λ t. has_written history b c || (t && (e.command == c) && is_write e.event)) other ∙ or-false (has_written history b c)
 
--- the scans that are kept, with one more entry that is none of them
-pub kept-more : (history : List Entry) (e : Entry) (b : ℕ) (kept : List KeptScan) → MayCome history e → All (λ k. is_scan_of k.scan e.event ≡ false) kept → All (KeptFits history b) kept → All (KeptFits (history ++ e ∷ []) b) kept
-kept-more history e b kept may none fits = λ i d within. record {
-  at = place_read-more history e b (get_or kept i d).scan (none i d within) ∙ (fits i d within).at;
-  stays = StaysRead-more history e b (get_or kept i d).scan (get_or kept i d).rows may.sound may.tables may.comes may.adds (fits i d within).stays;
-}
+-- the places of the scans that are kept, with one more entry that is none of them
+pub kept-more : (history : List Entry) (e : Entry) (b : ℕ) (kept : List KeptScan) → All (λ k. is_scan_of k.scan e.event ≡ false) kept → All (KeptAt history b) kept → All (KeptAt (history ++ e ∷ []) b) kept
+kept-more history e b kept none fits = λ i d within. place_read-more history e b (get_or kept i d).scan (none i d within) ∙ fits i d within
 
 -- or that is another's
-pub kept-other : (history : List Entry) (e : Entry) (b : ℕ) (kept : List KeptScan) → MayCome history e → (e.backend == b) ≡ false → All (KeptFits history b) kept → All (KeptFits (history ++ e ∷ []) b) kept
-kept-other history e b kept may other fits = λ i d within. record {
-  at = place_read-other history e b (get_or kept i d).scan other ∙ (fits i d within).at;
-  stays = StaysRead-more history e b (get_or kept i d).scan (get_or kept i d).rows may.sound may.tables may.comes may.adds (fits i d within).stays;
-}
+pub kept-other : (history : List Entry) (e : Entry) (b : ℕ) (kept : List KeptScan) → (e.backend == b) ≡ false → All (KeptAt history b) kept → All (KeptAt (history ++ e ∷ []) b) kept
+kept-other history e b kept other fits = λ i d within. place_read-other history e b (get_or kept i d).scan other ∙ fits i d within
 
 -- the same running command, as far as it is in doing what its plan says
 pub record SameCommand (was now : Backend) (rest later : Rest) : Type 0 where
@@ -121,12 +118,21 @@ LeavesWrites history e b = (c : ℕ) → has_written (history ++ e ∷ []) b c �
 abbrev pub LeavesPlaces : List Entry → Entry → ℕ → Type 0
 LeavesPlaces history e b = (name : List ℕ) → place_read (history ++ e ∷ []) b (scans.RelName name) ≡ place_read history b (scans.RelName name)
 
--- an entry that takes back nothing of the backend leaves the relations that it sees
-abbrev pub LeavesRelations : List Entry → Entry → ℕ → Type 0
-LeavesRelations history e b = (rel : Oid) (kind : Kind) → SeesRelation history b rel kind → SeesRelation (history ++ e ∷ []) b rel kind
+-- an entry that is no change and no release of the backend leaves the relations that it sees, and what holds on the way of a command
+pub record LeavesRelations (history : List Entry) (e : Entry) (b : ℕ) : Type 0 where
+  pub sees : (rel : Oid) (kind : Kind) → SeesRelation history b rel kind → SeesRelation (history ++ e ∷ []) b rel kind
+  pub way : (gave : List (List Row)) (plan : Plan) → FollowsOrder plan → WayHolds history b gave plan → WayHolds (history ++ e ∷ []) b gave plan
 
-pub leaves_relations : (history : List Entry) (e : Entry) (b : ℕ) → MayCome history e → is_own_gone b e ≡ false → LeavesRelations history e b
-leaves_relations history e b may stays = λ rel kind sees. SeesRelation-more history e b rel kind may.sound may.tables may.comes may.adds stays sees
+quiet_back : (event : Event) → IsQuiet event → IsNoGone event
+quiet_back (events.Gone from) quiet = quiet
+quiet_back event quiet = tt
+
+pub leaves_relations : (history : List Entry) (e : Entry) (b : ℕ) → MayCome history e → IsIdle b history e → LeavesRelations history e b
+leaves_relations history e b may idle = record {
+  sees = λ rel kind sees.
+      let still = relation_stays history e b rel sees.name kind may.sound may.tables may.comes may.keeps (λ own. quiet_back e.event (idle own)) (sees.fill, sees.row) in record { name = sees.name; fill = still.0; row = still.1 };
+  way = λ gave plan follows holds. way_stays history e b gave plan may.sound may.comes idle follows holds;
+}
 
 written_same : (history : List Entry) (e : Entry) (was now : Backend) (rest later : Rest) → SameCommand was now rest later → LeavesWrites history e was.id
     → has_written (history ++ e ∷ []) now.id (now.finished + 1) ≡ has_written history was.id (was.finished + 1)
@@ -141,8 +147,8 @@ way-more history e was now rest later command same writes relations (inl way) = 
   plan = same.plan ∙ way.plan;
   found = same.found ∙ way.found;
   opened = same.opened ∙ way.opened;
-  sees = subst (λ b. SeesAll (history ++ e ∷ []) b (made_in relation_by way.gave (plan_of none_open command))) (sym same.id)
-      (every-weaker (λ o. SeesRelation history was.id o.rel o.kind) (λ o. SeesRelation (history ++ e ∷ []) was.id o.rel o.kind) (λ o sees. relations o.rel o.kind sees) (made_in relation_by way.gave (plan_of none_open command)) way.sees);
+  runs = way.runs;
+  holds = subst (λ b. WayHolds (history ++ e ∷ []) b way.gave (plan_of none_open command)) (sym same.id) (relations.way way.gave (plan_of none_open command) (follows_order none_open command (runs_built none_open command way.runs)) way.holds);
   unwritten = written_same history e was now rest later same writes ∙ way.unwritten;
 })
 way-more history e was now rest later command same writes relations (inr way) =
@@ -163,7 +169,7 @@ place-more history e b p read at places fits = tt
 
 -- the relation that a lookup's rows name
 pub given-more : (history : List Entry) (e : Entry) (b : ℕ) (p : Plan) (read : Bool) (given : List Row) → LeavesRelations history e b → GivenSeen history b p read given → GivenSeen (history ++ e ∷ []) b p read given
-given-more history e b (Do (Lookup name mode) rest) true (rows.Class rel own kind fill ∷ more) relations seen = relations rel kind seen
+given-more history e b (Do (Lookup name mode) rest) true (rows.Class rel own kind fill ∷ more) relations seen = relations.sees rel kind seen
 given-more history e b p read given relations seen = tt
 
 -- a command on its way, with one more entry
@@ -196,7 +202,7 @@ answer-more scenario history e was now rest later same judged short fits = λ te
     ∙ ap (λ n. answer_text (answer_judged scenario (take later.judged (history ++ e ∷ [])) was.id (n + 1) (finished_as (session_at now later)) command later.refused)) (sym same.finished)
     ∙ ap (λ b. answer_text (answer_judged scenario (take later.judged (history ++ e ∷ [])) b (now.finished + 1) (finished_as (session_at now later)) command later.refused)) (sym same.id)
 
--- all that the running command is carries over an entry of another backend, or one of its own that is no write, no scan of a name and takes nothing back
+-- all that the running command is carries over an entry of another backend, or one of its own that is no change, no release and no scan of a name
 pub record Leaves (history : List Entry) (e : Entry) (b : ℕ) : Type 0 where
   pub writes : LeavesWrites history e b
   pub places : LeavesPlaces history e b
@@ -206,14 +212,14 @@ pub other_leaves : (history : List Entry) (e : Entry) (b : ℕ) → MayCome hist
 other_leaves history e b may other = record {
   writes = λ c. has_written-other history e b c other;
   places = λ name. place_read-other history e b (scans.RelName name) other;
-  relations = leaves_relations history e b may (other_not_gone b e other);
+  relations = leaves_relations history e b may (λ own. absurd (both_ways _ other own));
 }
 
-pub own_leaves : (history : List Entry) (e : Entry) (b : ℕ) → MayCome history e → is_write e.event ≡ false → ((name : List ℕ) → is_scan_of (scans.RelName name) e.event ≡ false) → is_own_gone b e ≡ false → Leaves history e b
-own_leaves history e b may unwritten unread stays = record {
+pub own_leaves : (history : List Entry) (e : Entry) (b : ℕ) → MayCome history e → is_write e.event ≡ false → ((name : List ℕ) → is_scan_of (scans.RelName name) e.event ≡ false) → IsIdle b history e → Leaves history e b
+own_leaves history e b may unwritten unread idle = record {
   writes = λ c. has_written-quiet history e b c unwritten;
   places = λ name. place_read-more history e b (scans.RelName name) (unread name);
-  relations = leaves_relations history e b may stays;
+  relations = leaves_relations history e b may idle;
 }
 
 -- the number of the running command, or after the last one
@@ -298,7 +304,8 @@ act-missing facts kept locks usable true (Do (Lookup name mode) rest) given read
     ap (λ t. if t then [] else scans.RelName name ∷ []) (ap (λ l. facts.usable (scans.RelName name) || is_locked locks mode l) (fits refl).0 ∙ (fits refl).1)
 act-missing facts kept locks usable false (Do (Lookup name mode) rest) given reads fits = refl
 act-missing facts kept locks usable read (Do (Open rel kind) rest) given reads fits = unusable-missing facts kept usable kind rel
-act-missing facts kept locks usable read (Do (Column rel name) rest) given reads fits = absurd reads
+act-missing facts kept locks usable true (Do (Column rel name) rest) given reads fits = ap (λ t. if t then [] else scans.AttName rel name ∷ []) (fits refl).1
+act-missing facts kept locks usable false (Do (Column rel name) rest) given reads fits = refl
 act-missing facts kept locks usable read (Do (Read scan) rest) given reads fits = ap (λ t. cond (not t) (scan ∷ []) []) (usable scan reads)
 act-missing facts kept locks usable read (Do (Lock rel mode) rest) given reads fits = refl
 act-missing facts kept locks usable read (Do (Write draft) rest) given reads fits = refl
@@ -314,37 +321,40 @@ pub scans_same : (facts : Facts) (s : Backend) (rest : Rest) → FactsFit facts 
 scans_same facts s rest fits = ap (λ l. elim (outcome_of (plan_at s.exec)) as (λ x. List Purpose) [ Badly ↦ [] | other ↦ l ])
     (ap (λ l. l ++ act_owed facts s.locks.items s.read (plan_at s.exec)) (builds_same facts s fits) ∙ ap (λ l. builds_missing s.kept s.opened ++ l) (act_same facts s fits))
 
--- a command that hasn't come out has opened nothing
-pub none_opened : (s : Backend) → Well s → is_out s ≡ false → s.opened ≡ []
-none_opened s well inside = by_side well.opened
-  where
-    by_side : OpensLast s → s.opened ≡ []
-    by_side (inl none) = none
-    by_side (inr has) = absurd (cc (has.out, inside))
-
--- so no scan is missing for a descriptor
-pub none_missing : (s : Backend) → Well s → is_out s ≡ false → builds_missing s.kept s.opened ≡ []
-none_missing s well inside = ap (builds_missing s.kept) (none_opened s well inside)
-
--- nor is one where the command has come out well
+-- no scan for an opened descriptor is missing where the command has come out well
 pub none_missing_well : (s : Backend) → Well s → outcome_of (plan_at s.exec) ≡ CameOutWell → builds_missing s.kept s.opened ≡ []
 none_missing_well s well is = by_side well.opened
   where
-    by_side : OpensLast s → builds_missing s.kept s.opened ≡ []
+    by_side : OpenedFit s → builds_missing s.kept s.opened ≡ []
     by_side (inl none) = ap (builds_missing s.kept) none
     by_side (inr has) = has.builds is
 
--- so none is owed
-pub owes_no_build : (facts : Facts) (s : Backend) (rest : Rest) → FactsFit facts s → Well s → owes_build facts (session_at s rest) ≡ false
-owes_no_build facts s rest fits well = by_outcome (outcome_of (plan_at s.exec)) refl
+-- where none is missing, none is lacking
+pub lacks_none : (s : Backend) → builds_missing s.kept s.opened ≡ [] → lacks_builds s ≡ false
+lacks_none s whole = ap (λ l. elim (is_out s) as (λ x. Bool) [ true ↦ false | false ↦ not (is_empty l) ]) whole ∙ elim (is_out s) as (λ t. elim t as (λ x. Bool) [ true ↦ false | false ↦ false ] ≡ false) [ true ↦ refl | false ↦ refl ]
+
+-- a command that has come out lacks none
+pub lacks_out : (s : Backend) → is_out s ≡ true → lacks_builds s ≡ false
+lacks_out s out = ap (λ t. elim t as (λ x. Bool) [ true ↦ false | false ↦ not (is_empty (builds_missing s.kept s.opened)) ]) out
+
+-- the scans that a session owes for its opened descriptors are those that its command lacks
+pub owes_lacking : (facts : Facts) (s : Session) (kept : List KeptScan) → ((scan : Purpose) → is_build_scan scan ≡ true → facts.usable scan ≡ is_kept kept scan) → (outcome_of s.left ≡ CameOutWell → builds_missing kept s.opened ≡ [])
+    → owes_build facts s ≡ elim (is_settled (outcome_of s.left)) as (λ x. Bool) [ true ↦ false | false ↦ not (is_empty (builds_missing kept s.opened)) ]
+owes_lacking facts s kept usable well = by_outcome (outcome_of s.left) refl
   where
     owes : Outcome → List Purpose → Bool
     owes outcome builds = elim outcome [ Badly ↦ false | other ↦ not (is_empty builds) ]
 
-    by_outcome : (o : Outcome) → outcome_of (plan_at s.exec) ≡ o → owes (outcome_of (plan_at s.exec)) (builds_owed facts s.opened) ≡ false
-    by_outcome Badly is = ap (λ o. owes o (builds_owed facts s.opened)) is
-    by_outcome CameOutWell is = ap (λ o. owes o (builds_owed facts s.opened)) is ∙ ap (λ l. not (is_empty l)) (builds_same facts s fits ∙ none_missing_well s well is)
-    by_outcome Unsettled is = ap (λ o. owes o (builds_owed facts s.opened)) is ∙ ap (λ l. not (is_empty l)) (builds_same facts s fits ∙ none_missing s well (ap is_settled is))
+    lacks : Outcome → Bool
+    lacks outcome = elim (is_settled outcome) as (λ x. Bool) [ true ↦ false | false ↦ not (is_empty (builds_missing kept s.opened)) ]
+
+    same : builds_owed facts s.opened ≡ builds_missing kept s.opened
+    same = builds-missing facts kept usable s.opened
+
+    by_outcome : (o : Outcome) → outcome_of s.left ≡ o → owes (outcome_of s.left) (builds_owed facts s.opened) ≡ lacks (outcome_of s.left)
+    by_outcome Badly is = ap (λ o. owes o (builds_owed facts s.opened)) is ∙ ap lacks (sym is)
+    by_outcome CameOutWell is = ap (λ o. owes o (builds_owed facts s.opened)) is ∙ ap (λ l. not (is_empty l)) (same ∙ well is) ∙ ap lacks (sym is)
+    by_outcome Unsettled is = ap (λ o. owes o (builds_owed facts s.opened)) is ∙ ap (λ l. not (is_empty l)) same ∙ ap lacks (sym is)
 
 -- where no scan is missing for an opened descriptor, the next act decides
 pub missing_at : (s : Backend) (p : Plan) → builds_missing s.kept s.opened ≡ [] → plan_at s.exec ≡ p → scans_missing s ≡ elim (outcome_of p) as (λ x. List Purpose) [ Badly ↦ [] | other ↦ act_missing s.kept s.read p ]
@@ -369,11 +379,11 @@ nothing_first scenario seen s agrees works =
     ap (λ l. is_empty (l ++ owed_after (facts_of seen s.id).last)) (start_owed (facts_of seen s.id) works.has.command s agrees.rest agrees.facts ∙ works.free) ∙ ap is_empty (owed_free scenario seen s agrees works.phase)
 
 -- the locks are clear where no messages are accepted
-pub clear_at : (s : Backend) → Well s → is_accepting s.phase ≡ false → map cleared s.locks.items ≡ s.locks.items
-clear_at s well outside = by_side well.clear
+pub clear_at : (s : Backend) → Well s → is_accepting s.phase ≡ false → lacks_builds s ≡ false → map cleared s.locks.items ≡ s.locks.items
+clear_at s well outside whole = by_side well.clear
   where
-    by_side : (is_accepting s.phase ≡ true) ⊎ (map cleared s.locks.items ≡ s.locks.items) → map cleared s.locks.items ≡ s.locks.items
-    by_side (inl is) = absurd (cc (is, outside))
+    by_side : (is_in_accept s ≡ true) ⊎ (map cleared s.locks.items ≡ s.locks.items) → map cleared s.locks.items ≡ s.locks.items
+    by_side (inl is) = absurd (let both : true ≡ false = sym is ∙ ap (λ t. t || lacks_builds s) outside ∙ whole in cc)
     by_side (inr clear) = clear
 
 -- clear locks stay as they are
@@ -426,7 +436,7 @@ pub end_free : (s : Backend) → s.phase ≡ phases.Working → EndFits s s.phas
 end_free s phase = subst (EndFits s) (sym phase) tt
 
 -- a scan is missing: the backend waits for it
-not_empty_list : {X : Type 0} (xs : List X) → xs ≢ [] → is_empty xs ≡ false
+pub not_empty_list : {X : Type 0} (xs : List X) → xs ≢ [] → is_empty xs ≡ false
 not_empty_list [] some = absurd (some refl)
 not_empty_list (x ∷ xs) some = refl
 
@@ -451,29 +461,29 @@ is_locked-cleared : (locks : List OwnLock) (mode : Mode) (given : List Row) → 
 is_locked-cleared locks mode (rows.Class oid name kind fill ∷ more) = has_lock-cleared locks oid mode
 is_locked-cleared locks mode given = refl
 
-pub is_locked-accepted : (p : Phase) (locks : List OwnLock) (mode : Mode) (given : List Row) → is_locked (locks_accepted p locks) mode given ≡ is_locked locks mode given
-is_locked-accepted p locks mode given = by_test (is_accepting p)
-  where
-    by_test : (t : Bool) → is_locked (elim t as (λ x. List OwnLock) [ true ↦ locks | false ↦ map cleared locks ]) mode given ≡ is_locked locks mode given
-    by_test true = refl
-    by_test false = is_locked-cleared locks mode given
+pub is_locked-accepted : (accepting : Bool) (locks : List OwnLock) (mode : Mode) (given : List Row) → is_locked (locks_accepted accepting locks) mode given ≡ is_locked locks mode given
+is_locked-accepted true locks mode given = refl
+is_locked-accepted false locks mode given = is_locked-cleared locks mode given
 
 -- the rows of a lookup serve on, where the same locks are held
-pub rows_fit-more : (facts after : Facts) (locks now : List OwnLock) (p : Plan) (given : List Row) → ((name : List ℕ) → after.rows (scans.RelName name) ≡ facts.rows (scans.RelName name)) → ((name : List ℕ) → after.usable (scans.RelName name) ≡ facts.usable (scans.RelName name))
+pub rows_fit-more : (facts after : Facts) (locks now : List OwnLock) (p : Plan) (given : List Row) → ((scan : Purpose) → is_build_scan scan ≡ false → after.rows scan ≡ facts.rows scan) → ((scan : Purpose) → is_build_scan scan ≡ false → after.usable scan ≡ facts.usable scan)
     → ((mode : Mode) → is_locked now mode given ≡ is_locked locks mode given) → RowsFit facts locks p given → RowsFit after now p given
-rows_fit-more facts after locks now (Do (Lookup name mode) rest) given same usable held fits = (same name ∙ fits.0, ap (λ t. t || is_locked now mode given) (usable name) ∙ ap (λ t. facts.usable (scans.RelName name) || t) (held mode) ∙ fits.1)
+rows_fit-more facts after locks now (Do (Lookup name mode) rest) given same usable held fits = (same (scans.RelName name) refl ∙ fits.0, ap (λ t. t || is_locked now mode given) (usable (scans.RelName name) refl) ∙ ap (λ t. facts.usable (scans.RelName name) || t) (held mode) ∙ fits.1)
+rows_fit-more facts after locks now (Do (Column rel name) rest) given same usable held fits = (same (scans.AttName rel name) refl ∙ fits.0, usable (scans.AttName rel name) refl ∙ fits.1)
 rows_fit-more facts after locks now (Do act rest) given same usable held fits = tt
 rows_fit-more facts after locks now p given same usable held fits = tt
 
 -- and where the relation that they name is locked
 pub rows_fit-locked : (facts after : Facts) (locks now : List OwnLock) (p : Plan) (given : List Row) → ((name : List ℕ) → after.rows (scans.RelName name) ≡ facts.rows (scans.RelName name)) → IsFoundLocked now p given → RowsFit facts locks p given → RowsFit after now p given
 rows_fit-locked facts after locks now (Do (Lookup name mode) rest) given same held fits = (same name ∙ fits.0, or_right (after.usable (scans.RelName name)) (is_locked now mode given) held)
+rows_fit-locked facts after locks now (Do (Column rel name) rest) given same held fits = absurd held
 rows_fit-locked facts after locks now (Do act rest) given same held fits = tt
 rows_fit-locked facts after locks now p given same held fits = tt
 
 -- the relation that they name stays locked
 pub found_locked-more : (locks now : List OwnLock) (p : Plan) (given : List Row) → ((mode : Mode) → is_locked now mode given ≡ is_locked locks mode given) → IsFoundLocked locks p given → IsFoundLocked now p given
 found_locked-more locks now (Do (Lookup name mode) rest) given held locked = held mode ∙ locked
+found_locked-more locks now (Do (Column rel name) rest) given held locked = absurd locked
 found_locked-more locks now (Do act rest) given held locked = tt
 found_locked-more locks now p given held locked = tt
 
@@ -484,3 +494,12 @@ runs_unowed s command runs = by_own s.running runs
     by_own : (own : Option OwnTransaction) → is_some own ≡ true → elim (begins_in s.blocks s.phase command && is_none own) as (λ t. List Owes) [ true ↦ OwesLook ∷ [] | false ↦ [] ] ≡ []
     by_own None runs = absurd (cc)
     by_own (Some t) runs = ap (λ u. elim u as (λ x. List Owes) [ true ↦ OwesLook ∷ [] | false ↦ [] ]) (and-false (begins_in s.blocks s.phase command))
+
+-- a plan that has come out rests on no scan
+pub out_found : (locks : List OwnLock) (p : Plan) (given : List Row) → is_settled (outcome_of p) ≡ true → IsFoundLocked locks p given
+out_found locks (Do act rest) given out = absurd (cc)
+out_found locks p given out = tt
+
+-- the opened descriptors of a command whose transaction runs, while it hasn't come out
+pub opened_inside : (s : Backend) → is_some s.running ≡ true → is_out s ≡ false → OpenedFit s
+opened_inside s runs inside = inr (record { free = λ has. runs_unowed s has.command runs; quiet = λ out. absurd (cc (out, inside)); builds = λ is. absurd (cc (ap is_settled is, inside)) })

@@ -4,6 +4,7 @@ use Rattle.std.specs.Option.{option_map, option_map_or}
 use Rattle.std.proofs.lemmas.Bool.{eq-eqb}
 use Rattle.event_kinds.specs.declared.entry.Event.TheVariants as events
 use Rattle.lock_modes.specs.Own.{cleared}
+use Rattle.ddl_effect.specs.Stages.{plan_at}
 use Rattle.history_model.specs.Drawn.{next_oid}
 use Rattle.inval_messages.specs.Lists.{has_write_from}
 use Rattle.history_model.specs.Sent.{unsent_in}
@@ -19,7 +20,7 @@ use Rattle.backend_core.specs.State.{owed_at, is_accepting, looks_due, published
 use Rattle.backend_core.specs.Agrees.{IsPlayed, Agrees}
 use Rattle.backend_core.specs.Steps.{NextCommit, Enters}
 use Rattle.backend_core.proofs.Stepping.{own_enters}
-use Rattle.backend_core.proofs.Carry.{may_call, clear_at}
+use Rattle.backend_core.proofs.Carry.{may_call, clear_at, lacks_out, out_found}
 use Rattle.backend_core.proofs.Ending.{owed_by_end, end_from, is_end, first_of_end, waits_to_end, runs_unless}
 use Rattle.backend_core.proofs.EndEntries.{session_clear, end_follows, opens_on, runs_on, free_running}
 use Rattle.backend_core.proofs.Nexting.{write_from_first}
@@ -78,7 +79,7 @@ some_first (Some t) n first runs is = ap Some is
 pub commit_enters : (scenario : Scenario) (old new : List Entry) (had has : ℕ → ℕ) (was : Backend) (xid : Xid) (agrees : Agrees scenario old was) → IsPlayed scenario old → NextCommit was xid.0
     → Appends old new had has (entry_of was.id (was.finished + 1) (events.Visible xid)) → Enters scenario old new was (record was { phase = phases.Visible 0 })
 commit_enters scenario old new had has was xid agrees played next appends =
-    own_enters scenario old new had has was now (events.Visible xid) agrees
+    own_enters scenario old new had has was now (events.Visible xid) agrees played
     (waits_to_end scenario old was agrees works (events.Visible xid) out (ends.1))
     (record { session = λ _ _ _ _ _ _. refl; finished = λ _. refl; life = λ _. refl })
     (record { plays = subst (λ o. MayPlayIn (next_oid old) facts o (session_at was agrees.rest) (events.Visible xid)) (sym works.at) ends; needed = tt; truly = tt; tables = tt })
@@ -96,7 +97,7 @@ commit_enters scenario old new had has was xid agrees played next appends =
         kept = agrees.facts.kept;
         given = agrees.facts.given;
       };
-      tally = λ _. (ap (λ n. agrees.rest.tally.looks + n) (sym (ap looks_due next.working.phase)) ∙ (agrees.tally (ap is_ended next.working.phase)).0, (agrees.tally (ap is_ended next.working.phase)).1);
+      tally = λ _. let t = agrees.tally (ap is_ended next.working.phase) in record { enough = omega (arith, t.enough, ap looks_due next.working.phase); within = omega (arith, t.within, ap looks_due next.working.phase) };
       well = record {
         built = agrees.well.built;
         few = agrees.well.few;
@@ -119,9 +120,11 @@ commit_enters scenario old new had has was xid agrees played next appends =
         starts = λ command some. absurd (some (free_running now command.command hidden));
         accepting = λ is. absurd (cc);
         clear = inr clear;
+        reads = agrees.well.reads;
+        last = λ read. inr (out_found now.locks.items (plan_at was.exec) was.given.items out);
       };
     })
-    (end_follows scenario old was (phases.Visible 0) was.running was.lists was.locks was.kept (events.Visible xid) agrees played appends.comes tt
+    (end_follows scenario old was (phases.Visible 0) was.running was.lists was.locks was.kept (events.Visible xid) agrees
     (record { id = refl; commands = refl; finished = refl; answer = refl; plan = refl; opened = refl; block = refl; refused = refl; found = refl }) refl refl (λ _. refl) (λ _. next.answered) agrees.kept)
     appends
   where
@@ -144,7 +147,7 @@ commit_enters scenario old new had has was xid agrees played next appends =
     hidden = ap (λ t. not t) runs
 
     clear : map cleared was.locks.items ≡ was.locks.items
-    clear = clear_at was agrees.well (ap is_accepting next.working.phase)
+    clear = clear_at was agrees.well (ap is_accepting next.working.phase) (lacks_out was out)
 
     first_runs : option_map_or (λ t. Some t.first) was.running None ≡ Some next.first
     first_runs = some_first was.running (was.finished + 1) next.first runs (first_of_end was agrees.well works next.first (ap is_ended next.working.phase) (ap end_from next.end))

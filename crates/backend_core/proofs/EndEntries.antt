@@ -11,7 +11,6 @@ use Rattle.inval_messages.specs.Lists.{Written, unsent_after}
 use Rattle.ddl_effect.specs.Plans.{Plan, Done, Fails, Absent, Do, NotBuilt}
 use Rattle.ddl_effect.specs.Blocks.{Block, Outside, Inside, Failed, no_block, ends_block, refused_by}
 use Rattle.ddl_effect.specs.Stages.{plan_at}
-use Rattle.history_model.specs.Orderly.{MayComeNext}
 use Rattle.history_model.specs.Read.{is_scan_of}
 use Rattle.history_model.specs.Sent.{unsent_in}
 use Rattle.history_model.specs.Transactions.{is_visible}
@@ -23,11 +22,10 @@ use Rattle.cacheless.specs.Owed.{OwesLook}
 use Rattle.cacheless.specs.Sessions.{placed_at, counted}
 use Rattle.backend_core.specs.Types.{Row, Purpose, Command, Scenario, Entry, Event, OwnLock, KeptScan, Phase, OwnTransaction, Backend}
 use Rattle.backend_core.specs.declared.phase.Phase.TheVariants as phases
-use Rattle.backend_core.specs.NewTables.{AddsTables}
 use Rattle.backend_core.specs.State.{is_accepting, is_visible_at, published_at, running_in, is_out, is_ended, builds_missing, begins_in, owed_first, Rest, session_at, HasCommand}
-use Rattle.backend_core.specs.Agrees.{IsPlayed, RowsFit, RunsBy, HasOpened, OpensLast, Well, GivenSeen, KeptFits, Agrees}
+use Rattle.backend_core.specs.Agrees.{RowsFit, RunsBy, HasOpened, Well, GivenSeen, KeptAt, Agrees, IsPlayed, OpenedFit}
 use Rattle.backend_core.proofs.Stepping.{facts_after, session_after, rest_after, Follows}
-use Rattle.backend_core.proofs.Carry.{may_come, place_read-more, has_written-quiet, kept-more, SameCommand, later-more, place-more, answer-more, accepted-clear}
+use Rattle.backend_core.proofs.Carry.{place_read-more, has_written-quiet, kept-more, SameCommand, later-more, place-more, answer-more, accepted-clear}
 use Rattle.backend_core.proofs.Ending.{has_or_none}
 
 -- a command that has come out rests on no rows
@@ -65,10 +63,10 @@ after_end was phase running lists locks kept = record was { phase = phase; runni
 
 -- what such an entry leaves of the running command
 pub end_follows : (scenario : Scenario) (old : List Entry) (was : Backend) (phase : Phase) (running : Option OwnTransaction) (lists : Held) (locks : Roomy OwnLock) (kept : List KeptScan) (event : Event) (agrees : Agrees scenario old was)
-    → IsPlayed scenario old → MayComeNext old (entry_of was.id (was.finished + 1) event) → AddsTables old event → SameCommand was (after_end was phase running lists locks kept) agrees.rest (rest_after old was event agrees.rest)
-    → (rest_after old was event agrees.rest).judged ≡ agrees.rest.judged → is_write event ≡ false → ((scan : Purpose) → is_scan_of scan event ≡ false) → IsAnswered was → All (KeptFits old was.id) kept
+    → SameCommand was (after_end was phase running lists locks kept) agrees.rest (rest_after old was event agrees.rest)
+    → (rest_after old was event agrees.rest).judged ≡ agrees.rest.judged → is_write event ≡ false → ((scan : Purpose) → is_scan_of scan event ≡ false) → IsAnswered was → All (KeptAt old was.id) kept
     → Follows scenario old was (after_end was phase running lists locks kept) event agrees.rest
-end_follows scenario old was phase running lists locks kept event agrees played comes adds same judged unwritten unread answered stays = record {
+end_follows scenario old was phase running lists locks kept event agrees same judged unwritten unread answered stays = record {
   command = record {
     refused = λ error is. agrees.command.refused error (sym same.refused ∙ is);
     way = λ none free command at. let some : is_some was.answer ≡ true = answered (record { command = command; at = at }) in absurd (cc (none, some));
@@ -76,7 +74,7 @@ end_follows scenario old was phase running lists locks kept event agrees played 
     given_at = place-more old e was.id (plan_at was.exec) was.read was.given_at (λ name. place_read-more old e was.id (scans.RelName name) (unread (scans.RelName name))) agrees.command.given_at;
     given_seen = given_out (old ++ e ∷ []) was.id (plan_at was.exec) was.read was.given.items (out_at_end was agrees.well answered);
   };
-  kept = kept-more old e was.id kept (may_come scenario old e played comes adds) (λ i d within. unread _) stays;
+  kept = kept-more old e was.id kept (λ i d within. unread _) stays;
   answer = answer-more scenario old e was (after_end was phase running lists locks kept) agrees.rest (rest_after old was event agrees.rest) same judged agrees.places.judged agrees.answer;
   judged = λ has none. let some : is_some was.answer ≡ true = answered (record { command = has.command; at = has.at }) in absurd (cc (none, some));
 }
@@ -132,11 +130,11 @@ runs_own None first runs = absurd (cc)
 runs_own (Some t) first runs = refl
 
 -- a descriptor stays open
-pub opens_on : (was : Backend) (phase : Phase) (running : Option OwnTransaction) (lists : Held) (locks : Roomy OwnLock) (kept : List KeptScan) → OpensLast was → is_accepting phase ≡ false
+pub opens_on : (was : Backend) (phase : Phase) (running : Option OwnTransaction) (lists : Held) (locks : Roomy OwnLock) (kept : List KeptScan) → OpenedFit was → is_accepting phase ≡ false
     → ((command : Command) → owed_first (after_end was phase running lists locks kept) command ≡ []) → (HasOpened was → outcome_of (plan_at was.exec) ≡ CameWell → builds_missing kept was.opened ≡ [])
-    → OpensLast (after_end was phase running lists locks kept)
+    → OpenedFit (after_end was phase running lists locks kept)
 opens_on was phase running lists locks kept (inl none) quiet free builds = inl none
-opens_on was phase running lists locks kept (inr opens) quiet free builds = inr (record { out = opens.out; quiet = quiet; free = λ has. free has.command; builds = builds opens })
+opens_on was phase running lists locks kept (inr opens) quiet free builds = inr (record { quiet = λ _. quiet; free = λ has. free has.command; builds = builds opens })
 
 -- the session right after an entry of the end
 abbrev pub placed_end : List Entry → Backend → Event → Rest → Session

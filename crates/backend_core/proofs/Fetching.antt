@@ -1,7 +1,8 @@
 -- The fetch of messages that wait.
-use Rattle.std.proofs.Common.{◌≡◌, ◌≤◌, ◌+◌, ◌∙◌, ℕ, Bool, true, false, not, Option, Some, List, [], ◌∷◌, ◌++◌, ◌==◌, ◌&&◌, refl, sym, ap, subst, length, arith}
+use Rattle.std.proofs.Common.{◌≡◌, ◌≤◌, ◌+◌, ◌∙◌, ℕ, Bool, true, false, not, Option, Some, List, [], ◌∷◌, ◌++◌, ◌==◌, ◌&&◌, ◌||◌, refl, sym, ap, subst, length, arith}
 use Rattle.std.specs.Option.{option_map_or}
-use Rattle.std.proofs.Math.Bool.{and-true}
+use Rattle.std.proofs.Math.Bool.{and-false}
+use Rattle.base_types.specs.Scans.{is_build_scan}
 use Rattle.base_types.specs.Scenario.{Scenario}
 use Rattle.base_types.specs.declared.fetched.Fetched.TheVariants as fetches
 use Rattle.event_kinds.specs.declared.entry.Event.TheVariants as events
@@ -18,19 +19,19 @@ use Rattle.history_model.specs.Writes.{is_empty}
 use Rattle.seg_calls.specs.Calls.{entry_of, due_to, Fetches, Appends, MayCall}
 use Rattle.cacheless.specs.Facts.{facts_of}
 use Rattle.cacheless.specs.Session.{Session, Tally}
-use Rattle.cacheless.specs.Owed.{Owes, OwesFetch, OwesLook, owed_at_start, owed_after}
+use Rattle.cacheless.specs.Owed.{Owes, OwesFetch, OwesLook, owed_at_start, owed_after, owes_build}
 use Rattle.cacheless.specs.Sessions.{resumed, tally_by, placed_at, counted}
 use Rattle.cacheless.specs.Plays.{MayPlayIn}
 use Rattle.cacheless.proofs.Settling.{waits-owed}
-use Rattle.backend_core.specs.Types.{OwnLock, Entry, Event, KeptScan, Phase, Backend}
+use Rattle.backend_core.specs.Types.{OwnLock, Purpose, Entry, Event, KeptScan, Phase, Backend}
 use Rattle.backend_core.specs.declared.phase.Phase.TheVariants as phases
-use Rattle.backend_core.specs.State.{owed_at, is_accepting, looks_due, phase_fetched, locks_accepted, is_absent, is_visible_at, is_taken_back, one_if, kept_spared, Rest, session_at, HasCommand}
-use Rattle.backend_core.specs.Agrees.{IsPlayed, TallyFits, ReadRight, KeptFits, EndFits, IsAccepting, Agrees}
+use Rattle.backend_core.specs.State.{owed_at, is_accepting, looks_due, phase_fetched, locks_accepted, is_absent, is_visible_at, is_taken_back, one_if, kept_spared, Rest, session_at, HasCommand, is_in_accept, lacks_builds, is_kept}
+use Rattle.backend_core.specs.Agrees.{IsPlayed, TallyFits, ReadRight, KeptAt, EndFits, IsAccepting, Agrees}
 use Rattle.backend_core.specs.Steps.{Enters}
 use Rattle.backend_core.proofs.Stepping.{facts_after, session_after, rest_after, own_enters}
 use Rattle.backend_core.proofs.Carry.{MayCome, may_come, Leaves, own_leaves, kept-more, command-more, no_answer, may_call, waits_at, rows_fit-locked, found_locked-more}
 use Rattle.backend_core.proofs.Sparing.{is_kept-spared, all-spared}
-use Rattle.backend_core.proofs.Looks.{in_command, Quiet, quiet, runs_begun, runs_same, same_locks, locks_after, owes_none, Accepts, accepted_state, accept_well, accepts_in, first_begun, accepting_opened, not_empty-after}
+use Rattle.backend_core.proofs.Looks.{in_command, Quiet, quiet, runs_begun, runs_same, same_locks, locks_after, owes_in, Accepts, accepted_state, accept_well, accepts_in, first_begun, accepting_opened, not_empty-after}
 
 -- after a fetch of 32 a look is owed
 fetched_in : (count : ℕ) → in_command (phase_fetched count) ≡ true
@@ -72,14 +73,26 @@ full_more false tally = λ i. record tally { full = same i }
     same : tally.full ≡ tally.full + 0
     same = omega arith
 
+counts_most : (t counts : Bool) → one_if (t && counts) ≤ one_if t
+counts_most true true = omega arith
+counts_most true false = omega arith
+counts_most false counts = omega arith
+
 at_most_one : (t : Bool) → one_if t ≤ 1
 at_most_one true = omega arith
 at_most_one false = omega arith
 
-fetched_to : (scenario : Scenario) (old new : List Entry) (had has : ℕ → ℕ) (was : Backend) (count : ℕ) (locks : Roomy OwnLock) → Agrees scenario old was → IsPlayed scenario old → was.phase ≡ phases.Fetching → locks.items ≡ locks_accepted (phase_fetched count) was.locks.items
-    → Appends old new had has (entry_of was.id (was.finished + 1) (events.Fetch count)) → Enters scenario old new was (accepted_state was (phase_fetched count) was.looked locks (kept_spared (fetched_by old was.id count) was.kept))
-fetched_to scenario old new had has was count locks agrees played phase items appends =
-    own_enters scenario old new had has was now event agrees
+-- a look may not count any more
+fewer_looked : (looked marked now : Bool) → now ≡ (looked && not marked) → one_if now ≤ one_if looked
+fewer_looked looked true now is = omega (arith, ap one_if (is ∙ and-false looked))
+fewer_looked true false now is = omega (arith, ap one_if is)
+fewer_looked false false now is = omega (arith, ap one_if is)
+
+fetched_to : (scenario : Scenario) (old new : List Entry) (had has : ℕ → ℕ) (was : Backend) (count : ℕ) (looked : Bool) (locks : Roomy OwnLock) → one_if looked ≤ one_if was.looked → Agrees scenario old was → IsPlayed scenario old → was.phase ≡ phases.Fetching
+    → locks.items ≡ locks_accepted (is_accepting (phase_fetched count) || lacks_builds (record was { kept = kept_spared (fetched_by old was.id count) was.kept })) was.locks.items
+    → Appends old new had has (entry_of was.id (was.finished + 1) (events.Fetch count)) → Enters scenario old new was (accepted_state was (phase_fetched count) looked locks (kept_spared (fetched_by old was.id count) was.kept))
+fetched_to scenario old new had has was count looked locks fewer agrees played phase items appends =
+    own_enters scenario old new had has was now event agrees played
     (waits_at scenario old was agrees at (λ rest. waits-owed (facts_of old was.id) at.command rest (session_at was agrees.rest)
     (not_empty-after (owed_at_start (facts_of old was.id) at.command (session_at was agrees.rest)) (owed_after (facts_of old was.id).last) (ap is_empty (agrees.facts.owed ∙ ap owed_at phase)))))
     (record { session = λ _ _ _ _ _ _. refl; finished = λ s. same_finished s.left s; life = λ _. refl })
@@ -106,19 +119,21 @@ fetched_to scenario old new had has was count locks agrees played phase items ap
         owed = owed_fetched count;
         took = sym after.standing;
         taken = λ from is. absurd (cc (after.standing, ap is_taken_back is));
-        usable = λ scan build. ap (λ t. is_spared scan messages && t) (agrees.facts.usable scan build) ∙ sym (is_kept-spared messages was.kept scan);
+        usable = usable;
         kept = all-spared (ReadRight (facts_of old was.id).rows) messages was.kept agrees.facts.kept;
         given = λ read. rows_fit-locked (facts_of old was.id) (facts_after old was event) was.locks.items locks.items (plan_at was.exec) was.given.items (λ name. refl)
-            (found_locked-more was.locks.items locks.items (plan_at was.exec) was.given.items (same_locks (phase_fetched count) was.locks.items locks.items was.given.items items) (accepting.locked read)) (agrees.facts.given read);
+            (found_locked-more was.locks.items locks.items (plan_at was.exec) was.given.items (same_locks (is_in_accept now) was.locks.items locks.items was.given.items items) (accepting.locked read)) (agrees.facts.given read);
       };
-      tally = λ _. subst (λ t. TallyFits t now) (sym counts)
-          (omega (arith, (agrees.tally before.going).0, ap looks_due phase, due_fetched count, ap (λ o. option_map_or (λ t. one_if (t.first == was.finished + 1)) o 0) (runs_same (was.finished + 1) was.running accepting.runs)), omega (arith, (agrees.tally before.going).1, at_most_one (count == 32)));
-      well = accept_well was (phase_fetched count) was.looked locks now.kept accepts agrees.well;
+      tally = λ _. subst (λ t. TallyFits t now) (sym counts) (record {
+        enough = omega (arith, (agrees.tally before.going).enough, ap looks_due phase, due_fetched count, counts_most (count == 32) (not (lacks_builds now)), same_first, fewer);
+        within = omega (arith, (agrees.tally before.going).within, ap looks_due phase, due_fetched count, at_most_one (count == 32), at_most_one was.looked, same_first);
+      });
+      well = accept_well was (phase_fetched count) looked locks now.kept accepts agrees.well;
     })
     (record {
       command = command-more old e was now agrees.rest later (record { id = refl; commands = refl; finished = refl; answer = refl; plan = refl; opened = refl; block = refl; refused = ap (λ t. t.refused) same; found = ap (λ t. t.found) same }) (record { read = refl; given = refl; given_at = refl })
           leaves.writes leaves.places leaves.relations agrees.command;
-      kept = all-spared (KeptFits (old ++ e ∷ []) was.id) messages was.kept (kept-more old e was.id was.kept may (λ i d within. refl) agrees.kept);
+      kept = all-spared (KeptAt (old ++ e ∷ []) was.id) messages was.kept (kept-more old e was.id was.kept (λ i d within. refl) agrees.kept);
       answer = no_answer scenario (old ++ e ∷ []) now later accepting.unanswered;
       judged = λ _ _. refl;
     })
@@ -137,9 +152,9 @@ fetched_to scenario old new had has was count locks agrees played phase items ap
     messages = fetched_by old was.id count
 
     now : Backend
-    now = accepted_state was (phase_fetched count) was.looked locks (kept_spared messages was.kept)
+    now = accepted_state was (phase_fetched count) looked locks (kept_spared messages was.kept)
 
-    accepts : Accepts was (phase_fetched count) was.looked locks now.kept
+    accepts : Accepts was (phase_fetched count) looked locks now.kept
     accepts = record {
       has = at;
       before = ap in_command phase;
@@ -149,7 +164,7 @@ fetched_to scenario old new had has was count locks agrees played phase items ap
       unsettled = accepting.unsettled;
       found = accepting.locked;
       first = first_begun was accepting.runs agrees.well;
-      transaction = accepts_in was (phase_fetched count) was.looked locks now.kept (ap in_command phase) (fetched_in count) accepting.runs agrees.well;
+      transaction = accepts_in was (phase_fetched count) looked locks now.kept (ap in_command phase) (fetched_in count) accepting.runs agrees.well;
       items = items;
     }
 
@@ -169,11 +184,19 @@ fetched_to scenario old new had has was count locks agrees played phase items ap
     placed : Session
     placed = counted (facts_after old was event) event (placed_at (length old + 1) (was.finished + 1) event (session_at was agrees.rest))
 
-    opened : placed.opened ≡ []
-    opened = ap (λ t. t.opened) same ∙ accepts.opened
+    usable : (scan : Purpose) → is_build_scan scan ≡ true → (facts_after old was event).usable scan ≡ is_kept now.kept scan
+    usable scan build = ap (λ t. is_spared scan messages && t) (agrees.facts.usable scan build) ∙ sym (is_kept-spared messages was.kept scan)
+
+    -- the scans that it lacks now, before and after the fetch is counted
+    owes : (s : Session) → s.left ≡ plan_at was.exec → s.opened ≡ was.opened → owes_build (facts_after old was event) s ≡ lacks_builds now
+    owes s left opened = owes_in (facts_after old was event) was s now.kept usable left opened accepts.opened
 
     same_after : (session_after old was event agrees.rest).locks ≡ locks.items
-    same_after = locks_after (facts_after old was event) was placed (phase_fetched count) locks.items at accepts.after refl (owed_fetched count) opened items
+    same_after = locks_after (facts_after old was event) was placed (phase_fetched count) (lacks_builds now) locks.items at accepts.after refl (owed_fetched count)
+        (owes placed (ap (λ t. t.left) same) (ap (λ t. t.opened) same)) items
+
+    same_first : option_map_or (λ t. one_if (t.first == was.finished + 1)) now.running 0 ≡ option_map_or (λ t. one_if (t.first == was.finished + 1)) was.running 0
+    same_first = ap (λ o. option_map_or (λ t. one_if (t.first == was.finished + 1)) o 0) (runs_same (was.finished + 1) was.running accepting.runs)
 
     e : Entry
     e = entry_of was.id (was.finished + 1) event
@@ -181,27 +204,31 @@ fetched_to scenario old new had has was count locks agrees played phase items ap
     later : Rest
     later = rest_after old was event agrees.rest
 
-    counts : later.tally ≡ record (tally_by event agrees.rest.tally) { full = agrees.rest.tally.full + one_if (count == 32) }
+    counts : later.tally ≡ record (tally_by event agrees.rest.tally) { full = agrees.rest.tally.full + one_if ((count == 32) && not (lacks_builds now)) }
     counts =
         ap (λ t. elim ((count == 32) && not t) as (λ x. Tally) [ true ↦ record (tally_by event agrees.rest.tally) { full = agrees.rest.tally.full + 1 } | false ↦ tally_by event agrees.rest.tally ])
-        (owes_none (facts_after old was event) (placed_at (length old + 1) (was.finished + 1) event (session_at was agrees.rest)) opened)
-        ∙ ap (λ t. elim t as (λ x. Tally) [ true ↦ record (tally_by event agrees.rest.tally) { full = agrees.rest.tally.full + 1 } | false ↦ tally_by event agrees.rest.tally ]) (and-true (count == 32))
-        ∙ full_more (count == 32) (tally_by event agrees.rest.tally)
+        (owes (placed_at (length old + 1) (was.finished + 1) event (session_at was agrees.rest)) (ap (λ t. t.left) same) (ap (λ t. t.opened) same))
+        ∙ full_more ((count == 32) && not (lacks_builds now)) (tally_by event agrees.rest.tally)
 
     may : MayCome old e
     may = may_come scenario old e played appends.comes tt
 
     leaves : Leaves old e was.id
-    leaves = own_leaves old e was.id may refl (λ name. refl) refl
+    leaves = own_leaves old e was.id may refl (λ name. refl) (λ _. tt)
 
 -- the same for what the call answered
-pub fetch_enters : (scenario : Scenario) (old new : List Entry) (had has : ℕ → ℕ) (was : Backend) (count : ℕ) (given : List Message) (phase : Phase) (locks : Roomy OwnLock) (kept : List KeptScan) → Agrees scenario old was → IsPlayed scenario old → was.phase ≡ phases.Fetching
-    → Fetches old new had has was.id (was.finished + 1) given (fetches.Messages count) → kept ≡ kept_spared given was.kept → phase ≡ phase_fetched count → locks.items ≡ locks_accepted phase was.locks.items → Enters scenario old new was (record was { phase = phase; locks = locks; kept = kept })
-fetch_enters scenario old new had has was count given phase locks kept agrees played fetching gives spared phase_is items =
-    subst (λ k. Enters scenario old new was (record was { phase = phase; locks = locks; kept = k })) (ap (λ m. kept_spared m was.kept) (sym gives.messages) ∙ sym spared)
-    (subst (λ p. Enters scenario old new was (record was { phase = p; locks = locks; kept = kept_spared messages was.kept })) (sym phase_is)
-    (subst (λ r. Enters scenario old new was (record was { phase = phase_fetched count; running = r; locks = locks; kept = kept_spared messages was.kept })) (runs_same (was.finished + 1) was.running (agrees.well.accepting (ap is_accepting fetching)).runs)
-    (fetched_to scenario old new had has was count locks agrees played fetching (items ∙ ap (λ p. locks_accepted p was.locks.items) phase_is) gives.appends)))
+pub fetch_enters : (scenario : Scenario) (old new : List Entry) (had has : ℕ → ℕ) (was : Backend) (count : ℕ) (given : List Message) (phase : Phase) (looked marked : Bool) (locks : Roomy OwnLock) (kept : List KeptScan) → Agrees scenario old was → IsPlayed scenario old → was.phase ≡ phases.Fetching
+    → Fetches old new had has was.id (was.finished + 1) given (fetches.Messages count) → kept ≡ kept_spared given was.kept → looked ≡ (was.looked && not marked) → phase ≡ phase_fetched count
+    → locks.items ≡ locks_accepted (is_accepting phase || lacks_builds (record was { kept = kept })) was.locks.items → Enters scenario old new was (record was { phase = phase; looked = looked; locks = locks; kept = kept })
+fetch_enters scenario old new had has was count given phase looked marked locks kept agrees played fetching gives spared looked_is phase_is items =
+    subst (λ k. Enters scenario old new was (record was { phase = phase; looked = looked; locks = locks; kept = k })) (sym kept_is)
+    (subst (λ p. Enters scenario old new was (record was { phase = p; looked = looked; locks = locks; kept = kept_spared messages was.kept })) (sym phase_is)
+    (subst (λ r. Enters scenario old new was (record was { phase = phase_fetched count; running = r; looked = looked; locks = locks; kept = kept_spared messages was.kept })) (runs_same (was.finished + 1) was.running (agrees.well.accepting (ap is_accepting fetching)).runs)
+    (fetched_to scenario old new had has was count looked locks (fewer_looked was.looked marked looked looked_is) agrees played fetching
+    (items ∙ (λ i. locks_accepted (is_accepting (phase_is i) || lacks_builds (record was { kept = kept_is i })) was.locks.items)) gives.appends)))
   where
     messages : List Message
     messages = fetched_by old was.id count
+
+    kept_is : kept ≡ kept_spared messages was.kept
+    kept_is = spared ∙ ap (λ m. kept_spared m was.kept) gives.messages

@@ -8,7 +8,9 @@ use Rattle.std.proofs.lemmas.Option.{slice_get_within, slice_get_cases}
 use Rattle.std.proofs.Math.Bool.{and-false}
 use Rattle.base_types.specs.declared.command.Command.TheVariants as commands
 use Rattle.ddl_effect.specs.Blocks.{Block, Level, Blocks, Outside, Inside, Failed, no_block, is_open, ends_block, refused_in, refused_by, innermost, blocks_well, blocks_badly}
-use Rattle.ddl_effect.specs.Stages.{plan_at}
+use Rattle.ddl_effect.specs.Plans.{Plan, Done, Fails, Absent, NotBuilt, Do, Lookup}
+use Rattle.ddl_effect.specs.Stages.{plan_at, want_of}
+use Rattle.ddl_effect.specs.declared.want.Want.TheVariants as wants
 use Rattle.history_model.specs.Transactions.{begun}
 use Rattle.history_model.specs.Writes.{is_empty}
 use Rattle.cacheless.specs.Facts.{Facts, facts_of}
@@ -21,10 +23,12 @@ use Rattle.cacheless.proofs.Settling.{finishes}
 use Rattle.backend_core.specs.Types.{Command, CommandError, Scenario, Entry, Event, Line, Exec, Opening, OwnTransaction, Phase, Backend}
 use Rattle.backend_core.specs.declared.phase.Phase.TheVariants as phases
 use Rattle.backend_core.specs.State.{owed_at, is_accepting, published_at, is_visible_at, is_taken_back, is_ended, is_out, one_if, running_in, begins_in, owed_first, end_in_block, end_in_well, end_in_badly, end_at, blocks_passed, blocks_next, rest_of, session_at, HasCommand}
-use Rattle.backend_core.specs.Agrees.{RunsBy, TransactionFits, IsOver, EndFits, Well, Agrees}
+use Rattle.backend_core.specs.Agrees.{RunsBy, TransactionFits, IsOver, EndFits, Well, Agrees, ReadsOpened}
 use Rattle.backend_core.specs.Steps.{NextFinish, AgreesNow}
-use Rattle.backend_core.proofs.Carry.{left_command, clear_at, no_answer}
-use Rattle.backend_core.proofs.Ending.{left_same, owed_none, runs_unless}
+use Rattle.backend_core.proofs.Stages.{stage_built}
+use Rattle.backend_core.proofs.OpenedReads.{reads_first}
+use Rattle.backend_core.proofs.Carry.{left_command, clear_at, no_answer, lacks_out}
+use Rattle.backend_core.proofs.Ending.{left_same, owed_none, runs_unless, built_at}
 use Rattle.backend_core.proofs.EndEntries.{free_ended}
 use Rattle.backend_core.proofs.Beginning.{Begins, past_at, plain_at, starts_at, command_at}
 
@@ -267,6 +271,7 @@ pub finish_keeps : (scenario : Scenario) (seen : List Entry) (was : Backend) (ex
     → plan_at exec ≡ plan_first blocks (slice_get was.commands (was.finished + 1)) → blocked ≡ is_some (refused_first blocks (slice_get was.commands (was.finished + 1))) → opened ≡ [] → was.answer ≡ Some text
     → lines ≡ was.lines ++ record { backend = was.id; command = was.finished + 1; text = text } ∷ [] → AgreesNow scenario seen (at_next was exec blocked blocks opened lines)
 finish_keeps scenario seen was exec blocked blocks opened lines text agrees_now next blocks_are plan refused nothing answer lines_are = record {
+  played = agrees_now.played;
   agrees = record {
     number = agrees.number;
     commands = agrees.commands;
@@ -287,7 +292,7 @@ finish_keeps scenario seen was exec blocked blocks opened lines text agrees_now 
       kept = agrees.facts.kept;
       given = λ read. absurd (cc);
     };
-    tally = λ _. (omega (arith, not_started was.running (was.finished + 1) agrees.well.first), omega arith);
+    tally = λ _. record { enough = omega (arith, not_started was.running (was.finished + 1) agrees.well.first); within = omega (arith, not_started was.running (was.finished + 1) agrees.well.first) };
     life = record { last = agrees.life.last; alive = agrees.life.alive; most = omega (arith, agrees.life.most) };
     well = record {
       built = agrees.well.built;
@@ -310,7 +315,9 @@ finish_keeps scenario seen was exec blocked blocks opened lines text agrees_now 
       free = λ some. absurd (cc);
       starts = starts_at now begins agrees.well.built refl;
       accepting = λ is. absurd (cc);
-      clear = inr (clear_at was agrees.well fin.quiet);
+      clear = inr (clear_at was agrees.well fin.quiet (lacks_out was fin.out));
+      reads = subst (ReadsOpened opened) (sym plan) (subst (λ l. ReadsOpened l (plan_first blocks (slice_get was.commands (was.finished + 1)))) (sym nothing) (reads_first blocks (slice_get was.commands (was.finished + 1)) (λ next at. built_at was.commands (was.finished + 1) next agrees.well.built at)));
+      last = λ read. absurd (cc);
     };
     command = command_at seen now (rest_of begun_session) begins agrees.well.built refused_is refl nothing refl agrees.command.later;
     kept = agrees.kept;
@@ -391,3 +398,20 @@ finished_keeps scenario seen was commands command exec blocked blocks taken open
     subst (λ o. AgreesNow scenario seen (record (at_next was exec blocked blocks opened lines) { answer = o })) (sym none)
     (finish_keeps scenario seen was exec blocked blocks opened lines text agrees next (blocks_are ∙ ap (blocks_next was) one)
     (plan ∙ ap (λ l. plan_first blocks (slice_get l (was.finished + 1))) same) (refused ∙ ap (λ l. is_some (refused_first blocks (slice_get l (was.finished + 1)))) same) nothing answer lines_are)
+
+-- a command that wants nothing more and didn't fail has come out well
+pub passed_well : (exec : Exec) (number : ℕ) (command : Command) (blocks : Blocks) → want_of (plan_at exec) ≡ wants.Done → blocks_passed (plan_at exec) number command blocks ≡ blocks_well number command blocks
+passed_well exec number command blocks done = by_plan (plan_at exec) refl done
+  where
+    by_plan : (p : Plan) → plan_at exec ≡ p → want_of p ≡ wants.Done → blocks_passed p number command blocks ≡ blocks_well number command blocks
+    by_plan Done at is = refl
+    by_plan (Fails error) at is = absurd (cc)
+    by_plan (Absent name) at is = absurd (cc)
+    by_plan (Do (Lookup name mode) rest) at is = absurd (cc)
+    by_plan (Do act rest) at is = absurd (cc)
+    by_plan NotBuilt at is = absurd (stage_built exec at)
+
+-- and any other hasn't
+pub passed_badly : (number : ℕ) (command : Command) (blocks : Blocks) (p : Plan) → (want_of p ≡ wants.Done → ⊥) → blocks_passed p number command blocks ≡ blocks_badly blocks
+passed_badly number command blocks Done other = absurd (other refl)
+passed_badly number command blocks p other = refl

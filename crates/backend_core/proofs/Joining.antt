@@ -6,7 +6,7 @@ use Rattle.std.proofs.lemmas.List.{length_push}
 use Rattle.std.proofs.lemmas.List.Elements.{All-nil}
 use Rattle.event_kinds.specs.declared.entry.Event.TheVariants as events
 use Rattle.lock_modes.specs.Own.{cleared}
-use Rattle.ddl_effect.specs.Commands.{runs}
+use Rattle.cacheless.specs.Runs.{runs}
 use Rattle.ddl_effect.specs.Blocks.{no_block, is_open, innermost}
 use Rattle.history_model.specs.Legal.{FollowsVisible, FollowsGone}
 use Rattle.history_model.specs.Lives.{FollowsLife}
@@ -18,16 +18,18 @@ use Rattle.history_model.proofs.Reading.{life_of-own}
 use Rattle.seg_calls.specs.Calls.{entry_of, MayCall, Appends}
 use Rattle.cacheless.specs.Facts.{facts_of, facts_by}
 use Rattle.cacheless.specs.Session.{Session, first_of, at_command, plan_first, refused_first}
-use Rattle.cacheless.specs.Plays.{MayPlayAt}
+use Rattle.cacheless.specs.Plays.{IsNext, MayPlayAt}
 use Rattle.cacheless.specs.Settled.{settled}
 use Rattle.cacheless.proofs.Reading.{facts_of-own, session_of-own}
 use Rattle.backend_core.specs.Types.{Command, Scenario, Entry, KeptScan, Backend}
 use Rattle.backend_core.specs.declared.phase.Life.TheVariants as lives
 use Rattle.backend_core.specs.State.{owed_at, is_accepting, looks_due, is_taken_back, is_ended, one_if, running_in, is_kept, rest_of}
-use Rattle.backend_core.specs.Agrees.{ReadRight, FactsFit, RunsBy, EndFits, Well, KeptFits, IsNew, HasNotJoined}
+use Rattle.backend_core.specs.Agrees.{IsPlayed, ReadRight, FactsFit, RunsBy, EndFits, Well, KeptAt, IsNew, HasNotJoined, ReadsOpened}
 use Rattle.backend_core.specs.Steps.{AgreesNow, Enters}
+use Rattle.backend_core.proofs.Played.{IsPlayed-more}
+use Rattle.backend_core.proofs.OpenedReads.{reads_first}
 use Rattle.backend_core.proofs.Carry.{has_written-quiet, no_answer}
-use Rattle.backend_core.proofs.Ending.{fits_unless}
+use Rattle.backend_core.proofs.Ending.{fits_unless, built_at}
 use Rattle.backend_core.proofs.Beginning.{Begins, past_at, plain_at, starts_at, command_at}
 
 -- it may be entered
@@ -82,6 +84,8 @@ new_well s built few new = record {
   starts = starts_at (joined s) begins built new.read;
   accepting = λ is. absurd (both_ways _ (ap is_accepting new.phase) is);
   clear = inr (ap (map cleared) new.locks ∙ sym new.locks);
+  reads = subst (ReadsOpened s.opened) (sym begins.plan) (subst (λ l. ReadsOpened l (plan_first s.blocks (slice_get s.commands s.finished))) (sym new.opened) (reads_first s.blocks (slice_get s.commands s.finished) (λ command at. built_at s.commands s.finished command built at)));
+  last = λ read. absurd (cc (read, new.read));
 }
   where
     begins : Begins (joined s)
@@ -101,18 +105,19 @@ new_facts old s new = record {
 }
 
 -- the state after it
-pub join_enters : (scenario : Scenario) (old new : List Entry) (had has : ℕ → ℕ) (was : Backend) → HasNotJoined scenario old was → Appends old new had has (entry_of was.id 0 events.Start) → Enters scenario old new was (joined was)
-join_enters scenario old new had has was before appends = record {
+pub join_enters : (scenario : Scenario) (old new : List Entry) (had has : ℕ → ℕ) (was : Backend) → HasNotJoined scenario old was → IsPlayed scenario old → Appends old new had has (entry_of was.id 0 events.Start) → Enters scenario old new was (joined was)
+join_enters scenario old new had has was before played appends = record {
   entry = e;
   is = appends.entries;
   own = refl;
   id = refl;
   comes = appends.comes;
-  next = (before.number, subst (λ o. MayPlayAt scenario old was.id o 0 events.Start) (sym before.session) tt);
+  next = next;
   needed = tt;
   truly = tt;
   tables = tt;
   agrees = subst (λ h. AgreesNow scenario h now) (sym appends.entries) (record {
+    played = IsPlayed-more scenario old e played appends.comes next tt tt tt;
     agrees = record {
       number = before.number;
       commands = before.commands;
@@ -132,11 +137,14 @@ join_enters scenario old new had has was before appends = record {
             locks = sym before.new.locks i;
           })));
       facts = subst (λ f. FactsFit f now) (sym (facts_of-own old e was.id own ∙ ap (facts_by old was.id 0 events.Start) before.facts)) (new_facts old was before.new);
-      tally = λ _. (omega (arith, ap looks_due before.new.phase, ap (λ o. option_map_or (λ t. one_if (t.first == was.finished + 1)) o 0) before.new.running, ap one_if before.new.looked), omega arith);
+      tally = λ _. record {
+        enough = omega (arith, ap looks_due before.new.phase, ap (λ o. option_map_or (λ t. one_if (t.first == was.finished + 1)) o 0) before.new.running, ap one_if before.new.looked);
+        within = omega (arith, ap looks_due before.new.phase, ap (λ o. option_map_or (λ t. one_if (t.first == was.finished + 1)) o 0) before.new.running, ap one_if before.new.looked);
+      };
       life = record { last = 0; alive = life_of-own old e was.id own; most = omega arith };
       well = new_well was before.built before.few before.new;
       command = command_at (old ++ e ∷ []) now (rest_of first) (new_begins was before.new) before.built refused refl before.new.opened before.new.read (λ c _. has_written-quiet old e was.id c refl ∙ before.unwritten c);
-      kept = subst (λ (l : List KeptScan). All (KeptFits (old ++ e ∷ []) was.id) l) (sym before.new.kept) (All-nil (KeptFits (old ++ e ∷ []) was.id));
+      kept = subst (λ (l : List KeptScan). All (KeptAt (old ++ e ∷ []) was.id) l) (sym before.new.kept) (All-nil (KeptAt (old ++ e ∷ []) was.id));
       places = record { finished = All-nil _; judged = omega (arith, length_push old e); last = omega (arith, length_push old e) };
       answer = no_answer scenario (old ++ e ∷ []) now (rest_of first) (ap (λ o. is_some o) before.new.answer);
       lines = before.new.lines;
@@ -150,6 +158,9 @@ join_enters scenario old new had has was before appends = record {
 
     now : Backend
     now = joined was
+
+    next : IsNext scenario old e
+    next = (before.number, subst (λ o. MayPlayAt scenario old was.id o 0 events.Start) (sym before.session) tt)
 
     own : (e.backend == was.id) ≡ true
     own = eq-eqb was.id was.id refl

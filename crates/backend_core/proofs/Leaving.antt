@@ -69,6 +69,7 @@ leave_steps scenario old new had has was agrees past none appends = record {
     places = λ i d within. omega (arith, agrees.places.finished i d within, length_push old e);
     lines = agrees.lines ∙ sym (lines-more scenario old e was.id 1 agrees.rest.finished was.commands agrees.places.finished) ∙ ap (lines_from scenario (old ++ e ∷ []) was.id 1 agrees.rest.finished) agrees.commands;
   });
+  coherent = tt;
 }
   where
     e : Entry

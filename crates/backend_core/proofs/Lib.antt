@@ -1,9 +1,6 @@
-pub mod Tables
-pub mod CountsFor
-pub mod StaysRead
-pub mod SeesRelation
-pub mod CanFollow
+pub mod NextPlaces
 pub mod Stages
+pub mod OpenedReads
 pub mod Stepping
 pub mod Carry
 pub mod Sparing
@@ -26,10 +23,12 @@ pub mod Releasing
 pub mod Leaving
 pub mod Beginning
 pub mod NewTable
+pub mod WriteFits
 pub mod Registering
 pub mod WriteMessages
 pub mod Writing
 pub mod Clashing
+pub mod OwnLocks
 pub mod Finding
 pub mod Joining
 pub mod Waiting
@@ -38,4 +37,5 @@ pub mod Finishing
 pub mod ReadPlaces
 pub mod Showing
 pub mod Answered
+pub mod Coherent
 pub mod Stepped

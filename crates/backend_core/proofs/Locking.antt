@@ -1,5 +1,6 @@
 -- The locks that a backend asks for.
 use Rattle.std.proofs.Common.{Err, ◌≡◌, ◌<◌, ◌+◌, inl, inr, ◌∙◌, ℕ, Bool, true, false, not, Option, Some, None, List, [], ◌∷◌, ◌++◌, ◌==◌, ◌&&◌, ◌||◌, if◌then◌else◌, refl, sym, ap, subst, length, drop, map, unwrap_or, arith}
+use Rattle.std.specs.List.{AllByRecursion}
 use Rattle.std.specs.Option.{option_map_or}
 use Rattle.std.proofs.lemmas.Bool.{eq-eqb, or_right}
 use Rattle.std.proofs.lemmas.List.Folds.{list_any-append}
@@ -18,8 +19,9 @@ use Rattle.ddl_effect.specs.Stages.{plan_at}
 use Rattle.ddl_effect.specs.declared.exec.Exec.TheVariants as stages
 use Rattle.history_model.specs.Drawn.{next_oid}
 use Rattle.history_model.specs.Held.{held_of}
-use Rattle.history_model.specs.Orderly.{MayComeNext}
+use Rattle.history_model.specs.Orderly.{MayComeNext, main_rel}
 use Rattle.history_model.specs.Writes.{is_empty}
+use Rattle.history_model.proofs.DrawnRows.{given_drawn}
 use Rattle.history_model.proofs.Prefixes.{EachEntry-weaker}
 use Rattle.seg_calls.specs.Calls.{entry_of, Appends, Locks}
 use Rattle.lock_modes.specs.declared.granted.LockRefusal.{LockRefusal}
@@ -36,11 +38,11 @@ use Rattle.cacheless.proofs.Settling.{waits-act}
 use Rattle.cacheless.proofs.Ways.{acts}
 use Rattle.backend_core.specs.Types.{Oid, Mode, Row, Purpose, Command, Entry, Event, OwnLock, Backend}
 use Rattle.backend_core.specs.declared.phase.Phase.TheVariants as phases
-use Rattle.backend_core.specs.State.{owed_at, is_absent, is_accepting, looks_due, is_taken_back, is_ended, running_in, scans_missing, unlocked_of, Rest, session_at, HasCommand}
-use Rattle.backend_core.specs.Agrees.{IsPlayed, FactsFit, RowsFit, Well, IsFoundLocked, GivenSeen, Agrees}
+use Rattle.backend_core.specs.State.{owed_at, is_absent, is_accepting, looks_due, is_taken_back, is_ended, running_in, scans_missing, unlocked_of, Rest, session_at, HasCommand, builds_missing}
+use Rattle.backend_core.specs.Agrees.{IsPlayed, FactsFit, RowsFit, IsFoundLocked, GivenSeen, Agrees}
 use Rattle.backend_core.specs.Steps.{IsWorking, NextLock, Enters}
 use Rattle.backend_core.proofs.Stepping.{Waits, facts_after, session_after, rest_after, own_enters}
-use Rattle.backend_core.proofs.Carry.{MayCome, may_come, Leaves, own_leaves, has_written-quiet, kept-more, command-more, no_answer, waits_at, scans_same, none_opened, none_missing, missing_at, owed_scans, clear_at, accepted-clear, transaction-more, end_free, runs_on, rows_fit-locked, runs_unowed}
+use Rattle.backend_core.proofs.Carry.{MayCome, may_come, Leaves, own_leaves, has_written-quiet, kept-more, command-more, no_answer, waits_at, scans_same, lacks_none, opened_inside, missing_at, owed_scans, clear_at, accepted-clear, transaction-more, end_free, runs_on, rows_fit-locked, runs_unowed}
 use Rattle.backend_core.proofs.Looks.{not_empty-after}
 use Rattle.backend_core.proofs.Acting.{IsActing, is_acting}
 
@@ -72,19 +74,19 @@ pub found_rows : (facts : Facts) (s : Backend) (name : List ℕ) (mode : Mode) (
 found_rows facts s name mode rest fits at read = (subst (λ p. RowsFit facts s.locks.items p s.given.items) at (fits.given read)).0
 
 -- a lookup whose scan is made misses none
-pub none_missing_read : (s : Backend) (name : List ℕ) (mode : Mode) (rest : List Row → Plan) → Well s → plan_at s.exec ≡ Do (Lookup name mode) rest → s.read ≡ true → scans_missing s ≡ []
-none_missing_read s name mode rest well at read = missing_at s (Do (Lookup name mode) rest) (none_missing s well (ap (λ p. is_settled (outcome_of p)) at)) at ∙ ap (λ r. if r then [] else scans.RelName name ∷ []) read
+pub none_missing_read : (s : Backend) (name : List ℕ) (mode : Mode) (rest : List Row → Plan) → builds_missing s.kept s.opened ≡ [] → plan_at s.exec ≡ Do (Lookup name mode) rest → s.read ≡ true → scans_missing s ≡ []
+none_missing_read s name mode rest whole at read = missing_at s (Do (Lookup name mode) rest) whole at ∙ ap (λ r. if r then [] else scans.RelName name ∷ []) read
 
 pub waits_lock : (scenario : Scenario) (seen : List Entry) (s : Backend) (agrees : Agrees scenario seen s) (has : HasCommand s) (rel : Oid) (mode : Mode) → NextLock s rel mode → Waits agrees
 waits_lock scenario seen s agrees has rel mode next = waits_at scenario seen s agrees has (λ rest. waits-act (facts_of seen s.id) has.command rest (session_at s agrees.rest) (Lookup next.name mode) next.rest next.at
-    (given_here (facts_of seen s.id) s agrees.rest (Lookup next.name mode) next.rest agrees.facts next.at (none_missing_read s next.name mode next.rest agrees.well next.at next.read)
+    (given_here (facts_of seen s.id) s agrees.rest (Lookup next.name mode) next.rest agrees.facts next.at (none_missing_read s next.name mode next.rest next.whole next.at next.read)
     ∙ ap (looked_up s.locks.items mode) (found_rows (facts_of seen s.id) s next.name mode next.rest agrees.facts next.at next.read) ∙ (unlocked s.locks.items mode s.given.items rel next.unlocked).gives_none))
 
 -- the lock is next
 may_lock : (scenario : Scenario) (seen : List Entry) (s : Backend) (agrees : Agrees scenario seen s) (works : IsWorking s) (rel : Oid) (mode : Mode) → NextLock s rel mode
     → (owed_of (facts_of seen s.id) works.has.command (session_at s agrees.rest) ≡ []) × IsLock (facts_of seen s.id) (plan_at s.exec) rel mode
 may_lock scenario seen s agrees works rel mode next = (
-  owed_scans scenario seen s agrees works ∙ ap (map OwesScan) (none_missing_read s next.name mode next.rest agrees.well next.at next.read),
+  owed_scans scenario seen s agrees works ∙ ap (map OwesScan) (none_missing_read s next.name mode next.rest next.whole next.at next.read),
   subst (λ p. IsLock (facts_of seen s.id) p rel mode) (sym next.at) (ap class_oid (found_rows (facts_of seen s.id) s next.name mode next.rest agrees.facts next.at next.read) ∙ (unlocked s.locks.items mode s.given.items rel next.unlocked).names, refl),
 )
 
@@ -95,13 +97,13 @@ lock_new scenario seen s agrees played works rel mode next =
     ∙ (unlocked s.locks.items mode s.given.items rel next.unlocked).unheld
 
 -- and its relation is drawn
-pub lock_drawn : (scenario : Scenario) (seen : List Entry) (s : Backend) → Agrees scenario seen s → (rel : Oid) (mode : Mode) → NextLock s rel mode → rel.0 < next_oid seen
-lock_drawn scenario seen s agrees rel mode next = by_rows s.given.items (unlocked s.locks.items mode s.given.items rel next.unlocked).names
+pub lock_drawn : (scenario : Scenario) (seen : List Entry) (s : Backend) → Agrees scenario seen s → IsPlayed scenario seen → (rel : Oid) (mode : Mode) → NextLock s rel mode → rel.0 < next_oid seen
+lock_drawn scenario seen s agrees played rel mode next = by_rows s.given.items (unlocked s.locks.items mode s.given.items rel next.unlocked).names
     (subst (λ r. GivenSeen seen s.id (Do (Lookup next.name mode) next.rest) r s.given.items) next.read (subst (λ p. GivenSeen seen s.id p s.read s.given.items) next.at agrees.command.given_seen))
   where
     by_rows : (given : List Row) → class_oid given ≡ Some rel → GivenSeen seen s.id (Do (Lookup next.name mode) next.rest) true given → rel.0 < next_oid seen
     by_rows [] names sees = absurd (cc)
-    by_rows (rows.Class oid own kind fill ∷ more) names sees = subst (λ r. r.0 < next_oid seen) (ap (λ o. unwrap_or o oid) names) sees.counted.drawn
+    by_rows (rows.Class oid own kind fill ∷ more) names sees = subst (λ r. r.0 < next_oid seen) (ap (λ o. unwrap_or o oid) names) (subst (AllByRecursion (λ row. (main_rel row).0 < next_oid seen)) sees.row (given_drawn seen s.id (scans.Class oid) played.sound)).0
     by_rows (row ∷ more) names sees = absurd (cc)
 
 -- a look is owed after it, and the locks aren't clear yet
@@ -130,7 +132,7 @@ pub granted_enters : (scenario : Scenario) (old new : List Entry) (had has : ℕ
     → held ≡ was.locks.items → locks.items ≡ held ++ record { rel = rel; mode = mode; command = was.finished + 1; clear = false } ∷ []
     → Appends old new had has (entry_of was.id (was.finished + 1) (events.LockOk rel mode)) → Enters scenario old new was (record was { phase = phases.Looking; locks = locks })
 granted_enters scenario old new had has was rel mode held locks agrees played works next same pushes appends =
-    own_enters scenario old new had has was now event agrees (waits_lock scenario old was agrees works.has rel mode next)
+    own_enters scenario old new had has was now event agrees played (waits_lock scenario old was agrees works.has rel mode next)
     (record { session = λ _ _ _ _ _ _. refl; finished = λ _. refl; life = λ _. refl })
     (record {
       plays = subst (λ o. MayPlayIn (next_oid old) (facts_of old was.id) o (session_at was agrees.rest) event) (sym works.has.at) (may_lock scenario old was agrees works rel mode next);
@@ -154,12 +156,14 @@ granted_enters scenario old new had has was rel mode held locks agrees played wo
         kept = agrees.facts.kept;
         given = λ read. rows_fit-locked (facts_of old was.id) (facts_after old was event) was.locks.items locks.items (plan_at was.exec) was.given.items (λ name. refl) found (agrees.facts.given read);
       };
-      tally = λ _. (omega (arith, (agrees.tally (ap is_ended works.phase)).0, ap looks_due works.phase), (agrees.tally (ap is_ended works.phase)).1);
+      tally = λ _. let t = agrees.tally (ap is_ended works.phase) in record { enough = omega (arith, t.enough, ap looks_due works.phase); within = omega (arith, t.within, ap looks_due works.phase) };
       well = record {
         built = agrees.well.built;
         few = agrees.well.few;
         most = agrees.well.most;
-        opened = inl (none_opened was agrees.well (ap (λ p. is_settled (outcome_of p)) next.at));
+        opened = opened_inside now acting.runs (ap (λ p. is_settled (outcome_of p)) next.at);
+        reads = agrees.well.reads;
+        last = λ read. inr found;
         blocked = agrees.well.blocked;
         refused = agrees.well.refused;
         plain = agrees.well.plain;
@@ -182,7 +186,7 @@ granted_enters scenario old new had has was rel mode held locks agrees played wo
     (record {
       command = command-more old e was now agrees.rest later (record { id = refl; commands = refl; finished = refl; answer = refl; plan = refl; opened = refl; block = refl; refused = refl; found = refl }) (record { read = refl; given = refl; given_at = refl })
           leaves.writes leaves.places leaves.relations agrees.command;
-      kept = kept-more old e was.id was.kept may (λ i d within. refl) agrees.kept;
+      kept = kept-more old e was.id was.kept (λ i d within. refl) agrees.kept;
       answer = no_answer scenario (old ++ e ∷ []) now later acting.unanswered;
       judged = λ _ _. refl;
     })
@@ -216,13 +220,13 @@ granted_enters scenario old new had has was rel mode held locks agrees played wo
     may = may_come scenario old e played appends.comes tt
 
     leaves : Leaves old e was.id
-    leaves = own_leaves old e was.id may refl (λ name. refl) refl
+    leaves = own_leaves old e was.id may refl (λ name. refl) (λ _. tt)
 
 -- a lock that is refused ends the command
 pub refused_enters : (scenario : Scenario) (old new : List Entry) (had has : ℕ → ℕ) (was : Backend) (rel : Oid) (mode : Mode) (holder : ℕ) (held : Mode) (locks : Roomy OwnLock) → Agrees scenario old was → IsPlayed scenario old → IsWorking was → NextLock was rel mode → locks.items ≡ was.locks.items
     → Appends old new had has (entry_of was.id (was.finished + 1) (events.LockHeld rel mode holder held)) → Enters scenario old new was (record was { exec = stages.Failing (errors.Locked rel holder held); locks = locks })
 refused_enters scenario old new had has was rel mode holder held locks agrees played works next same appends =
-    own_enters scenario old new had has was now event agrees (waits_lock scenario old was agrees works.has rel mode next)
+    own_enters scenario old new had has was now event agrees played (waits_lock scenario old was agrees works.has rel mode next)
     (record { session = λ _ _ _ _ _ _. refl; finished = λ _. refl; life = λ _. refl })
     (record {
       plays = subst (λ o. MayPlayIn (next_oid old) (facts_of old was.id) o (session_at was agrees.rest) event) (sym works.has.at) (may_lock scenario old was agrees works rel mode next);
@@ -232,7 +236,7 @@ refused_enters scenario old new had has was rel mode holder held locks agrees pl
     })
     (record {
       moves = record { id = refl; commands = refl; finished = refl; life = refl; lines = refl };
-      session = accepted-clear (facts_after old was event) (first_of (drop was.finished was.commands)) placed (clear_at was agrees.well (ap is_accepting works.phase)) ∙ (λ i. record placed { locks = sym same i });
+      session = accepted-clear (facts_after old was event) (first_of (drop was.finished was.commands)) placed (clear_at was agrees.well (ap is_accepting works.phase) (lacks_none was next.whole)) ∙ (λ i. record placed { locks = sym same i });
       facts = record {
         running = runs_on (was.finished + 1) was (facts_of old was.id) agrees.facts acting.runs;
         lists = agrees.facts.lists;
@@ -243,12 +247,14 @@ refused_enters scenario old new had has was rel mode holder held locks agrees pl
         kept = agrees.facts.kept;
         given = λ read. tt;
       };
-      tally = agrees.tally;
+      tally = λ _. let t = agrees.tally (ap is_ended works.phase) in record { enough = t.enough; within = t.within };
       well = record {
         built = agrees.well.built;
         few = agrees.well.few;
         most = agrees.well.most;
-        opened = inl (none_opened was agrees.well (ap (λ p. is_settled (outcome_of p)) next.at));
+        opened = inr (record { free = λ has. runs_unowed now has.command acting.runs; quiet = λ _. ap is_accepting works.phase; builds = λ is. absurd (cc is) });
+        reads = tt;
+        last = λ read. inr tt;
         blocked = agrees.well.blocked;
         refused = λ blocked. absurd (cc (blocked, acting.unblocked));
         plain = λ command at ends. absurd (cc (ap (λ o. option_map_or ends_block o false) (sym works.has.at ∙ at), acting.goes, ends));
@@ -261,11 +267,11 @@ refused_enters scenario old new had has was rel mode holder held locks agrees pl
         end = end_free now works.phase;
         answered = λ _ _. inl works.phase;
         come_out = λ _. refl;
-        past = λ none. (refl, none_opened was agrees.well (ap (λ p. is_settled (outcome_of p)) next.at));
+        past = λ none. absurd (let both : Some works.has.command ≡ None = sym works.has.at ∙ none in cc);
         free = λ some. absurd (cc (some, acting.unanswered));
         starts = λ has some. absurd (some (runs_unowed now has.command acting.runs));
         accepting = λ is. absurd (cc (is, ap is_accepting works.phase));
-        clear = inr (subst (λ l. map cleared l ≡ l) (sym same) (clear_at was agrees.well (ap is_accepting works.phase)));
+        clear = inr (subst (λ l. map cleared l ≡ l) (sym same) (clear_at was agrees.well (ap is_accepting works.phase) (lacks_none was next.whole)));
       };
     })
     (record {
@@ -276,7 +282,7 @@ refused_enters scenario old new had has was rel mode holder held locks agrees pl
         given_at = tt;
         given_seen = tt;
       };
-      kept = kept-more old e was.id was.kept may (λ i d within. refl) agrees.kept;
+      kept = kept-more old e was.id was.kept (λ i d within. refl) agrees.kept;
       answer = no_answer scenario (old ++ e ∷ []) now later acting.unanswered;
       judged = λ _ _. refl;
     })

@@ -4,13 +4,14 @@ use Rattle.std.specs.Prelude.{nat_le, ◌*◌}
 use Rattle.std.specs.Option.{option_map, option_map_or}
 use Rattle.std.proofs.Math.Bool.{and-false}
 use Rattle.std.proofs.lemmas.Bool.{eq-eqb, le-leb}
+use Rattle.base_types.specs.Scans.{is_build_scan}
 use Rattle.base_types.specs.Scenario.{Scenario}
 use Rattle.base_types.specs.declared.scan.Purpose.TheVariants as scans
 use Rattle.event_kinds.specs.declared.entry.Event.TheVariants as events
 use Rattle.lock_modes.specs.Own.{cleared}
 use Rattle.lock_modes.specs.Rooms.{Roomy}
 use Rattle.ddl_effect.specs.Blocks.{Block, Outside, Inside, Failed, ends_block, refused_by, no_block}
-use Rattle.ddl_effect.specs.Plans.{Plan, Do, Lookup}
+use Rattle.ddl_effect.specs.Plans.{Plan, Do, Lookup, Column}
 use Rattle.ddl_effect.specs.Stages.{plan_at}
 use Rattle.history_model.specs.Drawn.{next_oid}
 use Rattle.history_model.specs.Log.{is_waiting}
@@ -19,22 +20,22 @@ use Rattle.history_model.specs.Writes.{is_empty}
 use Rattle.seg_calls.specs.Calls.{entry_of, Appends, MayCall}
 use Rattle.cacheless.specs.Facts.{Facts, facts_of}
 use Rattle.cacheless.specs.Locks.{is_locked}
-use Rattle.cacheless.specs.Session.{Session, Badly, outcome_of, is_settled, first_of}
-use Rattle.cacheless.specs.Owed.{Owes, OwesFetch, OwesLook, begins, owed_at_start, owed_after, builds_owed, owes_build, owes_accept}
+use Rattle.cacheless.specs.Session.{Session, Well as Goes, outcome_of, is_settled, first_of}
+use Rattle.cacheless.specs.Owed.{Owes, OwesFetch, OwesLook, begins, owed_at_start, owed_after, owes_build, owes_accept}
 use Rattle.cacheless.specs.Sessions.{placed_at}
 use Rattle.cacheless.specs.Plays.{may_look, MayPlayIn}
 use Rattle.cacheless.proofs.Settling.{waits-owed}
 use Rattle.cacheless.proofs.Ways.{acts}
-use Rattle.backend_core.specs.Types.{Command, Mode, OwnLock, Row, Entry, KeptScan, Phase, OwnTransaction, Backend}
+use Rattle.backend_core.specs.Types.{Command, Mode, OwnLock, Row, Purpose, Entry, KeptScan, Phase, OwnTransaction, Backend}
 use Rattle.backend_core.specs.declared.phase.Phase.TheVariants as phases
-use Rattle.backend_core.specs.State.{owed_at, is_accepting, looks_due, phase_looked, locks_accepted, published_at, is_absent, is_visible_at, is_taken_back, is_ended, one_if, running_in, begun_own, begins_in, owed_first, scans_missing, Rest, session_at, HasCommand}
-use Rattle.backend_core.specs.Agrees.{IsPlayed, FactsFit, TallyFits, Well, RunsBy, TransactionFits, EndFits, OpensLast, IsFoundLocked, IsAccepting, Agrees}
+use Rattle.backend_core.specs.State.{owed_at, is_accepting, is_in_accept, lacks_builds, is_kept, builds_missing, is_out, looks_due, phase_looked, locks_accepted, published_at, is_absent, is_visible_at, is_taken_back, is_ended, one_if, running_in, begun_own, begins_in, owed_first, scans_missing, Rest, session_at, HasCommand}
+use Rattle.backend_core.specs.Agrees.{IsPlayed, FactsFit, TallyFits, Well, RunsBy, TransactionFits, EndFits, OpenedFit, IsFoundLocked, IsAccepting, Agrees}
 use Rattle.backend_core.specs.Steps.{OwesLookNow, IsWorking, Enters}
 use Rattle.backend_core.proofs.Stepping.{Waits, facts_after, session_after, rest_after, own_enters}
-use Rattle.backend_core.proofs.Carry.{MayCome, may_come, Leaves, own_leaves, kept-more, command-more, no_answer, look_true, look_call, waits_at, waits_scan, left_command, start_owed, clear_at, transaction-more, none_opened, none_missing, missing_at, is_locked-accepted, rows_fit-more, found_locked-more, runs_unowed}
+use Rattle.backend_core.proofs.Carry.{MayCome, may_come, Leaves, own_leaves, kept-more, command-more, no_answer, look_true, look_call, waits_at, waits_scan, left_command, start_owed, clear_at, transaction-more, owes_lacking, opened_inside, missing_at, is_locked-accepted, rows_fit-more, found_locked-more, runs_unowed}
 use Rattle.backend_core.proofs.Acting.{IsActing, is_acting, missing_acts}
 
-one_at_most : (t : Bool) → one_if t ≤ 1
+pub one_at_most : (t : Bool) → one_if t ≤ 1
 one_at_most true = omega arith
 one_at_most false = omega arith
 
@@ -43,7 +44,7 @@ pub may_look_at : (facts : Facts) (s : Backend) (rest : Rest) → FactsFit facts
 may_look_at facts s rest fits tally unfetched = ap (λ l. elim l [ OwesFetch ∷ owed ↦ false | owed ↦ nat_le (rest.tally.looks + 1) (rest.tally.scans + rest.tally.grants + 2 * rest.tally.fetches + 3) ]) fits.owed ∙ at_phase s.phase unfetched
   where
     within : nat_le (rest.tally.looks + 1) (rest.tally.scans + rest.tally.grants + 2 * rest.tally.fetches + 3) ≡ true
-    within = le-leb _ _ (omega (arith, tally.0, tally.1, one_at_most s.looked, at_most s.running))
+    within = le-leb _ _ (omega (arith, tally.within, one_at_most s.looked, at_most s.running))
       where
         at_most : (own : Option OwnTransaction) → option_map_or (λ t. one_if (t.first == s.finished + 1)) own 0 ≤ 1
         at_most None = omega arith
@@ -101,53 +102,41 @@ pub runs_begun : (number : ℕ) (p after : Phase) (own : Option OwnTransaction) 
 runs_begun number p after None was now = λ i. Some (record { first = number; xid = None; published = sym now.published i; visible = sym now.hidden i })
 runs_begun number p after (Some t) was now = λ i. Some (record { first = t.first; xid = option_map (λ x. x.0) t.xid; published = (was.published ∙ sym now.published) i; visible = (was.hidden ∙ sym now.hidden) i })
 
-cleared_twice : (locks : List OwnLock) → map cleared (map cleared locks) ≡ map cleared locks
+pub cleared_twice : (locks : List OwnLock) → map cleared (map cleared locks) ≡ map cleared locks
 cleared_twice [] = refl
 cleared_twice (lock ∷ locks) = ap (λ l. cleared lock ∷ l) (cleared_twice locks)
 
 -- where the accept is over, the locks are clear
-clears : (p : Phase) (locks : List OwnLock) → (is_accepting p ≡ true) ⊎ (map cleared (locks_accepted p locks) ≡ locks_accepted p locks)
-clears p locks = by_test (is_accepting p) refl
-  where
-    by_test : (t : Bool) → is_accepting p ≡ t → (is_accepting p ≡ true) ⊎ (map cleared (locks_accepted p locks) ≡ locks_accepted p locks)
-    by_test true is = inl is
-    by_test false is = inr (ap (map cleared) same ∙ cleared_twice locks ∙ sym same)
-      where
-        same : locks_accepted p locks ≡ map cleared locks
-        same = ap (λ t. elim t as (λ x. List OwnLock) [ true ↦ locks | false ↦ map cleared locks ]) is
+pub clears : (accepting : Bool) (locks : List OwnLock) → (accepting ≡ true) ⊎ (map cleared (locks_accepted accepting locks) ≡ locks_accepted accepting locks)
+clears true locks = inl refl
+clears false locks = inr (cleared_twice locks)
 
 -- the same locks are held after an entry of an accept
-pub same_locks : (p : Phase) (locks now : List OwnLock) (given : List Row) → now ≡ locks_accepted p locks → (mode : Mode) → is_locked now mode given ≡ is_locked locks mode given
-same_locks p locks now given items mode = ap (λ l. is_locked l mode given) items ∙ is_locked-accepted p locks mode given
+pub same_locks : (accepting : Bool) (locks now : List OwnLock) (given : List Row) → now ≡ locks_accepted accepting locks → (mode : Mode) → is_locked now mode given ≡ is_locked locks mode given
+same_locks accepting locks now given items mode = ap (λ l. is_locked l mode given) items ∙ is_locked-accepted accepting locks mode given
 
--- an accept isn't over where a look or a fetch is owed
-accepts_at : (p : Phase) → in_command p ≡ true → (not (is_empty (owed_at p)) || false) ≡ is_accepting p
-accepts_at phases.Working is = refl
-accepts_at phases.Looking is = refl
-accepts_at phases.Fetching is = refl
-accepts_at (phases.Visible published) is = absurd (cc)
-accepts_at (phases.TakenBack from) is = absurd (cc)
-accepts_at phases.Ended is = absurd (cc)
+-- an accept isn't over where a look or a fetch is owed, or a scan for an opened descriptor
+accepts_at : (p : Phase) (owes : Bool) → in_command p ≡ true → (not (is_empty (owed_at p)) || owes) ≡ is_accepting p || owes
+accepts_at phases.Working owes is = refl
+accepts_at phases.Looking owes is = refl
+accepts_at phases.Fetching owes is = refl
+accepts_at (phases.Visible published) owes is = absurd (cc)
+accepts_at (phases.TakenBack from) owes is = absurd (cc)
+accepts_at phases.Ended owes is = absurd (cc)
 
--- no scan for a descriptor is owed where none is opened
-pub owes_none : (facts : Facts) (s : Session) → s.opened ≡ [] → owes_build facts s ≡ false
-owes_none facts s none = ap (λ l. elim (outcome_of s.left) as (λ x. Bool) [ Badly ↦ false | other ↦ not (is_empty (builds_owed facts l)) ]) none
-    ∙ elim (outcome_of s.left) as (λ o. elim o as (λ x. Bool) [ Badly ↦ false | other ↦ false ] ≡ false) [ Badly ↦ refl | other ↦ refl ]
-
-accepts : (facts : Facts) (command : Command) (s : Session) (p : Phase) → in_command p ≡ true → is_none facts.running ≡ false → owed_after facts.last ≡ owed_at p → s.opened ≡ [] → owes_accept facts (Some command) s ≡ is_accepting p
-accepts facts command s p is runs owed none =
+accepts : (facts : Facts) (command : Command) (s : Session) (p : Phase) → in_command p ≡ true → is_none facts.running ≡ false → owed_after facts.last ≡ owed_at p → owes_accept facts (Some command) s ≡ is_accepting p || owes_build facts s
+accepts facts command s p is runs owed =
     ap (λ t. not (is_empty (elim (begins command s && t) as (λ x. List Owes) [ true ↦ OwesLook ∷ [] | false ↦ [] ] ++ owed_after facts.last)) || owes_build facts s) runs
     ∙ ap (λ t. not (is_empty (elim t as (λ x. List Owes) [ true ↦ OwesLook ∷ [] | false ↦ [] ] ++ owed_after facts.last)) || owes_build facts s) (and-false (begins command s))
     ∙ ap (λ l. not (is_empty l) || owes_build facts s) owed
-    ∙ ap (λ t. not (is_empty (owed_at p)) || t) (owes_none facts s none)
-    ∙ accepts_at p is
+    ∙ accepts_at p (owes_build facts s) is
 
 -- the locks of the session after an entry of an accept
-pub locks_after : (facts : Facts) (was : Backend) (s : Session) (p : Phase) (locks : List OwnLock) → HasCommand was → in_command p ≡ true → is_none facts.running ≡ false → owed_after facts.last ≡ owed_at p → s.opened ≡ [] → locks ≡ locks_accepted p s.locks
+pub locks_after : (facts : Facts) (was : Backend) (s : Session) (p : Phase) (lacks : Bool) (locks : List OwnLock) → HasCommand was → in_command p ≡ true → is_none facts.running ≡ false → owed_after facts.last ≡ owed_at p → owes_build facts s ≡ lacks → locks ≡ locks_accepted (is_accepting p || lacks) s.locks
     → elim (owes_accept facts (first_of (drop was.finished was.commands)) s) as (λ x. List OwnLock) [ true ↦ s.locks | false ↦ map cleared s.locks ] ≡ locks
-locks_after facts was s p locks has is runs owed none items =
+locks_after facts was s p lacks locks has is runs owed owes items =
     ap (λ t. elim t as (λ x. List OwnLock) [ true ↦ s.locks | false ↦ map cleared s.locks ])
-    (ap (λ l. owes_accept facts (first_of l) s) (left_command was.commands was.finished has.command has.at) ∙ accepts facts has.command s p is runs owed none) ∙ sym items
+    (ap (λ l. owes_accept facts (first_of l) s) (left_command was.commands was.finished has.command has.at) ∙ accepts facts has.command s p is runs owed ∙ ap (λ t. is_accepting p || t) owes) ∙ sym items
 
 written_xid : (number : ℕ) (own : Option OwnTransaction) → option_map_or (λ t. is_some t.xid) own false ≡ true → is_some (begun_own number own).xid ≡ true
 written_xid number None xid = absurd (cc)
@@ -162,20 +151,39 @@ pub record Accepts (was : Backend) (p : Phase) (looked : Bool) (locks : Roomy Ow
   pub has : HasCommand was
   pub before : in_command was.phase ≡ true
   pub after : in_command p ≡ true
-  pub opened : was.opened ≡ []
+  pub opened : (was.opened ≡ []) ⊎ (is_out was ≡ false)
   pub unanswered : is_some was.answer ≡ false
   pub unsettled : is_absent (plan_at was.exec) ≡ false
   pub found : was.read ≡ true → IsFoundLocked was.locks.items (plan_at was.exec) was.given.items
   pub first : (begun_own (was.finished + 1) was.running).first ≤ was.finished + 1
   pub transaction : TransactionFits (accepted_state was p looked locks kept) p
-  pub items : locks.items ≡ locks_accepted p was.locks.items
+  pub items : locks.items ≡ locks_accepted (is_in_accept (accepted_state was p looked locks kept)) was.locks.items
+
+-- its opened descriptors
+opened_in : (was : Backend) (p : Phase) (looked : Bool) (locks : Roomy OwnLock) (kept : List KeptScan) → (was.opened ≡ []) ⊎ (is_out was ≡ false) → OpenedFit (accepted_state was p looked locks kept)
+opened_in was p looked locks kept (inl none) = inl none
+opened_in was p looked locks kept (inr inside) = opened_inside (accepted_state was p looked locks kept) refl inside
+
+-- what its session owes for them
+pub owes_in : (facts : Facts) (was : Backend) (s : Session) (kept : List KeptScan) → ((scan : Purpose) → is_build_scan scan ≡ true → facts.usable scan ≡ is_kept kept scan) → s.left ≡ plan_at was.exec → s.opened ≡ was.opened → (was.opened ≡ []) ⊎ (is_out was ≡ false)
+    → owes_build facts s ≡ lacks_builds (record was { kept = kept })
+owes_in facts was s kept usable left opened closed =
+    owes_lacking facts s kept usable (well closed)
+    ∙ ap (λ p. elim (is_settled (outcome_of p)) as (λ x. Bool) [ true ↦ false | false ↦ not (is_empty (builds_missing kept s.opened)) ]) left
+    ∙ ap (λ l. elim (is_out was) as (λ x. Bool) [ true ↦ false | false ↦ not (is_empty (builds_missing kept l)) ]) opened
+  where
+    well : (was.opened ≡ []) ⊎ (is_out was ≡ false) → outcome_of s.left ≡ Goes → builds_missing kept s.opened ≡ []
+    well (inl none) is = ap (builds_missing kept) (opened ∙ none)
+    well (inr inside) is = absurd (let both : true ≡ false = sym (ap is_settled is) ∙ ap (λ p. is_settled (outcome_of p)) left ∙ inside in cc)
 
 pub accept_well : (was : Backend) (p : Phase) (looked : Bool) (locks : Roomy OwnLock) (kept : List KeptScan) → Accepts was p looked locks kept → Well was → Well (accepted_state was p looked locks kept)
 accept_well was p looked locks kept accepts well = record {
   built = well.built;
   few = well.few;
   most = well.most;
-  opened = inl accepts.opened;
+  opened = opened_in was p looked locks kept accepts.opened;
+  reads = well.reads;
+  last = λ read. inr (found read);
   blocked = well.blocked;
   refused = well.refused;
   plain = well.plain;
@@ -191,9 +199,12 @@ accept_well was p looked locks kept accepts well = record {
   past = well.past;
   free = λ some. absurd (cc (some, accepts.unanswered));
   starts = λ has some. absurd (some (runs_unowed (accepted_state was p looked locks kept) has.command refl));
-  accepting = λ is. record { runs = refl; unanswered = accepts.unanswered; unsettled = accepts.unsettled; locked = λ read. found_locked-more was.locks.items locks.items (plan_at was.exec) was.given.items (same_locks p was.locks.items locks.items was.given.items accepts.items) (accepts.found read) };
-  clear = subst (λ l. (is_accepting p ≡ true) ⊎ (map cleared l ≡ l)) (sym accepts.items) (clears p was.locks.items);
+  accepting = λ is. record { runs = refl; unanswered = accepts.unanswered; unsettled = accepts.unsettled; locked = found };
+  clear = subst (λ l. (is_in_accept (accepted_state was p looked locks kept) ≡ true) ⊎ (map cleared l ≡ l)) (sym accepts.items) (clears (is_in_accept (accepted_state was p looked locks kept)) was.locks.items);
 }
+  where
+    found : was.read ≡ true → IsFoundLocked locks.items (plan_at was.exec) was.given.items
+    found read = found_locked-more was.locks.items locks.items (plan_at was.exec) was.given.items (same_locks (is_in_accept (accepted_state was p looked locks kept)) was.locks.items locks.items was.given.items accepts.items) (accepts.found read)
 
 looked_in : (some_wait : Bool) → in_command (phase_looked some_wait) ≡ true
 looked_in true = refl
@@ -212,12 +223,12 @@ record Looks (scenario : Scenario) (old : List Entry) (was : Backend) (some_wait
   waits : Waits agrees
   unfetched : was.phase ≢ phases.Fetching
   accepts : Accepts was (phase_looked some_wait) looked locks was.kept
-  counted : agrees.rest.tally.looks + 1 ≡ agrees.rest.tally.full + agrees.rest.tally.scans + agrees.rest.tally.grants + one_if ((begun_own (was.finished + 1) was.running).first == was.finished + 1) + one_if looked
+  counted : option_map_or (λ t. one_if (t.first == was.finished + 1)) was.running 0 + one_if was.looked + 1 ≡ looks_due was.phase + one_if ((begun_own (was.finished + 1) was.running).first == was.finished + 1) + one_if looked
 
 looks_enter : (scenario : Scenario) (old new : List Entry) (had has : ℕ → ℕ) (was : Backend) (some_wait looked : Bool) (locks : Roomy OwnLock) → (agrees : Agrees scenario old was) → IsPlayed scenario old → is_waiting old was.id ≡ some_wait
     → Looks scenario old was some_wait agrees looked locks → Appends old new had has (entry_of was.id (was.finished + 1) (events.Look some_wait)) → Enters scenario old new was (accepted_state was (phase_looked some_wait) looked locks was.kept)
 looks_enter scenario old new had has was some_wait looked locks agrees played true_is looks appends =
-    own_enters scenario old new had has was now (events.Look some_wait) agrees looks.waits
+    own_enters scenario old new had has was now (events.Look some_wait) agrees played looks.waits
     (record { session = λ _ _ _ _ _ _. refl; finished = λ _. refl; life = λ _. refl })
     (record {
       plays = subst (λ o. MayPlayIn (next_oid old) (facts_of old was.id) o (session_at was agrees.rest) (events.Look some_wait)) (sym accepts.has.at) (may_look_at (facts_of old was.id) was agrees.rest agrees.facts (agrees.tally before.going) looks.unfetched);
@@ -236,16 +247,16 @@ looks_enter scenario old new had has was some_wait looked locks agrees played tr
         taken = λ from is. absurd (cc (after.standing, ap is_taken_back is));
         usable = agrees.facts.usable;
         kept = agrees.facts.kept;
-        given = λ read. rows_fit-more (facts_of old was.id) (facts_after old was (events.Look some_wait)) was.locks.items locks.items (plan_at was.exec) was.given.items (λ name. refl) (λ name. refl)
-            (same_locks (phase_looked some_wait) was.locks.items locks.items was.given.items accepts.items) (agrees.facts.given read);
+        given = λ read. rows_fit-more (facts_of old was.id) (facts_after old was (events.Look some_wait)) was.locks.items locks.items (plan_at was.exec) was.given.items (λ scan named. refl) (λ scan named. refl)
+            (same_locks (is_in_accept now) was.locks.items locks.items was.given.items accepts.items) (agrees.facts.given read);
       };
-      tally = λ _. (omega (arith, looks.counted, none_due some_wait), (agrees.tally before.going).1);
+      tally = λ _. let t = agrees.tally before.going in record { enough = omega (arith, t.enough, looks.counted, none_due some_wait); within = omega (arith, t.within, looks.counted, none_due some_wait) };
       well = accept_well was (phase_looked some_wait) looked locks was.kept accepts agrees.well;
     })
     (record {
       command = command-more old e was now agrees.rest later (record { id = refl; commands = refl; finished = refl; answer = refl; plan = refl; opened = refl; block = refl; refused = refl; found = refl }) (record { read = refl; given = refl; given_at = refl })
           leaves.writes leaves.places leaves.relations agrees.command;
-      kept = kept-more old e was.id was.kept may (λ i d within. refl) agrees.kept;
+      kept = kept-more old e was.id was.kept (λ i d within. refl) agrees.kept;
       answer = no_answer scenario (old ++ e ∷ []) now later accepts.unanswered;
       judged = λ _ _. refl;
     })
@@ -264,7 +275,8 @@ looks_enter scenario old new had has was some_wait looked locks agrees played tr
     now = accepted_state was (phase_looked some_wait) looked locks was.kept
 
     same : (session_after old was (events.Look some_wait) agrees.rest).locks ≡ locks.items
-    same = locks_after (facts_after old was (events.Look some_wait)) was (placed_at (length old + 1) (was.finished + 1) (events.Look some_wait) (session_at was agrees.rest)) (phase_looked some_wait) locks.items accepts.has accepts.after refl (owed_looked some_wait) accepts.opened accepts.items
+    same = locks_after (facts_after old was (events.Look some_wait)) was (placed_at (length old + 1) (was.finished + 1) (events.Look some_wait) (session_at was agrees.rest)) (phase_looked some_wait) (lacks_builds now) locks.items accepts.has accepts.after refl (owed_looked some_wait)
+        (owes_in (facts_after old was (events.Look some_wait)) was (placed_at (length old + 1) (was.finished + 1) (events.Look some_wait) (session_at was agrees.rest)) was.kept agrees.facts.usable refl refl accepts.opened) accepts.items
 
     e : Entry
     e = entry_of was.id (was.finished + 1) (events.Look some_wait)
@@ -276,7 +288,7 @@ looks_enter scenario old new had has was some_wait looked locks agrees played tr
     may = may_come scenario old e played appends.comes tt
 
     leaves : Leaves old e was.id
-    leaves = own_leaves old e was.id may refl (λ name. refl) refl
+    leaves = own_leaves old e was.id may refl (λ name. refl) (λ _. tt)
 
 pub not_empty : {X : Type 0} (xs ys : List X) → xs ≢ [] → is_empty (xs ++ ys) ≡ false
 not_empty [] ys some = absurd (some refl)
@@ -297,7 +309,7 @@ none_is None none = refl
 none_is (Some x) none = absurd (cc)
 
 first_look : (scenario : Scenario) (old new : List Entry) (had has : ℕ → ℕ) (was : Backend) (some_wait : Bool) (locks : Roomy OwnLock) → (agrees : Agrees scenario old was) → IsPlayed scenario old → is_waiting old was.id ≡ some_wait
-    → (at : HasCommand was) → owed_first was at.command ≢ [] → was.phase ≡ phases.Working → is_some was.answer ≡ false → locks.items ≡ locks_accepted (phase_looked some_wait) was.locks.items
+    → (at : HasCommand was) → owed_first was at.command ≢ [] → was.phase ≡ phases.Working → is_some was.answer ≡ false → locks.items ≡ locks_accepted (is_accepting (phase_looked some_wait) || lacks_builds was) was.locks.items
     → Appends old new had has (entry_of was.id (was.finished + 1) (events.Look some_wait)) → Enters scenario old new was (accepted_state was (phase_looked some_wait) was.looked locks was.kept)
 first_look scenario old new had has was some_wait locks agrees played true_is at some phase unanswered items appends = looks_enter scenario old new had has was some_wait was.looked locks agrees played true_is (record {
   waits = waits_at scenario old was agrees at (λ rest. waits-owed (facts_of old was.id) at.command rest (session_at was agrees.rest)
@@ -307,7 +319,7 @@ first_look scenario old new had has was some_wait locks agrees played true_is at
     has = at;
     before = ap in_command phase;
     after = looked_in some_wait;
-    opened = by_side agrees.well.opened;
+    opened = inl (by_side agrees.well.opened);
     unanswered = unanswered;
     unsettled = (agrees.well.starts at some).0;
     found = λ read. absurd (cc (read, (agrees.well.starts at some).1));
@@ -315,7 +327,7 @@ first_look scenario old new had has was some_wait locks agrees played true_is at
     transaction = transaction_in now (phase_looked some_wait) (looked_in some_wait) (by_block was.blocks.block begun);
     items = items;
   };
-  counted = omega (arith, (agrees.tally (ap is_ended phase)).0, ap looks_due phase, ap (λ o. option_map_or (λ t. one_if (t.first == was.finished + 1)) o 0) none, ap (λ o. one_if ((begun_own (was.finished + 1) o).first == was.finished + 1)) none, ap one_if (eq-eqb (was.finished + 1) (was.finished + 1) refl));
+  counted = omega (arith, ap looks_due phase, ap (λ o. option_map_or (λ t. one_if (t.first == was.finished + 1)) o 0) none, ap (λ o. one_if ((begun_own (was.finished + 1) o).first == was.finished + 1)) none, ap one_if (eq-eqb (was.finished + 1) (was.finished + 1) refl));
 }) appends
   where
     now : Backend
@@ -327,7 +339,7 @@ first_look scenario old new had has was some_wait locks agrees played true_is at
     none : was.running ≡ None
     none = none_is was.running (first_owed (begins_in was.blocks was.phase at.command) (is_none was.running) some).1
 
-    by_side : OpensLast was → was.opened ≡ []
+    by_side : OpenedFit was → was.opened ≡ []
     by_side (inl closed) = closed
     by_side (inr opened) = absurd (some (opened.free at))
 
@@ -354,16 +366,20 @@ accepts_in was p looked locks kept before after runs well =
 pub first_begun : (was : Backend) → is_some was.running ≡ true → Well was → (begun_own (was.finished + 1) was.running).first ≤ was.finished + 1
 first_begun was runs well = omega (arith, well.first, ap (λ o. option_map_or (λ t. t.first) o 0) (runs_same (was.finished + 1) was.running runs))
 
--- a command that accepts messages has opened nothing
-pub accepting_opened : (s : Backend) → Well s → is_accepting s.phase ≡ true → s.opened ≡ []
+-- a command that accepts messages has opened nothing, or hasn't come out
+pub accepting_opened : (s : Backend) → Well s → is_accepting s.phase ≡ true → (s.opened ≡ []) ⊎ (is_out s ≡ false)
 accepting_opened s well accepting = by_side well.opened
   where
-    by_side : OpensLast s → s.opened ≡ []
-    by_side (inl closed) = closed
-    by_side (inr opened) = absurd (cc (opened.quiet, accepting))
+    by_out : (t : Bool) → is_out s ≡ t → (is_out s ≡ true → is_accepting s.phase ≡ false) → is_out s ≡ false
+    by_out true out quiet = absurd (let both : true ≡ false = sym accepting ∙ quiet out in cc)
+    by_out false inside quiet = inside
+
+    by_side : OpenedFit s → (s.opened ≡ []) ⊎ (is_out s ≡ false)
+    by_side (inl closed) = inl closed
+    by_side (inr opened) = inr (by_out (is_out s) refl opened.quiet)
 
 next_look : (scenario : Scenario) (old new : List Entry) (had has : ℕ → ℕ) (was : Backend) (some_wait : Bool) (locks : Roomy OwnLock) → (agrees : Agrees scenario old was) → IsPlayed scenario old → is_waiting old was.id ≡ some_wait
-    → (at : HasCommand was) → was.phase ≡ phases.Looking → locks.items ≡ locks_accepted (phase_looked some_wait) was.locks.items
+    → (at : HasCommand was) → was.phase ≡ phases.Looking → locks.items ≡ locks_accepted (is_accepting (phase_looked some_wait) || lacks_builds was) was.locks.items
     → Appends old new had has (entry_of was.id (was.finished + 1) (events.Look some_wait)) → Enters scenario old new was (accepted_state was (phase_looked some_wait) was.looked locks was.kept)
 next_look scenario old new had has was some_wait locks agrees played true_is at phase items appends = looks_enter scenario old new had has was some_wait was.looked locks agrees played true_is (record {
   waits = waits_at scenario old was agrees at (λ rest. waits-owed (facts_of old was.id) at.command rest (session_at was agrees.rest)
@@ -381,7 +397,7 @@ next_look scenario old new had has was some_wait locks agrees played true_is at 
     transaction = accepts_in was (phase_looked some_wait) was.looked locks was.kept (ap in_command phase) (looked_in some_wait) accepting.runs agrees.well;
     items = items;
   };
-  counted = omega (arith, (agrees.tally (ap is_ended phase)).0, ap looks_due phase, ap (λ o. option_map_or (λ t. one_if (t.first == was.finished + 1)) o 0) (runs_same (was.finished + 1) was.running accepting.runs));
+  counted = omega (arith, ap looks_due phase, ap (λ o. option_map_or (λ t. one_if (t.first == was.finished + 1)) o 0) (runs_same (was.finished + 1) was.running accepting.runs));
 }) appends
   where
     accepting : IsAccepting was
@@ -412,14 +428,14 @@ owed_call scenario seen s some_wait agrees played owes is = by_phase owes.1
 
 -- the look that is owed, at the transaction's start or in an accept
 pub look_enters : (scenario : Scenario) (old new : List Entry) (had has : ℕ → ℕ) (was : Backend) (some_wait : Bool) (own : OwnTransaction) (phase : Phase) (locks : Roomy OwnLock) → Agrees scenario old was → IsPlayed scenario old → OwesLookNow was
-    → some_wait ≡ is_waiting old was.id → own ≡ begun_own (was.finished + 1) was.running → phase ≡ phase_looked some_wait → locks.items ≡ locks_accepted phase was.locks.items
+    → some_wait ≡ is_waiting old was.id → own ≡ begun_own (was.finished + 1) was.running → phase ≡ phase_looked some_wait → locks.items ≡ locks_accepted (is_accepting phase || lacks_builds was) was.locks.items
     → Appends old new had has (entry_of was.id (was.finished + 1) (events.Look some_wait)) → Enters scenario old new was (record was { phase = phase; running = Some own; locks = locks })
 look_enters scenario old new had has was some_wait own phase locks agrees played owes is own_is phase_is items appends =
     subst (λ t. Enters scenario old new was (record was { phase = phase; running = Some t; locks = locks })) (sym own_is)
     (subst (λ p. Enters scenario old new was (record was { phase = p; running = Some (begun_own (was.finished + 1) was.running); locks = locks })) (sym phase_is) (by_owed (owed_phase was agrees.well owes) owes.1))
   where
-    held : locks.items ≡ locks_accepted (phase_looked some_wait) was.locks.items
-    held = items ∙ ap (λ p. locks_accepted p was.locks.items) phase_is
+    held : locks.items ≡ locks_accepted (is_accepting (phase_looked some_wait) || lacks_builds was) was.locks.items
+    held = items ∙ ap (λ p. locks_accepted (is_accepting p || lacks_builds was) was.locks.items) phase_is
 
     by_owed : ((was.phase ≡ phases.Working) × (is_some was.answer ≡ false)) ⊎ (was.phase ≡ phases.Looking) → ((owed_first was owes.0.command ≢ []) × (was.phase ≡ phases.Working)) ⊎ (was.phase ≡ phases.Looking)
         → Enters scenario old new was (accepted_state was (phase_looked some_wait) was.looked locks was.kept)
@@ -427,14 +443,15 @@ look_enters scenario old new had has was some_wait own phase locks agrees played
     by_owed (inl working) (inl some) = first_look scenario old new had has was some_wait locks agrees played (sym is) owes.0 some.0 working.0 working.1 held appends
     by_owed (inl working) (inr looking) = next_look scenario old new had has was some_wait locks agrees played (sym is) owes.0 looking held appends
 
--- where a scan is missing, it is not that of a lookup whose rows are there
-missing_found : (s : Backend) → Well s → is_settled (outcome_of (plan_at s.exec)) ≡ false → scans_missing s ≢ [] → s.read ≡ true → IsFoundLocked s.locks.items (plan_at s.exec) s.given.items
-missing_found s well unsettled some read = by_plan (plan_at s.exec) refl
+-- where a scan is missing, it is not that of a name whose rows are there
+missing_found : (s : Backend) → Well s → scans_missing s ≢ [] → s.read ≡ true → IsFoundLocked s.locks.items (plan_at s.exec) s.given.items
+missing_found s well some read = elim (well.last read) [ inl whole ↦ by_plan whole (plan_at s.exec) refl | inr found ↦ found ]
   where
-    by_plan : (p : Plan) → plan_at s.exec ≡ p → IsFoundLocked s.locks.items p s.given.items
-    by_plan (Do (Lookup name mode) rest) at = absurd (some (missing_at s (Do (Lookup name mode) rest) (none_missing s well unsettled) at ∙ ap (λ r. if r then [] else scans.RelName name ∷ []) read))
-    by_plan (Do act rest) at = tt
-    by_plan p at = tt
+    by_plan : builds_missing s.kept s.opened ≡ [] → (p : Plan) → plan_at s.exec ≡ p → IsFoundLocked s.locks.items p s.given.items
+    by_plan whole (Do (Lookup name mode) rest) at = absurd (some (missing_at s (Do (Lookup name mode) rest) whole at ∙ ap (λ r. if r then [] else scans.RelName name ∷ []) read))
+    by_plan whole (Do (Column rel name) rest) at = absurd (some (missing_at s (Do (Column rel name) rest) whole at ∙ ap (λ r. if r then [] else scans.AttName rel name ∷ []) read))
+    by_plan whole (Do act rest) at = tt
+    by_plan whole p at = tt
 
 -- the plan of a command that is about to act hasn't come out
 acts_unsettled : (p : Plan) → acts p ≡ true → (is_settled (outcome_of p) ≡ false) × (is_absent p ≡ false)
@@ -455,15 +472,15 @@ scan_look_enters scenario old new had has was some_wait phase agrees played work
         has = works.has;
         before = ap in_command works.phase;
         after = looked_in some_wait;
-        opened = none_opened was agrees.well unsettled.0;
+        opened = inr unsettled.0;
         unanswered = acting.unanswered;
         unsettled = unsettled.1;
-        found = missing_found was agrees.well unsettled.0 some;
+        found = missing_found was agrees.well some;
         first = first_begun was acting.runs agrees.well;
         transaction = accepts_in was (phase_looked some_wait) true was.locks was.kept (ap in_command works.phase) (looked_in some_wait) acting.runs agrees.well;
-        items = by_test (is_accepting (phase_looked some_wait));
+        items = by_test (is_accepting (phase_looked some_wait)) (lacks_builds was) refl;
       };
-      counted = omega (arith, (agrees.tally (ap is_ended works.phase)).0, ap looks_due works.phase, ap one_if unlooked, ap (λ o. option_map_or (λ t. one_if (t.first == was.finished + 1)) o 0) (runs_same (was.finished + 1) was.running acting.runs));
+      counted = omega (arith, ap looks_due works.phase, ap one_if unlooked, ap (λ o. option_map_or (λ t. one_if (t.first == was.finished + 1)) o 0) (runs_same (was.finished + 1) was.running acting.runs));
     }) appends))
   where
     acting : IsActing old was agrees.rest works.has.command
@@ -472,6 +489,7 @@ scan_look_enters scenario old new had has was some_wait phase agrees played work
     unsettled : (is_settled (outcome_of (plan_at was.exec)) ≡ false) × (is_absent (plan_at was.exec) ≡ false)
     unsettled = acts_unsettled (plan_at was.exec) (missing_acts was agrees.well some)
 
-    by_test : (t : Bool) → was.locks.items ≡ elim t as (λ x. List OwnLock) [ true ↦ was.locks.items | false ↦ map cleared was.locks.items ]
-    by_test true = refl
-    by_test false = sym (clear_at was agrees.well (ap is_accepting works.phase))
+    by_test : (t lacks : Bool) → lacks_builds was ≡ lacks → was.locks.items ≡ locks_accepted (t || lacks) was.locks.items
+    by_test true lacks is = refl
+    by_test false true is = refl
+    by_test false false is = sym (clear_at was agrees.well (ap is_accepting works.phase) is)

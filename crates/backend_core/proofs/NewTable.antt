@@ -1,7 +1,7 @@
 -- A new table may always be written, but for its name: its rows are new, and nobody else knows its oid.
-use Rattle.std.proofs.Common.{◌≡◌, ◌<◌, ◌+◌, ◌-◌, ◌∙◌, ℕ, negsuc, Bool, true, false, not, None, List, [], ◌∷◌, ◌++◌, ◌==◌, ◌&&◌, ◌||◌, refl, sym, ap, subst, fold, map, cond, arith, append-nil}
+use Rattle.std.proofs.Common.{◌≡◌, ◌≤◌, ◌<◌, ◌+◌, ◌-◌, ◌∙◌, ℕ, nat_lt, negsuc, Bool, true, false, not, None, List, [], ◌∷◌, ◌++◌, ◌==◌, ◌&&◌, ◌||◌, refl, sym, ap, subst, fold, map, cond, arith, append-nil}
 use Rattle.std.specs.List.{AllByRecursion, flat_map, filter_map, list_any, list_all, enumerate_from, range_with_len}
-use Rattle.std.proofs.lemmas.Bool.{ne_eqb, eq-eqb, or_left, or_right}
+use Rattle.std.proofs.lemmas.Bool.{ne_eqb, eq-eqb, or_left, or_right, lt-ltb}
 use Rattle.std.proofs.lemmas.List.Folds.{list_any-append}
 use Rattle.base_types.specs.RowKeys.{key_of, same_key, are_distinct_keys}
 use Rattle.base_types.specs.declared.ids.Oid.{Oid}
@@ -13,11 +13,9 @@ use Rattle.base_types.specs.declared.row.Row.{Row}
 use Rattle.base_types.specs.declared.row.Row.TheVariants as rows
 use Rattle.base_types.specs.declared.row_key.RowKey.TheVariants as keys
 use Rattle.base_types.specs.declared.scan.Purpose.TheVariants as scans
-use Rattle.base_types.specs.declared.command.NewColumn.{NewColumn}
 use Rattle.event_kinds.specs.declared.entry.Entry.{Entry}
 use Rattle.event_kinds.specs.declared.entry.Item.{Item}
 use Rattle.event_kinds.specs.declared.entry.Item.TheVariants as forms
-use Rattle.row_visibility.specs.declared.version.Stamp.{Stamp}
 use Rattle.row_visibility.specs.declared.version.Version.{Version}
 use Rattle.lock_modes.specs.Grants.{holds}
 use Rattle.lock_modes.specs.declared.own_lock.OwnLock.{OwnLock}
@@ -26,42 +24,25 @@ use Rattle.inval_messages.specs.declared.message.Message.TheVariants.{Rel}
 use Rattle.inval_messages.specs.Messages.{message_for, same_message, covers}
 use Rattle.inval_messages.specs.Lists.{once_more}
 use Rattle.inval_messages.proofs.Covers.{same_message-itself}
-use Rattle.ddl_effect.specs.declared.draft.Draft.{Draft}
 use Rattle.ddl_effect.specs.Commands.{new_table, new_column}
 use Rattle.ddl_effect.specs.Drawing.{drawn_change}
 use Rattle.history_model.specs.Changes.{item_of}
 use Rattle.history_model.specs.Covered.{scans_of, is_covered}
 use Rattle.history_model.specs.Drawn.{drawn_by, made_by, next_oid}
 use Rattle.history_model.specs.Names.{new_names}
-use Rattle.history_model.specs.Orderly.{main_rel, is_fresh, keeps_relation, covers_named}
+use Rattle.history_model.specs.Orderly.{main_rel, IsSound, is_fresh, keeps_relation, covers_named}
 use Rattle.history_model.specs.Sent.{cats_by, rels_by, messages_written}
 use Rattle.history_model.specs.Versions.{versions_of, ended_key, old_row}
 use Rattle.history_model.specs.Writes.{changed_key, has_row, has_written, is_guarded, keeps_kind, rows_named}
 use Rattle.history_model.specs.Held.{held_of}
+use Rattle.history_model.proofs.DrawnRows.{rows_drawn}
 use Rattle.seg_calls.specs.Calls.{MayWrite, items_drawn}
 use Rattle.cacheless.specs.Facts.{Facts}
 use Rattle.cacheless.specs.Locks.{locked_by}
 use Rattle.cacheless.specs.Plays.{names_of, drafted}
-use Rattle.backend_core.specs.NewTables.{IsNewTable, HasTables, IsTableVersion}
-
--- the item of a column
-abbrev pub column_item : Oid → ℕ × NewColumn → Item
-column_item rel (num, column) = forms.Add (rows.Att rel num column.name column.col_type (negsuc 0) true)
-
--- the items of a table
-abbrev pub table_items : Oid → List ℕ → List (ℕ × NewColumn) → List Item
-table_items rel name numbered = forms.Add (rows.Class rel name Table None) ∷ map (column_item rel) numbered
-
-first_drawn : (n : ℕ) → ◌≡◌ {A = Oid} (record { 0 = n + 1 - 1 }) (record { 0 = n })
-first_drawn n = let e : n + 1 - 1 ≡ n = omega arith in ap {B = Oid} (λ k. record { 0 = k }) e
-
-columns_drawn : (n : ℕ) (numbered : List (ℕ × NewColumn)) → map item_of (map (drawn_change n 1) (map new_column numbered)) ≡ map (column_item (record { 0 = n })) numbered
-columns_drawn n [] = refl
-columns_drawn n ((num, column) ∷ numbered) = λ i. forms.Add (rows.Att (first_drawn n i) num column.name column.col_type (negsuc 0) true) ∷ columns_drawn n numbered i
-
--- those of a new table have the oid that is next
-pub drafted_is : (n : ℕ) (name : List ℕ) (columns : List NewColumn) → drafted n (new_table name columns) ≡ table_items (record { 0 = n }) name (enumerate_from 1 columns)
-drafted_is n name columns = λ i. forms.Add (rows.Class (first_drawn n i) name Table None) ∷ (append-nil (map item_of (map (drawn_change n 1) (map new_column (enumerate_from 1 columns)))) ∙ columns_drawn n (enumerate_from 1 columns)) i
+use Rattle.cacheless.proofs.ActOrder.{IsTableDraft}
+use Rattle.cacheless.proofs.NewTableItems.{column_item, table_items, drafted_is}
+use Rattle.backend_core.specs.Types.{NewColumn, Draft}
 
 columns_draw : (rel : Oid) (numbered : List (ℕ × NewColumn)) → (flat_map drawn_by (map (column_item rel) numbered) ≡ []) × (flat_map made_by (map (column_item rel) numbered) ≡ [])
 columns_draw rel [] = (refl, refl)
@@ -109,10 +90,6 @@ columns_guarded before b rel (column ∷ numbered) = λ i. (guards rel (holds (h
 -- no version is of a relation whose oid is still to be drawn
 abbrev pub AreDrawn : ℕ → List Version → Type 0
 AreDrawn next vs = AllByRecursion (λ v. (main_rel v.row).0 < next) vs
-
-are_drawn : (next : ℕ) (stamps : Oid → Stamp) (vs : List Version) → AllByRecursion (IsTableVersion next stamps) vs → AreDrawn next vs
-are_drawn next stamps [] tables = tt
-are_drawn next stamps (v ∷ vs) tables = (tables.0.drawn, are_drawn next stamps vs tables.1)
 
 other_class : (row : Row) (rel : Oid) → (main_rel row).0 < rel.0 → same_key (key_of row) (keys.Class rel) ≡ false
 other_class (rows.Class oid own kind fill) rel below = ne_eqb oid.0 rel.0 (λ same. absurd (omega (arith, below, same)))
@@ -222,8 +199,8 @@ may_add before b rel name columns drawn = record {
     numbered = enumerate_from 1 columns
 
 -- a backend may write a new table, unless its name is taken
-pub new_table_may_write : (history : List Entry) (b c : ℕ) (draft : Draft) → HasTables history → IsNewTable draft → has_written history b c ≡ false → MayWrite history b c draft
-new_table_may_write history b c draft tables table only = subst (MayWrite history b c) (sym table.is) (record {
+pub new_table_may_write : (history : List Entry) (b c : ℕ) (draft : Draft) → IsSound history → IsTableDraft draft → has_written history b c ≡ false → MayWrite history b c draft
+new_table_may_write history b c draft sound table only = subst (MayWrite history b c) (sym table.is) (record {
   oids = may.oids;
   keys = may.keys;
   there = may.there;
@@ -235,10 +212,10 @@ new_table_may_write history b c draft tables table only = subst (MayWrite histor
   where
     may : MayAdd history b (next_oid history) 1 (items_drawn history (new_table table.name table.columns))
     may = subst (MayAdd history b (next_oid history) 1) (sym (drafted_is (next_oid history) table.name table.columns))
-        (may_add history b (record { 0 = next_oid history }) table.name table.columns (are_drawn (next_oid history) _ (versions_of history) tables.versions))
+        (may_add history b (record { 0 = next_oid history }) table.name table.columns (rows_drawn history sound))
 
 -- the lock that a write of a new table takes
-pub new_table_locks : (c n : ℕ) (draft : Draft) → IsNewTable draft → flat_map (locked_by c) (drafted n draft) ≡ record { rel = record { 0 = n }; mode = AccessExclusive; command = c; clear = true } ∷ []
+pub new_table_locks : (c n : ℕ) (draft : Draft) → IsTableDraft draft → flat_map (locked_by c) (drafted n draft) ≡ record { rel = record { 0 = n }; mode = AccessExclusive; command = c; clear = true } ∷ []
 new_table_locks c n draft table = ap (λ d. flat_map (locked_by c) (drafted n d)) table.is ∙ ap (flat_map (locked_by c)) (drafted_is n table.name table.columns)
     ∙ ap {B = List OwnLock} (λ l. record { rel = record { 0 = n }; mode = AccessExclusive; command = c; clear = true } ∷ l) (columns_lock c (record { 0 = n }) (enumerate_from 1 table.columns))
 
@@ -247,7 +224,7 @@ columns_named before b facts rel [] = refl
 columns_named before b facts rel (column ∷ numbered) = columns_named before b facts rel numbered
 
 -- the new names of a new table, as the history and as its command say
-pub new_table_names : (history : List Entry) (b : ℕ) (facts : Facts) (draft : Draft) → IsNewTable draft → new_names history b (items_drawn history draft) ≡ flat_map (names_of facts) (drafted (next_oid history) draft)
+pub new_table_names : (history : List Entry) (b : ℕ) (facts : Facts) (draft : Draft) → IsTableDraft draft → new_names history b (items_drawn history draft) ≡ flat_map (names_of facts) (drafted (next_oid history) draft)
 new_table_names history b facts draft table =
     ap (λ d. new_names history b (drafted (next_oid history) d)) table.is ∙ ap (new_names history b) same
     ∙ ap (λ l. table.name ∷ l) (columns_named history b facts (record { 0 = next_oid history }) (enumerate_from 1 table.columns))

@@ -8,10 +8,10 @@ use Rattle.history_model.specs.Orderly.{MayComeNext}
 use Rattle.history_model.proofs.Reading.{life_of-other}
 use Rattle.cacheless.specs.Session.{Finished}
 use Rattle.cacheless.specs.Settled.{settled}
+use Rattle.cacheless.specs.TableWrites.{WritesTables}
 use Rattle.cacheless.proofs.Reading.{facts_of-other, session_of-other}
 use Rattle.backend_core.specs.Types.{Entry, Life, Backend}
 use Rattle.backend_core.specs.declared.phase.Life.TheVariants as lives
-use Rattle.backend_core.specs.NewTables.{AddsTables}
 use Rattle.backend_core.specs.State.{session_at}
 use Rattle.backend_core.specs.Agrees.{IsPlayed, FactsFit, Agrees, AwaitsEntry, HasNotJoined, HasLeft, Stands}
 use Rattle.backend_core.proofs.Stepping.{lines-more}
@@ -34,7 +34,7 @@ agrees-other scenario seen e s other may agrees = record {
   well = agrees.well;
   command = command-more seen e s s agrees.rest agrees.rest (record { id = refl; commands = refl; finished = refl; answer = refl; plan = refl; opened = refl; block = refl; refused = refl; found = refl }) (record { read = refl; given = refl; given_at = refl })
       leaves.writes leaves.places leaves.relations agrees.command;
-  kept = kept-other seen e s.id s.kept may other agrees.kept;
+  kept = kept-other seen e s.id s.kept other agrees.kept;
   places = record { finished = places-more seen e agrees.rest.finished agrees.places.finished; judged = omega (arith, agrees.places.judged, length_push seen e); last = omega (arith, agrees.places.last, length_push seen e) };
   answer = answer-more scenario seen e s s agrees.rest agrees.rest (record { id = refl; commands = refl; finished = refl; answer = refl; plan = refl; opened = refl; block = refl; refused = refl; found = refl }) refl agrees.places.judged agrees.answer;
   lines = agrees.lines ∙ sym (lines-more scenario seen e s.id 1 agrees.rest.finished s.commands agrees.places.finished);
@@ -76,11 +76,11 @@ left-other scenario seen e s other left = record {
 }
 
 -- where a backend is it stays, with another's entry
-pub Stands-other : (scenario : Scenario) (seen : List Entry) (e : Entry) (s : Backend) → (e.backend == s.id) ≡ false → IsPlayed scenario seen → MayComeNext seen e → AddsTables seen e.event → Stands scenario seen s → Stands scenario (seen ++ e ∷ []) s
-Stands-other scenario seen e s other played comes adds stands = by_life s.life stands
+pub Stands-other : (scenario : Scenario) (seen : List Entry) (e : Entry) (s : Backend) → (e.backend == s.id) ≡ false → IsPlayed scenario seen → MayComeNext seen e → WritesTables seen e → Stands scenario seen s → Stands scenario (seen ++ e ∷ []) s
+Stands-other scenario seen e s other played comes keeps stands = by_life s.life stands
   where
     by_life : (l : Life) → elim l as (λ x. Type 0) [ lives.Unstarted ↦ HasNotJoined scenario seen s | lives.Alive ↦ AwaitsEntry scenario seen s | lives.Stopped ↦ HasLeft scenario seen s ]
         → elim l as (λ x. Type 0) [ lives.Unstarted ↦ HasNotJoined scenario (seen ++ e ∷ []) s | lives.Alive ↦ AwaitsEntry scenario (seen ++ e ∷ []) s | lives.Stopped ↦ HasLeft scenario (seen ++ e ∷ []) s ]
     by_life lives.Unstarted before = not_joined-other scenario seen e s other before
-    by_life lives.Alive awaits = awaits-other scenario seen e s other (may_come scenario seen e played comes adds) awaits
+    by_life lives.Alive awaits = awaits-other scenario seen e s other (may_come scenario seen e played comes keeps) awaits
     by_life lives.Stopped left = left-other scenario seen e s other left

@@ -8,6 +8,7 @@ use Rattle.std.proofs.Math.Nat.{min-le_right}
 use Rattle.event_kinds.specs.declared.entry.Event.TheVariants as events
 use Rattle.lock_modes.specs.Own.{cleared}
 use Rattle.inval_messages.specs.Lists.{has_write_from, cats_in, rels_in, sent_in, unsent_after}
+use Rattle.ddl_effect.specs.Stages.{plan_at}
 use Rattle.history_model.specs.Drawn.{next_oid}
 use Rattle.history_model.specs.Legal.{FollowsVisible, FollowsGone}
 use Rattle.history_model.specs.Lives.{FollowsLife}
@@ -24,7 +25,7 @@ use Rattle.backend_core.specs.State.{owed_at, is_accepting, looks_due, published
 use Rattle.backend_core.specs.Agrees.{IsPlayed, CommitFits, EndFits, Agrees}
 use Rattle.backend_core.specs.Steps.{NextPublish, Enters}
 use Rattle.backend_core.proofs.Stepping.{own_enters}
-use Rattle.backend_core.proofs.Carry.{number_short, clear_at}
+use Rattle.backend_core.proofs.Carry.{number_short, clear_at, lacks_out, out_found}
 use Rattle.backend_core.proofs.Ending.{owed_by_end, is_end, waits_to_end, runs_unless}
 use Rattle.backend_core.proofs.EndEntries.{IsAnswered, visible_own, unsent_own, runs_own, answered_in, session_clear, end_follows, opens_on, runs_on, free_running}
 use Rattle.backend_core.proofs.Unsent.{rest_short}
@@ -124,7 +125,7 @@ pub publish_enters : (scenario : Scenario) (old new : List Entry) (had has : ℕ
     → was.phase ≡ phases.Visible published → messages ≡ take 64 (unsent_after published (lists_at was)) → Appends old new had has (entry_of was.id (was.finished + 1) (events.Publish (length messages)))
     → Enters scenario old new was (record was { phase = phases.Visible (published + length messages) })
 publish_enters scenario old new had has was published messages agrees played next phase is appends =
-    own_enters scenario old new had has was now event agrees
+    own_enters scenario old new had has was now event agrees played
     (waits_to_end scenario old was agrees works event fits.out ends.1)
     (record { session = λ _ _ _ _ _ _. refl; finished = λ _. refl; life = λ _. refl })
     (record { plays = subst (λ o. MayPlayIn (next_oid old) facts o (session_at was agrees.rest) event) (sym works.at) ends; needed = tt; truly = tt; tables = tt })
@@ -142,7 +143,7 @@ publish_enters scenario old new had has was published messages agrees played nex
         kept = agrees.facts.kept;
         given = agrees.facts.given;
       };
-      tally = λ _. (ap (λ n. agrees.rest.tally.looks + n) (sym (ap looks_due phase)) ∙ (agrees.tally (ap is_ended phase)).0, (agrees.tally (ap is_ended phase)).1);
+      tally = λ _. let t = agrees.tally (ap is_ended phase) in record { enough = omega (arith, t.enough, ap looks_due phase); within = omega (arith, t.within, ap looks_due phase) };
       well = record {
         built = agrees.well.built;
         few = agrees.well.few;
@@ -173,9 +174,11 @@ publish_enters scenario old new had has was published messages agrees played nex
         starts = λ command some. absurd (some (free_running now command.command hidden));
         accepting = λ at. absurd (cc);
         clear = inr clear;
+        reads = agrees.well.reads;
+        last = λ read. inr (out_found now.locks.items (plan_at was.exec) was.given.items fits.out);
       };
     })
-    (end_follows scenario old was (phases.Visible more) was.running was.lists was.locks was.kept event agrees played appends.comes tt
+    (end_follows scenario old was (phases.Visible more) was.running was.lists was.locks was.kept event agrees
     (record { id = refl; commands = refl; finished = refl; answer = refl; plan = refl; opened = refl; block = refl; refused = refl; found = refl }) refl refl (λ _. refl) answered agrees.kept)
     appends
   where
@@ -207,7 +210,7 @@ publish_enters scenario old new had has was published messages agrees played nex
     hidden = runs_own was.running fits.first fits.runs
 
     clear : map cleared was.locks.items ≡ was.locks.items
-    clear = clear_at was agrees.well (ap is_accepting phase)
+    clear = clear_at was agrees.well (ap is_accepting phase) (lacks_out was fits.out)
 
     low : published ≤ length (sent_in (lists_at was))
     low = subst (λ n. n ≤ length (sent_in (lists_at was))) (ap published_at phase) fits.published

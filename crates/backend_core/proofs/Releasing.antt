@@ -26,7 +26,7 @@ use Rattle.backend_core.specs.State.{owed_at, is_accepting, published_at, is_vis
 use Rattle.backend_core.specs.Agrees.{IsPlayed, CommitFits, TakeBackFits, EndFits, Well, Agrees}
 use Rattle.backend_core.specs.Steps.{NextRelease, AfterCommit, AfterTakingBack, WithoutWrite, AtTheEnd, Enters}
 use Rattle.backend_core.proofs.Stepping.{facts_after, own_enters}
-use Rattle.backend_core.proofs.Carry.{number_short, clear_at}
+use Rattle.backend_core.proofs.Carry.{number_short, clear_at, lacks_out, out_found}
 use Rattle.backend_core.proofs.Ending.{owed_by_end, end_from, first_begun, is_end, end_of_all-same, has_or_none, first_of_end, over_after, waits_to_end, waits_after_all}
 use Rattle.backend_core.proofs.EndEntries.{IsAnswered, visible_own, unsent_own, runs_own, answered_in, rows_out, out_at_end, session_clear, end_follows, opens_on, free_running, free_ended, filter-cleared}
 use Rattle.backend_core.proofs.Unsent.{left_none}
@@ -248,7 +248,7 @@ pub release_enters : (scenario : Scenario) (old new : List Entry) (had has : ℕ
     → lists.lists ≡ no_lists → locks.items ≡ filter (λ lock. nat_lt lock.command from) was.locks.items → Appends old new had has (entry_of was.id (was.finished + 1) (events.Release from))
     → Enters scenario old new was (record was { phase = phases.Ended; running = None; lists = lists; locks = locks })
 release_enters scenario old new had has was from lists locks agrees played next none kept appends =
-    own_enters scenario old new had has was now (events.Release from) agrees
+    own_enters scenario old new had has was now (events.Release from) agrees played
     (elim (has_or_none was) [ inl command ↦ waits_to_end scenario old was agrees command (events.Release from) out (ends command).1 | inr past ↦ waits_after_all scenario old was agrees past ])
     (record { session = λ _ _ _ _ _ _. refl; finished = λ _. refl; life = λ _. refl })
     (record { plays = plays; needed = tt; truly = tt; tables = tt })
@@ -290,9 +290,11 @@ release_enters scenario old new had has was from lists locks agrees played next 
         starts = λ command some. absurd (some (free_ended now command.command refl));
         accepting = λ is. absurd (cc);
         clear = inr (ap (map cleared) kept ∙ filter-cleared from was.locks.items ∙ ap (filter (λ lock. nat_lt lock.command from)) clear ∙ sym kept);
+        reads = agrees.well.reads;
+        last = λ read. inr (out_found now.locks.items (plan_at was.exec) was.given.items out);
       };
     })
-    (end_follows scenario old was phases.Ended None lists locks was.kept (events.Release from) agrees played appends.comes tt
+    (end_follows scenario old was phases.Ended None lists locks was.kept (events.Release from) agrees
     (record { id = refl; commands = refl; finished = refl; answer = refl; plan = refl; opened = refl; block = refl; refused = refl; found = refl }) refl refl (λ _. refl) rel.answered agrees.kept)
     appends
   where
@@ -309,7 +311,7 @@ release_enters scenario old new had has was from lists locks agrees played next 
     out = out_at_end was agrees.well rel.answered
 
     clear : map cleared was.locks.items ≡ was.locks.items
-    clear = clear_at was agrees.well rel.quiet
+    clear = clear_at was agrees.well rel.quiet (lacks_out was out)
 
     after : owed_after facts.last ≡ []
     after = agrees.facts.owed ∙ rel.free_after

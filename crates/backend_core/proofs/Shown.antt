@@ -1,9 +1,9 @@
 -- A field as it is shown by its kept scan is what the definition shows.
-use Rattle.std.proofs.Common.{◌≡◌, ◌∙◌, ℕ, Bool, true, false, not, Option, Some, None, List, [], ◌∷◌, ◌||◌, cond, if◌then◌else◌, refl, sym, ap, subst, map, take}
+use Rattle.std.proofs.Common.{◌≡◌, ◌∙◌, ℕ, Bool, true, false, not, Some, None, List, [], ◌∷◌, ◌||◌, cond, if◌then◌else◌, refl, sym, ap, map, take}
 use Rattle.std.specs.List.{AllByRecursion}
 use Rattle.std.specs.Option.{option_map_or}
 use Rattle.base_types.specs.Fields.{field_text, fields_of, has_field, read_by}
-use Rattle.base_types.specs.Scans.{same_scan, build_scans}
+use Rattle.base_types.specs.Scans.{same_scan, is_build_scan, build_scans}
 use Rattle.base_types.specs.Scenario.{Scenario}
 use Rattle.base_types.specs.declared.field.Field.TheVariants as fields
 use Rattle.base_types.specs.declared.kind.Kind.TheVariants.{Table, Index}
@@ -11,19 +11,18 @@ use Rattle.base_types.proofs.SameScan.{same_scan-true}
 use Rattle.rel_desc.specs.declared.answer.Answer.TheVariants as answers
 use Rattle.rel_desc.specs.declared.answer.Shown.{Shown}
 use Rattle.lock_modes.specs.Own.{clear_modes}
-use Rattle.history_model.specs.Read.{place_read, rows_read}
+use Rattle.history_model.specs.Read.{place_read, rows_read, is_usable}
 use Rattle.history_model.specs.Versions.{answer_of, fresh_text}
 use Rattle.cacheless.specs.Lines.{read_field, shown_field, shown_fields}
 use Rattle.cacheless.specs.Protected.{protects, is_protected}
 use Rattle.cacheless.specs.Session.{Session}
 use Rattle.cacheless.specs.Sessions.{session_of}
+use Rattle.cacheless.proofs.ProtectedFields.{protected_fresh}
 use Rattle.backend_core.specs.Types.{Oid, Kind, Field, Purpose, Entry, OwnLock, KeptScan}
-use Rattle.backend_core.specs.NewTables.{relation_of, StaysRead, SeesRelation}
 use Rattle.backend_core.specs.State.{is_kept, missing}
-use Rattle.backend_core.specs.Agrees.{ReadRight, KeptFits}
+use Rattle.backend_core.specs.Agrees.{IsPlayed, ReadRight, KeptAt}
 use Rattle.backend_core.specs.Answering.{kept_for, shown_by, shown_kept, shown_all}
 use Rattle.backend_core.proofs.ReadPlaces.{read_at_place}
-use Rattle.backend_core.proofs.SeesRelation.{still_there}
 
 -- the scan that is kept for a purpose, and what holds of it
 pub record IsKeptFor (P Q : KeptScan → Type 0) (kept : List KeptScan) (scan : Purpose) : Type 0 where
@@ -68,35 +67,36 @@ field_among P Index rel fields.Of has all = all.1.0
 field_among P Index rel fields.Valid has all = all.1.0
 field_among P Index rel field has all = absurd (cc)
 
--- and of the relation
-of_relation : (field : Field) (rel : Oid) → relation_of (read_by field rel) ≡ Some rel
-of_relation fields.Name rel = refl
-of_relation fields.Columns rel = refl
-of_relation fields.Defaults rel = refl
-of_relation fields.Statistics rel = refl
-of_relation fields.Fillfactor rel = refl
-of_relation fields.Constraints rel = refl
-of_relation fields.Referenced rel = refl
-of_relation fields.Indexes rel = refl
-of_relation fields.Triggers rel = refl
-of_relation fields.Of rel = refl
-of_relation fields.Valid rel = refl
+-- and is one for a descriptor
+read_builds : (field : Field) (rel : Oid) → is_build_scan (read_by field rel) ≡ true
+read_builds fields.Name rel = refl
+read_builds fields.Columns rel = refl
+read_builds fields.Defaults rel = refl
+read_builds fields.Statistics rel = refl
+read_builds fields.Fillfactor rel = refl
+read_builds fields.Constraints rel = refl
+read_builds fields.Referenced rel = refl
+read_builds fields.Indexes rel = refl
+read_builds fields.Triggers rel = refl
+read_builds fields.Of rel = refl
+read_builds fields.Valid rel = refl
 
--- a relation that a backend sees, with its kept scans and its locks
+-- a backend in a history that was played so far, with its kept scans, which are those that serve, and its locks; the descriptor of a relation lacks none
 pub record CanShow (scenario : Scenario) (seen : List Entry) (b : ℕ) (kept : List KeptScan) (locks : List OwnLock) (rel : Oid) (kind : Kind) : Type 0 where
+  pub played : IsPlayed scenario seen
   pub session : Session
   pub is : session_of scenario seen b ≡ Some session
   pub holds : session.locks ≡ locks
-  pub sees : SeesRelation seen b rel kind
-  pub fits : AllByRecursion (KeptFits seen b) kept
+  pub usable : (scan : Purpose) → is_build_scan scan ≡ true → is_usable seen b scan ≡ is_kept kept scan
+  pub places : AllByRecursion (KeptAt seen b) kept
   pub right : AllByRecursion (ReadRight (rows_read seen b)) kept
   pub none : missing kept (build_scans kind rel) ≡ []
 
--- a field by the scan that is kept for it
-field_is : (scenario : Scenario) (seen : List Entry) (b : ℕ) (kept : List KeptScan) (locks : List OwnLock) (rel : Oid) (kind : Kind) (field : Field) (k : KeptScan) → CanShow scenario seen b kept locks rel kind
-    → KeptFits seen b k → ReadRight (rows_read seen b) k → k.scan ≡ read_by field rel → shown_field scenario seen b rel kind field ≡ shown_by locks (record { rel = rel; kind = kind }) field (Some k)
-field_is scenario seen b kept locks rel kind field k can fits right same =
-    ap (λ t. elim t [ true ↦ record { field = field; value = fresh_text seen b rel field; at = None } | false ↦ read_field seen b rel field ]) guarded ∙ by_guard (protects (clear_modes locks rel) kind field)
+-- a field by the scan that is kept for it: as it was read, and where it is protected, as it is now
+field_is : (scenario : Scenario) (seen : List Entry) (b : ℕ) (kept : List KeptScan) (locks : List OwnLock) (rel : Oid) (kind : Kind) (field : Field) (k : KeptScan) → CanShow scenario seen b kept locks rel kind → has_field kind field ≡ true
+    → is_kept kept (read_by field rel) ≡ true → KeptAt seen b k → ReadRight (rows_read seen b) k → k.scan ≡ read_by field rel → shown_field scenario seen b rel kind field ≡ shown_by locks (record { rel = rel; kind = kind }) field (Some k)
+field_is scenario seen b kept locks rel kind field k can has keeps at right same =
+    ap (λ t. elim t [ true ↦ record { field = field; value = fresh_text seen b rel field; at = None } | false ↦ read_field seen b rel field ]) guarded ∙ by_guard (protects (clear_modes locks rel) kind field) guarded
   where
     scan : Purpose
     scan = read_by field rel
@@ -104,26 +104,30 @@ field_is scenario seen b kept locks rel kind field k can fits right same =
     guarded : is_protected scenario seen b rel kind field ≡ protects (clear_modes locks rel) kind field
     guarded = ap (λ o. protects (option_map_or (λ (s : Session). clear_modes s.locks rel) o []) kind field) can.is ∙ ap (λ l. protects (clear_modes l rel) kind field) can.holds
 
-    now : answer_of seen b scan ≡ k.rows
-    now = still_there seen b rel kind scan k.rows can.sees (subst (λ s. StaysRead seen b s k.rows) same fits.stays) (of_relation field rel)
+    rows : rows_read seen b scan ≡ k.rows
+    rows = ap (rows_read seen b) (sym same) ∙ sym right.rows_are
+
+    now : is_protected scenario seen b rel kind field ≡ true → fresh_text seen b rel field ≡ field_text field rel k.rows
+    now protected = protected_fresh scenario seen b rel kind field can.played.sound can.played.plays has protected (can.usable scan (read_builds field rel) ∙ keeps) ∙ ap (field_text field rel) rows
 
     place : place_read seen b scan ≡ k.at
-    place = ap (place_read seen b) (sym same) ∙ fits.at
+    place = ap (place_read seen b) (sym same) ∙ at
 
     then' : answer_of (take (place_read seen b scan) seen) b scan ≡ k.rows
-    then' = read_at_place seen b scan ∙ ap (rows_read seen b) (sym same) ∙ sym right.rows_are
+    then' = read_at_place seen b scan ∙ rows
 
-    by_guard : (t : Bool) → ◌≡◌ {A = Shown} (elim t [ true ↦ record { field = field; value = fresh_text seen b rel field; at = None } | false ↦ read_field seen b rel field ])
+    by_guard : (t : Bool) → is_protected scenario seen b rel kind field ≡ t → ◌≡◌ {A = Shown} (elim t [ true ↦ record { field = field; value = fresh_text seen b rel field; at = None } | false ↦ read_field seen b rel field ])
         (record { field = field; value = field_text field rel k.rows; at = if t then None else Some k.at })
-    by_guard true = λ i. record { field = field; value = field_text field rel (now i); at = None }
-    by_guard false = λ i. record { field = field; value = field_text field rel (then' i); at = Some (place i) }
+    by_guard true is = λ i. record { field = field; value = now is i; at = None }
+    by_guard false is = λ i. record { field = field; value = field_text field rel (then' i); at = Some (place i) }
 
 -- a field of a relation whose scans are all kept
 pub field_shown : (scenario : Scenario) (seen : List Entry) (b : ℕ) (kept : List KeptScan) (locks : List OwnLock) (rel : Oid) (kind : Kind) (field : Field) → CanShow scenario seen b kept locks rel kind → has_field kind field ≡ true
     → shown_field scenario seen b rel kind field ≡ shown_kept kept locks (record { rel = rel; kind = kind }) field
 field_shown scenario seen b kept locks rel kind field can has =
-    let own = kept_scan (KeptFits seen b) (ReadRight (rows_read seen b)) (read_by field rel) kept can.fits can.right (field_among (λ s. is_kept kept s ≡ true) kind rel field has (none_missing kept (build_scans kind rel) can.none)) in
-    field_is scenario seen b kept locks rel kind field own.k can own.first own.second own.same ∙ ap (shown_by locks (record { rel = rel; kind = kind }) field) (sym own.found)
+    let keeps = field_among (λ s. is_kept kept s ≡ true) kind rel field has (none_missing kept (build_scans kind rel) can.none) in
+    let own = kept_scan (KeptAt seen b) (ReadRight (rows_read seen b)) (read_by field rel) kept can.places can.right keeps in
+    field_is scenario seen b kept locks rel kind field own.k can has keeps own.first own.second own.same ∙ ap (shown_by locks (record { rel = rel; kind = kind }) field) (sym own.found)
 
 each_has : (kind : Kind) → AllByRecursion (λ field. has_field kind field ≡ true) (fields_of kind)
 each_has Table = (refl, (refl, (refl, (refl, (refl, (refl, (refl, (refl, (refl, tt)))))))))

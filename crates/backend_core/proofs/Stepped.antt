@@ -1,9 +1,10 @@
 -- A step: an entry, and then what needs none.
-use Rattle.std.proofs.Common.{◌≡◌, ◌∙◌, Bool, true, false, not, List, sym, ap, subst}
+use Rattle.std.proofs.Common.{◌≡◌, ◌∙◌, Bool, true, false, not, List, Result, Ok, Err, OnOk, sym, ap, subst}
 use Rattle.backend_core.specs.Types.{Scenario, Entry, Next, Backend}
 use Rattle.backend_core.specs.declared.phase.Life.TheVariants as lives
 use Rattle.backend_core.specs.Agrees.{IsPlayed, AwaitsEntry, HasNotJoined, HasLeft, Stands}
 use Rattle.backend_core.specs.Steps.{AgreesNow, Enters, Steps, IsNextOf, makes_entry}
+use Rattle.backend_core.proofs.Coherent.{stands_coherent}
 use Rattle.backend_core.proofs.Passing.{silent_is}
 use Rattle.backend_core.proofs.Played.{IsPlayed-more}
 use Rattle.backend_core.proofs.Waiting.{waits_next}
@@ -33,8 +34,8 @@ pub awaits_stands : (scenario : Scenario) (seen : List Entry) (s : Backend) → 
 awaits_stands scenario seen s waits = subst (λ life. elim life as (λ x. Type 0) [ lives.Unstarted ↦ HasNotJoined scenario seen s | lives.Alive ↦ AwaitsEntry scenario seen s | lives.Stopped ↦ HasLeft scenario seen s ]) (sym waits.agrees.alive) waits
 
 -- an entry, after which it went on until it waits, is a step
-pub stepped : (scenario : Scenario) (old new : List Entry) (was now done : Backend) → Enters scenario old new was now → AwaitsEntry scenario new done → done.id ≡ now.id → Steps scenario old new was done
-stepped scenario old new was now done enters waits same = record {
+pub stepped : (scenario : Scenario) (old new : List Entry) (was now done : Backend) → IsPlayed scenario old → Enters scenario old new was now → AwaitsEntry scenario new done → done.id ≡ now.id → Steps scenario old new was done
+stepped scenario old new was now done played enters waits same = record {
   entry = enters.entry;
   is = enters.is;
   own = enters.own;
@@ -45,4 +46,11 @@ stepped scenario old new was now done enters waits same = record {
   truly = enters.truly;
   tables = enters.tables;
   stands = awaits_stands scenario new done waits;
+  coherent = stands_coherent scenario new done (enters_played scenario old new was now played enters).sound (awaits_stands scenario new done waits);
 }
+
+-- the same of a call that may have been refused memory, over a segment whose script is the same
+pub stepped_on : {E : Type 0} (scenario later : Scenario) (old new : List Entry) (was now done : Backend) (result : Result (Unit {0}) E) → later ≡ scenario → IsPlayed scenario old → Enters scenario old new was now → OnOk result (AwaitsEntry later new done) → OnOk result (done.id ≡ now.id)
+    → OnOk result (Steps scenario old new was done)
+stepped_on scenario later old new was now done (Ok x) same played enters waits id = stepped scenario old new was now done played enters (subst (λ k. AwaitsEntry k new done) same waits) id
+stepped_on scenario later old new was now done (Err e) same played enters waits id = tt

@@ -16,14 +16,15 @@ use Rattle.event_kinds.specs.declared.entry.Event.TheVariants as events
 use Rattle.cacheless.specs.Sessions.{noted, ends_command, placed_at, counted, entered, commands_left, session_by, session_of}
 use Rattle.cacheless.specs.Plays.{IsNext, MayPlayIn, MayPlayAt}
 use Rattle.cacheless.specs.Schedule.{LooksTruly}
+use Rattle.cacheless.specs.TableWrites.{KeepsTablesBy}
 use Rattle.rel_desc.specs.Answers.{answer_text}
 use Rattle.cacheless.specs.Lines.{lines_from, line_of, answer_judged}
 use Rattle.cacheless.proofs.Reading.{facts_of-own, session_of-own}
 use Rattle.backend_core.specs.Types.{Command, Scenario, Entry, Event, Backend}
-use Rattle.backend_core.specs.NewTables.{AddsTables}
 use Rattle.backend_core.specs.State.{is_ended, Rest, rest_of, session_at, HasCommand}
-use Rattle.backend_core.specs.Agrees.{FactsFit, TallyFits, Well, CommandFits, KeptFits, AnswerFits, Agrees}
+use Rattle.backend_core.specs.Agrees.{IsPlayed, FactsFit, TallyFits, Well, CommandFits, KeptAt, AnswerFits, Agrees}
 use Rattle.backend_core.specs.Steps.{AgreesNow, Enters}
+use Rattle.backend_core.proofs.Played.{IsPlayed-more}
 
 -- nothing is left to settle
 abbrev pub Waits : {scenario : Scenario} {seen : List Entry} {s : Backend} → Agrees scenario seen s → Type 0
@@ -66,7 +67,7 @@ pub record Keeps (old : List Entry) (was now : Backend) (event : Event) (rest : 
 -- what it owes after its own entry of the history
 pub record Follows (scenario : Scenario) (old : List Entry) (was now : Backend) (event : Event) (rest : Rest) : Type 0 where
   pub command : CommandFits (old ++ entry_of was.id (was.finished + 1) event ∷ []) now (rest_after old was event rest)
-  pub kept : All (KeptFits (old ++ entry_of was.id (was.finished + 1) event ∷ []) was.id) now.kept
+  pub kept : All (KeptAt (old ++ entry_of was.id (was.finished + 1) event ∷ []) was.id) now.kept
   pub answer : AnswerFits scenario (old ++ entry_of was.id (was.finished + 1) event ∷ []) now (rest_after old was event rest)
   pub judged : HasCommand now → is_some now.answer ≡ false → ends_command event ≡ false
 
@@ -75,7 +76,7 @@ pub record Suits (scenario : Scenario) (old : List Entry) (was : Backend) (event
   pub plays : MayPlayIn (next_oid old) (facts_of old was.id) (slice_get was.commands was.finished) (session_at was rest) event
   pub needed : ScansOnlyIfNeeded old was.id event
   pub truly : LooksTruly old was.id event
-  pub tables : AddsTables old event
+  pub tables : KeepsTablesBy old was.id event
 
 -- the lines of finished commands stay with one more entry
 pub lines-more : (scenario : Scenario) (seen : List Entry) (e : Entry) (b c : ℕ) (finished : List Finished) (commands : List Command) → All (λ f. f.judged ≤ length seen) finished
@@ -93,9 +94,10 @@ counted_tally facts (events.Fetch count) s = refl
 counted_tally facts event s = refl
 
 -- so it agrees after its own entry
-pub own_agrees : (scenario : Scenario) (old : List Entry) (was now : Backend) (event : Event) (agrees : Agrees scenario old was) → Waits agrees → GoesOn event
+pub own_agrees : (scenario : Scenario) (old : List Entry) (was now : Backend) (event : Event) (agrees : Agrees scenario old was) → IsPlayed scenario (old ++ entry_of was.id (was.finished + 1) event ∷ []) → Waits agrees → GoesOn event
     → Keeps old was now event agrees.rest → Follows scenario old was now event agrees.rest → AgreesNow scenario (old ++ entry_of was.id (was.finished + 1) event ∷ []) now
-own_agrees scenario old was now event agrees waits on keeps follows = record {
+own_agrees scenario old was now event agrees played waits on keeps follows = record {
+  played = played;
   agrees = record {
     number = subst (λ b. IsBackend scenario.backends b) (sym keeps.moves.id) agrees.number;
     commands = keeps.moves.commands ∙ agrees.commands ∙ ap (commands_of scenario) (sym keeps.moves.id);
@@ -115,7 +117,7 @@ own_agrees scenario old was now event agrees waits on keeps follows = record {
     life = record { last = was.finished + 1; alive = ap (life_of new) keeps.moves.id ∙ life_of-own old e was.id own ∙ on.life (was.finished + 1); most = omega (arith, keeps.moves.finished) };
     well = keeps.well;
     command = follows.command;
-    kept = subst (λ b. All (KeptFits new b) now.kept) (sym keeps.moves.id) follows.kept;
+    kept = subst (λ b. All (KeptAt new b) now.kept) (sym keeps.moves.id) follows.kept;
     places = record {
       finished = subst (λ l. All (λ f. f.judged ≤ length new) l) (sym same) (λ i d within. omega (arith, agrees.places.finished i d within, longer));
       judged = subst (λ n. n ≤ length new) (sym judged) (by_test (ends_command event));
@@ -180,18 +182,21 @@ own_next scenario old was event agrees waits plays = (
 )
 
 -- a backend's own entry
-pub own_enters : (scenario : Scenario) (old new : List Entry) (had has : ℕ → ℕ) (was now : Backend) (event : Event) (agrees : Agrees scenario old was) → Waits agrees → GoesOn event
+pub own_enters : (scenario : Scenario) (old new : List Entry) (had has : ℕ → ℕ) (was now : Backend) (event : Event) (agrees : Agrees scenario old was) → IsPlayed scenario old → Waits agrees → GoesOn event
     → Suits scenario old was event agrees.rest → Keeps old was now event agrees.rest → Follows scenario old was now event agrees.rest
     → Appends old new had has (entry_of was.id (was.finished + 1) event) → Enters scenario old new was now
-own_enters scenario old new had has was now event agrees waits on suits keeps follows appends = record {
+own_enters scenario old new had has was now event agrees played waits on suits keeps follows appends = record {
   entry = entry_of was.id (was.finished + 1) event;
   is = appends.entries;
   own = refl;
   id = keeps.moves.id;
   comes = appends.comes;
-  next = own_next scenario old was event agrees waits suits.plays;
+  next = next;
   needed = suits.needed;
   truly = suits.truly;
   tables = suits.tables;
-  agrees = subst (λ h. AgreesNow scenario h now) (sym appends.entries) (own_agrees scenario old was now event agrees waits on keeps follows);
+  agrees = subst (λ h. AgreesNow scenario h now) (sym appends.entries) (own_agrees scenario old was now event agrees (IsPlayed-more scenario old (entry_of was.id (was.finished + 1) event) played appends.comes next suits.needed suits.truly suits.tables) waits on keeps follows);
 }
+  where
+    next : IsNext scenario old (entry_of was.id (was.finished + 1) event)
+    next = own_next scenario old was event agrees waits suits.plays

@@ -1,5 +1,5 @@
 -- What was written is taken back.
-use Rattle.std.proofs.Common.{◌≡◌, ◌+◌, ◌∙◌, ◌&&◌, ◌||◌, ◌∷◌, ◌++◌, inl, inr, ℕ, Bool, true, false, not, Option, Some, None, List, [], refl, sym, ap, subst, cond, length, map, All, is_none, is_some, slice_get}
+use Rattle.std.proofs.Common.{◌≡◌, ◌+◌, ◌∙◌, ◌&&◌, ◌||◌, ◌∷◌, ◌++◌, inl, inr, ℕ, Bool, true, false, not, Option, Some, None, List, [], refl, sym, ap, subst, cond, length, map, All, is_none, is_some, slice_get, arith}
 use Rattle.std.specs.Prelude.{nat_lt}
 use Rattle.std.specs.Option.{option_map_or}
 use Rattle.std.proofs.lemmas.Bool.{ltb-true, lt-leb}
@@ -25,10 +25,10 @@ use Rattle.cacheless.specs.Sessions.{placed_at}
 use Rattle.backend_core.specs.Types.{Message, Purpose, Command, CommandError, Scenario, Entry, KeptScan, OwnTransaction, Phase, Backend}
 use Rattle.backend_core.specs.declared.phase.Phase.TheVariants as phases
 use Rattle.backend_core.specs.State.{owed_at, is_accepting, looks_due, published_at, is_visible_at, is_taken_back, is_ended, is_out, running_in, lists_at, is_kept, kept_spared, builds_missing, owed_first, end_in_well, end_in_badly, session_at, HasCommand}
-use Rattle.backend_core.specs.Agrees.{IsPlayed, ReadRight, FactsFit, Well, KeptFits, Agrees}
+use Rattle.backend_core.specs.Agrees.{IsPlayed, ReadRight, FactsFit, Well, KeptAt, Agrees}
 use Rattle.backend_core.specs.Steps.{NextTakeBack, Enters}
 use Rattle.backend_core.proofs.Stepping.{facts_after, own_enters}
-use Rattle.backend_core.proofs.Carry.{may_call, clear_at}
+use Rattle.backend_core.proofs.Carry.{may_call, clear_at, lacks_out, out_found}
 use Rattle.backend_core.proofs.Ending.{owed_by_end, is_end, end_of_all-same, has_or_none, waits_to_end, waits_after_all, runs_unless}
 use Rattle.backend_core.proofs.EndEntries.{IsAnswered, rows_out, out_at_end, session_clear, end_follows, opens_on, runs_on, free_running}
 use Rattle.backend_core.proofs.Nexting.{write_from_first}
@@ -110,7 +110,7 @@ pub take_back_enters : (scenario : Scenario) (old new : List Entry) (had has : �
     → cats ≡ cats_in (lists_from from (lists_at was)) → rels ≡ rels_in (lists_from from (lists_at was)) → kept ≡ kept_spared rels (kept_spared cats was.kept) → lists.lists ≡ aborted from was.lists.lists
     → Appends old new had has (entry_of was.id (was.finished + 1) (events.Gone from)) → Enters scenario old new was (record was { phase = phases.TakenBack from; lists = lists; kept = kept })
 take_back_enters scenario old new had has was from lists cats rels kept agrees played next cats_are rels_are spared lists_are appends =
-    own_enters scenario old new had has was now (events.Gone from) agrees
+    own_enters scenario old new had has was now (events.Gone from) agrees played
     (elim (has_or_none was) [ inl command ↦ waits_to_end scenario old was agrees command (events.Gone from) out (ends command).1 | inr none ↦ waits_after_all scenario old was agrees none ])
     (record { session = λ _ _ _ _ _ _. refl; finished = λ _. refl; life = λ _. refl })
     (record { plays = plays; needed = tt; truly = tt; tables = tt })
@@ -127,7 +127,7 @@ take_back_enters scenario old new had has was from lists cats rels kept agrees p
         kept = subst (All (ReadRight facts.rows)) (sym kept_is) (all-spared (ReadRight facts.rows) (cats ++ rels) was.kept agrees.facts.kept);
         given = λ _. rows_out (facts_after old was (events.Gone from)) was.locks.items (plan_at was.exec) was.given.items out;
       };
-      tally = λ _. (ap (λ n. agrees.rest.tally.looks + n) (sym (ap looks_due next.phase)) ∙ (agrees.tally (ap is_ended next.phase)).0, (agrees.tally (ap is_ended next.phase)).1);
+      tally = λ _. let t = agrees.tally (ap is_ended next.phase) in record { enough = omega (arith, t.enough, ap looks_due next.phase); within = omega (arith, t.within, ap looks_due next.phase) };
       well = record {
         built = agrees.well.built;
         few = agrees.well.few;
@@ -153,10 +153,12 @@ take_back_enters scenario old new had has was from lists cats rels kept agrees p
         starts = λ command some. absurd (some (free_running now command.command hidden));
         accepting = λ is. absurd (cc);
         clear = inr clear;
+        reads = agrees.well.reads;
+        last = λ read. inr (out_found now.locks.items (plan_at was.exec) was.given.items out);
       };
     })
-    (end_follows scenario old was (phases.TakenBack from) was.running lists was.locks kept (events.Gone from) agrees played appends.comes tt
-    (record { id = refl; commands = refl; finished = refl; answer = refl; plan = refl; opened = refl; block = refl; refused = refl; found = refl }) refl refl (λ _. refl) answered (subst (All (KeptFits old was.id)) (sym kept_is) (all-spared (KeptFits old was.id) (cats ++ rels) was.kept agrees.kept)))
+    (end_follows scenario old was (phases.TakenBack from) was.running lists was.locks kept (events.Gone from) agrees
+    (record { id = refl; commands = refl; finished = refl; answer = refl; plan = refl; opened = refl; block = refl; refused = refl; found = refl }) refl refl (λ _. refl) answered (subst (All (KeptAt old was.id)) (sym kept_is) (all-spared (KeptAt old was.id) (cats ++ rels) was.kept agrees.kept)))
     appends
   where
     now : Backend
@@ -190,7 +192,7 @@ take_back_enters scenario old new had has was from lists cats rels kept agrees p
     stay = ap all_lists lists_are ∙ aborted-all from was.lists.lists
 
     clear : map cleared was.locks.items ≡ was.locks.items
-    clear = clear_at was agrees.well (ap is_accepting next.phase)
+    clear = clear_at was agrees.well (ap is_accepting next.phase) (lacks_out was out)
 
     after : owed_after facts.last ≡ []
     after = agrees.facts.owed ∙ ap owed_at next.phase

@@ -1,26 +1,25 @@
 -- A backend for which an entry comes next waits for it.
-use Rattle.std.proofs.Common.{◌≡◌, ◌≢◌, ◌∙◌, ◌⊎◌, inl, inr, ℕ, Bool, true, false, Option, None, List, [], ◌∷◌, ◌++◌, if◌then◌else◌, refl, sym, ap, subst, slice_get}
-use Rattle.base_types.specs.declared.scan.Purpose.TheVariants as scans
-use Rattle.ddl_effect.specs.Plans.{Plan, Do, Lookup, Open, Write}
+use Rattle.std.proofs.Common.{◌≡◌, ◌≢◌, ◌∙◌, ◌⊎◌, inl, inr, ℕ, Bool, true, false, Option, None, List, [], ◌++◌, refl, sym, ap, subst, slice_get}
+use Rattle.ddl_effect.specs.Plans.{Plan, Do, Write}
 use Rattle.ddl_effect.specs.Stages.{plan_at}
 use Rattle.history_model.specs.Writes.{is_empty}
 use Rattle.cacheless.specs.Facts.{facts_of}
-use Rattle.cacheless.specs.Session.{Badly, outcome_of, is_settled}
 use Rattle.cacheless.specs.Owed.{owed_at_start, owed_after, builds_owed}
 use Rattle.cacheless.specs.Ends.{End, Ends, Commits, TakesBack, next_of_end, end_left}
 use Rattle.cacheless.proofs.Settling.{waits-owed, waits-act}
 use Rattle.backend_core.specs.Types.{Row, Purpose, Scenario, Entry, Next, Backend}
 use Rattle.backend_core.specs.declared.next.Next.TheVariants as nexts
 use Rattle.backend_core.specs.declared.phase.Phase.TheVariants as phases
-use Rattle.backend_core.specs.State.{owed_at, is_ended, owed_first, act_missing, scans_missing, is_out, end_at, session_at, HasCommand}
+use Rattle.backend_core.specs.State.{owed_at, is_ended, owed_first, is_out, end_at, session_at, HasCommand}
 use Rattle.backend_core.specs.Agrees.{EndFits, CommitFits, TakeBackFits, Agrees}
 use Rattle.backend_core.specs.Steps.{OwesLookNow, IsWorking, NextLookUp, NextBuild, NextTakeBack, NextRelease, AfterCommit, AfterTakingBack, WithoutWrite, AtTheEnd, IsNextOf, makes_entry}
 use Rattle.backend_core.specs.Passing.{is_ends}
 use Rattle.backend_core.proofs.Stepping.{Waits}
-use Rattle.backend_core.proofs.Carry.{waits_at, waits_scan, start_owed, none_missing, missing_at}
+use Rattle.backend_core.proofs.Carry.{waits_at, waits_scan, start_owed}
 use Rattle.backend_core.proofs.Ending.{left_same, waits_to_end, waits_after_all, has_or_none}
 use Rattle.backend_core.proofs.Looks.{not_empty, not_empty-after}
 use Rattle.backend_core.proofs.Locking.{waits_lock}
+use Rattle.backend_core.proofs.Scanning.{look_up_missing, build_missing}
 
 module _ (scenario : Scenario) (seen : List Entry) (s : Backend) (agrees : Agrees scenario seen s) where
   -- a look that is owed
@@ -39,15 +38,12 @@ module _ (scenario : Scenario) (seen : List Entry) (s : Backend) (agrees : Agree
       has : HasCommand s
       has = subst (EndFits s) phase agrees.well.end
 
-  -- scans that are missing for the next act
-  scans_for : (p : Plan) (scan : Purpose) (more : List Purpose) → is_settled (outcome_of p) ≡ false → plan_at s.exec ≡ p → elim (outcome_of p) as (λ x. List Purpose) [ Badly ↦ [] | other ↦ act_missing s.kept s.read p ] ≡ scan ∷ more → scans_missing s ≢ []
-  scans_for p scan more inside at is none = let both : scan ∷ more ≡ [] = sym is ∙ sym (missing_at s p (none_missing s agrees.well (ap (λ q. is_settled (outcome_of q)) at ∙ inside)) at) ∙ none in absurd (cc both)
-
-  waits_look_up : (work : IsWorking s) (name : List ℕ) → NextLookUp s name → Waits agrees
-  waits_look_up work name next = waits_scan scenario seen s agrees work.has (scans_for (Do (Lookup name next.mode) next.rest) (scans.RelName name) [] refl next.at (ap (λ r. if r then [] else scans.RelName name ∷ []) next.unread))
+  -- scans that are missing
+  waits_look_up : (work : IsWorking s) (scan : Purpose) → NextLookUp s scan → Waits agrees
+  waits_look_up work scan next = waits_scan scenario seen s agrees work.has (look_up_missing s scan next)
 
   waits_build : (work : IsWorking s) (scan : Purpose) → NextBuild s scan → Waits agrees
-  waits_build work scan next = waits_scan scenario seen s agrees work.has (scans_for (Do (Open next.rel next.kind) next.rest) scan next.more refl next.at next.first)
+  waits_build work scan next = waits_scan scenario seen s agrees work.has (build_missing s scan next)
 
   -- a write
   waits_write : (work : IsWorking s) (draft : _) (rest : List Row → Plan) → plan_at s.exec ≡ Do (Write draft) rest → Waits agrees
@@ -100,7 +96,7 @@ module _ (scenario : Scenario) (seen : List Entry) (s : Backend) (agrees : Agree
   waits_next nexts.Look is makes = waits_look is
   waits_next nexts.LookBeforeScan (work, some, unlooked) makes = waits_scan scenario seen s agrees work.has some
   waits_next nexts.Fetch is makes = waits_fetch is
-  waits_next (nexts.LookUp name) (work, next, looked) makes = waits_look_up work name next
+  waits_next (nexts.LookUp scan) (work, next, looked) makes = waits_look_up work scan next
   waits_next (nexts.Build scan) (work, next, looked) makes = waits_build work scan next
   waits_next (nexts.Lock rel mode) (work, next) makes = waits_lock scenario seen s agrees work.has rel mode next
   waits_next nexts.Write (work, next) makes = waits_write work next.draft next.rest next.at

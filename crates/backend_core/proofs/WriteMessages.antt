@@ -1,20 +1,18 @@
 -- The messages of a write, as the backend registers and executes them.
-use Rattle.std.proofs.Common.{◌≡◌, ◌∙◌, ℕ, Bool, true, false, not, List, [], ◌∷◌, ◌++◌, ◌||◌, cond, refl, sym, ap, fold}
+use Rattle.std.proofs.Common.{◌≡◌, ◌∙◌, ℕ, Bool, true, false, not, List, [], ◌∷◌, ◌++◌, ◌||◌, refl, sym, ap, fold}
 use Rattle.std.specs.List.{flat_map, list_any}
-use Rattle.std.proofs.Math.Bool.{or-false}
 use Rattle.std.proofs.lemmas.List.Folds.{list_any-append}
 use Rattle.event_kinds.specs.declared.entry.Item.TheVariants as forms
 use Rattle.inval_messages.specs.declared.message.Message.{Message}
-use Rattle.inval_messages.specs.Messages.{same_message, covers, is_spared}
+use Rattle.inval_messages.specs.Messages.{covers, is_spared}
 use Rattle.inval_messages.specs.Lists.{once_more}
-use Rattle.inval_messages.proofs.Covers.{same_message-true}
 use Rattle.inval_messages.proofs.Parts.{ForCaches, ForDescriptors, cats_of-caches, rels_of-descriptors}
 use Rattle.command_lists.specs.Lists.{new_list, with_messages}
 use Rattle.command_lists.proofs.Writes.{with-changes}
 use Rattle.history_model.specs.Sent.{cats_by, rels_by, written_by, messages_written}
 use Rattle.history_model.specs.Versions.{old_row, added_row}
-use Rattle.history_model.proofs.Every.{any-weaker}
 use Rattle.seg_calls.specs.Calls.{messages_in}
+use Rattle.cacheless.proofs.WrittenMessages.{any_once}
 use Rattle.backend_core.specs.Types.{Purpose, Item, Entry}
 
 cats_for_caches : (before : List Entry) (b : ℕ) (item : Item) → ForCaches (cats_by before b item)
@@ -29,26 +27,6 @@ rels_for_descriptors before b (forms.Remove key) = rels_of-descriptors (old_row 
 -- what is registered of them is the list of the write
 pub registered_is : (before : List Entry) (b c : ℕ) (items : List Item) → with_messages (messages_in before b items) (new_list c) ≡ written_by before b c items
 registered_is before b c items = with-changes (cats_by before b) (rels_by before b) (cats_for_caches before b) (rels_for_descriptors before b) items (new_list c)
-
--- a message that is left out since the list has it adds nothing
-any_more : (p : Message → Bool) (old : List Message) (m : Message) → list_any p (once_more old m) ≡ (list_any p old || p m)
-any_more p old m = by_test (list_any (same_message m) old) refl
-  where
-    by_own : (u : Bool) → p m ≡ u → list_any (same_message m) old ≡ true → list_any p old ≡ (list_any p old || u)
-    by_own true is has = let some : list_any p old ≡ true = any-weaker (same_message m) p (λ x same. ap p (sym (same_message-true m x same)) ∙ is) old has in some ∙ sym (ap (λ t. t || true) some)
-    by_own false is has = sym (or-false (list_any p old))
-
-    by_test : (t : Bool) → list_any (same_message m) old ≡ t → list_any p (cond t old (old ++ m ∷ [])) ≡ (list_any p old || p m)
-    by_test true has = by_own (p m) refl has
-    by_test false none = list_any-append p old (m ∷ []) ∙ ap (λ t. list_any p old || t) (or-false (p m))
-
-or_moved : (a b c : Bool) → ((a || b) || c) ≡ (a || (b || c))
-or_moved true b c = refl
-or_moved false b c = refl
-
-any_once : (p : Message → Bool) (old messages : List Message) → list_any p (fold once_more old messages) ≡ (list_any p old || list_any p messages)
-any_once p old [] = sym (or-false (list_any p old))
-any_once p old (m ∷ messages) = any_once p (once_more old m) messages ∙ ap (λ t. t || list_any p messages) (any_more p old m) ∙ or_moved (list_any p old) (p m) (list_any p messages)
 
 or_sorted : (a b c d : Bool) → ((a || b) || (c || d)) ≡ ((a || c) || (b || d))
 or_sorted true b c d = refl

@@ -1,5 +1,6 @@
 -- A backend's write of a new table.
-use Rattle.std.proofs.Common.{◌≡◌, ◌≤◌, ◌<◌, ◌+◌, ◌∙◌, inl, inr, ℕ, Bool, true, false, Option, Some, None, List, [], ◌∷◌, ◌++◌, ◌==◌, ◌&&◌, ◌||◌, refl, sym, ap, subst, length, drop, map, is_none, is_some, arith}
+use Rattle.std.proofs.Common.{◌≡◌, ◌≤◌, ◌<◌, ◌+◌, ◌⊎◌, ◌∙◌, inl, inr, ℕ, Bool, true, false, Option, Some, None, List, [], ◌∷◌, ◌++◌, ◌==◌, ◌&&◌, ◌||◌, refl, sym, ap, subst, length, drop, map, is_none, is_some, arith}
+use Rattle.std.specs.Prelude.{nat_lt}
 use Rattle.std.specs.Option.{option_map_or}
 use Rattle.std.specs.List.{AllByRecursion}
 use Rattle.std.proofs.Math.Bool.{and-false, or-true}
@@ -34,7 +35,7 @@ use Rattle.history_model.proofs.Prefixes.{EachEntry-weaker}
 use Rattle.seg_calls.specs.declared.refusal.Written.{Written as Made}
 use Rattle.seg_calls.specs.Calls.{MakesWrite, MayRequest, MayWrite, Appends, items_drawn, messages_in, entry_of}
 use Rattle.cacheless.specs.Facts.{facts_of}
-use Rattle.cacheless.specs.Session.{Session, none_open, outcome_of, is_settled, first_of}
+use Rattle.cacheless.specs.Session.{Session, Well as CameWell, Badly, none_open, outcome_of, is_settled, first_of}
 use Rattle.cacheless.specs.Owed.{Owes, OwesLook, OwesScan, builds_owed, owed_of}
 use Rattle.cacheless.specs.Sessions.{written, placed_at}
 use Rattle.cacheless.specs.Plays.{IsWrite, MayPlayIn}
@@ -44,16 +45,15 @@ use Rattle.cacheless.proofs.Settling.{waits-act}
 use Rattle.cacheless.proofs.Ways.{acts}
 use Rattle.backend_core.specs.Types.{Oid, Xid, Row, Command, Scenario, Entry, Event, Item, Message, Phase, Draft, Exec, Opening, OwnLock, OwnTransaction, KeptScan, Backend}
 use Rattle.backend_core.specs.declared.phase.Phase.TheVariants as phases
-use Rattle.backend_core.specs.NewTables.{IsNewTable, SeesRelation}
-use Rattle.backend_core.specs.State.{is_accepting, published_at, is_visible_at, is_taken_back, is_ended, is_out, begins_in, owed_first, running_in, lists_at, kept_spared, owed_at, one_if, session_at}
-use Rattle.backend_core.specs.Agrees.{IsPlayed, ReadRight, FactsFit, KeptFits, RunsBy, TransactionFits, EndFits, Well, Agrees}
+use Rattle.backend_core.specs.State.{is_accepting, published_at, is_visible_at, is_taken_back, is_ended, is_out, begins_in, owed_first, running_in, lists_at, kept_spared, owed_at, one_if, session_at, locks_written, builds_missing, HasCommand}
+use Rattle.backend_core.specs.Agrees.{IsPlayed, ReadRight, FactsFit, KeptAt, RunsBy, TransactionFits, EndFits, Well, Agrees, OpenedFit}
 use Rattle.backend_core.specs.Steps.{IsWorking, Enters}
 use Rattle.backend_core.specs.Way.{OnItsWay}
 use Rattle.backend_core.proofs.Acting.{IsActing, is_acting}
-use Rattle.backend_core.proofs.CanFollow.{CanGoOn}
 use Rattle.backend_core.proofs.Stepping.{Waits, facts_after, session_after, rest_after, Keeps, Follows, Suits, GoesOn, own_enters}
-use Rattle.backend_core.proofs.Carry.{may_request, waits_at, none_missing, missing_at, owed_scans, clear_at, accepted-clear, may_come, kept-more, no_answer}
-use Rattle.backend_core.proofs.NewTable.{new_table_may_write, new_table_locks}
+use Rattle.backend_core.proofs.Carry.{may_request, waits_at, missing_at, owed_scans, clear_at, accepted-clear, kept-more, no_answer, out_found, lacks_none, may_come}
+use Rattle.backend_core.proofs.WriteFits.{WriteFits, write_fits}
+use Rattle.backend_core.proofs.OpenedReads.{reads_out}
 use Rattle.backend_core.proofs.Nexting.{the_command}
 use Rattle.backend_core.proofs.Sparing.{is_kept-spared, all-spared}
 use Rattle.backend_core.proofs.WriteMessages.{registered_is, spared_alike}
@@ -69,7 +69,7 @@ after_asking was exec opened read running lists locks kept = record was { exec =
 -- its command has come out, and its transaction has written at most
 pub record Settles (was : Backend) (exec : Exec) (opened : List Opening) (running : Option OwnTransaction) (lists : CommandLists) (locks : List OwnLock) : Type 0 where
   pub out : is_settled (outcome_of (plan_at exec)) ≡ true
-  pub closed : opened ≡ []
+  pub closed : (opened ≡ []) ⊎ (outcome_of (plan_at exec) ≡ Badly)
   pub runs : is_some running ≡ true
   pub first : option_map_or (λ t. t.first) running 0 ≡ option_map_or (λ t. t.first) was.running 0
   pub ended : lists.running ≡ None
@@ -86,12 +86,14 @@ runs_owes s command runs = by_own s.running runs
 
 -- and it is well
 pub asked_well : (was : Backend) (exec : Exec) (opened : List Opening) (read : Bool) (running : Option OwnTransaction) (lists : Held) (locks : Roomy OwnLock) (kept : List KeptScan) → was.phase ≡ phases.Working → is_some was.running ≡ true → was.blocked ≡ false
-    → is_some was.answer ≡ false → is_out was ≡ false → Settles was exec opened running lists.lists locks.items → Well was → Well (after_asking was exec opened read running lists locks kept)
-asked_well was exec opened read running lists locks kept phase ran unblocked none busy settles well = record {
+    → is_some was.answer ≡ false → is_out was ≡ false → HasCommand was → Settles was exec opened running lists.lists locks.items → Well was → Well (after_asking was exec opened read running lists locks kept)
+asked_well was exec opened read running lists locks kept phase ran unblocked none busy has_it settles well = record {
   built = well.built;
   few = well.few;
   most = well.most;
-  opened = inl settles.closed;
+  opened = by_closed settles.closed;
+  reads = reads_out opened (plan_at exec) settles.out;
+  last = λ _. inr (out_found locks.items (plan_at exec) was.given.items settles.out);
   blocked = well.blocked;
   refused = λ is. let no : true ≡ false = sym is ∙ unblocked in absurd (cc no);
   plain = λ command here ends free. let no : false ≡ true = sym busy ∙ ap (λ p. is_settled (outcome_of p)) (well.plain command here ends free).0 in absurd (cc no);
@@ -102,7 +104,7 @@ asked_well was exec opened read running lists locks kept phase ran unblocked non
   ended = settles.ended;
   written = settles.written;
   end = subst (EndFits now) (sym phase) tt;
-  past = λ none. (settles.out, settles.closed);
+  past = λ none. absurd (let both : Some has_it.command ≡ None = sym has_it.at ∙ none in cc);
   answered = λ has is. inl phase;
   come_out = λ is. settles.out;
   free = λ is has. let no : true ≡ false = sym is ∙ none in absurd (cc no);
@@ -113,6 +115,10 @@ asked_well was exec opened read running lists locks kept phase ran unblocked non
   where
     now : Backend
     now = after_asking was exec opened read running lists locks kept
+
+    by_closed : (opened ≡ []) ⊎ (outcome_of (plan_at exec) ≡ Badly) → OpenedFit now
+    by_closed (inl closed) = inl closed
+    by_closed (inr failed) = inr (record { free = λ has. runs_owes now has.command settles.runs; quiet = λ _. ap is_accepting phase; builds = λ is. absurd (let both : Badly ≡ CameWell = sym failed ∙ is in cc) })
 
     by_block : (block : Block) → was.blocks.block ≡ block → RunsBy was block → RunsBy now block
     by_block Outside is (inl none) = let no : true ≡ false = sym ran ∙ ap is_some none in absurd (cc no)
@@ -127,6 +133,13 @@ begun_writes p c xid (Some t) phase = refl
 
 cleared_pushed : (locks : List OwnLock) (lock : OwnLock) → lock.clear ≡ true → map cleared locks ≡ locks → map cleared (locks ++ lock ∷ []) ≡ locks ++ lock ∷ []
 cleared_pushed locks lock is clear = map-append cleared locks (lock ∷ []) ∙ ap (λ l. l ++ cleared lock ∷ []) clear ∙ (λ i. locks ++ record lock { clear = sym is i } ∷ [])
+
+written_clear : (new_oids : ℕ) (rel : Oid) (command : ℕ) (locks : List OwnLock) → map cleared locks ≡ locks → map cleared (locks_written new_oids rel command locks) ≡ locks_written new_oids rel command locks
+written_clear new_oids rel command locks clear = by_test (nat_lt 0 new_oids)
+  where
+    by_test : (t : Bool) → map cleared (elim t as (λ x. List OwnLock) [ true ↦ locks ++ new_lock rel command ∷ [] | false ↦ locks ]) ≡ elim t as (λ x. List OwnLock) [ true ↦ locks ++ new_lock rel command ∷ [] | false ↦ locks ]
+    by_test true = cleared_pushed locks (new_lock rel command) refl clear
+    by_test false = clear
 
 -- the first command of a transaction that runs
 first_kept : (o : Option OwnTransaction) (c : ℕ) → is_some o ≡ true → option_map_or (λ t. t.first) o c ≡ option_map_or (λ t. t.first) o 0
@@ -144,7 +157,7 @@ none_held b rel next (g ∷ held) new drawn =
     (λ i. ((g.backend == b) && ne_eqb g.rel.0 rel.0 (λ same. absurd (omega (arith, same, new, drawn.0))) i && same_mode g.mode AccessExclusive) || none_held b rel next held new drawn.1 i)
     ∙ ap (λ t. (t && same_mode g.mode AccessExclusive) || false) (and-false (g.backend == b))
 
-module _ (scenario : Scenario) (old : List Entry) (was : Backend) (agrees : Agrees scenario old was) (works : IsWorking was) (draft : Draft) (at : plan_at was.exec ≡ writing draft) where
+module _ (scenario : Scenario) (old : List Entry) (was : Backend) (agrees : Agrees scenario old was) (works : IsWorking was) (draft : Draft) (at : plan_at was.exec ≡ writing draft) (whole : builds_missing was.kept was.opened ≡ []) where
   -- what is known of it
   acting : IsActing old was agrees.rest works.has.command
   acting = is_acting scenario old was agrees works (ap acts at)
@@ -164,18 +177,19 @@ module _ (scenario : Scenario) (old : List Entry) (was : Backend) (agrees : Agre
   pub way_here : OnItsWay old was agrees.rest works.has.command
   way_here = acting.way
 
-  pub makes_table : IsNewTable draft
-  makes_table = (subst (CanGoOn (SeesRelation old was.id)) at acting.can).0
+  -- what it is about to write fits
+  pub fits : IsPlayed scenario old → WriteFits old was.id (was.finished + 1) (facts_of old was.id) draft
+  fits played = write_fits old was.id (was.finished + 1) (facts_of old was.id) works.has.command way_here.gave draft (λ given. Done) played.sound played.tables way_here.runs way_here.holds (sym way_here.plan ∙ at) way_here.unwritten
 
   pub locks_clear : map cleared was.locks.items ≡ was.locks.items
-  locks_clear = clear_at was agrees.well (ap is_accepting works.phase)
+  locks_clear = clear_at was agrees.well (ap is_accepting works.phase) (lacks_none was whole)
 
   pub is_inside : is_out was ≡ false
   is_inside = ap (λ p. is_settled (outcome_of p)) at
 
   -- so it may write
   pub may_write : IsPlayed scenario old → MayWrite old was.id (was.finished + 1) draft
-  may_write played = new_table_may_write old was.id (was.finished + 1) draft played.tables makes_table way_here.unwritten
+  may_write played = (fits played).may
 
   pub may_ask : MayRequest scenario old was.id (was.finished + 1)
   may_ask = may_request scenario old was agrees (ap is_visible_at works.phase) (ap is_taken_back works.phase)
@@ -190,7 +204,7 @@ module _ (scenario : Scenario) (old : List Entry) (was : Backend) (agrees : Agre
       by_test false = refl
 
   pub nothing_owed : owed_of (facts_of old was.id) works.has.command (session_at was agrees.rest) ≡ []
-  nothing_owed = owed_scans scenario old was agrees works ∙ ap (map OwesScan) (missing_at was (writing draft) (none_missing was agrees.well is_inside) at)
+  nothing_owed = owed_scans scenario old was agrees works ∙ ap (map OwesScan) (missing_at was (writing draft) whole at)
 
   -- no list is of a later command
   pub lists_early : IsPlayed scenario old → AllByRecursion (λ list. list.command ≤ was.finished + 1) (lists_at was)
@@ -227,8 +241,8 @@ unwritten_later : (history : List Entry) (b c number : ℕ) (xid : Xid) (items :
 unwritten_later history b c number xid items later none = has_written-more history (entry_of b c (events.Write xid items)) b number
     ∙ (λ i. none i || ((b == b) && ne_eqb c number (λ same. absurd (omega (arith, same, later))) i && true)) ∙ ap (λ t. t && true) (and-false (b == b))
 
-module _ (scenario : Scenario) (old : List Entry) (was : Backend) (agrees : Agrees scenario old was) (works : IsWorking was) (draft : Draft) (at : plan_at was.exec ≡ writing draft) (xid : Xid) (rel : Oid) (lists : Held) (locks : Roomy OwnLock)
-    (first : rel.0 ≡ next_oid old) (wrote : all_lists lists.lists ≡ lists_at was ++ written_by old was.id (was.finished + 1) (items_drawn old draft) ∷ []) (ended : lists.lists.running ≡ None) (locked : locks.items ≡ was.locks.items ++ new_lock rel (was.finished + 1) ∷ []) where
+module _ (scenario : Scenario) (old : List Entry) (was : Backend) (agrees : Agrees scenario old was) (works : IsWorking was) (draft : Draft) (at : plan_at was.exec ≡ writing draft) (whole : builds_missing was.kept was.opened ≡ []) (played : IsPlayed scenario old) (xid : Xid) (rel : Oid) (lists : Held) (locks : Roomy OwnLock)
+    (first : rel.0 ≡ next_oid old) (wrote : all_lists lists.lists ≡ lists_at was ++ written_by old was.id (was.finished + 1) (items_drawn old draft) ∷ []) (ended : lists.lists.running ≡ None) (locked : locks.items ≡ locks_written draft.new_oids rel (was.finished + 1) was.locks.items) where
   abbrev own : OwnTransaction
   own = with_xid was.running (was.finished + 1) xid
 
@@ -243,17 +257,17 @@ module _ (scenario : Scenario) (old : List Entry) (was : Backend) (agrees : Agre
   now = after_asking was stages.Done [] false (Some own) lists locks (kept_spared messages was.kept)
 
   running_now : is_some was.running ≡ true
-  running_now = runs scenario old was agrees works draft at
+  running_now = runs scenario old was agrees works draft at whole
 
   settles : Settles was stages.Done [] (Some own) lists.lists locks.items
   settles = record {
     out = refl;
-    closed = refl;
+    closed = inl refl;
     runs = refl;
     ended = ended;
     first = first_kept was.running (was.finished + 1) running_now;
     written = λ is. refl;
-    clear = subst (λ l. map cleared l ≡ l) (sym locked) (cleared_pushed was.locks.items (new_lock rel (was.finished + 1)) refl (locks_clear scenario old was agrees works draft at));
+    clear = subst (λ l. map cleared l ≡ l) (sym locked) (written_clear draft.new_oids rel (was.finished + 1) was.locks.items (locks_clear scenario old was agrees works draft at whole));
   }
 
   -- the session before the locks are cleared
@@ -261,8 +275,7 @@ module _ (scenario : Scenario) (old : List Entry) (was : Backend) (agrees : Agre
   placed = placed_at (length old + 1) (was.finished + 1) event (session_at was agrees.rest)
 
   locks_now : placed.locks ≡ locks.items
-  locks_now = ap (λ l. was.locks.items ++ l) (new_table_locks (was.finished + 1) (next_oid old) draft (makes_table scenario old was agrees works draft at))
-      ∙ (λ i. was.locks.items ++ new_lock (record { 0 = sym first i }) (was.finished + 1) ∷ []) ∙ sym locked
+  locks_now = (fits scenario old was agrees works draft at whole played).locks rel was.locks.items first ∙ sym locked
 
   abbrev after : Session
   after = session_after old was event agrees.rest
@@ -308,23 +321,24 @@ module _ (scenario : Scenario) (old : List Entry) (was : Backend) (agrees : Agre
     moves = record { id = refl; commands = refl; finished = refl; life = refl; lines = refl };
     session = session_now;
     facts = facts_now;
-    tally = λ _. ((agrees.tally (ap is_ended works.phase)).0 ∙ ap (λ n. agrees.rest.tally.full + agrees.rest.tally.scans + agrees.rest.tally.grants + n + one_if was.looked) (sym (starts_kept was.running (was.finished + 1) (Some xid) running_now)), (agrees.tally (ap is_ended works.phase)).1);
-    well = asked_well was stages.Done [] false (Some own) lists locks now.kept works.phase running_now (is_unblocked scenario old was agrees works draft at) (is_unanswered scenario old was agrees works draft at) (ap (λ p. is_settled (outcome_of p)) at) settles agrees.well;
+    tally = λ _. let t = agrees.tally (ap is_ended works.phase) in
+        record { enough = omega (arith, t.enough, starts_kept was.running (was.finished + 1) (Some xid) running_now); within = omega (arith, t.within, starts_kept was.running (was.finished + 1) (Some xid) running_now) };
+    well = asked_well was stages.Done [] false (Some own) lists locks now.kept works.phase running_now (is_unblocked scenario old was agrees works draft at whole) (is_unanswered scenario old was agrees works draft at whole) (ap (λ p. is_settled (outcome_of p)) at) works.has settles agrees.well;
   }
 
   suits : Suits scenario old was event agrees.rest
   suits = record {
     plays = subst (λ o. MayPlayIn (next_oid old) (facts_of old was.id) o (session_at was agrees.rest) event) (sym works.has.at)
-        (nothing_owed scenario old was agrees works draft at, subst (λ p. IsWrite (next_oid old) p (items_drawn old draft)) (sym at) refl);
+        (nothing_owed scenario old was agrees works draft at whole, subst (λ p. IsWrite (next_oid old) p (items_drawn old draft)) (sym at) refl);
     needed = tt;
     truly = tt;
-    tables = record { draft = draft; table = makes_table scenario old was agrees works draft at; items_are = refl };
+    tables = (fits scenario old was agrees works draft at whole played).keeps;
   }
 
-  follows : IsPlayed scenario old → MayComeNext old (entry_of was.id (was.finished + 1) event) → Follows scenario old was now event agrees.rest
-  follows played comes = record {
+  follows : Follows scenario old was now event agrees.rest
+  follows = record {
     command = record {
-      refused = λ error is. let no : None ≡ Some error = sym (ap (λ s. s.refused) left ∙ is_unrefused scenario old was agrees works draft at) ∙ is in absurd (cc no);
+      refused = λ error is. let no : None ≡ Some error = sym (ap (λ s. s.refused) left ∙ is_unrefused scenario old was agrees works draft at whole) ∙ is in absurd (cc no);
       way = λ none no command running. inr (record {
         gave = way.gave;
         draft = draft;
@@ -337,28 +351,28 @@ module _ (scenario : Scenario) (old : List Entry) (was : Backend) (agrees : Agre
       given_at = tt;
       given_seen = tt;
     };
-    kept = all-spared (KeptFits (old ++ entry_of was.id (was.finished + 1) event ∷ []) was.id) messages was.kept
-        (kept-more old (entry_of was.id (was.finished + 1) event) was.id was.kept (may_come scenario old (entry_of was.id (was.finished + 1) event) played comes suits.tables) (λ i d within. refl) agrees.kept);
-    answer = no_answer scenario (old ++ entry_of was.id (was.finished + 1) event ∷ []) now (rest_after old was event agrees.rest) (is_unanswered scenario old was agrees works draft at);
+    kept = all-spared (KeptAt (old ++ entry_of was.id (was.finished + 1) event ∷ []) was.id) messages was.kept
+        (kept-more old (entry_of was.id (was.finished + 1) event) was.id was.kept (λ i d within. refl) agrees.kept);
+    answer = no_answer scenario (old ++ entry_of was.id (was.finished + 1) event ∷ []) now (rest_after old was event agrees.rest) (is_unanswered scenario old was agrees works draft at whole);
     judged = λ has none. refl;
   }
     where
       way : OnItsWay old was agrees.rest works.has.command
-      way = way_here scenario old was agrees works draft at
+      way = way_here scenario old was agrees works draft at whole
 
-  -- so the write of a new table is entered
-  write_enters : (new : List Entry) (had has : ℕ → ℕ) → IsPlayed scenario old → Appends old new had has (entry_of was.id (was.finished + 1) event) → Enters scenario old new was now
-  write_enters new had has played appends = own_enters scenario old new had has was now event agrees (waits scenario old was agrees works draft at) (write_goes_on xid (items_drawn old draft)) suits keeps (follows played appends.comes) appends
+  -- so the write is entered
+  write_enters : (new : List Entry) (had has : ℕ → ℕ) → Appends old new had has (entry_of was.id (was.finished + 1) event) → Enters scenario old new was now
+  write_enters new had has appends = own_enters scenario old new had has was now event agrees played (waits scenario old was agrees works draft at whole) (write_goes_on xid (items_drawn old draft)) suits keeps follows appends
 
 -- the same, for what a segment answers and what the backend keeps of it
-pub wrote_enters : (scenario : Scenario) (old new : List Entry) (had has : ℕ → ℕ) (was : Backend) (agrees : Agrees scenario old was) (works : IsWorking was) (draft : Draft) (at : plan_at was.exec ≡ writing draft) (made : Made) (exec : Exec) (opened : List Opening) (transaction : OwnTransaction) (lists : Held) (locks : Roomy OwnLock) (kept : List KeptScan)
+pub wrote_enters : (scenario : Scenario) (old new : List Entry) (had has : ℕ → ℕ) (was : Backend) (agrees : Agrees scenario old was) (works : IsWorking was) (draft : Draft) (at : plan_at was.exec ≡ writing draft) (whole : builds_missing was.kept was.opened ≡ []) (made : Made) (exec : Exec) (opened : List Opening) (transaction : OwnTransaction) (lists : Held) (locks : Roomy OwnLock) (kept : List KeptScan)
     → exec ≡ stages.Done → opened ≡ [] → transaction ≡ with_xid was.running (was.finished + 1) made.xid → all_lists lists.lists ≡ lists_at was ++ with_messages made.messages.items (new_list (was.finished + 1)) ∷ [] → lists.lists.running ≡ None
-    → locks.items ≡ was.locks.items ++ new_lock made.first_oid (was.finished + 1) ∷ [] → kept ≡ kept_spared made.messages.items was.kept
+    → locks.items ≡ locks_written draft.new_oids made.first_oid (was.finished + 1) was.locks.items → kept ≡ kept_spared made.messages.items was.kept
     → IsPlayed scenario old → MakesWrite old new had has was.id (was.finished + 1) draft made → Enters scenario old new was (after_asking was exec opened false (Some transaction) lists locks kept)
-wrote_enters scenario old new had has was agrees works draft at made exec opened transaction lists locks kept done closed runs_as wrote ended locked spared played makes =
+wrote_enters scenario old new had has was agrees works draft at whole made exec opened transaction lists locks kept done closed runs_as wrote ended locked spared played makes =
     subst (λ s. Enters scenario old new was s) (λ i. after_asking was (sym done i) (sym closed i) false (Some (sym runs_as i)) lists locks (same_kept i))
-    (write_enters scenario old was agrees works draft at made.xid made.first_oid lists locks makes.first
-    (wrote ∙ ap (λ l. lists_at was ++ l ∷ []) (ap (λ l. with_messages l (new_list (was.finished + 1))) makes.messages ∙ registered_is old was.id (was.finished + 1) (items_drawn old draft))) ended locked new had has played makes.appends)
+    (write_enters scenario old was agrees works draft at whole played made.xid made.first_oid lists locks makes.first
+    (wrote ∙ ap (λ l. lists_at was ++ l ∷ []) (ap (λ l. with_messages l (new_list (was.finished + 1))) makes.messages ∙ registered_is old was.id (was.finished + 1) (items_drawn old draft))) ended locked new had has makes.appends)
   where
     same_kept : kept_spared (messages_in old was.id (items_drawn old draft)) was.kept ≡ kept
     same_kept = ap (λ l. kept_spared l was.kept) (sym makes.messages) ∙ sym spared

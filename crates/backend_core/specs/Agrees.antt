@@ -1,19 +1,22 @@
 -- How a backend agrees with a history.
-use Rattle.std.specs.Prelude.{◌≡◌, ◌≢◌, ◌≤◌, ◌<◌, ◌+◌, ◌⊎◌, ℕ, Bool, true, false, not, Some, None, List, [], ◌∷◌, ◌==◌, ◌||◌, map, drop, take, length, All, slice_get, is_some, ⊤}
+use Rattle.std.specs.Prelude.{◌≡◌, ◌≢◌, ◌≤◌, ◌<◌, ◌+◌, ◌*◌, ◌⊎◌, ℕ, Bool, true, false, not, Some, None, List, [], ◌∷◌, ◌++◌, ◌==◌, ◌||◌, map, drop, take, length, All, slice_get, is_some, ⊤}
+use Rattle.std.specs.List.{list_any}
 use Rattle.std.specs.Option.{option_map_or}
-use Rattle.base_types.specs.Scans.{is_build_scan}
+use Rattle.base_types.specs.Scans.{same_scan, is_build_scan, build_scans}
 use Rattle.base_types.specs.Scenario.{IsBackend}
 use Rattle.base_types.specs.declared.row.Row.TheVariants as rows
 use Rattle.base_types.specs.declared.scan.Purpose.TheVariants as scans
 use Rattle.event_kinds.specs.declared.entry.Event.TheVariants as events
 use Rattle.rel_desc.specs.Answers.{answer_text}
 use Rattle.lock_modes.specs.Own.{cleared}
-use Rattle.ddl_effect.specs.Plans.{Plan, Done, Fails, Absent, Do, Lookup}
-use Rattle.ddl_effect.specs.Commands.{commands_of, runs}
+use Rattle.ddl_effect.specs.Plans.{Plan, Done, Fails, Absent, Do, Lookup, Column, Read}
+use Rattle.ddl_effect.specs.Commands.{commands_of}
+use Rattle.cacheless.specs.Runs.{runs}
 use Rattle.ddl_effect.specs.Blocks.{Block, Outside, Inside, Failed, no_block, is_open, innermost, ends_block}
 use Rattle.ddl_effect.specs.Stages.{plan_at}
 use Rattle.history_model.specs.Lives.{Life, Unstarted, Alive, Stopped, life_of}
 use Rattle.history_model.specs.Orderly.{IsSound}
+use Rattle.history_model.specs.Prefixes.{EachEntry}
 use Rattle.history_model.specs.Read.{IsEconomical, place_read}
 use Rattle.history_model.specs.Writes.{has_written, is_empty}
 use Rattle.seg_calls.specs.Calls.{took_back}
@@ -24,18 +27,18 @@ use Rattle.inval_messages.specs.Lists.{sent_in}
 use Rattle.command_lists.specs.Lists.{no_lists}
 use Rattle.cacheless.specs.Owed.{owed_after}
 use Rattle.cacheless.specs.Ends.{Commits, TakesBack}
-use Rattle.cacheless.specs.Settled.{settled, finished_as}
+use Rattle.cacheless.specs.Settled.{opened_by, settled, finished_as}
 use Rattle.cacheless.specs.Sessions.{session_of}
 use Rattle.cacheless.specs.Plays.{Plays}
+use Rattle.cacheless.specs.TableWrites.{WritesTables}
 use Rattle.cacheless.specs.Schedule.{AreLooksTrue}
 use Rattle.cacheless.specs.Lines.{answer_judged, lines_from}
-use Rattle.backend_core.specs.Types.{Row, Purpose, Command, CommandError, Scenario, Entry, OwnLock, KeptScan, Phase, Backend}
+use Rattle.backend_core.specs.Types.{Row, Purpose, Command, CommandError, Scenario, Entry, OwnLock, Opening, KeptScan, Phase, Backend}
 use Rattle.backend_core.specs.declared.phase.Life.TheVariants as lives
 use Rattle.backend_core.specs.declared.phase.Phase.TheVariants as phases
-use Rattle.backend_core.specs.NewTables.{HasTables, StaysRead, SeesRelation}
 use Rattle.backend_core.specs.Passing.{is_silent}
-use Rattle.backend_core.specs.Way.{Way}
-use Rattle.backend_core.specs.State.{owed_at, is_absent, published_at, is_accepting, looks_due, is_taken_back, is_ended, one_if, running_at, lists_at, is_kept, builds_missing, is_out, begins_in, owed_first, end_at, is_inside, blocks_next, has_write_since, end_of_running, Rest, session_at, HasCommand}
+use Rattle.backend_core.specs.Way.{SeesRelation, Way}
+use Rattle.backend_core.specs.State.{owed_at, is_absent, published_at, is_accepting, looks_due, is_taken_back, is_ended, one_if, running_at, lists_at, is_kept, builds_missing, is_out, begins_in, owed_first, end_at, is_inside, blocks_next, has_write_since, end_of_running, Rest, session_at, HasCommand, is_in_accept}
 
 -- a history that the script's commands played so far
 pub record IsPlayed (scenario : Scenario) (history : List Entry) : Type 0 where
@@ -43,11 +46,12 @@ pub record IsPlayed (scenario : Scenario) (history : List Entry) : Type 0 where
   pub plays : Plays scenario history
   pub economical : IsEconomical history
   pub looks : AreLooksTrue history
-  pub tables : HasTables history
+  pub tables : EachEntry WritesTables history
 
--- what a lookup's scan gave is what the backend holds of it, and it serves: it is usable, or the relation that it gave is locked
+-- what the scan of a name gave is what the backend holds of it, and it serves: it is usable, or the relation that a lookup's gave is locked
 abbrev pub RowsFit : Facts → List OwnLock → Plan → List Row → Type 0
 RowsFit facts locks (Do (Lookup name mode) rest) given = (facts.rows (scans.RelName name) ≡ given) × ((facts.usable (scans.RelName name) || is_locked locks mode given) ≡ true)
+RowsFit facts locks (Do (Column rel name) rest) given = (facts.rows (scans.AttName rel name) ≡ given) × (facts.usable (scans.AttName rel name) ≡ true)
 RowsFit facts locks plan given = ⊤
 
 -- what is kept of a scan is what the last such scan gave
@@ -66,9 +70,14 @@ pub record FactsFit (facts : Facts) (s : Backend) : Type 0 where
   pub kept : All (ReadRight facts.rows) s.kept
   pub given : s.read ≡ true → RowsFit facts s.locks.items (plan_at s.exec) s.given.items
 
--- the looks of the command are as many as its scans, its grants, its transaction's start and its fetches of the most messages, and one more where one was made for the next scan
-abbrev pub TallyFits : Tally → Backend → Type 0
-TallyFits tally s = (tally.looks + looks_due s.phase ≡ tally.full + tally.scans + tally.grants + option_map_or (λ t. one_if (t.first == s.finished + 1)) s.running 0 + one_if s.looked) × (tally.full ≤ tally.fetches)
+-- how many looks the command owed for its scans, its grants and its transaction's start, with the one that was made for the next scan
+abbrev pub looks_owed : Tally → Backend → ℕ
+looks_owed tally s = tally.scans + tally.grants + option_map_or (λ t. one_if (t.first == s.finished + 1)) s.running 0 + one_if s.looked
+
+-- its looks are as many as these and its full fetches that ask for one, and no more than these and two for each fetch
+pub record TallyFits (tally : Tally) (s : Backend) : Type 0 where
+  pub enough : tally.full + looks_owed tally s ≤ tally.looks + looks_due s.phase
+  pub within : tally.looks + looks_due s.phase ≤ 2 * tally.fetches + looks_owed tally s
 
 -- the life of a backend that has joined and hasn't left
 pub record IsAlive (life : Life) (s : Backend) : Type 0 where
@@ -141,20 +150,30 @@ EndFits s phases.Ended = IsOver s
 abbrev pub EndsAlone : Backend → Type 0
 EndsAlone s = (command : Command) → slice_get s.commands s.finished ≡ Some command → ends_block command ≡ true → s.blocked ≡ false → (plan_at s.exec ≡ Done) × (s.opened ≡ [])
 
--- a command that has opened a descriptor: it has come out, it accepts no messages any more, and all scans for the descriptor are kept
+-- a command that has opened a descriptor: its transaction runs; once it has come out it accepts no messages any more, and if it came out well all scans for the descriptor are kept
 pub record HasOpened (s : Backend) : Type 0 where
-  pub out : is_out s ≡ true
-  pub quiet : is_accepting s.phase ≡ false
   pub free : (has : HasCommand s) → owed_first s has.command ≡ []
+  pub quiet : is_out s ≡ true → is_accepting s.phase ≡ false
   pub builds : outcome_of (plan_at s.exec) ≡ CameOutWell → builds_missing s.kept s.opened ≡ []
 
--- a descriptor is opened by the last act of a command
-abbrev pub OpensLast : Backend → Type 0
-OpensLast s = (s.opened ≡ []) ⊎ HasOpened s
+-- the opened descriptors of a command, if it has opened one
+abbrev pub OpenedFit : Backend → Type 0
+OpenedFit s = (s.opened ≡ []) ⊎ HasOpened s
 
--- the relation that a lookup's rows name is locked
+-- a scan is one of an opened descriptor
+abbrev pub is_of_opened : Purpose → List Opening → Bool
+is_of_opened scan opened = list_any (λ o. list_any (same_scan scan) (build_scans o.kind o.rel)) opened
+
+-- what a plan reads is of a descriptor that it has opened before
+abbrev pub ReadsOpened : List Opening → Plan → Type 0
+ReadsOpened opened (Do (Read scan) rest) = (is_of_opened scan opened ≡ true) × ((given : List Row) → ReadsOpened opened (rest given))
+ReadsOpened opened (Do act rest) = (given : List Row) → ReadsOpened (opened ++ opened_by act) (rest given)
+ReadsOpened opened plan = ⊤
+
+-- what the scan of a name gave serves on in an accept of messages: the relation that a lookup's rows name is locked; the rows of a column are used at once
 abbrev pub IsFoundLocked : List OwnLock → Plan → List Row → Type 0
 IsFoundLocked locks (Do (Lookup name mode) rest) given = is_locked locks mode given ≡ true
+IsFoundLocked locks (Do (Column rel name) rest) given = ⊥
 IsFoundLocked locks plan given = ⊤
 
 -- messages are accepted in the running transaction, before the command has come out
@@ -169,7 +188,9 @@ pub record Well (s : Backend) : Type 0 where
   pub built : All (λ command. runs command ≡ true) s.commands
   pub few : length s.commands ≤ 20000
   pub most : s.finished ≤ length s.commands
-  pub opened : OpensLast s
+  pub opened : OpenedFit s
+  pub reads : ReadsOpened s.opened (plan_at s.exec)
+  pub last : s.read ≡ true → (builds_missing s.kept s.opened ≡ []) ⊎ IsFoundLocked s.locks.items (plan_at s.exec) s.given.items
   pub blocked : s.blocked ≡ is_some (refused_first s.blocks (slice_get s.commands s.finished))
   pub refused : s.blocked ≡ true → plan_at s.exec ≡ plan_first s.blocks (slice_get s.commands s.finished)
   pub plain : EndsAlone s
@@ -186,7 +207,7 @@ pub record Well (s : Backend) : Type 0 where
   pub free : is_some s.answer ≡ true → (has : HasCommand s) → owed_first s has.command ≡ []
   pub starts : (has : HasCommand s) → owed_first s has.command ≢ [] → (is_absent (plan_at s.exec) ≡ false) × (s.read ≡ false)
   pub accepting : is_accepting s.phase ≡ true → IsAccepting s
-  pub clear : (is_accepting s.phase ≡ true) ⊎ (map cleared s.locks.items ≡ s.locks.items)
+  pub clear : (is_in_accept s ≡ true) ⊎ (map cleared s.locks.items ≡ s.locks.items)
 
 -- what the running command answers, where that is worked out
 abbrev pub AnswerFits : Scenario → List Entry → Backend → Rest → Type 0
@@ -201,10 +222,9 @@ pub record CommandFits (seen : List Entry) (s : Backend) (rest : Rest) : Type 0 
   pub given_at : PlaceFits seen s.id (plan_at s.exec) s.read s.given_at
   pub given_seen : GivenSeen seen s.id (plan_at s.exec) s.read s.given.items
 
--- the scans that are kept: where they stand, and that they are still right
-pub record KeptFits (seen : List Entry) (b : ℕ) (k : KeptScan) : Type 0 where
-  pub at : place_read seen b k.scan ≡ k.at
-  pub stays : StaysRead seen b k.scan k.rows
+-- the place that is kept with a scan is that of the last such scan
+abbrev pub KeptAt : List Entry → ℕ → KeptScan → Type 0
+KeptAt seen b k = place_read seen b k.scan ≡ k.at
 
 -- the places where commands are judged are of the history
 pub record PlacesFit (seen : List Entry) (rest : Rest) : Type 0 where
@@ -225,7 +245,7 @@ pub record Agrees (scenario : Scenario) (seen : List Entry) (s : Backend) : Type
   pub life : IsAlive (life_of seen s.id) s
   pub well : Well s
   pub command : CommandFits seen s rest
-  pub kept : All (KeptFits seen s.id) s.kept
+  pub kept : All (KeptAt seen s.id) s.kept
   pub places : PlacesFit seen rest
   pub answer : AnswerFits scenario seen s rest
   pub lines : s.lines ≡ lines_from scenario seen s.id 1 rest.finished s.commands

@@ -1,6 +1,7 @@
 -- What the running command answers, by what its backend holds.
 use Rattle.std.specs.Prelude.{◌≡◌, ℕ, Option, Some, None, List, [], ◌∷◌, map, if◌then◌else◌}
 use Rattle.std.specs.List.{find}
+use Rattle.std.specs.Option.{option_map_or}
 use Rattle.base_types.specs.Fields.{field_text, fields_of, read_by}
 use Rattle.base_types.specs.Scans.{same_scan}
 use Rattle.base_types.specs.declared.command.Command.TheVariants as commands
@@ -11,14 +12,21 @@ use Rattle.rel_desc.specs.declared.error.CommandError.TheVariants.{NoRelation}
 use Rattle.lock_modes.specs.Own.{clear_modes}
 use Rattle.ddl_effect.specs.Plans.{Plan, Fails, Absent}
 use Rattle.ddl_effect.specs.Stages.{plan_at}
+use Rattle.ddl_effect.specs.declared.want.Want.{Want}
+use Rattle.ddl_effect.specs.declared.want.Want.TheVariants as wants
 use Rattle.cacheless.specs.Lines.{commit_answer}
 use Rattle.cacheless.specs.Protected.{protects}
-use Rattle.backend_core.specs.Types.{Field, Purpose, Command, Answer, Opening, OwnLock, KeptScan, Backend}
+use Rattle.backend_core.specs.Types.{Field, Row, Purpose, Command, Answer, Opening, OwnLock, KeptScan, Backend}
 use Rattle.backend_core.specs.State.{HasCommand}
 
 -- the scan that is kept for a purpose
 abbrev pub kept_for : List KeptScan → Purpose → Option KeptScan
 kept_for kept scan = find (λ k. same_scan k.scan scan) kept
+
+-- the rows that an act gives: those of its scan, or those that are kept of the scan that it reads
+abbrev pub rows_for : Want → List Row → List KeptScan → List Row
+rows_for (wants.Read scan) given kept = option_map_or (λ k. k.rows) (kept_for kept scan) []
+rows_for want given kept = given
 
 -- a field by the scan that is kept for it; a descriptor that is open has them all
 abbrev pub shown_by : List OwnLock → Opening → Field → Option KeptScan → Shown

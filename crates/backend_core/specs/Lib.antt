@@ -1,9 +1,9 @@
 pub mod Types
-pub mod NewTables
 pub mod State
 pub mod Passing
 pub mod Way
 pub mod Agrees
+pub mod Coherent
 pub mod Steps
 pub mod Endings
 pub mod Refusals

@@ -1,19 +1,20 @@
 -- What the state of a backend says, by itself.
-use Rattle.std.specs.Prelude.{◌≡◌, ℕ, Bool, true, false, not, Option, Some, None, List, [], ◌∷◌, ◌++◌, ◌+◌, ◌==◌, ◌&&◌, map, filter, if◌then◌else◌, is_none, unwrap_or, slice_get}
+use Rattle.std.specs.Prelude.{◌≡◌, ℕ, Bool, true, false, not, Option, Some, None, List, [], ◌∷◌, ◌++◌, ◌+◌, ◌==◌, ◌&&◌, ◌||◌, map, filter, if◌then◌else◌, is_none, unwrap_or, slice_get, nat_lt}
 use Rattle.std.specs.Option.{option_map, option_map_or}
 use Rattle.std.specs.List.{list_any, flat_map}
 use Rattle.base_types.specs.Scans.{same_oid, same_scan, build_scans}
 use Rattle.base_types.specs.declared.row.Row.TheVariants as rows
 use Rattle.base_types.specs.declared.scan.Purpose.TheVariants as scans
 use Rattle.base_types.specs.declared.command.Command.TheVariants as commands
-use Rattle.lock_modes.specs.Own.{has_lock, cleared}
+use Rattle.lock_modes.specs.Own.{has_lock, cleared, new_lock}
 use Rattle.inval_messages.specs.Lists.{Written, has_write_from, unsent_after}
 use Rattle.inval_messages.specs.declared.message.Message.TheVariants.{Cat, Rel}
 use Rattle.inval_messages.specs.Messages.{is_spared}
 use Rattle.command_lists.specs.Lists.{all_lists}
-use Rattle.ddl_effect.specs.Plans.{Plan, Absent, Do, Lookup, Column, rests_on}
+use Rattle.ddl_effect.specs.Plans.{Plan, Absent, Do, Lookup, Open, Column, rests_on}
 use Rattle.ddl_effect.specs.Blocks.{Block, Outside, Inside, Failed, Blocks, no_block, ends_block, refused_by, innermost, blocks_well, blocks_badly}
 use Rattle.ddl_effect.specs.Stages.{plan_at}
+use Rattle.history_model.specs.Writes.{is_empty}
 use Rattle.history_model.specs.Transactions.{Running}
 use Rattle.cacheless.specs.Session.{Session, Finished, Tally, Badly, Well, Unsettled, outcome_of, is_settled}
 use Rattle.cacheless.specs.Owed.{Owes, OwesLook, OwesFetch}
@@ -21,7 +22,6 @@ use Rattle.cacheless.specs.Ends.{End, Ends, Commits, TakesBack}
 use Rattle.backend_core.specs.Types.{Oid, Mode, Message, Row, Purpose, Command, CommandError, Opening, OwnLock, KeptScan, Life, Phase, OwnTransaction, Backend}
 use Rattle.backend_core.specs.declared.phase.Life.TheVariants as lives
 use Rattle.backend_core.specs.declared.phase.Phase.TheVariants as phases
-use Rattle.backend_core.specs.NewTables.{relation_of}
 
 -- what an accept of messages owes: the look that comes next, or the fetch
 abbrev pub owed_at : Phase → List Owes
@@ -50,8 +50,12 @@ abbrev pub phase_fetched : ℕ → Phase
 phase_fetched count = elim (count == 32) [ true ↦ phases.Looking | false ↦ phases.Working ]
 
 -- the locks after an entry of an accept: where it is over they are clear
-abbrev pub locks_accepted : Phase → List OwnLock → List OwnLock
-locks_accepted phase locks = elim (is_accepting phase) [ true ↦ locks | false ↦ map cleared locks ]
+abbrev pub locks_accepted : Bool → List OwnLock → List OwnLock
+locks_accepted accepting locks = elim accepting [ true ↦ locks | false ↦ map cleared locks ]
+
+-- the locks after a write: one is on the relation that it made, if it made one
+abbrev pub locks_written : ℕ → Oid → ℕ → List OwnLock → List OwnLock
+locks_written new_oids rel command locks = elim (nat_lt 0 new_oids) [ true ↦ locks ++ new_lock rel command ∷ [] | false ↦ locks ]
 
 -- the transaction is committed, and its locks are still held
 abbrev pub is_visible_at : Phase → Bool
@@ -107,10 +111,26 @@ unsent_at s = unsent_after (published_at s.phase) (lists_at s)
 abbrev pub is_kept : List KeptScan → Purpose → Bool
 is_kept kept scan = list_any (λ k. same_scan k.scan scan) kept
 
+-- the relation that a scan for a descriptor is of
+abbrev pub relation_of : Purpose → Option Oid
+relation_of (scans.Class rel) = Some rel
+relation_of (scans.Attribute rel) = Some rel
+relation_of (scans.AttrDef rel) = Some rel
+relation_of (scans.Constraint rel) = Some rel
+relation_of (scans.Index rel) = Some rel
+relation_of (scans.Trigger rel) = Some rel
+relation_of (scans.IndexRow rel) = Some rel
+relation_of scan = None
+
 -- the message is for the relation that a scan for a descriptor is of
 abbrev pub covers_relation : Purpose → Message → Bool
 covers_relation scan (Rel rel) = option_map_or (λ own. same_oid rel own) (relation_of scan) false
 covers_relation scan (Cat cache hash) = false
+
+-- messages mark the descriptor that is being built: its first scan is made, and one of them is for its relation, so that the build starts over, with another look
+abbrev pub marks_build : List KeptScan → Plan → List Message → Bool
+marks_build kept (Do (Open rel kind) rest) messages = is_kept kept (scans.Class rel) && list_any (covers_relation (scans.Class rel)) messages
+marks_build kept plan messages = false
 
 -- what is kept once messages are executed: what none of them covers
 abbrev pub kept_spared : List Message → List KeptScan → List KeptScan
@@ -143,6 +163,14 @@ scans_missing s = elim (outcome_of (plan_at s.exec)) [ Badly ↦ [] | other ↦ 
 -- the running command has come out
 abbrev pub is_out : Backend → Bool
 is_out s = is_settled (outcome_of (plan_at s.exec))
+
+-- a command that hasn't come out lacks scans for its opened descriptors, which messages took away
+abbrev pub lacks_builds : Backend → Bool
+lacks_builds s = elim (is_out s) [ true ↦ false | false ↦ not (is_empty (builds_missing s.kept s.opened)) ]
+
+-- an accept of messages isn't over: a look, a fetch, or a scan for an opened descriptor comes next
+abbrev pub is_in_accept : Backend → Bool
+is_in_accept s = is_accepting s.phase || lacks_builds s
 
 -- the command begins a transaction: outside blocks, where it doesn't end blocks and needs none
 abbrev pub begins_in : Blocks → Phase → Command → Bool

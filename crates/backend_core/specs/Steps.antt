@@ -2,21 +2,23 @@
 use Rattle.std.specs.Prelude.{◌≡◌, ◌≢◌, ◌⊎◌, ◌++◌, ◌∷◌, ℕ, Bool, true, false, Some, None, List, [], slice_get, length, is_some}
 use Rattle.std.specs.Option.{option_map_or}
 use Rattle.base_types.specs.Scans.{build_scans}
-use Rattle.ddl_effect.specs.Plans.{Plan, Do, Lookup, Open, Write}
+use Rattle.base_types.specs.declared.scan.Purpose.TheVariants as scans
+use Rattle.ddl_effect.specs.Plans.{Plan, Act, Do, Lookup, Open, Column, Read, Write}
 use Rattle.ddl_effect.specs.Stages.{plan_at}
 use Rattle.history_model.specs.Orderly.{MayComeNext}
 use Rattle.history_model.specs.Read.{ScansOnlyIfNeeded}
 use Rattle.cacheless.specs.Ends.{Ends, Commits, TakesBack}
 use Rattle.cacheless.specs.Plays.{IsNext}
 use Rattle.cacheless.specs.Schedule.{LooksTruly}
+use Rattle.cacheless.specs.TableWrites.{WritesTables}
 use Rattle.backend_core.specs.Types.{Oid, Mode, Kind, Row, Purpose, Scenario, Entry, Draft, Next, Backend}
 use Rattle.backend_core.specs.declared.next.Next.TheVariants as nexts
 use Rattle.backend_core.specs.declared.phase.Phase.TheVariants as phases
-use Rattle.backend_core.specs.NewTables.{AddsTables}
-use Rattle.backend_core.specs.State.{owed_first, scans_missing, missing, is_out, end_at, end_of_running, has_write_since, unsent_at, unlocked_of, Rest, HasCommand}
-use Rattle.backend_core.specs.Agrees.{Agrees, Stands}
+use Rattle.backend_core.specs.State.{owed_first, scans_missing, missing, is_out, end_at, end_of_running, has_write_since, unsent_at, unlocked_of, Rest, HasCommand, is_kept, builds_missing}
+use Rattle.backend_core.specs.Agrees.{IsPlayed, Agrees, Stands}
+use Rattle.backend_core.specs.Coherent.{IsCoherent}
 
--- one entry of the backend is appended, which the history and the script allow, and the backend is right after it
+-- one entry of the backend is appended, which the history and the script allow; after it the backend is right, and its caches are coherent with the history
 pub record Steps (scenario : Scenario) (old new : List Entry) (was now : Backend) : Type 0 where
   pub entry : Entry
   pub is : new ≡ old ++ entry ∷ []
@@ -26,16 +28,18 @@ pub record Steps (scenario : Scenario) (old new : List Entry) (was now : Backend
   pub next : IsNext scenario old entry
   pub needed : ScansOnlyIfNeeded old entry.backend entry.event
   pub truly : LooksTruly old entry.backend entry.event
-  pub tables : AddsTables old entry.event
+  pub tables : WritesTables old entry
   pub stands : Stands scenario new now
+  pub coherent : IsCoherent new now
 
 -- the places of a backend that has just made an entry, or passed on from there: its last entry is the history's last, and so its running command is judged there, if it is not yet answered
 pub record IsNow (seen : List Entry) (s : Backend) (rest : Rest) : Type 0 where
   pub last : rest.last ≡ length seen
   pub judged : HasCommand s → is_some s.answer ≡ false → rest.judged ≡ length seen
 
--- a backend that agrees with a history that ends with its own entry
+-- a backend that agrees with a history that was played so far and ends with its own entry
 pub record AgreesNow (scenario : Scenario) (seen : List Entry) (s : Backend) : Type 0 where
+  pub played : IsPlayed scenario seen
   pub agrees : Agrees scenario seen s
   pub now : IsNow seen s agrees.rest
 
@@ -49,7 +53,7 @@ pub record Enters (scenario : Scenario) (old new : List Entry) (was now : Backen
   pub next : IsNext scenario old entry
   pub needed : ScansOnlyIfNeeded old entry.backend entry.event
   pub truly : LooksTruly old entry.backend entry.event
-  pub tables : AddsTables old entry.event
+  pub tables : WritesTables old entry
   pub agrees : AgreesNow scenario new now
 
 -- a look is owed: at the start of a transaction, or in an accept of messages
@@ -62,21 +66,26 @@ pub record IsWorking (s : Backend) : Type 0 where
   pub phase : s.phase ≡ phases.Working
   pub free : owed_first s has.command ≡ []
 
--- a scan of a name comes next
-pub record NextLookUp (s : Backend) (name : List ℕ) : Type 0 where
-  pub mode : Mode
-  pub rest : List Row → Plan
-  pub at : plan_at s.exec ≡ Do (Lookup name mode) rest
-  pub unread : s.read ≡ false
+-- an act finds a relation or a column by the rows of this scan of a name
+abbrev pub FindsBy : Act → Purpose → Type 0
+FindsBy (Lookup name mode) scan = scan ≡ scans.RelName name
+FindsBy (Column rel name) scan = scan ≡ scans.AttName rel name
+FindsBy act scan = ⊥
 
--- a scan for a descriptor comes next
-pub record NextBuild (s : Backend) (scan : Purpose) : Type 0 where
-  pub rel : Oid
-  pub kind : Kind
+-- a scan of a name comes next
+pub record NextLookUp (s : Backend) (scan : Purpose) : Type 0 where
+  pub act : Act
   pub rest : List Row → Plan
-  pub at : plan_at s.exec ≡ Do (Open rel kind) rest
-  pub more : List Purpose
-  pub first : missing s.kept (build_scans kind rel) ≡ scan ∷ more
+  pub at : plan_at s.exec ≡ Do act rest
+  pub by : FindsBy act scan
+  pub unread : s.read ≡ false
+  pub whole : builds_missing s.kept s.opened ≡ []
+
+-- a scan for a descriptor comes next: the first that the opened ones lack, or else the one that is to be opened
+pub data NextBuild (s : Backend) (scan : Purpose) : Type 0 where
+  ForOpened : (more : List Purpose) → is_out s ≡ false → builds_missing s.kept s.opened ≡ scan ∷ more → NextBuild s scan
+  ForOpening : (rel : Oid) → (kind : Kind) → (rest : List Row → Plan) → (more : List Purpose) → plan_at s.exec ≡ Do (Open rel kind) rest → builds_missing s.kept s.opened ≡ []
+      → missing s.kept (build_scans kind rel) ≡ scan ∷ more → NextBuild s scan
 
 -- a lock of the relation that a lookup found comes next
 pub record NextLock (s : Backend) (rel : Oid) (mode : Mode) : Type 0 where
@@ -85,27 +94,36 @@ pub record NextLock (s : Backend) (rel : Oid) (mode : Mode) : Type 0 where
   pub at : plan_at s.exec ≡ Do (Lookup name mode) rest
   pub read : s.read ≡ true
   pub unlocked : unlocked_of s.locks.items mode s.given.items ≡ Some rel
+  pub whole : builds_missing s.kept s.opened ≡ []
 
--- the lookup is done: nothing was found, or its relation is locked
+-- the rows that an act gives are there: a lookup found nothing or its relation is locked, a column's scan is made, or a scan that is read is kept
+abbrev pub IsAtHand : Backend → Act → Type 0
+IsAtHand s (Lookup name mode) = (s.read ≡ true) × (unlocked_of s.locks.items mode s.given.items ≡ None)
+IsAtHand s (Column rel name) = s.read ≡ true
+IsAtHand s (Read scan) = is_kept s.kept scan ≡ true
+IsAtHand s act = ⊥
+
+-- it goes on by the rows of a lookup, of a column or of an opened descriptor
 pub record NextFind (s : Backend) : Type 0 where
-  pub name : List ℕ
-  pub mode : Mode
+  pub act : Act
   pub rest : List Row → Plan
-  pub at : plan_at s.exec ≡ Do (Lookup name mode) rest
-  pub read : s.read ≡ true
-  pub locked : unlocked_of s.locks.items mode s.given.items ≡ None
+  pub at : plan_at s.exec ≡ Do act rest
+  pub here : IsAtHand s act
+  pub whole : builds_missing s.kept s.opened ≡ []
 
 -- the scans of a descriptor are made, and it is opened
 pub record NextOpen (s : Backend) (rel : Oid) (kind : Kind) : Type 0 where
   pub rest : List Row → Plan
   pub at : plan_at s.exec ≡ Do (Open rel kind) rest
   pub none : missing s.kept (build_scans kind rel) ≡ []
+  pub whole : builds_missing s.kept s.opened ≡ []
 
 -- a write comes next
 pub record NextWrite (s : Backend) : Type 0 where
   pub draft : Draft
   pub rest : List Row → Plan
   pub at : plan_at s.exec ≡ Do (Write draft) rest
+  pub whole : builds_missing s.kept s.opened ≡ []
 
 -- the commit of the running command comes next
 pub record NextCommit (s : Backend) (xid : ℕ) : Type 0 where
@@ -146,7 +164,7 @@ abbrev pub IsNextOf : Backend → Next → Type 0
 IsNextOf s nexts.Look = OwesLookNow s
 IsNextOf s nexts.LookBeforeScan = IsWorking s × (scans_missing s ≢ []) × (s.looked ≡ false)
 IsNextOf s nexts.Fetch = s.phase ≡ phases.Fetching
-IsNextOf s (nexts.LookUp name) = IsWorking s × NextLookUp s name × (s.looked ≡ true)
+IsNextOf s (nexts.LookUp scan) = IsWorking s × NextLookUp s scan × (s.looked ≡ true)
 IsNextOf s (nexts.Build scan) = IsWorking s × NextBuild s scan × (s.looked ≡ true)
 IsNextOf s (nexts.Lock rel mode) = IsWorking s × NextLock s rel mode
 IsNextOf s nexts.Write = IsWorking s × NextWrite s

@@ -1,28 +1,33 @@
 -- How far a command is in what its plan says.
-use Rattle.std.specs.Prelude.{◌≡◌, ◌+◌, ◌⊎◌, ℕ, true, false, List}
-use Rattle.std.specs.List.{AllByRecursion}
+use Rattle.std.specs.Prelude.{◌≡◌, ◌+◌, ◌⊎◌, ℕ, true, false, Option, List, [], ◌∷◌}
+use Rattle.base_types.specs.declared.row.Row.TheVariants as rows
+use Rattle.base_types.specs.declared.scan.Purpose.TheVariants as scans
 use Rattle.ddl_effect.specs.Plans.{Write, Plan, Done, Do}
 use Rattle.ddl_effect.specs.Commands.{plan_of}
+use Rattle.cacheless.specs.Runs.{runs}
 use Rattle.ddl_effect.specs.Stages.{plan_at}
+use Rattle.history_model.specs.Versions.{answer_of}
 use Rattle.history_model.specs.Writes.{has_written}
 use Rattle.cacheless.specs.Session.{none_open}
 use Rattle.cacheless.specs.Settled.{found_by}
-use Rattle.cacheless.specs.ActsDone.{reached, made_in, opening_by, relation_by}
-use Rattle.backend_core.specs.Types.{Row, Command, Draft, Entry, Opening, Backend}
-use Rattle.backend_core.specs.NewTables.{SeesRelation}
+use Rattle.cacheless.specs.ActsDone.{reached, made_in, opening_by, WayHolds}
+use Rattle.backend_core.specs.Types.{Oid, Kind, Row, Command, Draft, Entry, Backend}
 use Rattle.backend_core.specs.State.{Rest}
 
--- the backend sees these relations
-abbrev pub SeesAll : List Entry → ℕ → List Opening → Type 0
-SeesAll seen b relations = AllByRecursion (λ o. SeesRelation seen b o.rel o.kind) relations
+-- a lookup by its oid shows the backend one relation, of this kind
+pub record SeesRelation (seen : List Entry) (b : ℕ) (rel : Oid) (kind : Kind) : Type 0 where
+  pub name : List ℕ
+  pub fill : Option ℕ
+  pub row : answer_of seen b (scans.Class rel) ≡ rows.Class rel name kind fill ∷ []
 
--- a command that hasn't written, by what its acts gave so far
+-- a command that the program runs and that hasn't written, by what its acts gave so far
 pub record OnItsWay (seen : List Entry) (s : Backend) (rest : Rest) (command : Command) : Type 0 where
   pub gave : List (List Row)
   pub plan : plan_at s.exec ≡ reached gave (plan_of none_open command)
   pub found : rest.found ≡ made_in found_by gave (plan_of none_open command)
   pub opened : s.opened ≡ made_in opening_by gave (plan_of none_open command)
-  pub sees : SeesAll seen s.id (made_in relation_by gave (plan_of none_open command))
+  pub runs : runs command ≡ true
+  pub holds : WayHolds seen s.id gave (plan_of none_open command)
   pub unwritten : has_written seen s.id (s.finished + 1) ≡ false
 
 -- a command that has written, by what its acts before gave

@@ -3,13 +3,17 @@
 // `src/backend/storage/ipc/sinval.c`): a look, and where messages wait a fetch of at most 32, after
 // which it looks again exactly where the fetch gave 32.
 
-ghost use Rattle.std.specs.Prelude.{◌≡◌, ◌≢◌, ◌<◌, false, []};
-ghost use Rattle.backend_core.specs.State.{begun_own, phase_looked, phase_fetched, locks_accepted, scans_missing};
+ghost use Rattle.std.specs.Prelude.{◌≡◌, ◌≢◌, ◌<◌, ◌&&◌, not, false, []};
+ghost use Rattle.ddl_effect.specs.Stages.{plan_at};
+ghost use Rattle.backend_core.specs.State.{begun_own, phase_looked, phase_fetched, locks_accepted, is_in_accept, lacks_builds as lacks, marks_build, scans_missing};
 
-use crate::execute::execute;
+use crate::execute::{execute, is_covered};
+use crate::nexts::has_kept;
 use crate::{Backend, OwnTransaction, Phase};
 use arrayvec::ArrayVec;
-use base_types::Fetched;
+use base_types::{Fetched, Purpose};
+use ddl_effect::Want;
+use inval_messages::Message;
 use lock_modes::OwnLocks;
 use seg_calls::Seg;
 use std::alloc::Global;
@@ -36,7 +40,8 @@ impl Backend {
         seg.looked(self.id, number, some_wait);
         self.running = Some(running_from(number, self.running));
         self.phase = after_look(some_wait);
-        accept(&mut self.locks, self.phase);
+        let accepting = self.is_in_acceptance();
+        accept(&mut self.locks, accepting);
     }
 
     // The look before a scan.
@@ -70,9 +75,45 @@ impl Backend {
             Fetched::Messages(count) => count,
             Fetched::Reset => unreachable!(),
         };
+        let marked = self.is_marked(messages.as_slice());
         execute(alloc, &mut self.kept, messages.as_slice());
+        self.looked = still_looked(self.looked, marked);
         self.phase = after_fetch(count);
-        accept(&mut self.locks, self.phase);
+        let accepting = self.is_in_acceptance();
+        accept(&mut self.locks, accepting);
+    }
+
+    // Whether an acceptance isn't over: a look, a fetch, or a scan for an opened descriptor comes
+    // next.
+    pub(crate) fn is_in_acceptance(&self) -> bool
+        ensures { result ≡ is_in_accept self.now }
+    {
+        matches!(self.phase, Phase::Looking | Phase::Fetching) || self.lacks_builds()
+    }
+
+    // Whether messages mark the descriptor that is being built, which then starts over
+    // (`RelationBuildDesc` in `src/backend/utils/cache/relcache.c`). A build that hasn't made its first
+    // scan has nothing to start over with.
+    fn is_marked(&self, messages: &[Message]) -> bool
+        ensures { result ≡ marks_build self.now.kept (plan_at self.now.exec) messages.now }
+    {
+        match self.exec.next() {
+            Want::Open { rel, .. } => {
+                let first = Purpose::Class(rel);
+                has_kept(self.kept.as_slice(), &first) && is_covered(messages, &first)
+            }
+            _ => false,
+        }
+    }
+
+    // Whether an opened descriptor lacks a scan, in a command that hasn't come out.
+    fn lacks_builds(&self) -> bool
+        ensures { result ≡ lacks self.now }
+    {
+        match self.exec.next() {
+            Want::Done | Want::Fails(_) | Want::Absent(_) => false,
+            _ => self.first_build().is_some(),
+        }
     }
 }
 
@@ -98,13 +139,19 @@ fn after_fetch(count: u32) -> Phase
     }
 }
 
-// Makes the locks clear where an acceptance is over.
-fn accept(locks: &mut OwnLocks, phase: Phase)
-    ensures { locks.new.items ≡ locks_accepted phase locks.old.items }
+// Whether a look counts for the next scan still.
+fn still_looked(looked: bool, marked: bool) -> bool
+    ensures { result ≡ (looked && not marked) }
 {
-    match phase {
-        Phase::Looking | Phase::Fetching => {}
-        _ => locks.clear_all(),
+    looked && !marked
+}
+
+// Makes the locks clear where an acceptance is over.
+pub(crate) fn accept(locks: &mut OwnLocks, accepting: bool)
+    ensures { locks.new.items ≡ locks_accepted accepting locks.old.items }
+{
+    if !accepting {
+        locks.clear_all();
     }
 }
 

@@ -171,7 +171,7 @@ fn shown_scan(
 }
 
 // The scan that is kept for a purpose.
-fn scan_kept(kept: &[KeptScan], scan: Purpose) -> Option<&KeptScan>
+pub(crate) fn scan_kept(kept: &[KeptScan], scan: Purpose) -> Option<&KeptScan>
     ensures { option_copied result ≡ kept_for kept.now scan }
 {
     kept.iter().find(|k| same_scan(&k.scan, &scan))

@@ -42,7 +42,7 @@ pub struct Backend {
 
 impl Backend {
     ghost use Rattle.std.specs.Prelude.{◌≡◌, ◌≢◌, ◌≤◌, ◌<◌, true, false, length, All, OnOk, IfOk};
-    ghost use Rattle.ddl_effect.specs.Commands.{runs};
+    ghost use Rattle.cacheless.specs.Runs.{runs};
     ghost use Rattle.backend_core.specs.State.{has_left};
     ghost use Rattle.backend_core.specs.Agrees.{IsNew, IsPlayed, Stands};
     ghost use Rattle.backend_core.specs.Steps.{Steps};

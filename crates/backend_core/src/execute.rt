@@ -3,8 +3,7 @@
 ghost use Rattle.std.specs.Prelude.{◌≡◌, true, not, All};
 ghost use Rattle.std.specs.List.{list_any};
 ghost use Rattle.base_types.specs.Scans.{is_build_scan};
-ghost use Rattle.backend_core.specs.NewTables.{relation_of as relation_read};
-ghost use Rattle.backend_core.specs.State.{covers_relation, kept_spared as spared};
+ghost use Rattle.backend_core.specs.State.{relation_of as relation_read, covers_relation, kept_spared as spared};
 
 use crate::KeptScan;
 use base_types::{Listed, Oid, Purpose};
@@ -32,7 +31,7 @@ fn spares(messages: &[Message], scan: &Purpose) -> bool
 }
 
 // Whether one of the messages is for the relation that the scan is of.
-fn is_covered(messages: &[Message], scan: &Purpose) -> bool
+pub(crate) fn is_covered(messages: &[Message], scan: &Purpose) -> bool
     ensures { result ≡ list_any (covers_relation scan.now) messages.now }
 {
     messages.iter().any(|message| covers(message, scan))

@@ -5,7 +5,7 @@ ghost use Rattle.backend_core.specs.State.{blocks_passed};
 use crate::begun::begun;
 use crate::{Backend, Phase};
 use base_types::{Command, Listed, NoMemory};
-use ddl_effect::Exec;
+use ddl_effect::{Exec, Want};
 use event_kinds::Line;
 use std::alloc::Global;
 use txn_blocks::TxnBlocks;
@@ -56,8 +56,8 @@ impl Backend {
 fn pass(blocks: &mut TxnBlocks, exec: &Exec, number: u32, command: &Command)
     ensures { blocks.new ≡ blocks_passed (plan_at exec.now) number command.now blocks.old }
 {
-    match exec {
-        Exec::Done => blocks.ended_well(number, command),
+    match exec.next() {
+        Want::Done => blocks.ended_well(number, command),
         _ => blocks.fail(),
     }
 }

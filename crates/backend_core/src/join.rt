@@ -3,12 +3,13 @@ use seg_calls::Seg;
 
 impl Backend {
     ghost use Rattle.std.specs.Prelude.{◌≡◌, ◌<◌};
-    ghost use Rattle.backend_core.specs.Agrees.{HasNotJoined};
+    ghost use Rattle.backend_core.specs.Agrees.{HasNotJoined, IsPlayed};
     ghost use Rattle.backend_core.specs.Steps.{Enters};
 
     // It joins.
     pub(crate) fn join<L: Seg>(&mut self, seg: &mut L)
         requires before { HasNotJoined (L.script seg.old) (L.history seg.old) self.old }
+        requires played { IsPlayed (L.script seg.old) (L.history seg.old) }
         requires place { 0 < L.promised seg.old self.old.id }
         ensures script { L.script seg.new ≡ L.script seg.old }
         ensures enters { Enters (L.script seg.old) (L.history seg.old) (L.history seg.new) self.old self.new }

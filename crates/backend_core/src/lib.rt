@@ -1,17 +1,19 @@
 //! One backend: how it does what its commands say, and which entries that leaves in the history.
 //!
-//! A command is a plan (`ddl_effect`): a lookup of a name with a lock, the opening of a descriptor, a
-//! write. A [`Backend`] takes its commands' plans act by act. Before an act comes what it rests on: a
-//! look whether messages wait (`AcceptInvalidationMessages` in `src/backend/utils/cache/inval.c`) at
-//! a transaction's start, after each grant and before each scan, and the scans that the act needs and
-//! that aren't kept from earlier ones. Where messages wait it fetches them, at most 32, and drops the
-//! scans that one of them covers; after a fetch of 32 it looks again. A command that has come out is
-//! answered, and then ended: a transaction of its own is committed or taken back, a block goes on,
-//! fails or ends (`src/backend/access/transam/xact.c`). A commit publishes the messages of its writes
-//! between its visibility step and its release, at most 64 at a time, all for the catalog caches
-//! before all for descriptors; what a rollback takes back is never published. One step makes exactly
-//! one entry; what needs no entry (to go on by the rows of a lookup, to open a descriptor whose scans
-//! are made, to answer, to pass to the next command) is done at once after it.
+//! A command is a plan (`ddl_effect`): a lookup of a name with a lock, the opening of a descriptor,
+//! a lookup of a column, rows of the descriptor, a write. A [`Backend`] takes its commands' plans
+//! act by act. Before an act comes what it rests on: a look whether messages wait
+//! (`AcceptInvalidationMessages` in `src/backend/utils/cache/inval.c`) at a transaction's start,
+//! after each grant and before each scan, and the scans that the act needs and that aren't kept
+//! from earlier ones. Where messages wait it fetches them, at most 32, and drops the scans that one
+//! of them covers, those of an open descriptor too, which it then makes again; after a fetch of 32
+//! it looks again. A command that has come out is answered, and then ended: a transaction of its
+//! own is committed or taken back, a block goes on, fails or ends
+//! (`src/backend/access/transam/xact.c`). A commit publishes the messages of its writes between its
+//! visibility step and its release, at most 64 at a time, all for the catalog caches before all for
+//! descriptors; what a rollback takes back is never published. One step makes exactly one entry;
+//! what needs no entry (to go on by rows that are there, to open a descriptor whose scans are made,
+//! to answer, to pass to the next command) is done at once after it.
 //!
 //! The only way to rows, locks and the history is a segment ([`Seg`] of `seg_calls`), whichever it
 //! is, so no new body of these changes a proof here.
@@ -20,9 +22,10 @@
 //! is what the folds over its own entries say, its session is the definition's, its transcript is its
 //! part of the lines. A step keeps that, and its entry is one that the history allows and that the
 //! script's commands make next (`specs/Steps.antt`). An entry of another backend keeps it too: of all
-//! that a backend holds nothing depends on others' entries, but that what it has read stays true, and
-//! that is a law of histories (`specs/NewTables.antt`, which serves as long as tables are only
-//! created).
+//! that a backend holds nothing depends on others' entries, but that a relation which it has found is
+//! there still, and that is a law of histories whose writes keep tables (cacheless, `TableWrites` and
+//! `StillSeen`). What a backend shows of a field under locks that protect it is the field's text as it
+//! is now by another law (cacheless, `ProtectedFields`); any other field is shown as it was read.
 //!
 //! ```text
 //! let mut backend = Backend::new(alloc, 1, commands)?;

@@ -1,7 +1,7 @@
 ghost use Rattle.std.specs.Prelude.{◌≡◌, ◌↔◌, IsTrue};
 ghost use Rattle.backend_core.specs.Steps.{makes_entry as is_entry};
 
-use base_types::{Kind, Mode, Name, Oid, Purpose, Xid};
+use base_types::{Kind, Mode, Oid, Purpose, Xid};
 
 /// What a backend does next: an entry, or what needs none (`Find`, `Open`, `Answer`, `Finish`).
 #[derive(Clone, Copy)]
@@ -12,8 +12,8 @@ pub enum Next {
     LookBeforeScan,
     /// It fetches the messages that wait.
     Fetch,
-    /// The scan of a name.
-    LookUp(Name),
+    /// The scan of a relation's or a column's name.
+    LookUp(Purpose),
     /// A scan for a descriptor.
     Build(Purpose),
     /// It asks for a lock.
@@ -30,7 +30,7 @@ pub enum Next {
     Release { from: u32 },
     /// It leaves.
     Leave,
-    /// It goes on by the rows that its lookup gave.
+    /// It goes on by the rows of a lookup, of a column or of an opened descriptor.
     Find,
     /// It opens a descriptor, whose scans are made.
     Open { rel: Oid, kind: Kind },

@@ -1,17 +1,18 @@
-ghost use Rattle.std.specs.Prelude.{◌≡◌, ◌≢◌, ◌&&◌, true, false, None, Some, not, is_none, is_some, nat_le, slice_get};
+ghost use Rattle.std.specs.Prelude.{◌≡◌, ◌≢◌, ◌&&◌, [], true, false, None, Some, not, is_none, is_some, nat_le, slice_get};
 ghost use Rattle.std.specs.List.{find, list_any};
 ghost use Rattle.base_types.specs.Scans.{build_scans};
 ghost use Rattle.base_types.specs.declared.scan.Purpose.{Purpose};
 ghost use Rattle.ddl_effect.specs.Stages.{plan_at, want_of};
 ghost use Rattle.ddl_effect.specs.Blocks.{ends_block as does_end_block};
 ghost use Rattle.cacheless.specs.Ends.{Commits};
-ghost use Rattle.backend_core.specs.State.{is_kept, is_out as has_come_out, begins_in, end_at, end_in_well, end_in_badly, end_in_block, has_write_since as is_written_since, unlocked_of};
+ghost use Rattle.backend_core.specs.State.{is_kept, builds_missing, is_out as has_come_out, begins_in, end_at, end_in_well, end_in_badly, end_in_block, has_write_since as is_written_since, unlocked_of};
 ghost use Rattle.backend_core.specs.Endings.{end_of_ending};
 ghost use Rattle.backend_core.specs.Agrees.{Well};
 ghost use Rattle.backend_core.specs.Steps.{IsNextOf, IsWorking};
 
 use crate::{Backend, KeptScan, Next, Phase};
 use base_types::{Command, Kind, Mode, Name, Oid, Purpose, Row, same_scan, table_scans};
+use cacheless::Opening;
 use ddl_effect::Want;
 
 // How a command ends.
@@ -106,11 +107,56 @@ impl Backend {
             return Next::Look;
         }
         match self.exec.next() {
-            Want::Lookup { name, mode } => self.next_of_lookup(name, mode),
-            Want::Open { rel, kind } => self.next_of_open(rel, kind),
-            Want::Write => Next::Write,
             Want::Done | Want::Fails(_) | Want::Absent(_) => self.next_of_out(command),
-            Want::Column { .. } | Want::Read(_) | Want::Lock { .. } => unreachable!(),
+            want => self.next_of_act(&want),
+        }
+    }
+
+    // Where an act of its plan comes next: first what its opened descriptors lack.
+    fn next_of_act(&self, want: &Want) -> Next
+        requires well { Well self.now }
+        requires working { IsWorking self.now }
+        requires want { want_of (plan_at self.now.exec) ≡ want.now }
+        requires inside { has_come_out self.now ≡ false }
+        ensures { IsNextOf self.now result }
+    {
+        match self.first_build() {
+            None => self.next_of_want(want),
+            Some(scan) if self.looked => Next::Build(scan),
+            Some(_) => Next::LookBeforeScan,
+        }
+    }
+
+    // The act itself, or what it lacks.
+    fn next_of_want(&self, want: &Want) -> Next
+        requires well { Well self.now }
+        requires working { IsWorking self.now }
+        requires want { want_of (plan_at self.now.exec) ≡ want.now }
+        requires inside { has_come_out self.now ≡ false }
+        requires whole { builds_missing self.now.kept self.now.opened ≡ [] }
+        ensures { IsNextOf self.now result }
+    {
+        match want {
+            Want::Lookup { name, mode } => self.next_of_lookup(*name, *mode),
+            Want::Open { rel, kind } => self.next_of_open(*rel, *kind),
+            Want::Column { .. } if self.read => Next::Find,
+            Want::Column { rel, name } if self.looked => Next::LookUp(Purpose::AttName(
+                *rel, *name,
+            )),
+            Want::Column { .. } => Next::LookBeforeScan,
+            Want::Read(_) => Next::Find,
+            Want::Write => Next::Write,
+            Want::Lock { .. } | Want::Done | Want::Fails(_) | Want::Absent(_) => unreachable!(),
+        }
+    }
+
+    // The first scan that its opened descriptors lack.
+    pub(crate) fn first_build(&self) -> Option<Purpose>
+        ensures { result ≡ slice_get (builds_missing self.now.kept self.now.opened) 0 }
+    {
+        match first_lacking(self.kept.as_slice(), self.opened.as_slice()) {
+            Some(o) => first_missing(self.kept.as_slice(), o.kind, o.rel),
+            None => None,
         }
     }
 
@@ -130,6 +176,7 @@ impl Backend {
         requires well { Well self.now }
         requires working { IsWorking self.now }
         requires want { want_of (plan_at self.now.exec) ≡ Want.Lookup name mode }
+        requires whole { builds_missing self.now.kept self.now.opened ≡ [] }
         ensures { IsNextOf self.now result }
     {
         if self.read {
@@ -139,7 +186,7 @@ impl Backend {
             };
         }
         if self.looked {
-            return Next::LookUp(name);
+            return Next::LookUp(Purpose::RelName(name));
         }
         Next::LookBeforeScan
     }
@@ -159,6 +206,7 @@ impl Backend {
         requires well { Well self.now }
         requires working { IsWorking self.now }
         requires want { want_of (plan_at self.now.exec) ≡ Want.Open rel kind }
+        requires whole { builds_missing self.now.kept self.now.opened ≡ [] }
         ensures { IsNextOf self.now result }
     {
         match first_missing(self.kept.as_slice(), kind, rel) {
@@ -282,6 +330,20 @@ fn ends_block(command: &Command) -> bool
     matches!(command, Command::Commit | Command::Rollback)
 }
 
+// The first of these descriptors that lacks a scan.
+fn first_lacking(kept: &[KeptScan], opened: &[Opening]) -> Option<Opening>
+    ensures { result ≡ find (λ o. is_some (find (λ scan. not (is_kept kept.now scan)) (build_scans o.kind o.rel))) opened.now }
+{
+    opened.iter().find(|o| lacks_scan(kept, o)).copied()
+}
+
+// Whether a descriptor lacks a scan.
+fn lacks_scan(kept: &[KeptScan], o: &Opening) -> bool
+    ensures { result ≡ is_some (find (λ scan. not (is_kept kept.now scan)) (build_scans o.now.kind o.now.rel)) }
+{
+    first_missing(kept, o.kind, o.rel).is_some()
+}
+
 // The first scan of a descriptor that isn't kept.
 fn first_missing(kept: &[KeptScan], kind: Kind, rel: Oid) -> Option<Purpose>
     ensures { result ≡ find (λ scan. not (is_kept kept.now scan)) (build_scans kind rel) }
@@ -300,7 +362,7 @@ fn first_of(kept: &[KeptScan], wanted: &[Purpose]) -> Option<Purpose>
 }
 
 // Whether the scan is kept.
-fn has_kept(kept: &[KeptScan], scan: &Purpose) -> bool
+pub(crate) fn has_kept(kept: &[KeptScan], scan: &Purpose) -> bool
     ensures { result ≡ is_kept kept.now scan.now }
 {
     kept.iter().any(|k| same_scan(&k.scan, scan))

@@ -1,7 +1,8 @@
 // The scans and the locks of a backend.
 
+use crate::accept::accept;
 use crate::{Backend, KeptScan, Phase};
-use base_types::{Listed, Mode, Name, NoMemory, Oid, Purpose};
+use base_types::{Listed, Mode, NoMemory, Oid, Purpose};
 use ddl_effect::Exec;
 use rel_desc::CommandError;
 use seg_calls::{LockRefusal, Seg};
@@ -11,17 +12,17 @@ impl Backend {
     ghost use Rattle.backend_core.specs.Agrees.{Agrees, IsPlayed};
     ghost use Rattle.backend_core.specs.Steps.{Enters, IsWorking, NextLookUp, NextBuild, NextLock};
 
-    // The scan of a name.
-    pub(crate) fn look_up<L: Seg>(&mut self, seg: &mut L, name: Name) -> Result<(), NoMemory>
+    // The scan of a relation's or a column's name.
+    pub(crate) fn look_up<L: Seg>(&mut self, seg: &mut L, scan: &Purpose) -> Result<(), NoMemory>
         requires agrees { Agrees (L.script seg.old) (L.history seg.old) self.old }
         requires played { IsPlayed (L.script seg.old) (L.history seg.old) }
         requires works { IsWorking self.old }
-        requires next { NextLookUp self.old name }
+        requires next { NextLookUp self.old scan.now }
         requires looked { self.old.looked ≡ true }
         ensures script { L.script seg.new ≡ L.script seg.old }
         ensures enters { OnOk result (Enters (L.script seg.old) (L.history seg.old) (L.history seg.new) self.old self.new) }
     {
-        let scanned = seg.scan(self.id, self.finished + 1, &Purpose::RelName(name))?;
+        let scanned = seg.scan(self.id, self.finished + 1, scan)?;
         self.looked = false;
         self.read = true;
         self.given = scanned.rows;
@@ -47,6 +48,8 @@ impl Backend {
             at: scanned.at,
         };
         self.kept.push(made)?;
+        let accepting = self.is_in_acceptance();
+        accept(&mut self.locks, accepting);
         Ok(())
     }
 

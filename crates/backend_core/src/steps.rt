@@ -51,7 +51,7 @@ impl Backend {
             Next::Look => self.look(seg),
             Next::LookBeforeScan => self.look_before_scan(seg),
             Next::Fetch => self.fetch(alloc, seg),
-            Next::LookUp(name) => self.look_up(seg, *name)?,
+            Next::LookUp(scan) => self.look_up(seg, scan)?,
             Next::Build(scan) => self.build(seg, scan)?,
             Next::Lock { rel, mode } => self.lock(seg, *rel, *mode)?,
             Next::Write => self.write(alloc, seg)?,

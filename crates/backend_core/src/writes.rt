@@ -1,4 +1,7 @@
-ghost use Rattle.std.specs.Prelude.{◌≡◌, ◌≤◌, ◌++◌, ◌∷◌, [], None, Some, OnOk};
+ghost use Rattle.std.specs.Prelude.{◌≡◌, ◌≤◌, ◌<◌, ◌++◌, ◌∷◌, [], false, None, Some, OnOk};
+ghost use Rattle.base_types.specs.declared.mode.Mode.TheVariants.{AccessExclusive};
+ghost use Rattle.lock_modes.specs.Own.{has_lock};
+ghost use Rattle.backend_core.specs.State.{locks_written};
 ghost use Rattle.std.specs.List.{AllByRecursion};
 ghost use Rattle.command_lists.specs.Lists.{all_lists, new_list, with_messages};
 ghost use Rattle.std.specs.Option.{option_map_or};
@@ -6,10 +9,11 @@ ghost use Rattle.backend_core.specs.Refusals.{error_of as error_after};
 
 use crate::execute::execute;
 use crate::{Backend, OwnTransaction};
-use base_types::{Listed, NoMemory, Xid};
+use base_types::{Listed, NoMemory, Oid, Xid};
 use command_lists::InvalLists;
 use ddl_effect::Exec;
 use inval_messages::Message;
+use lock_modes::OwnLocks;
 use rel_desc::CommandError;
 use row_visibility::Clash;
 use seg_calls::{Seg, WriteRefusal};
@@ -22,7 +26,7 @@ impl Backend {
     ghost use Rattle.backend_core.specs.declared.next.Next.{Next};
     ghost use Rattle.backend_core.specs.Steps.{Enters, IsNextOf};
 
-    /// Writes the new table of its command, or ends the command where the table's name is taken.
+    /// Writes the draft of its command, or ends the command where a name that it gives is taken.
     /// Condition: a write comes next. Out of memory, the backend may not be used any more.
     pub(crate) fn write<L: Seg>(&mut self, alloc: Global, seg: &mut L) -> Result<(), NoMemory>
         requires agrees { Agrees (L.script seg.old) (L.history seg.old) self.old }
@@ -33,12 +37,12 @@ impl Backend {
     {
         self.locks.reserve()?;
         let command = self.finished + 1;
-        let draft = replace(&mut self.exec, Exec::Done).into_draft();
+        let draft = replace(&mut self.exec, Exec::Done).into_draft(alloc)?;
         match seg.write(self.id, command, &draft) {
             Ok(written) => {
                 register(&mut self.lists, command, &written.messages)?;
                 execute(alloc, &mut self.kept, written.messages.as_slice());
-                self.locks.add_new(written.first_oid, command);
+                lock_new(&mut self.locks, draft.new_oids, written.first_oid, command);
                 self.running = Some(with_xid(self.running, command, written.xid));
                 self.opened = Listed::new(alloc);
                 self.read = false;
@@ -52,6 +56,17 @@ impl Backend {
                 Ok(())
             }
         }
+    }
+}
+
+// The lock on the relation that a write made, if it made one.
+fn lock_new(locks: &mut OwnLocks, new_oids: u32, first: Oid, command: u32)
+    requires room { 0 < locks.old.room }
+    requires new { 0 < new_oids → has_lock locks.old.items first AccessExclusive ≡ false }
+    ensures { locks.new.items ≡ locks_written new_oids first command locks.old.items }
+{
+    if new_oids > 0 {
+        locks.add_new(first, command);
     }
 }
 

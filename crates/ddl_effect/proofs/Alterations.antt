@@ -18,7 +18,7 @@ use Rattle.rel_desc.specs.declared.error.CommandError.TheVariants as errors
 use Rattle.ddl_effect.specs.declared.want.Want.TheVariants as wants
 use Rattle.ddl_effect.specs.Plans.{Fails}
 use Rattle.ddl_effect.specs.Effects.{Effect, Refuses, Unknown, Writes, effect_of}
-use Rattle.ddl_effect.specs.Commands.{plan_of, runs, adding, changing}
+use Rattle.ddl_effect.specs.Commands.{plan_of, adding, changing}
 use Rattle.ddl_effect.specs.Stages.{want_of}
 use Rattle.ddl_effect.proofs.Examples.{oid}
 
@@ -151,7 +151,3 @@ least_fill = refl
 
 pub greatest_fill : comes_to (SetFillfactor (codes "t") 100) ≡ changed (Replace (Class (oid 16384) (codes "t") Table (Some 100)) ∷ [])
 greatest_fill = refl
-
--- the program doesn't run them yet
-pub not_run : runs (AddColumn (codes "t") (codes "b") Int4) ≡ false
-not_run = refl

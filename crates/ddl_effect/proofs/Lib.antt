@@ -1,5 +1,5 @@
 mod Alterations
-mod Driven
+pub mod Driven
 mod Examples
 mod Repeated
 mod Scanned

@@ -216,13 +216,3 @@ plan_of held (commands.RenameColumn name column to) = looking_up name AccessExcl
 plan_of held (commands.SetStatistics name column stat) = looking_up name ShareUpdateExclusive (altering name (set_statistics column stat))
 plan_of held (commands.SetFillfactor name fill) = looking_up name ShareUpdateExclusive (altering name (set_fillfactor fill))
 plan_of held command = NotBuilt
-
--- the program runs the command: so far only some of those that have a plan
-abbrev pub runs : Command → Bool
-runs commands.Begin = true
-runs commands.Commit = true
-runs commands.Rollback = true
-runs (commands.Show name field) = true
-runs (commands.LockTable name mode) = true
-runs (commands.CreateTable name columns) = true
-runs command = false

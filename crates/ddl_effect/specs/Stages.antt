@@ -1,25 +1,23 @@
 -- The plan that is left at each stage of a command, and what it wants.
-use Rattle.std.specs.Prelude.{ℕ, [], ◌∷◌, ◌++◌}
+use Rattle.std.specs.Prelude.{ℕ, Bool, true, false, [], ◌∷◌, ◌++◌}
+use Rattle.base_types.specs.declared.command.Command.TheVariants as commands
 use Rattle.base_types.specs.declared.scan.Purpose.TheVariants as scans
 use Rattle.ddl_effect.specs.declared.alteration.Alteration.TheVariants as alterations
 use Rattle.ddl_effect.specs.declared.altering.Altering.TheVariants as alters
 use Rattle.ddl_effect.specs.declared.exec.Exec.TheVariants as stages
-use Rattle.ddl_effect.specs.declared.planned.Planned.TheVariants.{Runs, Alters}
 use Rattle.ddl_effect.specs.declared.want.Want.TheVariants as wants
-use Rattle.ddl_effect.specs.Types.{Oid, Mode, AccessShare, ShareUpdateExclusive, AccessExclusive, Table, Insert, Replace, Alteration, Altering, Exec, Planned, Want}
+use Rattle.ddl_effect.specs.Types.{Oid, Command, Mode, AccessShare, ShareUpdateExclusive, AccessExclusive, Table, Insert, Replace, Alteration, Altering, Exec, Want}
 use Rattle.ddl_effect.specs.Plans.{Act, Lookup, Open, Column, Read, Lock, Write, Plan, Done, Fails, Absent, Do, NotBuilt}
 use Rattle.ddl_effect.specs.Commands.{looking_up, showing, showing_field, locking, opening, writing, altering, with_column, reading, changing, deleting, adding, add_column, dropping, drop_column, renaming, rename_column, targeting, set_statistics, filling, set_fillfactor}
 
--- the plan that is left
-abbrev pub plan_at : Exec → Plan
-plan_at stages.Done = Done
-plan_at (stages.Failing error) = Fails error
-plan_at (stages.Missing name) = Absent name
-plan_at (stages.Finding name) = looking_up name AccessShare showing
-plan_at (stages.FindingField name field) = looking_up name AccessShare (showing_field name field)
-plan_at (stages.Locking name mode) = looking_up name mode (locking name)
-plan_at (stages.Opening rel kind) = opening rel kind Done
-plan_at (stages.Writing draft) = writing draft
+-- the command alters a table
+abbrev pub alters_table : Command → Bool
+alters_table (commands.AddColumn name column col_type) = true
+alters_table (commands.DropColumn name column) = true
+alters_table (commands.RenameColumn name column to) = true
+alters_table (commands.SetStatistics name column stat) = true
+alters_table (commands.SetFillfactor name fill) = true
+alters_table command = false
 
 -- the mode in which an alteration locks its table
 abbrev pub mode_of : Alteration → Mode
@@ -53,10 +51,17 @@ altering_at (alters.SettingFillfactor rel fill) = reading (scans.Class rel) (fil
 altering_at (alters.Inserting row) = changing (Insert row ∷ [])
 altering_at (alters.Replacing deleted row) = changing (deleting deleted ++ Replace row ∷ [])
 
--- the plan that is left of a command that has one, whether or not the program runs it
-abbrev pub planned_at : Planned → Plan
-planned_at (Runs exec) = plan_at exec
-planned_at (Alters altering) = altering_at altering
+-- the plan that is left
+abbrev pub plan_at : Exec → Plan
+plan_at stages.Done = Done
+plan_at (stages.Failing error) = Fails error
+plan_at (stages.Missing name) = Absent name
+plan_at (stages.Finding name) = looking_up name AccessShare showing
+plan_at (stages.FindingField name field) = looking_up name AccessShare (showing_field name field)
+plan_at (stages.Locking name mode) = looking_up name mode (locking name)
+plan_at (stages.Opening rel kind) = opening rel kind Done
+plan_at (stages.Writing draft) = writing draft
+plan_at (stages.Altering altering) = altering_at altering
 
 -- what an act wants
 abbrev pub want_of_act : Act → Want
@@ -75,15 +80,6 @@ want_of (Absent name) = wants.Absent name
 want_of (Do act rest) = want_of_act act
 want_of NotBuilt = wants.Done
 
--- at most so many acts are left
-abbrev pub acts_left : Exec → ℕ
-acts_left (stages.Finding name) = 2
-acts_left (stages.FindingField name field) = 2
-acts_left (stages.Locking name mode) = 1
-acts_left (stages.Opening rel kind) = 1
-acts_left (stages.Writing draft) = 1
-acts_left stage = 0
-
 -- at most so many acts of an alteration are left
 abbrev pub alter_acts_left : Altering → ℕ
 alter_acts_left (alters.Finding name alteration) = 5
@@ -100,7 +96,12 @@ alter_acts_left (alters.Inserting row) = 1
 alter_acts_left (alters.Replacing deleted row) = 1
 alter_acts_left stage = 0
 
--- the same of a command that has a plan
-abbrev pub planned_acts_left : Planned → ℕ
-planned_acts_left (Runs exec) = acts_left exec
-planned_acts_left (Alters altering) = alter_acts_left altering
+-- at most so many acts are left
+abbrev pub acts_left : Exec → ℕ
+acts_left (stages.Finding name) = 2
+acts_left (stages.FindingField name field) = 2
+acts_left (stages.Locking name mode) = 1
+acts_left (stages.Opening rel kind) = 1
+acts_left (stages.Writing draft) = 1
+acts_left (stages.Altering altering) = alter_acts_left altering
+acts_left stage = 0

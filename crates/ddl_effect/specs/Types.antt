@@ -18,7 +18,6 @@ pub use Rattle.ddl_effect.specs.declared.draft.Draft.{Draft}
 pub use Rattle.ddl_effect.specs.declared.alteration.Alteration.{Alteration}
 pub use Rattle.ddl_effect.specs.declared.altering.Altering.{Altering}
 pub use Rattle.ddl_effect.specs.declared.exec.Exec.{Exec}
-pub use Rattle.ddl_effect.specs.declared.planned.Planned.{Planned}
 pub use Rattle.ddl_effect.specs.declared.want.Want.{Want}
 pub use Rattle.ddl_effect.specs.declared.facts.Facts.{Facts}
 pub use Rattle.ddl_effect.specs.declared.facts.EffectRefusal.{EffectRefusal}

@@ -5,7 +5,7 @@ use base_types::{ColType, Mode, Name};
 
 /// What an alteration does to its table.
 #[derive(Clone, Copy)]
-pub(crate) enum Alteration {
+pub enum Alteration {
     AddColumn { column: Name, col_type: ColType },
     DropColumn { column: Name },
     RenameColumn { column: Name, to: Name },

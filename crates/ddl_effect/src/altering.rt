@@ -1,14 +1,16 @@
-ghost use Rattle.std.specs.Prelude.{◌≡◌, ◌<◌, ◌∷◌, ◌++◌, [], IfOk};
+ghost use Rattle.std.specs.Prelude.{◌≡◌, ◌<◌, ◌∷◌, ◌++◌, [], false, IfOk, MatchOption};
 ghost use Rattle.ddl_effect.specs.Plans.{after_act};
-ghost use Rattle.ddl_effect.specs.Commands.{found as found_rows, altering, column_there, column_free, reading, adding, dropping, renaming, targeting, filling, changing, deleting, with_name, writing};
-ghost use Rattle.ddl_effect.specs.Stages.{altered, altering_at, alter_acts_left, want_of};
+ghost use Rattle.ddl_effect.specs.Commands.{plan_of, found as found_rows, altering, column_there, column_free, reading, adding, dropping, renaming, targeting, filling, changing, deleting, with_name, writing};
+ghost use Rattle.ddl_effect.specs.Stages.{alters_table, altered, altering_at, alter_acts_left, want_of};
 
 use crate::alteration::mode;
 use crate::altered_rows::{
     MOST_STAT, column_number, default_of, dropped, filled, renamed, targeted,
 };
 use crate::{Alteration, Draft, Want};
-use base_types::{Change, ColType, Kind, Listed, MOST_COLUMNS, Name, NoMemory, Oid, Purpose, Row};
+use base_types::{
+    Change, ColType, Command, Kind, Listed, MOST_COLUMNS, Name, NoMemory, Oid, Purpose, Row,
+};
 use rel_desc::CommandError;
 use std::alloc::Global;
 
@@ -16,7 +18,7 @@ use std::alloc::Global;
 /// `ATExecDropColumn`, `renameatt_internal`, `ATExecSetStatistics` and `ATExecSetRelOptions` in
 /// `src/backend/commands/tablecmds.c`).
 #[derive(Clone, Copy)]
-pub(crate) enum Altering {
+pub enum Altering {
     /// It has done what it says.
     Done,
     /// It failed.
@@ -167,6 +169,53 @@ impl Altering {
             _ => unreachable!(),
         }
     }
+}
+
+// An alteration at its beginning, if the command is one.
+pub(crate) fn alteration_of(command: &Command) -> Option<Altering>
+    ensures { MatchOption result (alters_table command.now ≡ false) (λ altering. altering_at altering ≡ plan_of [] command.now) }
+{
+    match command {
+        Command::AddColumn {
+            name,
+            column,
+            col_type,
+        } => Some(alters(
+            *name,
+            Alteration::AddColumn {
+                column: *column,
+                col_type: *col_type,
+            },
+        )),
+        Command::DropColumn { name, column } => {
+            Some(alters(*name, Alteration::DropColumn { column: *column }))
+        }
+        Command::RenameColumn { name, column, to } => Some(alters(
+            *name,
+            Alteration::RenameColumn {
+                column: *column,
+                to: *to,
+            },
+        )),
+        Command::SetStatistics { name, column, stat } => Some(alters(
+            *name,
+            Alteration::SetStatistics {
+                column: *column,
+                stat: *stat,
+            },
+        )),
+        Command::SetFillfactor { name, fill } => {
+            Some(alters(*name, Alteration::SetFillfactor { fill: *fill }))
+        }
+        _ => None,
+    }
+}
+
+// An alteration of the table of this name, at its beginning.
+fn alters(name: Name, alteration: Alteration) -> Altering
+    ensures { result ≡ Altering.Finding name alteration }
+{
+    Altering::Finding { name, alteration }
 }
 
 // The draft that inserts a row.

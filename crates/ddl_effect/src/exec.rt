@@ -1,15 +1,16 @@
 ghost use Rattle.std.specs.Prelude.{◌≡◌, ◌<◌, true, [], IfOk, MatchOption};
-ghost use Rattle.ddl_effect.specs.Plans.{after_act};
-ghost use Rattle.ddl_effect.specs.Commands.{plan_of, runs, found as found_rows, locking, showing, showing_field, writing};
+ghost use Rattle.ddl_effect.specs.Plans.{is_built, after_act};
+ghost use Rattle.ddl_effect.specs.Commands.{plan_of, found as found_rows, locking, showing, showing_field, writing};
 ghost use Rattle.ddl_effect.specs.Stages.{plan_at, want_of, acts_left};
 
+use crate::altering::alteration_of;
 use crate::table::create_table;
-use crate::{Draft, Want};
+use crate::{Altering, Draft, Want};
 use base_types::{Command, Field, Kind, Mode, Name, NoMemory, Oid, Row, has_field};
 use rel_desc::CommandError;
 use std::alloc::Global;
 
-/// How far a command that the program runs is: what is left of its plan.
+/// How far a command that has a plan is: what is left of it.
 #[derive(Drop)]
 pub enum Exec {
     /// It has done what it says.
@@ -28,12 +29,14 @@ pub enum Exec {
     Opening { rel: Oid, kind: Kind },
     /// It writes.
     Writing(Draft),
+    /// It alters a table.
+    Altering(Altering),
 }
 
 impl Exec {
-    /// A command at its beginning. Condition: the program runs it.
+    /// A command at its beginning. Condition: it has a plan.
     pub fn new(alloc: Global, command: &Command) -> Result<Exec, NoMemory>
-        requires { runs command.now ≡ true }
+        requires { is_built (plan_of [] command.now) ≡ true }
         ensures { IfOk result (λ exec. plan_at exec ≡ plan_of [] command.now) }
     {
         match command {
@@ -53,7 +56,10 @@ impl Exec {
             Command::CreateTable { name, columns } => {
                 create_table(alloc, *name, columns.as_slice())
             }
-            _ => unreachable!(),
+            _ => match alteration_of(command) {
+                Some(altering) => Ok(Exec::Altering(altering)),
+                None => unreachable!(),
+            },
         }
     }
 
@@ -78,6 +84,7 @@ impl Exec {
                 kind: *kind,
             },
             Exec::Writing(_) => Want::Write,
+            Exec::Altering(altering) => altering.next(),
         }
     }
 
@@ -91,18 +98,20 @@ impl Exec {
             Exec::FindingField { name, field } => found_field(*name, *field, rows),
             Exec::Locking { name, .. } => locked(*name, rows),
             Exec::Opening { .. } | Exec::Writing(_) => Exec::Done,
+            Exec::Altering(altering) => Exec::Altering(altering.after(rows)),
             Exec::Done | Exec::Failing(_) | Exec::Missing(_) => return,
         };
         *self = next;
     }
 
     /// The draft that it wants written, the command given up. Condition: it wants that.
-    pub fn into_draft(self) -> Draft
+    pub fn into_draft(self, alloc: Global) -> Result<Draft, NoMemory>
         requires { want_of (plan_at self) ≡ Want.Write }
-        ensures { plan_at self ≡ writing result }
+        ensures { IfOk result (λ draft. plan_at self ≡ writing draft) }
     {
         match self {
-            Exec::Writing(draft) => draft,
+            Exec::Writing(draft) => Ok(draft),
+            Exec::Altering(altering) => altering.into_draft(alloc),
             _ => unreachable!(),
         }
     }

@@ -4,7 +4,7 @@ ghost use Rattle.ddl_effect.specs.Plans.{is_built};
 ghost use Rattle.ddl_effect.specs.Commands.{plan_of};
 ghost use Rattle.ddl_effect.specs.Effects.{effect_of, given_for, no_changes, IsEffect};
 
-use crate::{Draft, Planned, Want};
+use crate::{Draft, Exec, Want};
 use base_types::{Command, Listed, Name, NoMemory, Oid, Purpose, Row, put_in_order, selects};
 use rel_desc::CommandError;
 use std::alloc::Global;
@@ -33,16 +33,16 @@ pub fn effect(alloc: Global, command: &Command, facts: &Facts) -> Result<Draft, 
     requires { is_built (plan_of facts.now.opened command.now) ≡ true }
     ensures { IsEffect (effect_of (λ scan. scan_of scan facts.now.rows) (plan_of facts.now.opened command.now)) result }
 {
-    let Ok(mut planned) = Planned::new(alloc, command) else {
+    let Ok(mut exec) = Exec::new(alloc, command) else {
         return Err(EffectRefusal::NoMemory);
     };
     'acts: loop {
-        match planned.next() {
+        match exec.next() {
             Want::Done => return Ok(no_draft(alloc)),
             Want::Fails(error) => return Err(EffectRefusal::Cause(error)),
             Want::Absent(name) => return Err(EffectRefusal::Absent(name)),
             Want::Write => {
-                return match planned.into_draft(alloc) {
+                return match exec.into_draft(alloc) {
                     Ok(draft) => Ok(draft),
                     Err(NoMemory) => Err(EffectRefusal::NoMemory),
                 };
@@ -51,7 +51,7 @@ pub fn effect(alloc: Global, command: &Command, facts: &Facts) -> Result<Draft, 
                 let Ok(rows) = rows_for(alloc, &want, facts.rows.as_slice()) else {
                     return Err(EffectRefusal::NoMemory);
                 };
-                planned.give(&rows);
+                exec.give(&rows);
             }
         }
     }

@@ -7,9 +7,8 @@
 //! that the act gave. There is one clause of a plan for each command (`specs/Commands.antt`), and all
 //! that is said of commands elsewhere is said of plans.
 //!
-//! An [`Exec`] is how far a command is: the plan that is left of it. Alterations of tables have
-//! plans and effects already, but the program doesn't run them yet: an `Exec` is only of a command
-//! that it runs (`runs` in `specs/Commands.antt`).
+//! An [`Exec`] is how far a command is: the plan that is left of it. Which commands the program runs
+//! is said by the crates above.
 #![tactic(auto)]
 
 mod alteration;
@@ -18,14 +17,12 @@ mod altering;
 mod draft;
 mod exec;
 mod facts;
-mod planned;
 mod table;
 mod want;
 
-pub(crate) use alteration::Alteration;
-pub(crate) use altering::Altering;
+pub use alteration::Alteration;
+pub use altering::Altering;
 pub use draft::Draft;
 pub use exec::Exec;
 pub use facts::{EffectRefusal, Facts, effect};
-pub(crate) use planned::Planned;
 pub use want::Want;

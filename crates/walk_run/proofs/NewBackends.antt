@@ -6,10 +6,11 @@ use Rattle.std.proofs.lemmas.List.Elements.{All-nil, All-cons}
 use Rattle.base_types.specs.declared.command.Command.{Command}
 use Rattle.base_types.specs.declared.command.Placed.{Placed}
 use Rattle.base_types.specs.Scenario.{Scenario, IsBackend}
-use Rattle.ddl_effect.specs.Commands.{commands_of, runs}
+use Rattle.ddl_effect.specs.Commands.{commands_of}
+use Rattle.cacheless.specs.Runs.{runs}
 use Rattle.backend_core.specs.declared.backend.Backend.{Backend}
 use Rattle.backend_core.specs.Agrees.{IsNew, Stands}
-use Rattle.backend_core.proofs.Tables.{HasTables-start}
+use Rattle.backend_core.proofs.Played.{IsPlayed-start}
 use Rattle.walk_run.specs.Built.{is_built}
 use Rattle.walk_run.specs.Walks.{AllStand, StandsAt}
 use Rattle.walk_run.proofs.ScheduleSteps.{StandsAs}
@@ -100,7 +101,7 @@ begins_more s bs n y commands built few copies begins within new = record {
 -- all backends stand before the first entry
 pub begins_stand : (s : Scenario) (bs : List Backend) → Begins s bs s.backends → AllStand s [] bs
 begins_stand s bs begins = record {
-  played = record { sound = tt; plays = tt; economical = tt; looks = tt; tables = HasTables-start };
+  played = IsPlayed-start s;
   count = begins.count;
   each = begins.each;
 }

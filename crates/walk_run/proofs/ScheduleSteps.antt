@@ -11,11 +11,8 @@ use Rattle.std.proofs.Math.ListN.{length-set}
 use Rattle.base_types.specs.declared.command.Turns.{Turns}
 use Rattle.base_types.specs.Scenario.{Scenario, IsBackend, schedule_of}
 use Rattle.event_kinds.specs.declared.entry.Entry.{Entry}
-use Rattle.history_model.specs.Orderly.{MayComeNext}
-use Rattle.history_model.specs.Read.{ScansOnlyIfNeeded}
 use Rattle.history_model.proofs.Prefixes.{EachEntry-more, along-more}
-use Rattle.cacheless.specs.Plays.{IsNext}
-use Rattle.cacheless.specs.Schedule.{FollowsSchedule, IsComplete, LooksTruly, is_stopped, has_stopped, pass_stopped, steps_after, turns_by, turns_left}
+use Rattle.cacheless.specs.Schedule.{FollowsSchedule, IsComplete, is_stopped, has_stopped, pass_stopped, steps_after, turns_by, turns_left}
 use Rattle.backend_core.specs.declared.backend.Backend.{Backend}
 use Rattle.backend_core.specs.declared.phase.Life.{Life}
 use Rattle.backend_core.specs.declared.phase.Life.TheVariants as lives
@@ -23,7 +20,7 @@ use Rattle.backend_core.specs.State.{has_left}
 use Rattle.backend_core.specs.Agrees.{IsPlayed, HasNotJoined, AwaitsEntry, HasLeft, Stands}
 use Rattle.backend_core.specs.Steps.{Steps}
 use Rattle.backend_core.proofs.Others.{Stands-other}
-use Rattle.backend_core.proofs.Tables.{HasTables-more}
+use Rattle.backend_core.proofs.Played.{IsPlayed-more}
 use Rattle.walk_run.specs.Walks.{AllStand, StandsAt, IsDue, Goes, HasSchedule, IsRunning, Makes}
 
 -- where a backend is, by its life
@@ -41,13 +38,7 @@ stopped_as s h x stands = of x.life stands
 
 -- the history of one step more was played
 pub played_more : (s : Scenario) (h h' : List Entry) (was now : Backend) → IsPlayed s h → Steps s h h' was now → IsPlayed s h'
-played_more s h h' was now played steps = subst (IsPlayed s) (sym steps.is) (record {
-  sound = EachEntry-more MayComeNext h steps.entry played.sound steps.comes;
-  plays = EachEntry-more (IsNext s) h steps.entry played.plays steps.next;
-  economical = EachEntry-more (λ before e. ScansOnlyIfNeeded before e.backend e.event) h steps.entry played.economical steps.needed;
-  looks = EachEntry-more (λ before e. LooksTruly before e.backend e.event) h steps.entry played.looks steps.truly;
-  tables = HasTables-more h steps.entry played.tables steps.tables;
-})
+played_more s h h' was now played steps = subst (IsPlayed s) (sym steps.is) (IsPlayed-more s h steps.entry played steps.comes steps.next steps.needed steps.truly steps.tables)
 
 -- the entry of a step isn't another backend's
 entry_apart : (e : Entry) (was other : Backend) (i j : ℕ) → e.backend ≡ was.id → was.id ≡ i + 1 → other.id ≡ j + 1 → i ≢ j → (e.backend == other.id) ≡ false

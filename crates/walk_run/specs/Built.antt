@@ -2,7 +2,7 @@
 use Rattle.std.specs.Prelude.{Bool}
 use Rattle.std.specs.List.{list_all}
 use Rattle.base_types.specs.Scenario.{Scenario}
-use Rattle.ddl_effect.specs.Commands.{runs}
+use Rattle.cacheless.specs.Runs.{runs}
 
 -- the program runs each command
 abbrev pub is_built : Scenario → Bool

@@ -1,12 +1,13 @@
 ghost use Rattle.std.specs.Prelude.{◌≡◌};
-ghost use Rattle.ddl_effect.specs.Commands.{runs};
+ghost use Rattle.cacheless.specs.Runs.{runs};
 ghost use Rattle.walk_run.specs.Built.{is_built as is_built_scenario};
 
 use base_types::Command;
 use script_text::Script;
 
 /// Whether all commands of the script can be run today: `begin`, `commit`, `rollback`, `lock table`,
-/// `create table` and `show`.
+/// `create table`, `show`, and of `alter table` what adds, drops or renames a column, and sets a
+/// statistics target or a fillfactor.
 pub fn is_built(script: &Script) -> bool
     ensures { result ≡ is_built_scenario script.now }
 {
@@ -28,5 +29,10 @@ fn is_built_command(command: &Command) -> bool
             | Command::LockTable { .. }
             | Command::CreateTable { .. }
             | Command::Show { .. }
+            | Command::AddColumn { .. }
+            | Command::DropColumn { .. }
+            | Command::RenameColumn { .. }
+            | Command::SetStatistics { .. }
+            | Command::SetFillfactor { .. }
     )
 }

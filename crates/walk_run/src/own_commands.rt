@@ -1,5 +1,6 @@
 ghost use Rattle.std.specs.Prelude.{◌≡◌, ◌++◌, map, filter, true, IfOk, OnOk};
-ghost use Rattle.ddl_effect.specs.Commands.{commands_of, runs};
+ghost use Rattle.ddl_effect.specs.Commands.{commands_of};
+ghost use Rattle.cacheless.specs.Runs.{runs, alters_table};
 ghost use Rattle.walk_run.specs.Built.{is_built as is_built_scenario};
 
 use base_types::{Command, Listed, NewColumn, NoMemory};
@@ -46,8 +47,45 @@ fn copied(alloc: Global, command: &Command) -> Result<Command, NoMemory>
             name: *name,
             columns: copied_columns(alloc, columns)?,
         },
-        _ => unreachable!(),
+        _ => copied_alteration(command),
     })
+}
+
+// A copy of an alteration of a table.
+fn copied_alteration(command: &Command) -> Command
+    requires { alters_table command.now ≡ true }
+    ensures { result ≡ command.now }
+{
+    match command {
+        Command::AddColumn {
+            name,
+            column,
+            col_type,
+        } => Command::AddColumn {
+            name: *name,
+            column: *column,
+            col_type: *col_type,
+        },
+        Command::DropColumn { name, column } => Command::DropColumn {
+            name: *name,
+            column: *column,
+        },
+        Command::RenameColumn { name, column, to } => Command::RenameColumn {
+            name: *name,
+            column: *column,
+            to: *to,
+        },
+        Command::SetStatistics { name, column, stat } => Command::SetStatistics {
+            name: *name,
+            column: *column,
+            stat: *stat,
+        },
+        Command::SetFillfactor { name, fill } => Command::SetFillfactor {
+            name: *name,
+            fill: *fill,
+        },
+        _ => unreachable!(),
+    }
 }
 
 // A copy of a list of columns.

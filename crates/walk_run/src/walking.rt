@@ -2,6 +2,7 @@ ghost use Rattle.std.specs.Prelude.{◌≡◌, ◌-◌, [], ◌∷◌, true, rep
 ghost use Rattle.std.specs.List.{All, AllByRecursion};
 ghost use Rattle.base_types.specs.Scenario.{IsBackend, AreTurns, turns_of, schedule_of};
 ghost use Rattle.backend_core.specs.Agrees.{Stands};
+ghost use Rattle.backend_core.specs.Coherent.{IsCoherent};
 ghost use Rattle.walk_run.specs.Built.{is_built};
 ghost use Rattle.walk_run.specs.Sessions.{transcripts_of, AreSessions};
 ghost use Rattle.walk_run.specs.Walks.{IsWalk};
@@ -35,6 +36,7 @@ pub fn walk(alloc: Global, script: &Script) -> Result<World, NoMemory>
     requires { is_built script.now ≡ true }
     ensures walk { IfOk result (λ world. IsWalk script.now world.entries world.lines) }
     ensures sessions { IfOk result (λ world. AreSessions script.now world.entries world.lines world.backends) }
+    ensures coherent { IfOk result (λ world. All (IsCoherent world.entries) world.backends) }
 {
     let mut seg = Shared::new(alloc, script)?;
     let backends = walk_on(alloc, script, &mut seg)?;
@@ -61,6 +63,7 @@ pub fn walk_on<L: Seg>(
     ensures walk { IfOk result (λ backends. IsWalk script.now (L.history seg.new) (transcripts_of backends.items)) }
     ensures sessions { IfOk result (λ backends. AreSessions script.now (L.history seg.new) (transcripts_of backends.items) backends.items) }
     ensures stand { IfOk result (λ backends. All (Stands script.now (L.history seg.new)) backends.items) }
+    ensures coherent { IfOk result (λ backends. All (IsCoherent (L.history seg.new)) backends.items) }
 {
     let mut walker = Walker::new(alloc, script)?;
     if script.steps().is_empty() {

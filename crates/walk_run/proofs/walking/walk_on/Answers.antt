@@ -1,5 +1,5 @@
 use Rattle.std.proofs.Common.{◌∙◌, sym}
-use Rattle.walk_run.proofs.Sessions.{stand_sessions, stand_each}
+use Rattle.walk_run.proofs.Sessions.{stand_sessions, stand_each, stand_coherent}
 use Rattle.walk_run.proofs.Walks.{scheduled_walk, unscheduled_walk}
 use Rattle.walk_run.proofs.walking.walk_on.Goals as goal
 
@@ -24,3 +24,9 @@ returns-then-is_empty-clause-sessions g c = stand_sessions c.args.script.now (g.
 
 pub returns-then-is_empty-clause-stand : goal.returns-then-is_empty-clause-stand
 returns-then-is_empty-clause-stand g c = stand_each c.args.script.now (g.L.Seg.history c.to_the_stops.new.seg) c.to_the_stops.new.self.backends.items c.in_ok-to_the_stops.ensures.goes.stand
+
+pub returns-clause-coherent : goal.returns-clause-coherent
+returns-clause-coherent g c = stand_coherent c.args.script.now (g.L.Seg.history c.by_schedule.new.seg) c.by_schedule.new.self.backends.items c.in_ok-by_schedule.ensures.goes.stand
+
+pub returns-then-is_empty-clause-coherent : goal.returns-then-is_empty-clause-coherent
+returns-then-is_empty-clause-coherent g c = stand_coherent c.args.script.now (g.L.Seg.history c.to_the_stops.new.seg) c.to_the_stops.new.self.backends.items c.in_ok-to_the_stops.ensures.goes.stand

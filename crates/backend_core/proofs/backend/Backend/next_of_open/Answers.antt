@@ -8,8 +8,8 @@ use Rattle.backend_core.proofs.backend.Backend.next_of_open.Goals as goal
 
 pub returns-in-Some : goal.returns-in-Some
 returns-in-Some c =
-    (c.requires.working, next_build c.args.self.now c.args.rel c.args.kind c.in-Some.scan c.requires.want (ap (λ (l : List KeptScan). find (λ d. not (is_kept l d)) (build_scans c.args.kind c.args.rel)) (sym c.as_slice.ensures) ∙ sym c.first_missing.ensures ∙ c.in-Some.is), c.if-self.true)
+    (c.requires.working, next_build c.args.self.now c.args.rel c.args.kind c.in-Some.scan c.requires.whole c.requires.want (ap (λ (l : List KeptScan). find (λ d. not (is_kept l d)) (build_scans c.args.kind c.args.rel)) (sym c.as_slice.ensures) ∙ sym c.first_missing.ensures ∙ c.in-Some.is), c.if-self.true)
 
 pub returns-in-None : goal.returns-in-None
 returns-in-None c =
-    (c.requires.working, next_open c.args.self.now c.args.rel c.args.kind c.requires.want (ap (λ (l : List KeptScan). find (λ d. not (is_kept l d)) (build_scans c.args.kind c.args.rel)) (sym c.as_slice.ensures) ∙ sym c.first_missing.ensures ∙ c.in-None.is))
+    (c.requires.working, next_open c.args.self.now c.args.rel c.args.kind c.requires.whole c.requires.want (ap (λ (l : List KeptScan). find (λ d. not (is_kept l d)) (build_scans c.args.kind c.args.rel)) (sym c.as_slice.ensures) ∙ sym c.first_missing.ensures ∙ c.in-None.is))
