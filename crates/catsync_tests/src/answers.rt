@@ -1,7 +1,7 @@
-use crate::calls::{Calls, STEADY, sink_of};
+use crate::ends::{Calls, STEADY, sink_of};
 use crate::readers::CountingSink;
 use crate::values::name;
-use base_types::{ColType, Field, Kind, Listed, Mode, Name, Oid, Xid, field_text};
+use base_types::{ColType, Field, Kind, Listed, Mode, Name, NoMemory, Oid, Xid, field_text};
 use edge_io::{Failed, MEMORY_SINK_ROOM, MemorySink};
 use event_kinds::{Entry, Event, Line, LineText};
 use out_text::{answer_text, put_entry, put_line, put_output};
@@ -9,7 +9,7 @@ use rel_desc::{Answer, Column, CommandError, Shown, Value};
 use std::alloc::Global;
 use std::test::Fail;
 
-// The text of each error, in the order of `errors`.
+// The text of each error, by the numbers of `error`.
 const ERROR_TEXTS: [&str; 24] = [
     "25P02 the transaction block has failed",
     "25P01 no transaction block",
@@ -37,44 +37,64 @@ const ERROR_TEXTS: [&str; 24] = [
     "53200 want of memory",
 ];
 
-// Each error once.
-fn errors(name: Name) -> [CommandError; 24] {
-    [
-        CommandError::BlockFailed,
-        CommandError::NoBlock,
-        CommandError::NoSavepoint { name },
-        CommandError::NotOpen { name },
-        CommandError::NoRelation { name, at: 4 },
-        CommandError::NoIndex { name, at: 5 },
-        CommandError::NoConstraint { name },
-        CommandError::NoTrigger { name },
-        CommandError::Locked {
+// The error of this number.
+fn error(number: usize, name: Name) -> CommandError {
+    if number < 8 {
+        absence(number, name)
+    } else if number < 16 {
+        conflict(number, name)
+    } else {
+        refusal(number, name)
+    }
+}
+
+fn absence(number: usize, name: Name) -> CommandError {
+    match number {
+        0 => CommandError::BlockFailed,
+        1 => CommandError::NoBlock,
+        2 => CommandError::NoSavepoint { name },
+        3 => CommandError::NotOpen { name },
+        4 => CommandError::NoRelation { name, at: 4 },
+        5 => CommandError::NoIndex { name, at: 5 },
+        6 => CommandError::NoConstraint { name },
+        _ => CommandError::NoTrigger { name },
+    }
+}
+
+fn conflict(number: usize, name: Name) -> CommandError {
+    match number {
+        8 => CommandError::Locked {
             rel: Oid(16384),
             holder: 1,
             mode: Mode::AccessExclusive,
         },
-        CommandError::NameInUse { name, xid: Xid(3) },
-        CommandError::RelationExists { name },
-        CommandError::NotTable { name },
-        CommandError::NotIndex { name },
-        CommandError::NoField {
+        9 => CommandError::NameInUse { name, xid: Xid(3) },
+        10 => CommandError::RelationExists { name },
+        11 => CommandError::NotTable { name },
+        12 => CommandError::NotIndex { name },
+        13 => CommandError::NoField {
             name,
             field: Field::Valid,
         },
-        CommandError::InUse { rel: Oid(16385) },
-        CommandError::Depends { name },
-        CommandError::ColumnUsed { name },
-        CommandError::ColumnExists { name },
-        CommandError::NoColumn { name },
-        CommandError::ConstraintExists { name },
-        CommandError::TriggerExists { name },
-        CommandError::OutOfRange { value: -2 },
-        CommandError::TooManyColumns,
-        CommandError::WantOfMemory,
-    ]
+        14 => CommandError::InUse { rel: Oid(16385) },
+        _ => CommandError::Depends { name },
+    }
 }
 
-// The text of each kind of answer, in the order of `answers`.
+fn refusal(number: usize, name: Name) -> CommandError {
+    match number {
+        16 => CommandError::ColumnUsed { name },
+        17 => CommandError::ColumnExists { name },
+        18 => CommandError::NoColumn { name },
+        19 => CommandError::ConstraintExists { name },
+        20 => CommandError::TriggerExists { name },
+        21 => CommandError::OutOfRange { value: -2 },
+        22 => CommandError::TooManyColumns,
+        _ => CommandError::WantOfMemory,
+    }
+}
+
+// The text of each kind of answer, by the numbers of `answer`.
 const ANSWER_TEXTS: [&str; 10] = [
     "ok",
     "rolled back",
@@ -89,85 +109,88 @@ const ANSWER_TEXTS: [&str; 10] = [
 ];
 
 // A field with the text that it has where no row was read.
-fn shown(alloc: Global, field: Field, at: Option<u64>) -> Result<Shown, Fail> {
+fn shown(alloc: Global, field: Field, at: Option<u64>) -> Result<Shown, NoMemory> {
     let value = Value::new(field_text(alloc, field, Oid(16384), &[])?);
     Ok(Shown { field, value, at })
 }
 
 // A relation, with its name and one more field if it has one.
-fn relation(alloc: Global, kind: Kind, rel: Oid, more: Option<Shown>) -> Result<Answer, Fail> {
+fn relation(alloc: Global, kind: Kind, rel: Oid, more: Option<Field>) -> Result<Answer, NoMemory> {
     let mut fields = Listed::new(alloc);
     fields.push(shown(alloc, Field::Name, None)?)?;
     if let Some(more) = more {
-        fields.push(more)?;
+        fields.push(shown(alloc, more, Some(17))?)?;
     }
     Ok(Answer::Shown { kind, rel, fields })
 }
 
-fn columns(alloc: Global, name: Name, types: &[ColType]) -> Result<Answer, Fail> {
+fn columns(alloc: Global, types: &[ColType]) -> Result<Answer, NoMemory> {
     let mut columns = Listed::new(alloc);
     for col_type in types {
         columns.push(Column {
-            name,
+            name: name(b"x"),
             col_type: *col_type,
         })?;
     }
     Ok(Answer::Columns(columns))
 }
 
-// Each kind of answer, but for errors.
-fn answers(alloc: Global, name: Name) -> Result<[Answer; 10], Fail> {
-    let statistics = shown(alloc, Field::Statistics, Some(17))?;
-    Ok([
-        Answer::Ok,
-        Answer::RolledBack,
-        relation(alloc, Kind::Table, Oid(16384), Some(statistics))?,
-        relation(alloc, Kind::Index, Oid(16385), None)?,
-        Answer::One(shown(alloc, Field::Fillfactor, Some(5))?),
-        columns(alloc, name, &[])?,
-        columns(alloc, name, &[ColType::Int4, ColType::Timestamptz])?,
-        Answer::Column {
-            num: 2,
-            col_type: ColType::Int8,
-        },
-        Answer::Regclass {
-            rel: Oid(16384),
-            name: Some(name),
-            at: 12,
-        },
-        Answer::Regclass {
-            rel: Oid(16384),
-            name: None,
-            at: 13,
-        },
-    ])
+fn regclass(found: Option<Name>, at: u64) -> Answer {
+    Answer::Regclass {
+        rel: Oid(16384),
+        name: found,
+        at,
+    }
 }
 
-// Whether the text of an answer is added to a text that is there already.
-fn has_text(alloc: Global, answer: &Answer, before: &str, want: &str) -> Result<bool, Fail> {
+// The kind of answer of this number, but for errors.
+fn answer(alloc: Global, number: usize) -> Result<Answer, NoMemory> {
+    match number {
+        0 => Ok(Answer::Ok),
+        1 => Ok(Answer::RolledBack),
+        2 => relation(alloc, Kind::Table, Oid(16384), Some(Field::Statistics)),
+        3 => relation(alloc, Kind::Index, Oid(16385), None),
+        4 => Ok(Answer::One(shown(alloc, Field::Fillfactor, Some(5))?)),
+        5 => columns(alloc, &[]),
+        6 => columns(alloc, &[ColType::Int4, ColType::Timestamptz]),
+        7 => Ok(Answer::Column {
+            num: 2,
+            col_type: ColType::Int8,
+        }),
+        8 => Ok(regclass(Some(name(b"x")), 12)),
+        _ => Ok(regclass(None, 13)),
+    }
+}
+
+// Whether this is the text of an answer, and is added to what is there already.
+fn has_text(alloc: Global, answer: &Answer, want: &str) -> Result<bool, NoMemory> {
     let mut out = b"> ".to_vec(alloc)?;
     answer_text(answer, &mut out)?;
-    let wanted = format!(in alloc; "> {before}{want}")?;
-    Ok(out.as_slice() == wanted.as_bytes())
+    Ok(out.strip_prefix(b"> ") == Some(want.as_bytes()))
+}
+
+fn error_has_text(alloc: Global, number: usize, want: &str) -> Result<bool, NoMemory> {
+    let want = format!(in alloc; "error {want}")?;
+    let answer = Answer::Error(error(number, name(b"x")));
+    has_text(alloc, &answer, want.as_str())
+}
+
+fn answer_has_text(alloc: Global, number: usize, want: &str) -> Result<bool, NoMemory> {
+    has_text(alloc, &answer(alloc, number)?, want)
 }
 
 #[test]
 fn each_error_has_its_text(rt: HostRuntime) -> Result<(), Fail> {
-    let alloc = rt.alloc();
-    for (error, text) in errors(name(b"x")?).iter().zip(ERROR_TEXTS.iter()) {
-        assert!(rt;
-            has_text(alloc, &Answer::Error(*error), "error ", text)?,
-            "{text}"
-        );
+    for (number, text) in ERROR_TEXTS.iter().enumerate() {
+        assert!(rt; error_has_text(rt.alloc(), number, text)?, "{text}");
     }
     Ok(())
 }
 
 #[test]
 fn each_kind_of_answer_has_its_text(rt: HostRuntime) -> Result<(), Fail> {
-    let alloc = rt.alloc();
-    for (answer, text) in answers(alloc, name(b"x")?)?.iter().zip(ANSWER_TEXTS.iter()) {
-        assert!(rt; has_text(alloc, answer, "", text)?, "{text}");
+    for (number, text) in ANSWER_TEXTS.iter().enumerate() {
+        assert!(rt; answer_has_text(rt.alloc(), number, text)?, "{text}");
     }
     Ok(())
 }
@@ -185,7 +208,7 @@ const GRANT: Entry = Entry {
 };
 
 // A history of so many grants of one lock.
-fn grants(alloc: Global, count: u32) -> Result<Vec<Entry>, Fail> {
+fn grants(alloc: Global, count: u32) -> Result<Vec<Entry>, NoMemory> {
     let mut history = Vec::new(alloc);
     for _ in 0..count {
         history.push(GRANT)?;
@@ -193,7 +216,7 @@ fn grants(alloc: Global, count: u32) -> Result<Vec<Entry>, Fail> {
     Ok(history)
 }
 
-fn ok_line(alloc: Global) -> Result<Line, Fail> {
+fn ok_line(alloc: Global) -> Result<Line, NoMemory> {
     Ok(Line {
         backend: 2,
         command: 7,
@@ -202,46 +225,60 @@ fn ok_line(alloc: Global) -> Result<Line, Fail> {
 }
 
 // An entry, a line, and an output of both.
-fn put_all(sink: &mut MemorySink, history: &[Entry], lines: &[Line]) -> Result<(), Failed> {
-    for entry in history {
-        put_entry(sink, entry)?;
-    }
-    for line in lines {
-        put_line(sink, line)?;
-    }
-    put_output(sink, history, lines)
+fn put_all(sink: &mut MemorySink, line: Line) -> Result<(), Failed> {
+    put_entry(sink, &GRANT)?;
+    put_line(sink, &line)?;
+    put_output(sink, &[GRANT], &[line])
+}
+
+fn all_written() -> &'static [u8] {
+    b"h 1 1 lock 16384 as ok\nl 2 7 ok\nh 1 1 lock 16384 as ok\nl 2 7 ok\nend\n"
+}
+
+fn are_written(alloc: Global) -> Result<bool, NoMemory> {
+    let line = ok_line(alloc)?;
+    let mut sink = sink_of(alloc, STEADY)?;
+    let is_put = put_all(&mut sink, line).is_ok();
+    Ok(is_put && sink.sent() == all_written())
 }
 
 #[test]
 fn entries_and_lines_are_written(rt: HostRuntime) -> Result<(), Fail> {
-    let mut sink = sink_of(rt.alloc(), STEADY)?;
-    let (history, line) = (grants(rt.alloc(), 1)?, ok_line(rt.alloc())?);
-    put_all(&mut sink, &history, &[line])?;
-    let wanted =
-        b"h 1 1 lock 16384 as ok\nl 2 7 ok\nh 1 1 lock 16384 as ok\nl 2 7 ok\nend\n".as_slice();
-    assert!(rt; sink.sent() == wanted);
+    assert!(rt; are_written(rt.alloc())?);
     Ok(())
+}
+
+// How many calls and how many bytes the output of so many grants is.
+fn cost(alloc: Global, count: u32) -> Result<(u32, usize), NoMemory> {
+    let history = grants(alloc, count)?;
+    let mut sink = CountingSink { calls: 0, bytes: 0 };
+    match put_output(&mut sink, &history, &[]) {
+        Ok(()) => Ok((sink.calls, sink.bytes)),
+        Err(_) => Ok((0, 0)),
+    }
 }
 
 #[test]
 fn a_history_costs_few_writes(rt: HostRuntime) -> Result<(), Fail> {
-    let history = grants(rt.alloc(), 200)?;
-    let mut sink = CountingSink { calls: 0, bytes: 0 };
-    put_output(&mut sink, &history, &[])?;
-    assert!(rt; sink.bytes == 200 * LOCK_LINE.len() + 4 && sink.calls == 2);
+    assert!(rt; cost(rt.alloc(), 200)? == (2, 200 * LOCK_LINE.len() + 4));
     Ok(())
 }
 
-#[test]
-fn a_sink_fails_within_a_history(rt: HostRuntime) -> Result<(), Fail> {
-    let history = grants(rt.alloc(), 200)?;
+// Whether a sink that fails in its second write has the bytes of the first.
+fn is_cut(alloc: Global) -> Result<bool, NoMemory> {
+    let history = grants(alloc, 200)?;
     let writes = Calls {
         per_call: MEMORY_SINK_ROOM,
         failing: 2,
     };
-    let mut sink = sink_of(rt.alloc(), writes)?;
-    assert!(rt; matches!(put_output(&mut sink, &history, &[]), Err(Failed)));
-    assert!(rt; sink.sent().len() == 4096 && are_lock_lines(sink.sent()));
+    let mut sink = sink_of(alloc, writes)?;
+    let is_failed = put_output(&mut sink, &history, &[]).is_err();
+    Ok(is_failed && sink.sent().len() == 4096 && are_lock_lines(sink.sent()))
+}
+
+#[test]
+fn a_sink_fails_within_a_history(rt: HostRuntime) -> Result<(), Fail> {
+    assert!(rt; is_cut(rt.alloc())?);
     Ok(())
 }
 

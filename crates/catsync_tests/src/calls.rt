@@ -1,24 +1,13 @@
 // The top call over a source and a sink in memory.
 
+ghost use Rattle.std.specs.Prelude.{◌≤◌, length, IfOk};
+
+use crate::ends::{Calls, STEADY, sink_of, source_of};
 use backend_core::Backend;
 use base_types::NoMemory;
 use catsync_top::{MOST_BACKENDS, Status, catsync};
-use edge_io::{MemorySink, MemorySource, OpenGate, Source};
+use edge_io::{MemorySink, OpenGate, Source};
 use std::alloc::Global;
-
-// How many bytes a call of a source or a sink takes at most, and the number of the call that fails,
-// from 1; with 0 none does.
-#[derive(Clone, Copy)]
-pub(crate) struct Calls {
-    pub(crate) per_call: usize,
-    pub(crate) failing: u64,
-}
-
-// Whole pieces, and no call fails.
-pub(crate) const STEADY: Calls = Calls {
-    per_call: usize::MAX,
-    failing: 0,
-};
 
 // What a call came to: how it ended, what was written, and the backends that were run.
 #[derive(Drop)]
@@ -48,7 +37,7 @@ pub(crate) fn called(
     writes: Calls,
 ) -> Result<Outcome, NoMemory> {
     let mut source = source_of(alloc, script, reads)?;
-    called_over(alloc, words, &mut source, sink_of(alloc, writes)?)
+    called_over(alloc, words, &mut source, writes)
 }
 
 // What `walk` makes of a script.
@@ -56,29 +45,56 @@ pub(crate) fn walked(alloc: Global, script: &[u8]) -> Result<Outcome, NoMemory> 
     called(alloc, &["walk"], script, STEADY, STEADY)
 }
 
-// The top call with these arguments.
+// Whether `walk` ends well with this output.
+pub(crate) fn gives(alloc: Global, script: &[u8], output: &[u8]) -> Result<bool, NoMemory> {
+    Ok(walked(alloc, script)?.gave(output))
+}
+
+// The top call with these arguments, over a sink whose calls go so.
 pub(crate) fn called_over<S: Source>(
     alloc: Global,
     words: &[&str],
     source: &mut S,
-    mut sink: MemorySink,
+    writes: Calls,
 ) -> Result<Outcome, NoMemory> {
     let arguments = arguments_of(alloc, words)?;
-    let mut gates = vec![in alloc; OpenGate; MOST_BACKENDS as usize]?;
+    called_with(alloc, &arguments, source, writes)
+}
+
+fn called_with<S: Source>(
+    alloc: Global,
+    arguments: &[String],
+    source: &mut S,
+    writes: Calls,
+) -> Result<Outcome, NoMemory> {
+    let mut gates = gates_of(alloc)?;
+    let sink = sink_of(alloc, writes)?;
+    Ok(ended(alloc, arguments, source, sink, &mut gates))
+}
+
+fn ended<S: Source>(
+    alloc: Global,
+    arguments: &[String],
+    source: &mut S,
+    mut sink: MemorySink,
+    gates: &mut Vec<OpenGate>,
+) -> Outcome
+    requires { MOST_BACKENDS ≤ length gates.old.items }
+{
     let mut sessions = Vec::new(alloc);
-    let status = catsync(
-        alloc,
-        &arguments,
-        source,
-        &mut sink,
-        &mut gates,
-        &mut sessions,
-    );
-    Ok(Outcome {
+    let status = catsync(alloc, arguments, source, &mut sink, gates, &mut sessions);
+    Outcome {
         status,
         sink,
         sessions,
-    })
+    }
+}
+
+// A gate for each backend that there may be.
+fn gates_of(alloc: Global) -> Result<Vec<OpenGate>, NoMemory>
+    ensures { IfOk result (λ gates. MOST_BACKENDS ≤ length gates.items) }
+{
+    Ok(vec![in alloc; OpenGate; MOST_BACKENDS as usize]?)
 }
 
 fn arguments_of(alloc: Global, words: &[&str]) -> Result<Vec<String>, NoMemory> {
@@ -87,26 +103,4 @@ fn arguments_of(alloc: Global, words: &[&str]) -> Result<Vec<String>, NoMemory> 
         arguments.push(String::from_str(alloc, word)?)?;
     }
     Ok(arguments)
-}
-
-// A source of a text.
-pub(crate) fn source_of(
-    alloc: Global,
-    text: &[u8],
-    calls: Calls,
-) -> Result<MemorySource, NoMemory> {
-    let failing = failing_calls(alloc, calls.failing)?;
-    Ok(MemorySource::new(text.to_vec(alloc)?, calls.per_call.max(1), failing))
-}
-
-// A sink with room.
-pub(crate) fn sink_of(alloc: Global, calls: Calls) -> Result<MemorySink, NoMemory> {
-    let failing = failing_calls(alloc, calls.failing)?;
-    let mut sink = MemorySink::new(alloc, calls.per_call.max(1), failing);
-    sink.ready()?;
-    Ok(sink)
-}
-
-fn failing_calls(alloc: Global, number: u64) -> Result<Vec<u64>, NoMemory> {
-    Ok([number].to_vec(alloc)?)
 }

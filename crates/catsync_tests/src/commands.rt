@@ -1,18 +1,24 @@
+ghost use Rattle.std.specs.Prelude.{◌≡◌, true};
+ghost use Rattle.ddl_effect.specs.Plans.{is_built};
+ghost use Rattle.ddl_effect.specs.Commands.{plan_of};
+
 use crate::events::text_of;
+use crate::row_texts::rows_of;
 use crate::scripts::{script_of, text_of_command};
-use crate::values::name;
-use base_types::{Change, Command, Kind, Listed, Mode, NoMemory, Oid, Row, Xid};
+use base_types::{Change, Command, Kind, Listed, Mode, Name, NoMemory, Oid, Placed, Row, Xid};
 use ddl_effect::{Draft, EffectRefusal, Exec, Facts, Want, effect};
 use event_kinds::{Entry, Event, Item};
-use rel_desc::CommandError;
+use rel_desc::{Answer, CommandError, answer_text};
 use script_text::Script;
 use std::alloc::Global;
+use std::fmt::Write;
 use std::test::Fail;
 use txn_blocks::{BlockCause, TxnBlocks};
 
 // The script of one command.
-fn script_of_command(alloc: Global, command: &str) -> Result<Script, Fail> {
-    script_of(alloc, text_of_command(alloc, command)?.as_bytes())
+fn script_of_command(alloc: Global, command: &str) -> Result<Script, NoMemory> {
+    let text = text_of_command(alloc, command)?;
+    script_of(alloc, text.as_bytes())
 }
 
 // Commands, and what the blocks say of each outside a block, inside one, and in a failed one.
@@ -49,12 +55,23 @@ fn admitted_anywhere(command: &Command) -> [&'static str; 3] {
     [outside, inside, admitted(&blocks, command)]
 }
 
+// Whether this is said of the one command of a script.
+fn is_admitted(alloc: Global, command: &str, wanted: [&'static str; 3]) -> Result<bool, NoMemory> {
+    let script = script_of_command(alloc, command)?;
+    Ok(is_one_admitted(script.commands(), wanted))
+}
+
+fn is_one_admitted(commands: &[Placed], wanted: [&'static str; 3]) -> bool {
+    match commands {
+        [placed] => admitted_anywhere(&placed.command) == wanted,
+        _ => false,
+    }
+}
+
 #[test]
 fn blocks_admit_commands(rt: HostRuntime) -> Result<(), Fail> {
-    for (text, wanted) in ADMITTED {
-        for placed in script_of_command(rt.alloc(), text)?.commands() {
-            assert!(rt; admitted_anywhere(&placed.command) == wanted, "{text}");
-        }
+    for (command, wanted) in ADMITTED {
+        assert!(rt; is_admitted(rt.alloc(), command, wanted)?, "{command}");
     }
     Ok(())
 }
@@ -85,82 +102,59 @@ fn blocks_open_fail_and_end(rt: HostRuntime) {
     assert!(rt; state(&blocks) == (false, false, 9));
 }
 
-// Commands, whether a lookup finds a table, what each wants in turn, and what it changes where there is a table
-// `t`: the number of its new oids, and its changes as those of a write.
-const PLANS: [(&str, bool, [&str; 3], &[u8]); 6] = [
+// Commands, whether a lookup finds a table, and what each wants in turn.
+const PLANS: [(&str, bool, [&str; 3]); 10] = [
     (
         "create table x (a int4, b text)",
         false,
         ["write", "done", "done"],
-        b"h 1 1 write 1 +class(1,x,r,-) +att(1,1,a,int4,-1,l) +att(1,2,b,text,-1,l)",
     ),
     (
         "create table x (a int4, a text)",
         false,
         ["42701", "42701", "42701"],
-        b"42701",
     ),
-    ("show t", true, ["lookup", "open", "done"], b"h 1 1 write 0"),
+    ("show t", true, ["lookup", "open", "done"]),
+    ("show t columns", true, ["lookup", "open", "done"]),
+    ("show t of", true, ["lookup", "42809", "42809"]),
+    ("show u", false, ["lookup", "absent", "absent"]),
+    ("show u of", false, ["lookup", "absent", "absent"]),
+    ("lock table t in share mode", true, ["lock", "done", "done"]),
     (
-        "show t columns",
-        true,
-        ["lookup", "open", "done"],
-        b"h 1 1 write 0",
+        "lock table u in share mode",
+        false,
+        ["lock", "absent", "absent"],
     ),
-    ("show t of", true, ["lookup", "42809", "42809"], b"42809"),
-    ("show u", false, ["lookup", "absent", "absent"], b"absent"),
+    ("begin", false, ["done", "done", "done"]),
 ];
 
-// Whether a command wants these in turn, where its lookup finds these rows.
-fn wants(
+// Whether the one command of a script wants these in turn, where its lookup finds these rows.
+fn has_turns(
     alloc: Global,
-    command: &Command,
+    commands: &[Placed],
     rows: &[Row],
     turns: [&'static str; 3],
-) -> Result<bool, Fail> {
-    let mut exec = begun(alloc, command)?;
+) -> Result<bool, NoMemory> {
+    match commands {
+        [placed] => Ok(wants_in_turn(begun(alloc, &placed.command)?, rows, turns)),
+        _ => Ok(false),
+    }
+}
+
+fn wants_in_turn(mut exec: Exec, rows: &[Row], turns: [&'static str; 3]) -> bool {
     let first = wanted(&exec) == turns[0];
     exec.give(rows);
     let second = wanted(&exec) == turns[1];
     exec.give(rows);
-    Ok(first && second && wanted(&exec) == turns[2])
+    first && second && wanted(&exec) == turns[2]
 }
 
-// Whether a command that wants to write at first wants to write this.
-fn is_drafted(alloc: Global, command: &Command, changes: &[u8]) -> Result<bool, Fail> {
-    let exec = begun(alloc, command)?;
-    match exec.next() {
-        Want::Write => Ok(draft_text(alloc, &exec.into_draft())?.as_slice() == changes),
-        _ => Ok(true),
+// A command at its beginning, or none where it has no plan.
+fn begun(alloc: Global, command: &Command) -> Result<Exec, NoMemory> {
+    if !has_plan(command) {
+        return Ok(Exec::Done);
     }
-}
-
-#[test]
-fn commands_follow_their_plans(rt: HostRuntime) -> Result<(), Fail> {
-    let rows = [Row::Class {
-        oid: Oid(16384),
-        name: name(b"t")?,
-        kind: Kind::Table,
-        fill: None,
-    }];
-    for (text, finds, turns, changes) in PLANS {
-        for placed in script_of_command(rt.alloc(), text)?.commands() {
-            let given = if finds { rows.as_slice() } else { &[] };
-            assert!(rt; wants(rt.alloc(), &placed.command, given, turns)?, "{text}");
-            assert!(rt; is_drafted(rt.alloc(), &placed.command, changes)?, "{text}");
-            let made = changed(rt.alloc(), &placed.command, &rows)?;
-            assert!(rt; made.as_slice() == changes, "{text}");
-        }
-    }
-    Ok(())
-}
-
-// A command at its beginning.
-fn begun(alloc: Global, command: &Command) -> Result<Exec, Fail> {
-    match command {
-        Command::Show { .. } | Command::CreateTable { .. } => Ok(Exec::new(alloc, command)?),
-        _ => Err(Fail::new("another command")),
-    }
+    Exec::new(alloc, command)
 }
 
 // What a command wants next.
@@ -173,6 +167,10 @@ fn wanted(exec: &Exec) -> &'static str {
             mode: Mode::AccessShare,
             ..
         } => "lookup",
+        Want::Lookup {
+            mode: Mode::Share,
+            ..
+        } => "lock",
         Want::Open {
             rel: Oid(16384),
             kind: Kind::Table,
@@ -190,52 +188,364 @@ fn code_of(error: CommandError) -> &'static str {
     }
 }
 
+fn follows_plan(
+    alloc: Global,
+    command: &str,
+    finds: bool,
+    turns: [&'static str; 3],
+) -> Result<bool, NoMemory> {
+    let rows = rows_of(alloc, if finds { b"+class(16384,t,r,-)" } else { b"" })?;
+    let script = script_of_command(alloc, command)?;
+    has_turns(alloc, script.commands(), &rows, turns)
+}
+
+#[test]
+fn commands_follow_their_plans(rt: HostRuntime) -> Result<(), Fail> {
+    for (command, finds, turns) in PLANS {
+        assert!(rt;
+            follows_plan(rt.alloc(), command, finds, turns)?,
+            "{command}"
+        );
+    }
+    Ok(())
+}
+
+// A table with a live column, another one that has a default, and a dropped one; and its index.
+fn catalog() -> &'static [u8] {
+    b"+class(16384,t,r,-) +att(16384,1,a,int4,100,l) +att(16384,2,b,text,-1,l) +att(16384,3,........pg.dropped.3........,int4,-1,d) +def(16385,16384,2,x) +class(16386,i,i,-) +ind(16386,16384,v,1)"
+}
+
+// Commands, and what each changes of this catalog, as a write with the number of its new oids in place of the Xid;
+// or why it changes nothing. A greater statistics target than 10,000 is written as 10,000.
+const EFFECTS: [(&str, &[u8]); 39] = [
+    (
+        "create table x (a int4, b text)",
+        b"h 1 1 write 1 +class(1,x,r,-) +att(1,1,a,int4,-1,l) +att(1,2,b,text,-1,l)",
+    ),
+    (
+        "create table x (a int4, a text)",
+        b"error 42701 column a already exists",
+    ),
+    ("show t", b"h 1 1 write 0"),
+    ("show t columns", b"h 1 1 write 0"),
+    ("show t of", b"error 42809 t has no field of"),
+    ("show u", b"absent u"),
+    ("lock table t in share mode", b"h 1 1 write 0"),
+    (
+        "lock table i in share mode",
+        b"error 42809 i is not a table",
+    ),
+    (
+        "alter table t add column c bool",
+        b"h 1 1 write 0 +att(16384,4,c,bool,-1,l)",
+    ),
+    (
+        "alter table t add column a bool",
+        b"error 42701 column a already exists",
+    ),
+    (
+        "alter table i add column a bool",
+        b"error 42809 i is not a table",
+    ),
+    ("alter table u add column a bool", b"absent u"),
+    (
+        "alter table t drop column a",
+        b"h 1 1 write 0 =att(16384,1,........pg.dropped.1........,int4,100,d)",
+    ),
+    (
+        "alter table t drop column b",
+        b"h 1 1 write 0 -def(16385) =att(16384,2,........pg.dropped.2........,text,-1,d)",
+    ),
+    (
+        "alter table t drop column c",
+        b"error 42703 column c does not exist",
+    ),
+    (
+        "alter table i drop column c",
+        b"error 42809 i is not a table",
+    ),
+    ("alter table u drop column c", b"absent u"),
+    (
+        "alter table t rename column a to c",
+        b"h 1 1 write 0 =att(16384,1,c,int4,100,l)",
+    ),
+    (
+        "alter table t rename column a to b",
+        b"error 42701 column b already exists",
+    ),
+    (
+        "alter table t rename column a to a",
+        b"error 42701 column a already exists",
+    ),
+    (
+        "alter table t rename column c to d",
+        b"error 42703 column c does not exist",
+    ),
+    (
+        "alter table t rename column c to b",
+        b"error 42703 column c does not exist",
+    ),
+    (
+        "alter table i rename column c to b",
+        b"error 42809 i is not a table",
+    ),
+    ("alter table u rename column c to b", b"absent u"),
+    (
+        "alter table t alter column a set statistics -1",
+        b"h 1 1 write 0 =att(16384,1,a,int4,-1,l)",
+    ),
+    (
+        "alter table t alter column b set statistics 0",
+        b"h 1 1 write 0 =att(16384,2,b,text,0,l)",
+    ),
+    (
+        "alter table t alter column b set statistics 10000",
+        b"h 1 1 write 0 =att(16384,2,b,text,10000,l)",
+    ),
+    (
+        "alter table t alter column b set statistics 10001",
+        b"h 1 1 write 0 =att(16384,2,b,text,10000,l)",
+    ),
+    (
+        "alter table t alter column a set statistics -2",
+        b"error 22023 value -2 is out of range",
+    ),
+    (
+        "alter table t alter column c set statistics -2",
+        b"error 22023 value -2 is out of range",
+    ),
+    (
+        "alter table t alter column c set statistics 0",
+        b"error 42703 column c does not exist",
+    ),
+    (
+        "alter table i alter column c set statistics -2",
+        b"error 42809 i is not a table",
+    ),
+    (
+        "alter table u alter column c set statistics -2",
+        b"absent u",
+    ),
+    (
+        "alter table t set (fillfactor = 10)",
+        b"h 1 1 write 0 =class(16384,t,r,10)",
+    ),
+    (
+        "alter table t set (fillfactor = 100)",
+        b"h 1 1 write 0 =class(16384,t,r,100)",
+    ),
+    (
+        "alter table t set (fillfactor = 9)",
+        b"error 22023 value 9 is out of range",
+    ),
+    (
+        "alter table t set (fillfactor = 101)",
+        b"error 22023 value 101 is out of range",
+    ),
+    (
+        "alter table i set (fillfactor = 9)",
+        b"error 42809 i is not a table",
+    ),
+    ("alter table u set (fillfactor = 9)", b"absent u"),
+];
+
 // What a command changes where there are these rows, or why it changes nothing.
-fn changed(alloc: Global, command: &Command, rows: &[Row]) -> Result<Vec<u8>, Fail> {
+fn changed(alloc: Global, command: &Command, rows: Vec<Row>) -> Result<Vec<u8>, NoMemory> {
     let facts = Facts {
-        rows: Listed::from_vec(rows.to_vec(alloc)?),
+        rows: Listed::from_vec(rows),
         opened: Listed::new(alloc),
     };
-    match command {
-        Command::Show { .. } | Command::CreateTable { .. } => {
-            match effect(alloc, command, &facts) {
-                Ok(draft) => Ok(draft_text(alloc, &draft)?),
-                Err(refusal) => Ok(cause_of(refusal).as_bytes().to_vec(alloc)?),
-            }
-        }
-        _ => Err(Fail::new("another command")),
+    if !has_plan(command) {
+        return Ok(Vec::new(alloc));
+    }
+    match effect(alloc, command, &facts) {
+        Ok(draft) => draft_text(alloc, &draft),
+        Err(refusal) => refusal_text(alloc, &refusal),
     }
 }
 
-fn cause_of(refusal: EffectRefusal) -> &'static str {
-    match refusal {
-        EffectRefusal::Cause(error) => code_of(error),
-        EffectRefusal::Absent(_) => "absent",
-        EffectRefusal::NoMemory => "no memory",
+fn has_plan(command: &Command) -> bool
+    ensures { result ≡ true → (opened : _) → is_built (plan_of opened command.now) ≡ true }
+{
+    match command {
+        Command::Show { .. } => true,
+        Command::LockTable { .. } => true,
+        Command::CreateTable { .. } => true,
+        Command::AddColumn { .. } => true,
+        Command::DropColumn { .. } => true,
+        Command::RenameColumn { .. } => true,
+        Command::SetStatistics { .. } => true,
+        Command::SetFillfactor { .. } => true,
+        _ => false,
     }
+}
+
+fn refusal_text(alloc: Global, refusal: &EffectRefusal) -> Result<Vec<u8>, NoMemory> {
+    match refusal {
+        EffectRefusal::Cause(error) => error_text(alloc, error),
+        EffectRefusal::Absent(name) => absent_text(alloc, name),
+        EffectRefusal::NoMemory => Err(NoMemory),
+    }
+}
+
+fn error_text(alloc: Global, error: &CommandError) -> Result<Vec<u8>, NoMemory> {
+    let mut text = Vec::new(alloc);
+    answer_text(&Answer::Error(*error), &mut text)?;
+    Ok(text)
+}
+
+fn absent_text(alloc: Global, name: &Name) -> Result<Vec<u8>, NoMemory> {
+    let mut text = b"absent ".to_vec(alloc)?;
+    text.extend_from_slice(name.as_bytes())?;
+    Ok(text)
 }
 
 // A draft as a write, with the number of its new oids in place of the Xid.
 fn draft_text(alloc: Global, draft: &Draft) -> Result<Vec<u8>, NoMemory> {
+    let items = items_of(alloc, draft)?;
+    let xid = Xid(draft.new_oids);
+    write_text(alloc, Event::Write { xid, items })
+}
+
+fn items_of(alloc: Global, draft: &Draft) -> Result<Listed<Item>, NoMemory> {
     let mut items = Listed::new(alloc);
     for change in draft.changes.as_slice() {
-        if let Change::Insert(row) = change {
-            items.push(Item::Add(*row))?;
-        }
+        items.push(item_of(change))?;
     }
     for rel in draft.forced.as_slice() {
         items.push(Item::Force(*rel))?;
     }
-    let event = Event::Write {
-        xid: Xid(draft.new_oids),
-        items,
+    Ok(items)
+}
+
+fn item_of(change: &Change) -> Item {
+    match change {
+        Change::Insert(row) => Item::Add(*row),
+        Change::Replace(row) => Item::Put(*row),
+        Change::Delete(key) => Item::Remove(*key),
+    }
+}
+
+fn write_text(alloc: Global, event: Event) -> Result<Vec<u8>, NoMemory> {
+    let entry = Entry {
+        backend: 1,
+        command: 1,
+        event,
     };
-    text_of(
-        alloc,
-        &Entry {
-            backend: 1,
-            command: 1,
-            event,
-        },
-    )
+    text_of(alloc, &entry)
+}
+
+// The same of the one command of a script.
+fn effect_of(alloc: Global, commands: &[Placed], rows: Vec<Row>) -> Result<Vec<u8>, NoMemory> {
+    match commands {
+        [placed] => changed(alloc, &placed.command, rows),
+        _ => Ok(Vec::new(alloc)),
+    }
+}
+
+fn effect_among(alloc: Global, command: &str, rows: Vec<Row>) -> Result<Vec<u8>, NoMemory> {
+    let script = script_of_command(alloc, command)?;
+    effect_of(alloc, script.commands(), rows)
+}
+
+// Whether a command changes this where there are the rows of a text.
+fn has_effect(alloc: Global, rows: &[u8], command: &str, wanted: &[u8]) -> Result<bool, NoMemory> {
+    let rows = rows_of(alloc, rows)?;
+    Ok(effect_among(alloc, command, rows)?.as_slice() == wanted)
+}
+
+// What a command that the program runs wants to write at first; nothing where it wants something else.
+fn drafted(alloc: Global, commands: &[Placed]) -> Result<Vec<u8>, NoMemory> {
+    match commands {
+        [placed] => first_draft(alloc, begun(alloc, &placed.command)?),
+        _ => Ok(Vec::new(alloc)),
+    }
+}
+
+fn first_draft(alloc: Global, exec: Exec) -> Result<Vec<u8>, NoMemory> {
+    match exec.next() {
+        Want::Write => draft_text(alloc, &exec.into_draft(alloc)?),
+        _ => Ok(Vec::new(alloc)),
+    }
+}
+
+// Whether this is the draft of a command.
+fn has_draft(alloc: Global, command: &str, wanted: &[u8]) -> Result<bool, NoMemory> {
+    let script = script_of_command(alloc, command)?;
+    Ok(drafted(alloc, script.commands())?.as_slice() == wanted)
+}
+
+const DRAFTS: [(&str, &[u8]); 2] = [
+    (
+        "create table x (a int4, b text)",
+        b"h 1 1 write 1 +class(1,x,r,-) +att(1,1,a,int4,-1,l) +att(1,2,b,text,-1,l)",
+    ),
+    ("show t", b""),
+];
+
+#[test]
+fn new_tables_are_drafted(rt: HostRuntime) -> Result<(), Fail> {
+    for (command, wanted) in DRAFTS {
+        assert!(rt; has_draft(rt.alloc(), command, wanted)?, "{command}");
+    }
+    Ok(())
+}
+
+#[test]
+fn commands_have_their_effects(rt: HostRuntime) -> Result<(), Fail> {
+    for (command, wanted) in EFFECTS {
+        assert!(rt;
+            has_effect(rt.alloc(), catalog(), command, wanted)?,
+            "{command}"
+        );
+    }
+    Ok(())
+}
+
+// Columns of a table, and what a command changes of it.
+const WIDE: [(u32, &str, &[u8]); 3] = [
+    (
+        1599,
+        "alter table t add column z int4",
+        b"h 1 1 write 0 +att(16384,1600,z,int4,-1,l)",
+    ),
+    (
+        1600,
+        "alter table t add column z int4",
+        b"error 54011 too many columns",
+    ),
+    (
+        1600,
+        "alter table t add column c7 int4",
+        b"error 42701 column c7 already exists",
+    ),
+];
+
+// The rows of a table of so many columns.
+fn wide_table(alloc: Global, columns: u32) -> Result<String, NoMemory> {
+    let mut rows = String::from_str(alloc, "+class(16384,t,r,-)")?;
+    for i in 0..columns {
+        let num = i.saturating_add(1);
+        write!(rows, " +att(16384,{num},c{num},int4,-1,l)")?;
+    }
+    Ok(rows)
+}
+
+fn has_wide_effect(
+    alloc: Global,
+    columns: u32,
+    command: &str,
+    wanted: &[u8],
+) -> Result<bool, NoMemory> {
+    let rows = wide_table(alloc, columns)?;
+    has_effect(alloc, rows.as_bytes(), command, wanted)
+}
+
+#[test]
+fn a_table_has_at_most_1600_columns(rt: HostRuntime) -> Result<(), Fail> {
+    for (columns, command, wanted) in WIDE {
+        let is_so = has_wide_effect(rt.alloc(), columns, command, wanted)?;
+        assert!(rt; is_so, "{command} of {columns}");
+    }
+    Ok(())
 }

@@ -1,8 +1,8 @@
-use crate::calls::{Calls, sink_of, source_of};
+use crate::ends::{Calls, sink_of, source_of};
 use crate::readers::{FailingReader, FailingWriter};
 use base_types::NoMemory;
 use edge_io::{
-    Failed, Gate, GatheringSink, Go, MemorySink, OpenGate, ReadRefusal, StdSink, StdSource,
+    Failed, Gate, GatheringSink, Go, MemorySink, OpenGate, ReadRefusal, Source, StdSink, StdSource,
     SteadySink, SteadySource, StopGate, read_all, send,
 };
 use std::alloc::Global;
@@ -19,44 +19,65 @@ const SENT: [(u64, usize, &str); 4] = [
     (3, 5, "abcdefg"),
 ];
 
-// What is read of the text by calls that go so.
-fn is_read(alloc: Global, calls: Calls) -> Result<bool, Fail> {
+// Whether this is read of a source.
+fn reads<S: Source>(alloc: Global, source: &mut S, limit: usize, want: &[u8]) -> bool {
+    match read_all(alloc, source, limit) {
+        Ok(text) => text.as_slice() == want,
+        Err(_) => false,
+    }
+}
+
+// Whether the source fails.
+fn fails<S: Source>(alloc: Global, source: &mut S) -> bool {
+    match read_all(alloc, source, 100) {
+        Err(ReadRefusal::Failed) => true,
+        Ok(_) | Err(ReadRefusal::NoMemory) => false,
+    }
+}
+
+// Whether all of the text is read by calls that take so much.
+fn is_read(alloc: Global, per_call: usize) -> Result<bool, NoMemory> {
+    let calls = Calls {
+        per_call,
+        failing: 0,
+    };
     let mut source = source_of(alloc, TEXT, calls)?;
-    Ok(read_all(alloc, &mut source, 100)?.as_slice() == TEXT)
+    Ok(reads(alloc, &mut source, 100, TEXT))
+}
+
+// A source that can't fail, and a limit within its one piece.
+fn is_read_steadily(alloc: Global) -> Result<bool, NoMemory> {
+    let mut steady = SteadySource::new(TEXT.to_vec(alloc)?);
+    Ok(reads(alloc, &mut steady, 3, TEXT))
 }
 
 #[test]
 fn a_source_is_read_to_its_end(rt: HostRuntime) -> Result<(), Fail> {
     for per_call in [1, 3, 5000] {
-        let calls = Calls {
-            per_call,
-            failing: 0,
-        };
-        assert!(rt; is_read(rt.alloc(), calls)?, "at {per_call}");
+        assert!(rt; is_read(rt.alloc(), per_call)?, "at {per_call}");
     }
-    let mut steady = SteadySource::new(TEXT.to_vec(rt.alloc())?);
-    assert!(rt; read_all(rt.alloc(), &mut steady, 3)?.as_slice() == TEXT);
+    assert!(rt; is_read_steadily(rt.alloc())?);
     Ok(())
 }
 
-#[test]
-fn a_source_goes_on_after_a_call_that_failed(rt: HostRuntime) -> Result<(), Fail> {
+// Whether a source fails in its third call, after two of two bytes, and then gives the rest.
+fn goes_on(alloc: Global) -> Result<(bool, bool), NoMemory> {
     let calls = Calls {
         per_call: 2,
         failing: 3,
     };
-    let mut source = source_of(rt.alloc(), TEXT, calls)?;
-    assert!(rt;
-        matches!(
-            read_all(rt.alloc(), &mut source, 100),
-            Err(ReadRefusal::Failed)
-        )
-    );
-    assert!(rt; read_all(rt.alloc(), &mut source, 100)?.as_slice() == b"efg".as_slice());
+    let mut source = source_of(alloc, TEXT, calls)?;
+    let is_failed = fails(alloc, &mut source);
+    Ok((is_failed, reads(alloc, &mut source, 100, b"efg")))
+}
+
+#[test]
+fn a_source_goes_on_after_a_call_that_failed(rt: HostRuntime) -> Result<(), Fail> {
+    assert!(rt; goes_on(rt.alloc())? == (true, true));
     Ok(())
 }
 
-// What a sink takes of the text by calls that go so.
+// Whether a sink takes this of the text by calls that go so.
 fn is_taken(alloc: Global, calls: Calls, want: &str) -> Result<bool, NoMemory> {
     let mut sink = sink_of(alloc, calls)?;
     let _ = send(&mut sink, TEXT);
@@ -66,23 +87,27 @@ fn is_taken(alloc: Global, calls: Calls, want: &str) -> Result<bool, NoMemory> {
 #[test]
 fn a_sink_keeps_what_it_took_before_a_call_that_fails(rt: HostRuntime) -> Result<(), Fail> {
     for (failing, per_call, want) in SENT {
-        assert!(rt;
-            is_taken(rt.alloc(), Calls { per_call, failing }, want)?,
-            "{want}"
-        );
+        let calls = Calls { per_call, failing };
+        assert!(rt; is_taken(rt.alloc(), calls, want)?, "{want}");
     }
     Ok(())
 }
 
+// Sends a text in two parts, and whether this was kept.
+fn keeps(sink: &mut SteadySink, want: &[u8]) -> bool {
+    let sent = send(sink, b"abc").is_ok() && send(sink, b"defg").is_ok();
+    sent && sink.sent() == want
+}
+
+fn keeps_what_fits(alloc: Global) -> Result<bool, NoMemory> {
+    let mut sink = SteadySink::with_room(alloc, 5)?;
+    Ok(keeps(&mut sink, b"abcde"))
+}
+
 #[test]
 fn a_steady_sink_keeps_what_fits(rt: HostRuntime) -> Result<(), Fail> {
-    let mut sink = SteadySink::with_room(rt.alloc(), 5)?;
-    send(&mut sink, b"abc")?;
-    send(&mut sink, b"defg")?;
-    assert!(rt; sink.sent() == b"abcde".as_slice());
-    let mut none = SteadySink::new(rt.alloc());
-    send(&mut none, b"abc")?;
-    assert!(rt; none.sent().is_empty());
+    assert!(rt; keeps_what_fits(rt.alloc())?);
+    assert!(rt; keeps(&mut SteadySink::new(rt.alloc()), b""));
     Ok(())
 }
 
@@ -94,47 +119,69 @@ fn send_two(sink: &mut MemorySink, first: &[u8], second: &[u8]) -> Result<(), Fa
     out.flush()
 }
 
-#[test]
-fn texts_are_gathered(rt: HostRuntime) -> Result<(), Fail> {
-    let long = vec![in rt.alloc(); b'x'; 5000]?;
+// Sends so, and how many bytes the sink has then; none where it failed.
+fn count_after(sink: &mut MemorySink, first: &[u8], second: &[u8]) -> usize {
+    match send_two(sink, first, second) {
+        Ok(()) => sink.sent().len(),
+        Err(_) => 0,
+    }
+}
+
+// What is sent through a sink whose fourth call fails.
+fn gathered(alloc: Global) -> Result<([usize; 3], usize), NoMemory> {
+    let long = vec![in alloc; b'x'; 5000]?;
     let calls = Calls {
         per_call: 6000,
         failing: 4,
     };
-    let mut sink = sink_of(rt.alloc(), calls)?;
-    send_two(&mut sink, b"abc", b"def")?;
-    assert!(rt; sink.sent() == b"abcdef".as_slice());
-    send_two(&mut sink, b"", &long)?;
-    assert!(rt; sink.sent().len() == 5006);
-    assert!(rt; send_two(&mut sink, b"abc", b"def").is_err() && sink.sent().len() == 5006);
-    Ok(())
+    let mut sink = sink_of(alloc, calls)?;
+    let short = count_after(&mut sink, b"abc", b"def");
+    let longer = count_after(&mut sink, b"", &long);
+    let failed = count_after(&mut sink, b"abc", b"def");
+    Ok(([short, longer, failed], sink.sent().len()))
 }
 
 #[test]
-fn bytes_pass_over_std(rt: HostRuntime) -> Result<(), Fail> {
-    let mut source = StdSource::new(TEXT);
-    assert!(rt; read_all(rt.alloc(), &mut source, 100)?.as_slice() == TEXT);
-    let mut kept = Vec::new(rt.alloc());
-    send(&mut StdSink::new(&mut kept), TEXT)?;
-    assert!(rt; kept.as_slice() == TEXT);
+fn texts_are_gathered(rt: HostRuntime) -> Result<(), Fail> {
+    assert!(rt; gathered(rt.alloc())? == ([6, 5006, 0], 5006));
     Ok(())
 }
 
-// What is read of three bytes where a call fails in this way.
-fn read_badly(alloc: Global, failing: u32, kind: ErrorKind) -> Result<Vec<u8>, ReadRefusal> {
-    let reader = FailingReader::new(3, failing, kind);
-    read_all(alloc, &mut StdSource::new(reader), 100)
+// What a sink over std writes of the text.
+fn is_written(alloc: Global) -> bool {
+    let mut kept = Vec::new(alloc);
+    let sent = send(&mut StdSink::new(&mut kept), TEXT);
+    sent.is_ok() && kept.as_slice() == TEXT
 }
 
 #[test]
-fn a_reader_of_std_fails_at_each_call_in_turn(rt: HostRuntime) -> Result<(), Fail> {
+fn bytes_pass_over_std(rt: HostRuntime) {
+    assert!(rt; reads(rt.alloc(), &mut StdSource::new(TEXT), 100, TEXT));
+    assert!(rt; is_written(rt.alloc()));
+}
+
+// Three bytes, in a call each, where a call fails in this way.
+fn failing_source(failing: u32, kind: ErrorKind) -> StdSource<FailingReader> {
+    StdSource::new(FailingReader::new(3, failing, kind))
+}
+
+#[test]
+fn a_reader_of_std_fails_at_each_call_in_turn(rt: HostRuntime) {
     for failing in 1..5 {
-        let text = read_badly(rt.alloc(), failing, ErrorKind::Other);
-        assert!(rt; matches!(text, Err(ReadRefusal::Failed)), "at {failing}");
-        let text = read_badly(rt.alloc(), failing, ErrorKind::Interrupted)?;
-        assert!(rt; text.len() == 3, "at {failing}");
+        assert!(rt;
+            fails(rt.alloc(), &mut failing_source(failing, ErrorKind::Other)),
+            "at {failing}"
+        );
+        assert!(rt;
+            reads(
+                rt.alloc(),
+                &mut failing_source(failing, ErrorKind::Interrupted),
+                100,
+                b"aaa"
+            ),
+            "at {failing}"
+        );
     }
-    Ok(())
 }
 
 // Whether the text was sent, and how many bytes of it, where a call fails in this way.

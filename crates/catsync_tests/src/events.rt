@@ -1,7 +1,6 @@
 use base_types::{ColType, Kind, NoMemory, Oid, Row};
 use event_kinds::{Entry, EntryFault, Event, Item, changes_in, read_entry, write_entry};
 use std::alloc::Global;
-use std::test::Fail;
 
 const TABLE: &[u8] = b"h 1 1 write 1 +class(16384,t,r,-) +att(16384,1,a,int4,-1,l)";
 
@@ -104,40 +103,68 @@ fn variant(event: &Event) -> &'static str {
         Event::Look { .. } => "Look",
         Event::Fetch { .. } => "Fetch",
         Event::FetchReset => "FetchReset",
+        Event::Fail => "Fail",
+        Event::Stop => "Stop",
+        _ => variant_of_locks_and_rows(event),
+    }
+}
+
+fn variant_of_locks_and_rows(event: &Event) -> &'static str {
+    match event {
         Event::LockOk { .. } => "LockOk",
         Event::LockHeld { .. } => "LockHeld",
         Event::Unlock { .. } => "Unlock",
         Event::Scan { .. } => "Scan",
         Event::Write { .. } => "Write",
+        _ => variant_of_transactions(event),
+    }
+}
+
+fn variant_of_transactions(event: &Event) -> &'static str {
+    match event {
         Event::ClashRow { .. } => "ClashRow",
         Event::ClashRunning { .. } => "ClashRunning",
         Event::Visible { .. } => "Visible",
         Event::Publish { .. } => "Publish",
         Event::Release { .. } => "Release",
         Event::Gone { .. } => "Gone",
-        Event::Fail => "Fail",
-        Event::Stop => "Stop",
+        _ => "another",
     }
 }
 
 // Whether a text is read, as an event of this variant, and written again.
-fn is_read(alloc: Global, line: &[u8], want: &str) -> Result<bool, Fail> {
-    let entry = read_entry(alloc, line)?;
-    Ok(text_of(alloc, &entry)?.as_slice() == line && variant(&entry.event) == want)
+fn is_read(alloc: Global, line: &[u8], want: &str) -> bool {
+    match read_entry(alloc, line) {
+        Ok(entry) => variant(&entry.event) == want && is_text(alloc, &entry, line),
+        Err(_) => false,
+    }
+}
+
+fn is_text(alloc: Global, entry: &Entry, want: &[u8]) -> bool {
+    match text_of(alloc, entry) {
+        Ok(text) => text.as_slice() == want,
+        Err(_) => false,
+    }
+}
+
+fn is_bad(alloc: Global, line: &[u8]) -> bool {
+    match read_entry(alloc, line) {
+        Err(EntryFault::Bad) => true,
+        Ok(_) | Err(EntryFault::NoMemory) => false,
+    }
 }
 
 #[test]
-fn each_event_is_read_and_written_again(rt: HostRuntime) -> Result<(), Fail> {
+fn each_event_is_read_and_written_again(rt: HostRuntime) {
     for (line, want) in EVENTS {
-        assert!(rt; is_read(rt.alloc(), line, want)?, "{want}");
+        assert!(rt; is_read(rt.alloc(), line, want), "{want}");
     }
-    Ok(())
 }
 
 #[test]
 fn other_lines_are_bad(rt: HostRuntime) {
     for line in OTHERS {
-        assert!(rt; matches!(read_entry(rt.alloc(), line), Err(EntryFault::Bad)));
+        assert!(rt; is_bad(rt.alloc(), line));
     }
 }
 
@@ -175,10 +202,14 @@ fn is_column(row: &Row) -> bool {
     }
 }
 
+fn is_new_table_read(alloc: Global) -> bool {
+    match read_entry(alloc, TABLE) {
+        Ok(entry) => is_new_table(changes_in(&entry.event)),
+        Err(_) => false,
+    }
+}
+
 #[test]
-fn a_new_table_is_read(rt: HostRuntime) -> Result<(), Fail> {
-    let entry = read_entry(rt.alloc(), TABLE)?;
-    assert!(rt; entry.backend == 1 && entry.command == 1);
-    assert!(rt; is_new_table(changes_in(&entry.event)));
-    Ok(())
+fn a_new_table_is_read(rt: HostRuntime) {
+    assert!(rt; is_new_table_read(rt.alloc()));
 }

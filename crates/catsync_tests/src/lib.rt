@@ -3,8 +3,15 @@
 //! They stand in one crate since a crate with tests is proved twice. They test what no clause says:
 //! the definitions against tables from outside, that a call with ample memory succeeds, the texts
 //! that are printed, and what happens where a reader, a writer or a call in its middle fails.
+//!
+//! Each test is proved before it runs, so most are tables: of calls and what each is answered, or of
+//! texts and what they come to. A helper tries one row. What a proof costs is the steps of a function
+//! times what is alive at each, so nothing that owns memory lives beside an `assert!` or a second `?`,
+//! and a long literal outside a table has a function of its own.
 #![tactic(auto)]
 
+#[cfg(test)]
+mod alter_runs;
 #[cfg(test)]
 mod answers;
 #[cfg(test)]
@@ -14,7 +21,11 @@ mod calls;
 #[cfg(test)]
 mod commands;
 #[cfg(test)]
+mod descriptors;
+#[cfg(test)]
 mod edge;
+#[cfg(test)]
+mod ends;
 #[cfg(test)]
 mod events;
 #[cfg(test)]
@@ -26,7 +37,13 @@ mod messages;
 #[cfg(test)]
 mod messages_runs;
 #[cfg(test)]
+mod pins;
+#[cfg(test)]
 mod readers;
+#[cfg(test)]
+mod rel_caches;
+#[cfg(test)]
+mod row_texts;
 #[cfg(test)]
 mod rows;
 #[cfg(test)]

@@ -1,4 +1,4 @@
-use crate::calls::walked;
+use crate::calls::gives;
 use std::test::Fail;
 
 // Scripts with `lock table`, and what is written for each.
@@ -304,7 +304,7 @@ end
 #[test]
 fn scripts_with_locks_have_these_outputs(rt: HostRuntime) -> Result<(), Fail> {
     for (name, script, output) in RUNS {
-        assert!(rt; walked(rt.alloc(), script)?.gave(output), "{name}");
+        assert!(rt; gives(rt.alloc(), script, output)?, "{name}");
     }
     Ok(())
 }

@@ -1,176 +1,308 @@
-use base_types::{Mode, NoMemory, Oid};
+ghost use Rattle.std.specs.Prelude.{◌<◌};
+
+use base_types::{Mode, Oid};
 use lock_modes::{Grant, Granted, LockRefusal, LockTable, OwnLocks};
-use std::test::Fail;
+use std::alloc::Global;
 
 const REL: Oid = Oid(16384);
 
 const OTHER: Oid = Oid(16385);
 
-// What a request is answered, and for a conflict the holder and the number of its mode.
-fn asked(
-    table: &mut LockTable,
-    backend: u32,
-    command: u32,
-    rel: Oid,
-    mode: Mode,
-) -> (&'static str, u32, u32) {
+// A call on the table of all locks.
+#[derive(Clone, Copy)]
+enum Call {
+    // A backend asks for a mode in a command.
+    Ask(u32, u32, Oid, Mode),
+    // Whether a backend holds a mode.
+    Has(u32, Oid, Mode),
+    // A backend gives up one lock.
+    Unlock(u32, Oid, Mode),
+    // A backend gives up what it was granted from a command on.
+    Release(u32, u32),
+    // The locks of `PREPARED` are prepared, and what was prepared is granted.
+    Prepare,
+    GrantPrepared,
+}
+
+// What a call is answered, and for a conflict the holder and the number of its mode.
+type Answer = (&'static str, u32, u32);
+
+const NEW: Answer = ("new", 0, 0);
+
+const HELD: Answer = ("held", 0, 0);
+
+const YES: Answer = ("yes", 0, 0);
+
+const NO: Answer = ("no", 0, 0);
+
+const DONE: Answer = ("done", 0, 0);
+
+const NO_MEMORY: Answer = ("no memory", 0, 0);
+
+fn answer(alloc: Global, table: &mut LockTable, call: Call) -> Answer {
+    match call {
+        Call::Ask(backend, command, rel, mode) => asked(table, backend, command, rel, mode),
+        Call::Has(backend, rel, mode) if table.holds(backend, rel, mode) => YES,
+        Call::Has(..) => NO,
+        Call::Unlock(backend, rel, mode) => unlocked(table, backend, rel, mode),
+        Call::Release(backend, from) => {
+            table.release(backend, from);
+            DONE
+        }
+        Call::Prepare => prepare(alloc, table),
+        Call::GrantPrepared => {
+            table.grant_prepared();
+            DONE
+        }
+    }
+}
+
+fn asked(table: &mut LockTable, backend: u32, command: u32, rel: Oid, mode: Mode) -> Answer {
     match table.request(backend, command, rel, mode) {
-        Ok(Granted::New) => ("new", 0, 0),
-        Ok(Granted::Held) => ("held", 0, 0),
+        Ok(Granted::New) => NEW,
+        Ok(Granted::Held) => HELD,
         Err(LockRefusal::Conflict { holder, mode }) => ("conflict", holder, mode.number()),
-        Err(LockRefusal::NoMemory) => ("no memory", 0, 0),
+        Err(LockRefusal::NoMemory) => NO_MEMORY,
     }
 }
 
-// Releases one lock, if it is held.
-fn unlock(table: &mut LockTable, backend: u32, rel: Oid, mode: Mode) {
-    if table.holds(backend, rel, mode) {
-        table.unlock(backend, rel, mode);
+// Gives up one lock, if it is held.
+fn unlocked(table: &mut LockTable, backend: u32, rel: Oid, mode: Mode) -> Answer {
+    if !table.holds(backend, rel, mode) {
+        return NO;
+    }
+    table.unlock(backend, rel, mode);
+    DONE
+}
+
+const PREPARED: [Grant; 2] = [
+    Grant {
+        backend: 1,
+        command: 4,
+        rel: REL,
+        mode: Mode::AccessExclusive,
+    },
+    Grant {
+        backend: 1,
+        command: 4,
+        rel: OTHER,
+        mode: Mode::AccessExclusive,
+    },
+];
+
+fn prepare(alloc: Global, table: &mut LockTable) -> Answer {
+    let Ok(grants) = PREPARED.to_vec(alloc) else {
+        return NO_MEMORY;
+    };
+    match table.prepare(grants) {
+        Ok(()) => DONE,
+        Err(_) => NO_MEMORY,
     }
 }
 
-// Two holders of modes that don't conflict, and the number of the first one's mode.
-const HOLDERS: [(u32, Mode, u32, Mode, u32); 2] = [
-    (1, Mode::Share, 2, Mode::AccessShare, 5),
-    (2, Mode::AccessShare, 1, Mode::Share, 1),
+// Calls on an empty table, and what each is answered.
+const CALLS: [(&str, &[(Call, Answer)]); 5] = [
+    ("the first holder is named", FIRST_HOLDER),
+    ("the first holder is named in the other order", OTHER_ORDER),
+    ("own modes are never in the way", OWN_MODES),
+    ("releases from a command on", RELEASES),
+    ("prepared locks are granted", GRANTED),
+];
+
+const FIRST_HOLDER: &[(Call, Answer)] = &[
+    (Call::Ask(1, 1, REL, Mode::Share), NEW),
+    (Call::Ask(2, 1, REL, Mode::AccessShare), NEW),
+    (
+        Call::Ask(3, 1, REL, Mode::AccessExclusive),
+        ("conflict", 1, 5),
+    ),
+    (Call::Ask(3, 1, OTHER, Mode::AccessExclusive), NEW),
+];
+
+const OTHER_ORDER: &[(Call, Answer)] = &[
+    (Call::Ask(2, 1, REL, Mode::AccessShare), NEW),
+    (Call::Ask(1, 1, REL, Mode::Share), NEW),
+    (
+        Call::Ask(3, 1, REL, Mode::AccessExclusive),
+        ("conflict", 2, 1),
+    ),
+    (Call::Ask(3, 1, OTHER, Mode::AccessExclusive), NEW),
+];
+
+const OWN_MODES: &[(Call, Answer)] = &[
+    (Call::Ask(1, 1, REL, Mode::AccessShare), NEW),
+    (Call::Ask(1, 1, REL, Mode::AccessExclusive), NEW),
+    (Call::Ask(1, 1, REL, Mode::AccessShare), HELD),
+    (Call::Ask(1, 1, REL, Mode::AccessExclusive), HELD),
+    (Call::Ask(2, 1, REL, Mode::AccessShare), ("conflict", 1, 8)),
+    (Call::Unlock(1, REL, Mode::AccessExclusive), DONE),
+    (Call::Ask(2, 1, REL, Mode::AccessShare), NEW),
+    (Call::Has(1, REL, Mode::AccessShare), YES),
+    (Call::Has(1, REL, Mode::AccessExclusive), NO),
+    (
+        Call::Ask(1, 2, REL, Mode::AccessExclusive),
+        ("conflict", 2, 1),
+    ),
+];
+
+const RELEASES: &[(Call, Answer)] = &[
+    (Call::Ask(1, 1, REL, Mode::Share), NEW),
+    (Call::Ask(1, 2, OTHER, Mode::Share), NEW),
+    (Call::Ask(1, 3, REL, Mode::Exclusive), NEW),
+    (Call::Ask(2, 1, OTHER, Mode::Share), NEW),
+    (Call::Release(1, 2), DONE),
+    (Call::Has(1, REL, Mode::Share), YES),
+    (Call::Has(1, REL, Mode::Exclusive), NO),
+    (Call::Has(2, OTHER, Mode::Share), YES),
+    (Call::Has(1, OTHER, Mode::Share), NO),
+    (Call::Ask(3, 1, OTHER, Mode::Exclusive), ("conflict", 2, 5)),
+    (Call::Release(1, 0), DONE),
+    (Call::Release(2, 0), DONE),
+    (Call::Ask(3, 1, REL, Mode::AccessExclusive), NEW),
+    (Call::Ask(3, 1, OTHER, Mode::AccessExclusive), NEW),
+];
+
+const GRANTED: &[(Call, Answer)] = &[
+    (Call::Prepare, DONE),
+    (Call::Has(1, OTHER, Mode::AccessExclusive), NO),
+    (Call::GrantPrepared, DONE),
+    (Call::Has(1, REL, Mode::AccessExclusive), YES),
+    (Call::Has(1, OTHER, Mode::AccessExclusive), YES),
+    (Call::GrantPrepared, DONE),
+    (Call::Release(1, 4), DONE),
+    (Call::Ask(2, 1, OTHER, Mode::AccessExclusive), NEW),
 ];
 
 #[test]
-fn first_holder_is_named(rt: HostRuntime) {
-    for (first, mode, second, weaker, number) in HOLDERS {
+fn a_table_answers_its_calls(rt: HostRuntime) {
+    for (name, calls) in CALLS {
         let mut table = LockTable::new(rt.alloc());
-        assert_eq!(rt; asked(&mut table, first, 1, REL, mode), ("new", 0, 0));
-        assert_eq!(rt; asked(&mut table, second, 1, REL, weaker), ("new", 0, 0));
-        let refused = ("conflict", first, number);
-        assert_eq!(rt;
-            asked(&mut table, 3, 1, REL, Mode::AccessExclusive),
-            refused
-        );
-        assert_eq!(rt;
-            asked(&mut table, 3, 1, OTHER, Mode::AccessExclusive),
-            ("new", 0, 0)
-        );
-    }
-}
-
-#[test]
-fn own_modes_are_never_in_the_way(rt: HostRuntime) {
-    let mut table = LockTable::new(rt.alloc());
-    for answer in ["new", "held"] {
-        for mode in [Mode::AccessShare, Mode::AccessExclusive] {
-            assert_eq!(rt; asked(&mut table, 1, 1, REL, mode), (answer, 0, 0));
+        for (call, wanted) in calls {
+            let is_so = answer(rt.alloc(), &mut table, *call) == *wanted;
+            assert!(rt; is_so, "{name}");
         }
     }
-    assert_eq!(rt;
-        asked(&mut table, 2, 1, REL, Mode::AccessShare),
-        ("conflict", 1, 8)
-    );
-    unlock(&mut table, 1, REL, Mode::AccessExclusive);
-    assert_eq!(rt;
-        asked(&mut table, 2, 1, REL, Mode::AccessShare),
-        ("new", 0, 0)
-    );
-    assert!(rt; table.holds(1, REL, Mode::AccessShare));
-    assert!(rt; !table.holds(1, REL, Mode::AccessExclusive));
-    assert_eq!(rt;
-        asked(&mut table, 1, 2, REL, Mode::AccessExclusive),
-        ("conflict", 2, 1)
-    );
 }
 
-#[test]
-fn releases_from_a_command_on(rt: HostRuntime) {
-    let mut table = LockTable::new(rt.alloc());
-    for (command, rel) in [(1, REL), (2, OTHER), (3, REL)] {
-        let mode = if command == 3 {
-            Mode::Exclusive
-        } else {
-            Mode::Share
-        };
-        assert_eq!(rt; asked(&mut table, 1, command, rel, mode), ("new", 0, 0));
-    }
-    assert_eq!(rt; asked(&mut table, 2, 1, OTHER, Mode::Share), ("new", 0, 0));
-    table.release(1, 2);
-    assert!(rt; table.holds(1, REL, Mode::Share) && !table.holds(1, REL, Mode::Exclusive));
-    assert!(rt; table.holds(2, OTHER, Mode::Share) && !table.holds(1, OTHER, Mode::Share));
-    assert_eq!(rt;
-        asked(&mut table, 3, 1, OTHER, Mode::Exclusive),
-        ("conflict", 2, 5)
-    );
-    table.release(1, 0);
-    table.release(2, 0);
-    for rel in [REL, OTHER] {
-        assert_eq!(rt;
-            asked(&mut table, 3, 1, rel, Mode::AccessExclusive),
-            ("new", 0, 0)
-        );
+// A call on the locks of one backend.
+#[derive(Clone, Copy)]
+enum OwnCall {
+    // A lock that was granted in a command.
+    Add(Oid, Mode, u32),
+    // The lock of a relation's creator.
+    AddNew(Oid, u32),
+    Clear(Oid, Mode),
+    ClearAll,
+    Remove(Oid, Mode),
+    Release(u32),
+    State(Oid, Mode),
+    KeepsOut(Oid, Mode),
+}
+
+fn own_answer(own: &mut OwnLocks, call: OwnCall) -> &'static str {
+    let Ok(()) = own.reserve() else {
+        return "no memory";
+    };
+    match call {
+        OwnCall::Add(rel, mode, command) => added(own, rel, mode, command),
+        OwnCall::AddNew(rel, command) => added_new(own, rel, command),
+        OwnCall::Clear(rel, mode) => cleared(own, rel, mode),
+        OwnCall::Remove(rel, mode) => removed(own, rel, mode),
+        OwnCall::State(rel, mode) => state(own, rel, mode),
+        OwnCall::KeepsOut(rel, mode) => kept_out(own, rel, mode),
+        OwnCall::ClearAll => {
+            own.clear_all();
+            "done"
+        }
+        OwnCall::Release(from) => {
+            own.release(from);
+            "done"
+        }
     }
 }
 
-#[test]
-fn prepared_locks_are_granted(rt: HostRuntime) -> Result<(), Fail> {
-    let mut table = LockTable::new(rt.alloc());
-    let mut grants = Vec::new(rt.alloc());
-    for rel in [REL, OTHER] {
-        grants.push(Grant {
-            backend: 1,
-            command: 4,
-            rel,
-            mode: Mode::AccessExclusive,
-        })?;
+fn added(own: &mut OwnLocks, rel: Oid, mode: Mode, command: u32) -> &'static str
+    requires { 0 < own.old.room }
+{
+    if own.state(rel, mode).is_some() {
+        return "held";
     }
-    table.prepare(grants)?;
-    assert!(rt; !table.holds(1, OTHER, Mode::AccessExclusive));
-    table.grant_prepared();
-    for rel in [REL, OTHER] {
-        assert!(rt; table.holds(1, rel, Mode::AccessExclusive));
-    }
-    table.grant_prepared();
-    table.release(1, 4);
-    assert_eq!(rt;
-        asked(&mut table, 2, 1, OTHER, Mode::AccessExclusive),
-        ("new", 0, 0)
-    );
-    Ok(())
+    own.add(rel, mode, command);
+    "done"
 }
 
-// Adds a lock that isn't held yet.
-fn add(own: &mut OwnLocks, rel: Oid, mode: Mode, command: u32) -> Result<(), NoMemory> {
-    own.reserve()?;
+fn added_new(own: &mut OwnLocks, rel: Oid, command: u32) -> &'static str
+    requires { 0 < own.old.room }
+{
+    if own.state(rel, Mode::AccessExclusive).is_some() {
+        return "held";
+    }
+    own.add_new(rel, command);
+    "done"
+}
+
+fn cleared(own: &mut OwnLocks, rel: Oid, mode: Mode) -> &'static str {
     if own.state(rel, mode).is_none() {
-        own.add(rel, mode, command);
+        return "none";
     }
-    Ok(())
+    own.clear(rel, mode);
+    "done"
 }
 
+fn removed(own: &mut OwnLocks, rel: Oid, mode: Mode) -> &'static str {
+    if own.state(rel, mode).is_none() {
+        return "none";
+    }
+    own.remove(rel, mode);
+    "done"
+}
+
+fn state(own: &OwnLocks, rel: Oid, mode: Mode) -> &'static str {
+    match own.state(rel, mode) {
+        Some(true) => "clear",
+        Some(false) => "held",
+        None => "none",
+    }
+}
+
+fn kept_out(own: &OwnLocks, rel: Oid, mode: Mode) -> &'static str {
+    if own.keeps_out(rel, mode) {
+        "out"
+    } else {
+        "in"
+    }
+}
+
+// Calls on the locks of a backend that has none, and what each is answered.
+const OWN_CALLS: [(OwnCall, &str); 22] = [
+    (OwnCall::Add(REL, Mode::Share, 1), "done"),
+    (OwnCall::Add(REL, Mode::AccessShare, 2), "done"),
+    (OwnCall::Add(OTHER, Mode::Share, 3), "done"),
+    (OwnCall::State(REL, Mode::Share), "held"),
+    (OwnCall::State(OTHER, Mode::AccessShare), "none"),
+    (OwnCall::KeepsOut(REL, Mode::RowExclusive), "in"),
+    (OwnCall::Clear(REL, Mode::Share), "done"),
+    (OwnCall::State(REL, Mode::Share), "clear"),
+    (OwnCall::State(REL, Mode::AccessShare), "held"),
+    (OwnCall::KeepsOut(REL, Mode::RowExclusive), "out"),
+    (OwnCall::KeepsOut(REL, Mode::RowShare), "in"),
+    (OwnCall::ClearAll, "done"),
+    (OwnCall::State(OTHER, Mode::Share), "clear"),
+    (OwnCall::State(REL, Mode::AccessShare), "clear"),
+    (OwnCall::Remove(REL, Mode::Share), "done"),
+    (OwnCall::State(REL, Mode::Share), "none"),
+    (OwnCall::Release(3), "done"),
+    (OwnCall::State(OTHER, Mode::Share), "none"),
+    (OwnCall::State(REL, Mode::AccessShare), "clear"),
+    (OwnCall::AddNew(OTHER, 4), "done"),
+    (OwnCall::State(OTHER, Mode::AccessExclusive), "clear"),
+    (OwnCall::Release(0), "done"),
+];
+
 #[test]
-fn own_locks_are_marked(rt: HostRuntime) -> Result<(), Fail> {
+fn own_locks_are_marked(rt: HostRuntime) {
     let mut own = OwnLocks::new(rt.alloc());
-    add(&mut own, REL, Mode::Share, 1)?;
-    add(&mut own, REL, Mode::AccessShare, 2)?;
-    add(&mut own, OTHER, Mode::Share, 3)?;
-    assert_eq!(rt; own.state(REL, Mode::Share), Some(false));
-    assert_eq!(rt; own.state(OTHER, Mode::AccessShare), None);
-    assert!(rt; !own.keeps_out(REL, Mode::RowExclusive));
-    if own.state(REL, Mode::Share).is_some() {
-        own.clear(REL, Mode::Share);
+    for (call, wanted) in OWN_CALLS {
+        assert!(rt; own_answer(&mut own, call) == wanted);
     }
-    assert_eq!(rt; own.state(REL, Mode::Share), Some(true));
-    assert_eq!(rt; own.state(REL, Mode::AccessShare), Some(false));
-    assert!(rt; own.keeps_out(REL, Mode::RowExclusive) && !own.keeps_out(REL, Mode::RowShare));
-    own.clear_all();
-    assert_eq!(rt; own.state(OTHER, Mode::Share), Some(true));
-    if own.state(REL, Mode::Share).is_some() {
-        own.remove(REL, Mode::Share);
-    }
-    assert_eq!(rt; own.state(REL, Mode::Share), None);
-    own.release(3);
-    assert_eq!(rt; own.state(OTHER, Mode::Share), None);
-    assert_eq!(rt; own.state(REL, Mode::AccessShare), Some(true));
-    own.reserve()?;
-    if own.state(OTHER, Mode::AccessExclusive).is_none() {
-        own.add_new(OTHER, 4);
-    }
-    assert_eq!(rt; own.state(OTHER, Mode::AccessExclusive), Some(true));
-    Ok(())
 }

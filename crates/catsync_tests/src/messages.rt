@@ -1,7 +1,5 @@
-use crate::values::name;
-use base_types::{
-    CacheId, ColType, ConKind, IndexState, Kind, Name, NoMemory, Nums, Oid, Row, Text, Word,
-};
+use crate::row_texts::rows_of;
+use base_types::{CacheId, NoMemory, Oid};
 use command_lists::InvalLists;
 use inval_messages::{Message, messages_of};
 use std::alloc::Global;
@@ -23,118 +21,59 @@ fn all_numbers(alloc: Global, messages: &[Message]) -> Result<Vec<(u32, u32)>, N
     Ok(all)
 }
 
-// The messages of a change.
-fn told(alloc: Global, old: Option<&Row>, new: Option<&Row>) -> Result<Vec<(u32, u32)>, NoMemory> {
+// The messages of a change from the row of one text to that of another, of which one may be empty.
+fn told(alloc: Global, old: &[u8], new: &[u8]) -> Result<Vec<(u32, u32)>, NoMemory> {
+    let (old, new) = (rows_of(alloc, old)?, rows_of(alloc, new)?);
     let mut messages = Vec::new(alloc);
-    messages_of(old, new, &mut messages)?;
+    messages_of(old.first(), new.first(), &mut messages)?;
     all_numbers(alloc, &messages)
 }
 
-fn table(name: Name) -> Row {
-    Row::Class {
-        oid: Oid(16384),
-        name,
-        kind: Kind::Table,
-        fill: None,
-    }
-}
+const T: &[u8] = b"+class(16384,t,r,-)";
 
-fn column(num: u32, name: Name, stat: i32) -> Row {
-    Row::Att {
-        rel: Oid(16384),
-        num,
-        name,
-        col_type: ColType::Int4,
-        stat,
-        live: true,
-    }
-}
+const U: &[u8] = b"+class(16384,u,r,-)";
 
-fn constraint(name: Name, what: ConKind) -> Row {
-    Row::Con {
-        oid: Oid(16386),
-        rel: Oid(16385),
-        name,
-        valid: true,
-        what,
-    }
-}
+const A: &[u8] = b"+att(16384,1,a,int4,-1,l)";
 
-// The hashes of the names `t`, `u`, `an` and `c0`, of the oid 16384 and of its columns `a` and `b` were computed
-// by hand.
+const OF_TABLE: &[(u32, u32)] = &[(1, 147), (2, 1849026), (0, 16384)];
+
+const OF_COLUMN: &[(u32, u32)] = &[(3, 85949054), (0, 16384)];
+
+// The rows before and after a change, and its messages. The hashes of the names `t`, `u`, `an` and `c0`, of the
+// oid 16384 and of its columns `a` and `b` were computed by hand.
+const CHANGES: [(&[u8], &[u8], &[(u32, u32)]); 13] = [
+    (b"", T, OF_TABLE),
+    (T, b"", OF_TABLE),
+    (T, T, OF_TABLE),
+    (T, U, &[(1, 147), (1, 148), (2, 1849026), (0, 16384)]),
+    (
+        b"+class(16384,an,r,-)",
+        b"+class(16384,c0,r,-)",
+        &[(1, 4078), (2, 1849026), (0, 16384)],
+    ),
+    (b"", A, OF_COLUMN),
+    (A, b"+att(16384,1,a,int4,100,l)", OF_COLUMN),
+    (
+        A,
+        b"+att(16384,1,b,int4,-1,l)",
+        &[(3, 85949054), (3, 85949055), (0, 16384)],
+    ),
+    (b"", b"+con(16386,16385,k,f,v,1,16384,1)", &[(0, 16385)]),
+    (b"+ind(16387,16384,v,1)", b"", &[(0, 16387)]),
+    (b"", b"+con(16386,16385,k,c,v,a>0)", &[]),
+    (b"", b"+trg(16388,16384,k,e)", &[]),
+    (b"", b"+def(16389,16384,1,0)", &[]),
+];
+
 #[test]
-fn messages_of_tables(rt: HostRuntime) -> Result<(), Fail> {
-    let alloc = rt.alloc();
-    let (t, u) = (table(name(b"t")?), table(name(b"u")?));
-    let (an, c0) = (table(name(b"an")?), table(name(b"c0")?));
-    let one: &[(u32, u32)] = &[(1, 147), (2, 1849026), (0, 16384)];
-    let renamed: &[(u32, u32)] = &[(1, 147), (1, 148), (2, 1849026), (0, 16384)];
-    let equal_hashes: &[(u32, u32)] = &[(1, 4078), (2, 1849026), (0, 16384)];
-    assert_eq!(rt; told(alloc, None, Some(&t))?.as_slice(), one);
-    assert_eq!(rt; told(alloc, Some(&t), None)?.as_slice(), one);
-    assert_eq!(rt; told(alloc, Some(&t), Some(&t))?.as_slice(), one);
-    assert_eq!(rt; told(alloc, Some(&t), Some(&u))?.as_slice(), renamed);
-    assert_eq!(rt; told(alloc, Some(&an), Some(&c0))?.as_slice(), equal_hashes);
+fn changes_have_their_messages(rt: HostRuntime) -> Result<(), Fail> {
+    for (old, new, wanted) in CHANGES {
+        assert!(rt; told(rt.alloc(), old, new)?.as_slice() == wanted);
+    }
     Ok(())
 }
 
-#[test]
-fn messages_of_columns(rt: HostRuntime) -> Result<(), Fail> {
-    let alloc = rt.alloc();
-    let a = column(1, name(b"a")?, -1);
-    let one: &[(u32, u32)] = &[(3, 85949054), (0, 16384)];
-    let renamed: &[(u32, u32)] = &[(3, 85949054), (3, 85949055), (0, 16384)];
-    assert_eq!(rt; told(alloc, None, Some(&a))?.as_slice(), one);
-    assert_eq!(rt;
-        told(alloc, Some(&a), Some(&column(1, name(b"a")?, 100)))?.as_slice(),
-        one
-    );
-    assert_eq!(rt;
-        told(alloc, Some(&a), Some(&column(1, name(b"b")?, -1)))?.as_slice(),
-        renamed
-    );
-    Ok(())
-}
-
-#[test]
-fn messages_of_other_rows(rt: HostRuntime) -> Result<(), Fail> {
-    let alloc = rt.alloc();
-    let k = name(b"k")?;
-    let what = ConKind::Foreign {
-        num: 1,
-        refrel: Oid(16384),
-        refnum: 1,
-    };
-    let index = Row::Ind {
-        index: Oid(16387),
-        table: Oid(16384),
-        state: IndexState::Valid,
-        nums: Nums::new(&[1]),
-    };
-    let trigger = Row::Trg {
-        oid: Oid(16388),
-        rel: Oid(16384),
-        name: k,
-        on: true,
-    };
-    let check = ConKind::Check(Text::new(b"a>0").ok().ok_or("no text")?);
-    let word = Row::Def {
-        oid: Oid(16389),
-        rel: Oid(16384),
-        num: 1,
-        word: Word::new(b"0").ok().ok_or("no word")?,
-    };
-    let (of_key, of_index): (&[(u32, u32)], &[(u32, u32)]) = (&[(0, 16385)], &[(0, 16387)]);
-    assert_eq!(rt;
-        told(alloc, None, Some(&constraint(k, what)))?.as_slice(),
-        of_key
-    );
-    assert_eq!(rt; told(alloc, Some(&index), None)?.as_slice(), of_index);
-    for row in [constraint(k, check), trigger, word] {
-        assert!(rt; told(alloc, None, Some(&row))?.is_empty());
-    }
-    Ok(())
-}
+const REL: Message = Message::Rel { rel: Oid(16384) };
 
 fn cat(hash: u32) -> Message {
     Message::Cat {
@@ -155,28 +94,42 @@ fn kept(lists: &InvalLists, from: u32) -> (usize, u32, usize) {
 }
 
 #[test]
-fn lists_by_command(rt: HostRuntime) -> Result<(), Fail> {
-    let rel = Message::Rel { rel: Oid(16384) };
+fn lists_of_a_command(rt: HostRuntime) -> Result<(), Fail> {
     let mut lists = InvalLists::new(rt.alloc());
-    lists.reserve(8)?;
+    lists.reserve(4)?;
     lists.register(2, cat(147));
-    lists.register(2, rel);
+    lists.register(2, REL);
     lists.register(2, cat(147));
-    lists.register(2, rel);
-    assert_eq!(rt; kept(&lists, 2), (2, 147, 1));
+    lists.register(2, REL);
+    assert!(rt; kept(&lists, 2) == (2, 147, 1));
+    Ok(())
+}
+
+// Lists of commands 2 and 4, of which the second has ended.
+fn two_commands(lists: &mut InvalLists) -> Result<(), NoMemory> {
+    lists.clear();
+    lists.reserve(4)?;
+    lists.register(2, cat(147));
+    lists.register(2, REL);
     lists.end_command();
-    lists.register(4, rel);
+    lists.register(4, REL);
     lists.register(4, cat(148));
-    assert_eq!(rt; kept(&lists, 1), (3, 147, 2));
-    assert_eq!(rt; kept(&lists, 3), (1, 148, 1));
-    assert_eq!(rt; kept(&lists, 5), (0, 0, 0));
+    Ok(())
+}
+
+#[test]
+fn lists_by_command(rt: HostRuntime) -> Result<(), Fail> {
+    let mut lists = InvalLists::new(rt.alloc());
+    two_commands(&mut lists)?;
+    let all = [kept(&lists, 1), kept(&lists, 3), kept(&lists, 5)];
+    assert!(rt; all == [(2, 147, 2), (1, 148, 1), (0, 0, 0)]);
+    lists.abort_from(3);
+    assert!(rt; kept(&lists, 1) == (1, 147, 1));
+    two_commands(&mut lists)?;
     lists.end_command();
     lists.abort_from(4);
-    assert_eq!(rt; kept(&lists, 1), (2, 147, 1));
-    lists.register(4, cat(148));
-    lists.abort_from(3);
-    assert_eq!(rt; kept(&lists, 1), (2, 147, 1));
+    assert!(rt; kept(&lists, 1) == (1, 147, 1));
     lists.clear();
-    assert_eq!(rt; kept(&lists, 1), (0, 0, 0));
+    assert!(rt; kept(&lists, 1) == (0, 0, 0));
     Ok(())
 }

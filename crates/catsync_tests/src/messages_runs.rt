@@ -1,6 +1,11 @@
-use crate::calls::walked;
+ghost use Rattle.std.specs.Prelude.{◌≡◌, true};
+ghost use Rattle.walk_run.specs.Built.{is_built as is_built_scenario};
+
+use crate::calls::gives;
 use crate::scripts::script_of;
 use crate::segments::walked_segment;
+use base_types::NoMemory;
+use script_text::Script;
 use seg_calls::Seg;
 use std::alloc::Global;
 use std::fmt::Write;
@@ -540,7 +545,7 @@ end
 #[test]
 fn scripts_with_messages_have_these_outputs(rt: HostRuntime) -> Result<(), Fail> {
     for (name, script, output) in RUNS {
-        assert!(rt; walked(rt.alloc(), script)?.gave(output), "{name}");
+        assert!(rt; gives(rt.alloc(), script, output)?, "{name}");
     }
     Ok(())
 }
@@ -548,7 +553,9 @@ fn scripts_with_messages_have_these_outputs(rt: HostRuntime) -> Result<(), Fail>
 // How many columns the tables of one block have, how many messages each insertion of its commit takes, and how
 // many each fetch of another backend gives. A table of n columns leaves n + 2 messages for the caches of names,
 // which are sent before the one for its descriptor.
-const WIDE: [(&[u32], &[u32], &[u32]); 9] = [
+type Wide = (&'static [u32], &'static [u32], &'static [u32]);
+
+const WIDE: [Wide; 9] = [
     (&[28], &[30, 1], &[31]),
     (&[29], &[31, 1], &[32]),
     (&[30], &[32, 1], &[32, 1]),
@@ -561,7 +568,8 @@ const WIDE: [(&[u32], &[u32], &[u32]); 9] = [
 ];
 
 // What comes before the block: the table that the other backend shows is made.
-const TABLE_MADE: &str = "\
+fn table_made() -> &'static str {
+    "\
 h 1 0 start
 h 1 1 look no
 h 1 1 write 1 +class(16384,t,r,-) +att(16384,1,a,int4,-1,l)
@@ -569,7 +577,8 @@ h 1 1 visible 1
 h 1 1 publish 3
 h 1 1 publish 1
 h 1 1 release 1
-";
+"
+}
 
 // What the other backend does where no messages come.
 const SHOWN: [&str; 20] = [
@@ -598,46 +607,87 @@ const SHOWN: [&str; 20] = [
 // Where it looks.
 const LOOKS: [usize; 9] = [1, 2, 5, 6, 8, 10, 12, 14, 16];
 
-// A table, then a block of these tables while the other backend has made so many steps.
-fn wide_script(alloc: Global, tables: &[u32], steps: usize) -> Result<String, Fail> {
-    let mut script = String::from_str(alloc, "backends 2\n1: create table t (a int4)\n1: begin\n")?;
-    for (i, columns) in tables.iter().enumerate() {
-        write!(script, "1: create table w{i} (")?;
-        for column in 0..*columns {
-            let comma = if column == 0 { "" } else { ", " };
-            write!(script, "{comma}c{column} int4")?;
-        }
-        script.push_str(")\n")?;
+// The names and types of so many columns.
+fn push_columns(script: &mut String, count: u32) -> Result<(), NoMemory> {
+    for column in 0..count {
+        let comma = if column == 0 { "" } else { ", " };
+        write!(script, "{comma}c{column} int4")?;
     }
-    writeln!(
-        script,
-        "1: commit\n2: show t columns\nsteps 1*7 2*{steps} 1*20 2*40\nend"
-    )?;
+    Ok(())
+}
+
+// A command that makes the table of this number.
+fn push_creation(script: &mut String, table: usize, columns: u32) -> Result<(), NoMemory> {
+    write!(script, "1: create table w{table} (")?;
+    push_columns(script, columns)?;
+    script.push_str(")\n")?;
+    Ok(())
+}
+
+fn push_creations(script: &mut String, tables: &[u32]) -> Result<(), NoMemory> {
+    for (i, columns) in tables.iter().enumerate() {
+        push_creation(script, i, *columns)?;
+    }
+    Ok(())
+}
+
+// A table, then a block of these tables while the other backend has made so many steps.
+fn wide_script(alloc: Global, tables: &[u32], steps: usize) -> Result<String, NoMemory> {
+    let mut script = String::new(alloc);
+    script.push_str("backends 2\n1: create table t (a int4)\n1: begin\n")?;
+    push_creations(&mut script, tables)?;
+    script.push_str("1: commit\n2: show t columns\n")?;
+    writeln!(script, "steps 1*7 2*{steps} 1*20 2*40\nend")?;
     Ok(script)
 }
 
-// The entries of the block, from its begin to its backend's stop.
-fn put_block(output: &mut String, tables: &[u32], sent: &[u32]) -> Result<(), Fail> {
-    output.push_str("h 1 2 look yes\nh 1 2 fetch 4\n")?;
-    for (i, columns) in tables.iter().enumerate() {
-        let (command, oid) = (i + 3, i + 16385);
-        write!(output, "h 1 {command} write 2 +class({oid},w{i},r,-)")?;
-        for column in 0..*columns {
-            write!(output, " +att({oid},{},c{column},int4,-1,l)", column + 1)?;
-        }
-        output.push_str("\n")?;
+// The rows of so many columns of a new table.
+fn push_column_rows(output: &mut String, oid: usize, count: u32) -> Result<(), NoMemory> {
+    for column in 0..count {
+        let num = column.saturating_add(1);
+        write!(output, " +att({oid},{num},c{column},int4,-1,l)")?;
     }
-    let command = tables.len() + 3;
-    writeln!(output, "h 1 {command} visible 2")?;
+    Ok(())
+}
+
+// The entry that writes the table of this number.
+fn push_write(output: &mut String, table: usize, columns: u32) -> Result<(), NoMemory> {
+    let (command, oid) = (table.saturating_add(3), table.saturating_add(16385));
+    write!(output, "h 1 {command} write 2 +class({oid},w{table},r,-)")?;
+    push_column_rows(output, oid, columns)?;
+    output.push_str("\n")?;
+    Ok(())
+}
+
+fn push_writes(output: &mut String, tables: &[u32]) -> Result<(), NoMemory> {
+    for (i, columns) in tables.iter().enumerate() {
+        push_write(output, i, *columns)?;
+    }
+    Ok(())
+}
+
+// An insertion for each of these counts.
+fn push_insertions(output: &mut String, command: usize, sent: &[u32]) -> Result<(), NoMemory> {
     for count in sent {
         writeln!(output, "h 1 {command} publish {count}")?;
     }
-    writeln!(output, "h 1 {command} release 2\nh 1 {} stop", command + 1)?;
+    Ok(())
+}
+
+// The entries of the block, from its begin to its backend's stop.
+fn push_block(output: &mut String, tables: &[u32], sent: &[u32]) -> Result<(), NoMemory> {
+    output.push_str("h 1 2 look yes\nh 1 2 fetch 4\n")?;
+    push_writes(output, tables)?;
+    let command = tables.len().saturating_add(3);
+    let last = command.saturating_add(1);
+    writeln!(output, "h 1 {command} visible 2")?;
+    push_insertions(output, command, sent)?;
+    writeln!(output, "h 1 {command} release 2\nh 1 {last} stop")?;
     Ok(())
 }
 
 // The entries of a look after which these are fetched: after 32 there is one look more.
-fn put_fetches(output: &mut String, fetched: &[u32]) -> Result<(), Fail> {
+fn push_fetches(output: &mut String, fetched: &[u32]) -> Result<(), NoMemory> {
     for count in fetched {
         writeln!(output, "h 2 1 look yes\nh 2 1 fetch {count}")?;
     }
@@ -647,47 +697,59 @@ fn put_fetches(output: &mut String, fetched: &[u32]) -> Result<(), Fail> {
     Ok(())
 }
 
-// What is written where the messages come before the look of this number.
-fn wide_output(
-    alloc: Global,
-    tables: &[u32],
-    sent: &[u32],
-    fetched: &[u32],
-    look: usize,
-) -> Result<String, Fail> {
-    let mut output = String::from_str(alloc, TABLE_MADE)?;
+// Its entries from one place on, up to another.
+fn push_shown(output: &mut String, from: usize, to: usize) -> Result<(), NoMemory> {
     for (i, entry) in SHOWN.iter().enumerate() {
-        if i == look {
-            put_block(&mut output, tables, sent)?;
-            put_fetches(&mut output, fetched)?;
-        } else {
+        if from <= i && i < to {
             writeln!(output, "{entry}")?;
         }
     }
-    for command in 1..tables.len() + 4 {
+    Ok(())
+}
+
+// The answers of the first backend.
+fn push_answers(output: &mut String, count: usize) -> Result<(), NoMemory> {
+    for i in 0..count {
+        let command = i.saturating_add(1);
         writeln!(output, "l 1 {command} ok")?;
     }
+    Ok(())
+}
+
+// What is written where the messages come before the look of this number.
+fn wide_output(alloc: Global, wide: &Wide, look: usize) -> Result<String, NoMemory> {
+    let (tables, sent, fetched) = *wide;
+    let mut output = String::new(alloc);
+    output.push_str(table_made())?;
+    push_shown(&mut output, 0, look)?;
+    push_block(&mut output, tables, sent)?;
+    push_fetches(&mut output, fetched)?;
+    push_shown(&mut output, look.saturating_add(1), SHOWN.len())?;
+    push_answers(&mut output, tables.len().saturating_add(3))?;
     output.push_str("l 2 1 columns a:int4\nend\n")?;
     Ok(output)
 }
 
+fn is_sent_in_parts(alloc: Global, wide: &Wide, look: usize) -> Result<bool, NoMemory> {
+    let script = wide_script(alloc, wide.0, look)?;
+    let output = wide_output(alloc, wide, look)?;
+    gives(alloc, script.as_bytes(), output.as_bytes())
+}
+
 #[test]
 fn wide_tables_are_sent_and_fetched_in_parts(rt: HostRuntime) -> Result<(), Fail> {
-    let alloc = rt.alloc();
-    for (tables, sent, fetched) in WIDE {
+    for wide in WIDE {
         for look in LOOKS {
-            let script = wide_script(alloc, tables, look)?;
-            let output = wide_output(alloc, tables, sent, fetched, look)?;
-            let run = walked(alloc, script.as_bytes())?;
-            assert!(rt; run.gave(output.as_bytes()), "before {look}");
+            assert!(rt; is_sent_in_parts(rt.alloc(), &wide, look)?, "before {look}");
         }
     }
     Ok(())
 }
 
 // 64 backends have started before one of them makes a table, and then each of them looks for a name.
-fn many_script(alloc: Global) -> Result<String, Fail> {
-    let mut script = String::from_str(alloc, "backends 64\n1: create table t (a int4)\n")?;
+fn many_script(alloc: Global) -> Result<String, NoMemory> {
+    let mut script = String::new(alloc);
+    script.push_str("backends 64\n1: create table t (a int4)\n")?;
     for backend in 1..65 {
         writeln!(script, "{backend}: show u")?;
     }
@@ -702,44 +764,65 @@ fn many_script(alloc: Global) -> Result<String, Fail> {
     Ok(script)
 }
 
-// Each fetches what was published, in 6 entries; the scan is the fourth of them.
-fn many_output(alloc: Global) -> Result<String, Fail> {
+// The command of a backend that looks.
+fn looking_command(backend: u32) -> u32 {
+    if backend == 1 { 2 } else { 1 }
+}
+
+// A backend fetches what was published, and looks for the name.
+fn push_fetching(output: &mut String, b: u32) -> Result<(), NoMemory> {
+    let c = looking_command(b);
+    let last = c.saturating_add(1);
+    writeln!(
+        output,
+        "h {b} {c} look yes\nh {b} {c} fetch 4\nh {b} {c} look no"
+    )?;
+    writeln!(
+        output,
+        "h {b} {c} scan relname u rows 0\nh {b} {c} release {c}"
+    )?;
+    writeln!(output, "h {b} {last} stop")?;
+    Ok(())
+}
+
+// A backend's answer: its scan is the fourth of 6 entries, after 63 starts, the table's 7 entries and those of
+// the backends before it.
+fn push_refusal(output: &mut String, b: u32) -> Result<(), NoMemory> {
+    let c = looking_command(b);
+    let scan = b.saturating_mul(6).saturating_add(68);
+    writeln!(
+        output,
+        "l {b} {c} error 42P01 relation u does not exist as of {scan}"
+    )?;
+    Ok(())
+}
+
+fn many_output(alloc: Global) -> Result<String, NoMemory> {
     let mut output = String::new(alloc);
     for backend in 2..65 {
         writeln!(output, "h {backend} 0 start")?;
     }
-    output.push_str(TABLE_MADE)?;
+    output.push_str(table_made())?;
     for backend in 1..65 {
-        let (b, c) = (backend, if backend == 1 { 2 } else { 1 });
-        writeln!(
-            output,
-            "h {b} {c} look yes\nh {b} {c} fetch 4\nh {b} {c} look no"
-        )?;
-        writeln!(
-            output,
-            "h {b} {c} scan relname u rows 0\nh {b} {c} release {c}\nh {b} {} stop",
-            c + 1
-        )?;
+        push_fetching(&mut output, backend)?;
     }
     output.push_str("l 1 1 ok\n")?;
-    for backend in 1_u32..65 {
-        let (b, c) = (backend, if backend == 1 { 2 } else { 1 });
-        // after 63 starts, the table's 7 entries and those of the backends before
-        let scan = 63 + 7 + b * 6 - 2;
-        writeln!(
-            output,
-            "l {b} {c} error 42P01 relation u does not exist as of {scan}"
-        )?;
+    for backend in 1..65 {
+        push_refusal(&mut output, backend)?;
     }
     output.push_str("end\n")?;
     Ok(output)
 }
 
+fn all_fetch(alloc: Global) -> Result<bool, NoMemory> {
+    let script = many_script(alloc)?;
+    let output = many_output(alloc)?;
+    gives(alloc, script.as_bytes(), output.as_bytes())
+}
+
 #[test]
 fn each_backend_fetches_what_one_publishes(rt: HostRuntime) -> Result<(), Fail> {
-    let alloc = rt.alloc();
-    let (script, output) = (many_script(alloc)?, many_output(alloc)?);
-    assert!(rt; walked(alloc, script.as_bytes())?.gave(output.as_bytes()));
+    assert!(rt; all_fetch(rt.alloc())?);
     Ok(())
 }
 
@@ -764,15 +847,26 @@ const WAITING: [(&[u8], [bool; 3]); 4] = [
     ),
 ];
 
+// For which of the backends of a script messages wait after its walk.
+fn waits(alloc: Global, text: &[u8]) -> Result<[bool; 3], NoMemory> {
+    let script = script_of(alloc, text)?;
+    if !is_built(&script) {
+        return Err(NoMemory);
+    }
+    waits_after(alloc, &script)
+}
+
+fn waits_after(alloc: Global, script: &Script) -> Result<[bool; 3], NoMemory>
+    requires { is_built_scenario script.now ≡ true }
+{
+    let (seg, _backends) = walked_segment(alloc, script)?;
+    Ok([seg.waits(1), seg.waits(2), seg.waits(3)])
+}
+
 #[test]
 fn messages_wait_until_they_are_fetched(rt: HostRuntime) -> Result<(), Fail> {
-    let alloc = rt.alloc();
     for (text, waiting) in WAITING {
-        let script = script_of(alloc, text)?;
-        assert!(rt; is_built(&script));
-        let (seg, _backends) = walked_segment(alloc, &script)?;
-        let waits = [seg.waits(1), seg.waits(2), seg.waits(3)];
-        assert!(rt; waits == waiting);
+        assert!(rt; waits(rt.alloc(), text)? == waiting);
     }
     Ok(())
 }

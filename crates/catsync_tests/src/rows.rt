@@ -1,149 +1,211 @@
-ghost use Rattle.std.specs.Prelude.{◌<◌, length, OnOk};
-
+use crate::row_texts::changes_of;
 use crate::values::name;
-use base_types::{Change, Kind, Name, NoMemory, Oid, Purpose, Row, RowKey, Xid};
+use base_types::{Change, Oid, Purpose, RowKey, Xid};
 use catalog_rows::RowStore;
 use row_visibility::{Clash, Reader, Stamp, StampState, is_own, sees, visible};
 use std::alloc::Global;
-use std::test::Fail;
 
-// The Xid and the command of a stamp, the state of its transaction, the Xid and the command of a reader, whether
-// the stamp is of the reader's own transaction, and whether the reader sees what was done.
-const STAMPS: [(u32, u32, StampState, Option<Xid>, u32, bool, bool); 7] = [
-    (1, 1, StampState::Committed, None, 1, false, true),
-    (1, 9, StampState::Committed, Some(Xid(2)), 1, false, true),
-    (1, 1, StampState::Running, None, 9, false, false),
-    (1, 1, StampState::Running, Some(Xid(2)), 9, false, false),
-    (1, 1, StampState::Running, Some(Xid(1)), 2, true, true),
-    (1, 1, StampState::Running, Some(Xid(1)), 1, true, false),
-    (1, 2, StampState::Running, Some(Xid(1)), 1, true, false),
+// A stamp, the state of its transaction, a reader, whether the stamp is of the reader's own transaction, and
+// whether the reader sees what was done. A stamp and a reader are given by Xid and command, and by 0 without Xid.
+const STAMPS: [((u32, u32), StampState, (u32, u32), (bool, bool)); 7] = [
+    ((1, 1), StampState::Committed, (0, 1), (false, true)),
+    ((1, 9), StampState::Committed, (2, 1), (false, true)),
+    ((1, 1), StampState::Running, (0, 9), (false, false)),
+    ((1, 1), StampState::Running, (2, 9), (false, false)),
+    ((1, 1), StampState::Running, (1, 2), (true, true)),
+    ((1, 1), StampState::Running, (1, 1), (true, false)),
+    ((1, 2), StampState::Running, (1, 1), (true, false)),
 ];
+
+// Whether a stamp is of the reader's own transaction, and whether the reader sees it.
+fn seen_as(did: (u32, u32), state: StampState, reads: (u32, u32)) -> (bool, bool) {
+    let stamp = Stamp {
+        xid: Xid(did.0),
+        command: did.1,
+    };
+    let reader = reader(reads.0, reads.1);
+    (is_own(reader.xid, stamp), sees(state, stamp, reader))
+}
 
 #[test]
 fn stamps_are_seen(rt: HostRuntime) {
-    for (xid, did, state, own, command, is_owned, is_seen) in STAMPS {
-        let stamp = Stamp {
-            xid: Xid(xid),
-            command: did,
-        };
-        assert!(rt; is_own(own, stamp) == is_owned);
-        assert!(rt; sees(state, stamp, Reader { xid: own, command }) == is_seen);
+    for (did, state, reads, wanted) in STAMPS {
+        assert!(rt; seen_as(did, state, reads) == wanted);
     }
     assert!(rt; visible(true, false) && !visible(true, true) && !visible(false, false));
 }
 
-fn table(oid: u32, name: Name) -> Row {
-    Row::Class {
-        oid: Oid(oid),
-        name,
-        kind: Kind::Table,
-        fill: None,
+// A call on the rows of all catalogs. A transaction is given by its Xid, or by 0 where it has none.
+#[derive(Clone, Copy)]
+enum Call {
+    // A transaction writes these changes in a command.
+    Write(u32, u32, &'static [u8]),
+    // It takes back what it did from a command on.
+    Undo(u32, u32),
+    Commit(u32),
+    // What is in the way of a new name of a transaction's.
+    Clash(&'static [u8], u32),
+    // How many tables of a name a transaction sees in a command.
+    Sees(&'static [u8], u32, u32),
+    // Whether there is a relation for who reads what is committed.
+    Finds(u32),
+}
+
+// What a call is answered, and its number.
+type Answer = (&'static str, usize);
+
+const DONE: Answer = ("done", 0);
+
+const NO_MEMORY: Answer = ("no memory", 0);
+
+fn answer(alloc: Global, store: &mut RowStore, call: Call) -> Answer {
+    match call {
+        Call::Write(xid, command, text) => written(alloc, store, (xid, command), text),
+        Call::Undo(xid, from) => {
+            store.undo(Xid(xid), from);
+            DONE
+        }
+        Call::Commit(xid) => committed(store, Xid(xid)),
+        Call::Clash(text, own) => clash(store, text, own),
+        Call::Sees(text, own, command) => seen(store, text, reader(own, command)),
+        Call::Finds(oid) => found(store, oid),
     }
 }
 
-// Whether a transaction sees in a command so many tables of this name.
-fn sees_tables(store: &RowStore, name: Name, reader: (Option<Xid>, u32), count: usize) -> bool {
-    let (xid, command) = reader;
-    let rows = store.scan(&Purpose::RelName(name), Reader { xid, command });
-    matches!(rows, Ok(rows) if rows.len() == count)
+fn written(alloc: Global, store: &mut RowStore, by: (u32, u32), text: &[u8]) -> Answer {
+    match changes_of(alloc, text) {
+        Ok(changes) => applied(store, by, &changes),
+        Err(_) => NO_MEMORY,
+    }
 }
 
-// Whether there is a row with this key for who reads what is committed.
-fn is_there(store: &RowStore, oid: u32) -> bool {
-    let reader = Reader {
-        xid: None,
-        command: 1,
+fn applied(store: &mut RowStore, by: (u32, u32), changes: &[Change]) -> Answer {
+    match store.apply(Xid(by.0), by.1, changes) {
+        Ok(()) => DONE,
+        Err(_) => NO_MEMORY,
+    }
+}
+
+// Commits, after a write without changes: only who has written may commit.
+fn committed(store: &mut RowStore, xid: Xid) -> Answer {
+    let Ok(()) = store.apply(xid, 1, &[]) else {
+        return NO_MEMORY;
     };
-    store.row(&RowKey::Class(Oid(oid)), reader).is_some()
+    store.commit(xid);
+    DONE
 }
 
-// Whether this is in the way of a new name, with this number.
-fn clashes(store: &RowStore, name: Name, own: Option<Xid>, wanted: (&str, u32)) -> bool {
-    wanted
-        == match store.name_clash(&name, own) {
-            Some(Clash::Row(rel)) => ("row", rel.0),
-            Some(Clash::Running(xid)) => ("running", xid.0),
-            None => ("none", 0),
-        }
+fn reader(own: u32, command: u32) -> Reader {
+    Reader {
+        xid: own_xid(own),
+        command,
+    }
 }
 
-// A write of one change.
-fn write(store: &mut RowStore, xid: Xid, command: u32, change: Change) -> Result<(), NoMemory>
-    ensures { OnOk result (xid.0 < length store.new.committed) }
-{
-    store.apply(xid, command, &[change])
+fn own_xid(own: u32) -> Option<Xid> {
+    if own == 0 { None } else { Some(Xid(own)) }
 }
+
+fn clash(store: &RowStore, text: &[u8], own: u32) -> Answer {
+    match store.name_clash(&name(text), own_xid(own)) {
+        Some(Clash::Row(rel)) => ("row", rel.0 as usize),
+        Some(Clash::Running(xid)) => ("running", xid.0 as usize),
+        None => ("none", 0),
+    }
+}
+
+fn seen(store: &RowStore, text: &[u8], reader: Reader) -> Answer {
+    match store.scan(&Purpose::RelName(name(text)), reader) {
+        Ok(rows) => ("rows", rows.len()),
+        Err(_) => NO_MEMORY,
+    }
+}
+
+fn found(store: &RowStore, oid: u32) -> Answer {
+    match store.row(&RowKey::Class(Oid(oid)), reader(0, 1)) {
+        Some(_) => ("found", oid as usize),
+        None => ("none", 0),
+    }
+}
+
+// Calls on a store without rows, and what each is answered.
+const CALLS: [(&str, &[(Call, Answer)]); 4] = [
+    ("two creators", TWO_CREATORS),
+    ("two creators, the second first", OTHER_CREATORS),
+    ("a rollback and the name again", NAME_AGAIN),
+    ("a replaced row and its undo", REPLACED),
+];
+
+const TWO_CREATORS: &[(Call, Answer)] = &[
+    (Call::Write(1, 1, b"+class(16384,x,r,-)"), DONE),
+    (Call::Clash(b"x", 2), ("running", 1)),
+    (Call::Clash(b"x", 1), ("row", 16384)),
+    (Call::Sees(b"x", 2, 9), ("rows", 0)),
+    (Call::Sees(b"x", 1, 1), ("rows", 0)),
+    (Call::Sees(b"x", 1, 2), ("rows", 1)),
+    (Call::Commit(1), DONE),
+    (Call::Clash(b"x", 2), ("row", 16384)),
+    (Call::Sees(b"x", 2, 1), ("rows", 1)),
+];
+
+const OTHER_CREATORS: &[(Call, Answer)] = &[
+    (Call::Write(2, 1, b"+class(16384,x,r,-)"), DONE),
+    (Call::Clash(b"x", 1), ("running", 2)),
+    (Call::Clash(b"x", 2), ("row", 16384)),
+    (Call::Sees(b"x", 1, 9), ("rows", 0)),
+    (Call::Sees(b"x", 2, 1), ("rows", 0)),
+    (Call::Sees(b"x", 2, 2), ("rows", 1)),
+    (Call::Commit(2), DONE),
+    (Call::Clash(b"x", 1), ("row", 16384)),
+    (Call::Sees(b"x", 1, 1), ("rows", 1)),
+];
+
+const NAME_AGAIN: &[(Call, Answer)] = &[
+    (Call::Write(1, 2, b"+class(16384,t,r,-)"), DONE),
+    (Call::Write(1, 3, b"+class(16385,u,r,-)"), DONE),
+    (Call::Undo(1, 3), DONE),
+    (Call::Clash(b"t", 0), ("running", 1)),
+    (Call::Clash(b"u", 0), ("none", 0)),
+    (Call::Undo(1, 2), DONE),
+    (Call::Clash(b"t", 0), ("none", 0)),
+    (Call::Sees(b"t", 1, 9), ("rows", 0)),
+    (Call::Write(2, 1, b"+class(16386,t,r,-)"), DONE),
+    (Call::Commit(2), DONE),
+    (Call::Clash(b"t", 0), ("row", 16386)),
+    (Call::Finds(16386), ("found", 16386)),
+    (Call::Finds(16384), ("none", 0)),
+];
+
+const REPLACED: &[(Call, Answer)] = &[
+    (Call::Write(1, 1, b"+class(16384,t,r,-)"), DONE),
+    (Call::Commit(1), DONE),
+    (Call::Write(2, 1, b"=class(16384,u,r,-)"), DONE),
+    (Call::Sees(b"t", 0, 9), ("rows", 1)),
+    (Call::Sees(b"u", 0, 9), ("rows", 0)),
+    (Call::Sees(b"t", 2, 1), ("rows", 1)),
+    (Call::Sees(b"u", 2, 1), ("rows", 0)),
+    (Call::Sees(b"t", 2, 2), ("rows", 0)),
+    (Call::Sees(b"u", 2, 2), ("rows", 1)),
+    (Call::Clash(b"t", 0), ("running", 2)),
+    (Call::Clash(b"u", 0), ("running", 2)),
+    (Call::Clash(b"t", 2), ("none", 0)),
+    (Call::Clash(b"u", 2), ("row", 16384)),
+    (Call::Undo(2, 1), DONE),
+    (Call::Clash(b"t", 0), ("row", 16384)),
+    (Call::Clash(b"u", 0), ("none", 0)),
+    (Call::Write(2, 2, b"-class(16384)"), DONE),
+    (Call::Finds(16384), ("found", 16384)),
+    (Call::Commit(2), DONE),
+    (Call::Finds(16384), ("none", 0)),
+];
 
 #[test]
-fn two_creators(rt: HostRuntime) -> Result<(), Fail> {
-    let x = name(b"x")?;
-    for (first, second) in [(Xid(1), Xid(2)), (Xid(2), Xid(1))] {
+fn a_store_answers_its_calls(rt: HostRuntime) {
+    for (name, calls) in CALLS {
         let mut store = RowStore::new(rt.alloc());
-        write(&mut store, first, 1, Change::Insert(table(16384, x)))?;
-        assert!(rt; clashes(&store, x, Some(second), ("running", first.0)));
-        assert!(rt; clashes(&store, x, Some(first), ("row", 16384)));
-        for (own, command, wanted) in [(second, 9, 0), (first, 1, 0), (first, 2, 1)] {
-            assert!(rt; sees_tables(&store, x, (Some(own), command), wanted));
+        for (call, wanted) in calls {
+            let is_so = answer(rt.alloc(), &mut store, *call) == *wanted;
+            assert!(rt; is_so, "{name}");
         }
-        store.commit(first);
-        assert!(rt; clashes(&store, x, Some(second), ("row", 16384)));
-        assert!(rt; sees_tables(&store, x, (Some(second), 1), 1));
     }
-    Ok(())
-}
-
-#[test]
-fn a_rollback_and_the_name_again(rt: HostRuntime) -> Result<(), Fail> {
-    let (t, u) = (name(b"t")?, name(b"u")?);
-    let mut store = RowStore::new(rt.alloc());
-    write(&mut store, Xid(1), 2, Change::Insert(table(16384, t)))?;
-    write(&mut store, Xid(1), 3, Change::Insert(table(16385, u)))?;
-    store.undo(Xid(1), 3);
-    assert!(rt; clashes(&store, t, None, ("running", 1)));
-    assert!(rt; clashes(&store, u, None, ("none", 0)));
-    store.undo(Xid(1), 2);
-    assert!(rt; clashes(&store, t, None, ("none", 0)));
-    assert!(rt; sees_tables(&store, t, (Some(Xid(1)), 9), 0));
-    write(&mut store, Xid(2), 1, Change::Insert(table(16386, t)))?;
-    store.commit(Xid(2));
-    assert!(rt; clashes(&store, t, None, ("row", 16386)));
-    assert!(rt; is_there(&store, 16386) && !is_there(&store, 16384));
-    Ok(())
-}
-
-// A table `t` that was made, and then renamed to `u` by a transaction that runs still.
-fn replaced(alloc: Global, t: Name, u: Name) -> Result<RowStore, NoMemory> {
-    let mut store = RowStore::new(alloc);
-    write(&mut store, Xid(1), 1, Change::Insert(table(16384, t)))?;
-    store.commit(Xid(1));
-    write(&mut store, Xid(2), 1, Change::Replace(table(16384, u)))?;
-    Ok(store)
-}
-
-#[test]
-fn a_replaced_row_and_its_undo(rt: HostRuntime) -> Result<(), Fail> {
-    let (t, u, own) = (name(b"t")?, name(b"u")?, Some(Xid(2)));
-    let mut store = replaced(rt.alloc(), t, u)?;
-    for (reader, old, new) in [((None, 9), 1, 0), ((own, 1), 1, 0), ((own, 2), 0, 1)] {
-        assert!(rt; sees_tables(&store, t, reader, old) && sees_tables(&store, u, reader, new));
-    }
-    for (reads, old, new) in [
-        (None, ("running", 2), ("running", 2)),
-        (own, ("none", 0), ("row", 16384)),
-    ] {
-        assert!(rt; clashes(&store, t, reads, old) && clashes(&store, u, reads, new));
-    }
-    store.undo(Xid(2), 1);
-    assert!(rt; clashes(&store, t, None, ("row", 16384)));
-    assert!(rt; clashes(&store, u, None, ("none", 0)));
-    write(
-        &mut store,
-        Xid(2),
-        2,
-        Change::Delete(RowKey::Class(Oid(16384))),
-    )?;
-    assert!(rt; is_there(&store, 16384));
-    store.commit(Xid(2));
-    assert!(rt; !is_there(&store, 16384));
-    Ok(())
 }

@@ -1,5 +1,7 @@
-use crate::calls::{Calls, STEADY, called, called_over, sink_of, walked};
+use crate::calls::{Outcome, called, called_over, gives, walked};
+use crate::ends::{Calls, STEADY};
 use crate::readers::EndlessReader;
+use base_types::NoMemory;
 use catsync_top::{MOST_INPUT, Status};
 use edge_io::{PIECE, StdSource};
 use script_text::ScriptCause;
@@ -10,7 +12,12 @@ use std::test::Fail;
 // A table that isn't there.
 const ABSENT: &[u8] = b"backends 1\n1: show t\nend\n";
 
-const ABSENT_OUTPUT: &[u8] = b"\
+fn absent() -> &'static [u8] {
+    ABSENT
+}
+
+fn absent_output() -> &'static [u8] {
+    b"\
 h 1 0 start
 h 1 1 look no
 h 1 1 look no
@@ -19,53 +26,85 @@ h 1 1 release 1
 h 1 2 stop
 l 1 1 error 42P01 relation t does not exist as of 4
 end
-";
+"
+}
+
+// The same script, and another spelling of it.
+const SPELLINGS: [&[u8]; 2] = [ABSENT, b"-- x\n\nBACKENDS 1\r\n\t1 : Show T ;\nEND"];
 
 #[test]
 fn an_absent_table_is_shown(rt: HostRuntime) -> Result<(), Fail> {
-    for script in [ABSENT, b"-- x\n\nBACKENDS 1\r\n\t1 : Show T ;\nEND"] {
-        assert!(rt; walked(rt.alloc(), script)?.gave(ABSENT_OUTPUT));
+    for script in SPELLINGS {
+        assert!(rt; gives(rt.alloc(), script, absent_output())?);
     }
     Ok(())
 }
 
+// How a call ended, and how many bytes of the output it wrote; other bytes are none.
+fn ending(outcome: &Outcome, output: &[u8]) -> (u8, usize) {
+    let sent = outcome.sent();
+    let count = if output.starts_with(sent) {
+        sent.len()
+    } else {
+        usize::MAX
+    };
+    (outcome.status.exit_code(), count)
+}
+
+fn ending_of(alloc: Global, reads: Calls, writes: Calls) -> Result<(u8, usize), NoMemory> {
+    let outcome = called(alloc, &["walk"], absent(), reads, writes)?;
+    Ok(ending(&outcome, absent_output()))
+}
+
+// The ends of a call whose source or whose sink fails in the call of this number, from 0.
+fn ends_by_reads(alloc: Global, per_call: usize, number: usize) -> Result<(u8, usize), NoMemory> {
+    let failing = (number as u64).saturating_add(1);
+    ending_of(alloc, Calls { per_call, failing }, STEADY)
+}
+
+fn ends_by_writes(alloc: Global, per_call: usize, number: usize) -> Result<(u8, usize), NoMemory> {
+    let failing = (number as u64).saturating_add(1);
+    ending_of(alloc, STEADY, Calls { per_call, failing })
+}
+
+// A call reads the script, and then once more to find its end.
 #[test]
 fn a_source_fails_at_each_call_in_turn(rt: HostRuntime) -> Result<(), Fail> {
-    for (per_call, calls) in [(1, ABSENT.len() as u64 + 1), (5000, 2)] {
-        for failing in 1..calls + 2 {
-            let reads = Calls { per_call, failing };
-            let outcome = called(rt.alloc(), &["walk"], ABSENT, reads, STEADY)?;
-            let is_well = if failing <= calls {
-                outcome.status.exit_code() == 4 && outcome.sent().is_empty()
-            } else {
-                outcome.gave(ABSENT_OUTPUT)
-            };
-            assert!(rt; is_well, "at {failing} of {calls}");
-        }
+    let (bytes, all) = (absent().len(), absent_output().len());
+    for number in 0..bytes {
+        assert!(rt;
+            ends_by_reads(rt.alloc(), 1, number)? == (4, 0),
+            "at {number}"
+        );
+    }
+    assert!(rt; ends_by_reads(rt.alloc(), 1, bytes)? == (4, 0));
+    assert!(rt; ends_by_reads(rt.alloc(), 1, bytes.saturating_add(1))? == (0, all));
+    for (number, wanted) in [(4, 0), (4, 0), (0, all)].iter().enumerate() {
+        assert!(rt;
+            ends_by_reads(rt.alloc(), 5000, number)? == *wanted,
+            "at {number}"
+        );
     }
     Ok(())
 }
 
 #[test]
 fn a_sink_fails_at_each_call_in_turn(rt: HostRuntime) -> Result<(), Fail> {
-    for (per_call, calls) in [(1, ABSENT_OUTPUT.len() as u64), (5000, 1)] {
-        for failing in 1..calls + 2 {
-            let writes = Calls { per_call, failing };
-            let outcome = called(rt.alloc(), &["walk"], ABSENT, STEADY, writes)?;
-            let is_well = if failing <= calls {
-                outcome.status.exit_code() == 5 && is_cut(outcome.sent())
-            } else {
-                outcome.gave(ABSENT_OUTPUT)
-            };
-            assert!(rt; is_well, "at {failing} of {calls}");
-        }
+    let all = absent_output().len();
+    for taken in 0..all {
+        assert!(rt;
+            ends_by_writes(rt.alloc(), 1, taken)? == (5, taken),
+            "after {taken}"
+        );
+    }
+    assert!(rt; ends_by_writes(rt.alloc(), 1, all)? == (0, all));
+    for (number, wanted) in [(5, 0), (0, all)].iter().enumerate() {
+        assert!(rt;
+            ends_by_writes(rt.alloc(), 5000, number)? == *wanted,
+            "at {number}"
+        );
     }
     Ok(())
-}
-
-// Whether it is a prefix of the output, and not all of it.
-fn is_cut(text: &[u8]) -> bool {
-    ABSENT_OUTPUT.starts_with(text) && text.len() < ABSENT_OUTPUT.len()
 }
 
 // Arguments and scripts that are refused, and the exit status and the first word that is said.
@@ -109,93 +148,155 @@ const REFUSED: [(&[&str], &[u8], u8, &str); 13] = [
     ),
     (
         &["walk"],
-        b"backends 1\n1: alter table t drop column a\nend\n",
+        b"backends 1\n1: alter table t rename to u\nend\n",
         9,
         "the script holds",
     ),
 ];
 
+// Whether what is said of a status begins so.
+fn begins(alloc: Global, status: Status, said: &str) -> Result<bool, NoMemory> {
+    let text = format!(in alloc; "{status}")?;
+    Ok(text.as_str().starts_with(said))
+}
+
+// Whether a call ends with this exit status, says this and writes nothing.
+fn is_refused(
+    alloc: Global,
+    words: &[&str],
+    script: &[u8],
+    code: u8,
+    said: &str,
+) -> Result<bool, NoMemory> {
+    let outcome = called(alloc, words, script, STEADY, STEADY)?;
+    let is_so = outcome.status.exit_code() == code && outcome.sent().is_empty();
+    Ok(is_so && begins(alloc, outcome.status, said)?)
+}
+
 #[test]
 fn other_arguments_and_other_scripts_write_nothing(rt: HostRuntime) -> Result<(), Fail> {
     for (words, script, code, said) in REFUSED {
-        let outcome = called(rt.alloc(), words, script, STEADY, STEADY)?;
-        let is_so = outcome.status.exit_code() == code && outcome.sent().is_empty();
         assert!(rt;
-            is_so && begins(rt.alloc(), outcome.status, said)?,
+            is_refused(rt.alloc(), words, script, code, said)?,
             "{said}"
         );
     }
     Ok(())
 }
 
-// Whether what is said of a status begins so.
-fn begins(alloc: Global, status: Status, said: &str) -> Result<bool, Fail> {
-    let text = format!(in alloc; "{status}")?;
-    Ok(text.as_str().starts_with(said))
+// The exit status of a walk of an input of so many bytes.
+fn code_of_input(alloc: Global, bytes: usize) -> Result<u8, NoMemory> {
+    let mut script = b"backends 1\nend\n".to_vec(alloc)?;
+    script.resize(bytes, b' ')?;
+    Ok(walked(alloc, &script)?.status.exit_code())
 }
 
 #[test]
 fn the_most_bytes_and_one_more(rt: HostRuntime) -> Result<(), Fail> {
-    for (more, code) in [(0, 0), (1, 3)] {
-        let mut script = b"backends 1\nend\n".to_vec(rt.alloc())?;
-        script.resize(MOST_INPUT + more, b' ')?;
-        assert!(rt; walked(rt.alloc(), &script)?.status.exit_code() == code);
-    }
+    assert!(rt; code_of_input(rt.alloc(), MOST_INPUT)? == 0);
+    assert!(rt; code_of_input(rt.alloc(), MOST_INPUT + 1)? == 3);
     Ok(())
+}
+
+// The exit status of a walk of an input without an end, and how many bytes of it are read.
+fn code_of_endless(alloc: Global) -> Result<(u8, u64), NoMemory> {
+    let mut reader = EndlessReader { given: 0 };
+    let mut source = StdSource::new(&mut reader);
+    let outcome = called_over(alloc, &["walk"], &mut source, STEADY)?;
+    let code = outcome.status.exit_code();
+    Ok((code, reader.given))
 }
 
 #[test]
 fn an_input_without_an_end_is_read_to_the_limit(rt: HostRuntime) -> Result<(), Fail> {
-    let mut reader = EndlessReader { given: 0 };
-    let sink = sink_of(rt.alloc(), STEADY)?;
-    let outcome = called_over(
-        rt.alloc(),
-        &["walk"],
-        &mut StdSource::new(&mut reader),
-        sink,
-    )?;
-    assert!(rt; outcome.status.exit_code() == 3);
-    assert!(rt; reader.given <= (MOST_INPUT + PIECE) as u64);
+    let (code, given) = code_of_endless(rt.alloc())?;
+    assert!(rt; code == 3 && given <= (MOST_INPUT + PIECE) as u64);
     Ok(())
 }
 
+// Whether a table of so many columns, and what comes then, is answered so.
+fn is_answered(alloc: Global, columns: u32, then: &str, end: &[u8]) -> Result<bool, NoMemory> {
+    let script = wide_script(alloc, columns, then)?;
+    let outcome = walked(alloc, &script)?;
+    Ok(matches!(outcome.status, Status::Done) && outcome.sent().ends_with(end))
+}
+
+const WIDE: [(u32, &str, &[u8]); 4] = [
+    (1600, "", b"\nl 1 1 ok\nend\n"),
+    (1601, "", b"\nl 1 1 error 54011 too many columns\nend\n"),
+    (
+        1600,
+        "1: alter table t drop column c0\n1: alter table t add column z int4\n",
+        b"\nl 1 2 ok\nl 1 3 error 54011 too many columns\nend\n",
+    ),
+    (
+        1599,
+        "1: alter table t drop column c0\n1: alter table t add column z int4\n",
+        b"\nl 1 2 ok\nl 1 3 ok\nend\n",
+    ),
+];
+
 #[test]
 fn the_most_columns_and_one_more(rt: HostRuntime) -> Result<(), Fail> {
-    for (columns, end) in [
-        (1600, b"\nl 1 1 ok\nend\n".as_slice()),
-        (1601, b"\nl 1 1 error 54011 too many columns\nend\n"),
-    ] {
-        let script = wide_script(rt.alloc(), columns)?;
-        let outcome = walked(rt.alloc(), &script)?;
-        assert!(rt; matches!(outcome.status, Status::Done) && outcome.sent().ends_with(end));
+    for (columns, then, end) in WIDE {
+        assert!(rt; is_answered(rt.alloc(), columns, then, end)?, "{columns}");
     }
     Ok(())
 }
 
-// A script that makes a table of so many columns.
-fn wide_script(alloc: Global, columns: u32) -> Result<Vec<u8>, Fail> {
+// A script that makes a table of so many columns, and then does this.
+fn wide_script(alloc: Global, columns: u32, then: &str) -> Result<Vec<u8>, NoMemory> {
     let mut script = String::from_str(alloc, "backends 1\n1: create table t (c0 int4")?;
     for column in 1..columns {
         write!(script, ", c{column} int4")?;
     }
-    script.push_str(")\nend\n")?;
+    script.push_str(")\n")?;
+    script.push_str(then)?;
+    script.push_str("end\n")?;
     Ok(script.into_bytes())
 }
 
 // A script of 1,048,576 bytes with 64 backends, 20,000 commands and 1,000,000 steps: one table is
 // made, and each backend shows it. 15,625 steps bring each backend to its end.
-fn largest_script(alloc: Global) -> Result<Vec<u8>, Fail> {
+fn largest_script(alloc: Global) -> Result<Vec<u8>, NoMemory> {
     let mut script = String::from_str(alloc, "backends 64\n1: create table t (a int4)\n")?;
-    for command in 1..20_000 {
-        writeln!(script, "{}: show t", command % 64 + 1)?;
-    }
-    for backend in 1..65 {
-        writeln!(script, "steps {backend}*15625")?;
-    }
+    push_shows(&mut script)?;
+    push_steps(&mut script)?;
     script.push_str("end\n")?;
     let mut script = script.into_bytes();
     script.resize(MOST_INPUT, b' ')?;
     Ok(script)
+}
+
+fn push_shows(script: &mut String) -> Result<(), NoMemory> {
+    for command in 1..20_000 {
+        writeln!(script, "{}: show t", command % 64 + 1)?;
+    }
+    Ok(())
+}
+
+fn push_steps(script: &mut String) -> Result<(), NoMemory> {
+    for backend in 1..65 {
+        writeln!(script, "steps {backend}*15625")?;
+    }
+    Ok(())
+}
+
+// How many lines are written for a script; none where it isn't done.
+fn lines_of(alloc: Global, script: &[u8]) -> Result<usize, NoMemory> {
+    let outcome = walked(alloc, script)?;
+    match outcome.status {
+        Status::Done => Ok(lines_in(outcome.sent())),
+        _ => Ok(0),
+    }
+}
+
+fn lines_in(text: &[u8]) -> usize {
+    text.iter().filter(|byte| **byte == b'\n').count()
+}
+
+fn lines_of_largest(alloc: Global) -> Result<usize, NoMemory> {
+    lines_of(alloc, &largest_script(alloc)?)
 }
 
 // The first backend makes the table in 6 entries, and fetches its own messages in one more; the others start
@@ -203,10 +304,7 @@ fn largest_script(alloc: Global) -> Result<Vec<u8>, Fail> {
 // after a look; each backend starts and stops.
 #[test]
 fn the_largest_script_is_walked(rt: HostRuntime) -> Result<(), Fail> {
-    let script = largest_script(rt.alloc())?;
-    let outcome = walked(rt.alloc(), &script)?;
-    assert!(rt; matches!(outcome.status, Status::Done));
-    let lines = outcome.sent().iter().filter(|byte| **byte == b'\n').count();
+    let lines = lines_of_largest(rt.alloc())?;
     assert!(rt; lines == 6 + 1 + 19_999 * 6 + 64 * (6 * 2 + 2) + 20_000 + 1);
     Ok(())
 }
@@ -277,21 +375,28 @@ const STATUSES: [(Status, &str); 7] = [
     ),
 ];
 
+// Whether this is said of a status.
+fn is_said(alloc: Global, status: Status, text: &str) -> Result<bool, NoMemory> {
+    Ok(format!(in alloc; "{status}")?.as_str() == text)
+}
+
+fn is_said_of_line(alloc: Global, cause: ScriptCause, text: &str) -> Result<bool, NoMemory> {
+    let said = format!(in alloc; "line 7: {text}")?;
+    is_said(alloc, Status::BadScript { line: 7, cause }, said.as_str())
+}
+
 #[test]
-fn each_status_has_its_text(rt: HostRuntime) -> Result<(), Fail> {
+fn each_cause_has_its_text(rt: HostRuntime) -> Result<(), Fail> {
     for (cause, text) in CAUSES {
-        let status = Status::BadScript { line: 7, cause };
-        assert!(rt; is_said(rt.alloc(), status, "line 7: ", text)?, "{text}");
-    }
-    for (status, text) in STATUSES {
-        assert!(rt; is_said(rt.alloc(), status, "", text)?, "{text}");
+        assert!(rt; is_said_of_line(rt.alloc(), cause, text)?, "{text}");
     }
     Ok(())
 }
 
-// Whether this is said of a status.
-fn is_said(alloc: Global, status: Status, before: &str, text: &str) -> Result<bool, Fail> {
-    let shown = format!(in alloc; "{status}")?;
-    let said = format!(in alloc; "{before}{text}")?;
-    Ok(shown.as_str() == said.as_str())
+#[test]
+fn each_status_has_its_text(rt: HostRuntime) -> Result<(), Fail> {
+    for (status, text) in STATUSES {
+        assert!(rt; is_said(rt.alloc(), status, text)?, "{text}");
+    }
+    Ok(())
 }

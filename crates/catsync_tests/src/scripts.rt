@@ -1,4 +1,5 @@
-use script_text::{Rest, Script, ScriptFault, ScriptRead, read_script, write_script};
+use base_types::NoMemory;
+use script_text::{Rest, Script, ScriptCause, ScriptFault, ScriptRead, read_script, write_script};
 use std::alloc::Global;
 use std::test::Fail;
 
@@ -10,32 +11,45 @@ pub(crate) fn read(alloc: Global, text: &[u8], rest: Rest) -> Result<ScriptRead,
     read_script(alloc, text, rest)
 }
 
-// The script of a short text.
-pub(crate) fn script_of(alloc: Global, text: &[u8]) -> Result<Script, Fail> {
-    Ok(
-        read(alloc, text, Rest::Refused)
-            .ok()
-            .ok_or("no script")?
-            .script,
-    )
-}
-
-// A text that is read and written; nothing for one that is no script.
-fn written(alloc: Global, text: &[u8]) -> Result<Vec<u8>, Fail> {
+// The script of a short text; another text has none.
+pub(crate) fn script_of(alloc: Global, text: &[u8]) -> Result<Script, NoMemory> {
     match read(alloc, text, Rest::Refused) {
-        Ok(read) => Ok(write_script(alloc, &read.script)?),
-        Err(_fault) => Ok(Vec::new(alloc)),
+        Ok(read) => Ok(read.script),
+        Err(_) => Err(NoMemory),
     }
 }
 
-// Whether a text breaks, in this line first, the rule of this name.
-fn breaks(alloc: Global, text: &[u8], line: u32, rule: &str) -> Result<bool, Fail> {
+// A text that is read and written; nothing for one that is no script.
+fn written(alloc: Global, text: &[u8]) -> Result<Vec<u8>, NoMemory> {
     match read(alloc, text, Rest::Refused) {
-        Err(ScriptFault::Bad { line: found, cause }) => {
-            let said = format!(in alloc; "{cause}")?;
-            Ok(found == line && said.as_str().split(':').next() == Some(rule))
-        }
-        _ => Ok(false),
+        Ok(read) => write_script(alloc, &read.script),
+        Err(_) => Ok(Vec::new(alloc)),
+    }
+}
+
+// The line that breaks a rule first, and the rule.
+fn fault(alloc: Global, text: &[u8]) -> (u32, &'static str) {
+    match read(alloc, text, Rest::Refused) {
+        Err(ScriptFault::Bad { line, cause }) => (line, rule(cause)),
+        Err(ScriptFault::NoMemory) => (0, "no memory"),
+        Ok(_) => (0, "none"),
+    }
+}
+
+fn rule(cause: ScriptCause) -> &'static str {
+    match cause {
+        ScriptCause::BadByte => "BadByte",
+        ScriptCause::BadRing => "BadRing",
+        ScriptCause::NoBackends => "NoBackends",
+        ScriptCause::BadCount => "BadCount",
+        ScriptCause::NoEnd => "NoEnd",
+        ScriptCause::BadSteps => "BadSteps",
+        ScriptCause::TooManySteps => "TooManySteps",
+        ScriptCause::UnknownBackend => "UnknownBackend",
+        ScriptCause::LateCommand => "LateCommand",
+        ScriptCause::BadCommand => "BadCommand",
+        ScriptCause::TooManyCommands => "TooManyCommands",
+        ScriptCause::AfterEnd => "AfterEnd",
     }
 }
 
@@ -119,24 +133,25 @@ const COMMANDS: [(&str, &str); 36] = [
 ];
 
 // The text of a script of one command.
-pub(crate) fn text_of_command(alloc: Global, command: &str) -> Result<String, Fail> {
+pub(crate) fn text_of_command(alloc: Global, command: &str) -> Result<String, NoMemory> {
     Ok(format!(in alloc; "backends 2\n1: {command}\nend\n")?)
 }
 
 // Whether a text is read, and written again so.
-fn is_written(alloc: Global, text: &[u8], wanted: &[u8]) -> Result<bool, Fail> {
-    Ok(written(alloc, text)?.as_slice() == wanted)
+fn is_written(alloc: Global, text: &str, wanted: &str) -> Result<bool, NoMemory> {
+    Ok(written(alloc, text.as_bytes())?.as_slice() == wanted.as_bytes())
+}
+
+fn is_command_written(alloc: Global, given: &str, want: &str) -> Result<bool, NoMemory> {
+    let text = text_of_command(alloc, given)?;
+    let wanted = text_of_command(alloc, want)?;
+    is_written(alloc, text.as_str(), wanted.as_str())
 }
 
 #[test]
 fn each_command_is_read_and_written(rt: HostRuntime) -> Result<(), Fail> {
     for (given, want) in COMMANDS {
-        let text = text_of_command(rt.alloc(), given)?;
-        let wanted = text_of_command(rt.alloc(), want)?;
-        assert!(rt;
-            is_written(rt.alloc(), text.as_bytes(), wanted.as_bytes())?,
-            "{given}"
-        );
+        assert!(rt; is_command_written(rt.alloc(), given, want)?, "{given}");
     }
     Ok(())
 }
@@ -164,10 +179,7 @@ const SCRIPTS: [(&str, &str); 4] = [
 #[test]
 fn whole_scripts_are_read_and_written(rt: HostRuntime) -> Result<(), Fail> {
     for (given, want) in SCRIPTS {
-        assert!(rt;
-            is_written(rt.alloc(), given.as_bytes(), want.as_bytes())?,
-            "{given}"
-        );
+        assert!(rt; is_written(rt.alloc(), given, want)?, "{given}");
     }
     Ok(())
 }
@@ -207,11 +219,13 @@ const FAULTS: [(&str, u32, &str); 22] = [
 ];
 
 #[test]
-fn the_first_fault_is_named(rt: HostRuntime) -> Result<(), Fail> {
+fn the_first_fault_is_named(rt: HostRuntime) {
     for (text, line, rule) in FAULTS {
-        assert!(rt; breaks(rt.alloc(), text.as_bytes(), line, rule)?, "{text}");
+        assert!(rt;
+            fault(rt.alloc(), text.as_bytes()) == (line, rule),
+            "{text}"
+        );
     }
-    Ok(())
 }
 
 const BYTES_63: &str = "a23456789_123456789_123456789_123456789_123456789_123456789_123";
@@ -224,31 +238,36 @@ const LONG_ONES: [(&str, &str); 3] = [
 ];
 
 // The text of a script of one command that holds 63 bytes, and these after them.
-fn long_command(alloc: Global, before: &str, after: &str) -> Result<String, Fail> {
+fn long_command(alloc: Global, before: &str, after: &str) -> Result<String, NoMemory> {
     Ok(format!(in alloc; "backends 1\n1: {before}{BYTES_63}{after}\nend\n")?)
+}
+
+// Whether a command may hold 63 bytes there.
+fn may_be_long(alloc: Global, before: &str, after: &str) -> Result<bool, NoMemory> {
+    let text = long_command(alloc, before, after)?;
+    is_written(alloc, text.as_str(), text.as_str())
+}
+
+// What is wrong with it where it holds 64.
+fn fault_of_64(alloc: Global, before: &str, after: &str) -> Result<(u32, &'static str), NoMemory> {
+    let longer = format!(in alloc; "4{after}")?;
+    let text = long_command(alloc, before, longer.as_str())?;
+    Ok(fault(alloc, text.as_bytes()))
 }
 
 // A name, a word and a text of 63 bytes are read, and of 64 they are not.
 #[test]
 fn names_have_63_bytes_at_most(rt: HostRuntime) -> Result<(), Fail> {
     for (before, after) in LONG_ONES {
-        let text = long_command(rt.alloc(), before, after)?;
-        assert!(rt;
-            is_written(rt.alloc(), text.as_bytes(), text.as_bytes())?,
-            "{before}"
-        );
-        let longer = format!(in rt.alloc(); "4{after}")?;
-        let text = long_command(rt.alloc(), before, longer.as_str())?;
-        assert!(rt;
-            breaks(rt.alloc(), text.as_bytes(), 2, "BadCommand")?,
-            "{before}"
-        );
+        assert!(rt; may_be_long(rt.alloc(), before, after)?, "{before}");
+        let fault = fault_of_64(rt.alloc(), before, after)?;
+        assert!(rt; fault == (2, "BadCommand"), "{before}");
     }
     Ok(())
 }
 
 // The text of a script of so many commands.
-fn many_commands(alloc: Global, count: u32) -> Result<Vec<u8>, Fail> {
+fn many_commands(alloc: Global, count: u32) -> Result<Vec<u8>, NoMemory> {
     let mut text = b"backends 64\n".to_vec(alloc)?;
     for _ in 0..count {
         text.extend_from_slice(b"64: begin\n")?;
@@ -257,33 +276,51 @@ fn many_commands(alloc: Global, count: u32) -> Result<Vec<u8>, Fail> {
     Ok(text)
 }
 
+fn fault_of_many(alloc: Global, count: u32) -> Result<(u32, &'static str), NoMemory> {
+    Ok(fault(alloc, &many_commands(alloc, count)?))
+}
+
 #[test]
 fn a_script_has_at_most_20000_commands(rt: HostRuntime) -> Result<(), Fail> {
-    let most = many_commands(rt.alloc(), 20_000)?;
-    assert!(rt; read(rt.alloc(), &most, Rest::Refused).is_ok());
-    let more = many_commands(rt.alloc(), 20_001)?;
-    assert!(rt; breaks(rt.alloc(), &more, 20_002, "TooManyCommands")?);
+    assert!(rt; fault_of_many(rt.alloc(), 20_000)? == (0, "none"));
+    assert!(rt; fault_of_many(rt.alloc(), 20_001)? == (20_002, "TooManyCommands"));
     Ok(())
 }
 
-// The place after the `end` line, whether there is a ring line, and the script as it is written.
-fn parts(alloc: Global, text: &[u8], rest: Rest) -> Result<(usize, bool, Vec<u8>), Fail> {
-    let found = read(alloc, text, rest).ok().ok_or("no script")?;
-    let written = write_script(alloc, &found.script)?;
-    Ok((found.rest_at, found.has_ring, written))
+// Texts with a rest, the place after the `end` line, whether there is a ring line, and the script as it is written.
+const RESTS: [(&[u8], usize, bool, &[u8]); 2] = [
+    (b"backends 1\nend\n-- x\n", 15, false, b"backends 1\nend\n"),
+    (
+        b"RING 64\nBACKENDS 1\r\n1: CREATE TABLE t (a INT);\nSTEPS 1 * 5 1\nEND\r\nh 1 0 start\n",
+        66,
+        true,
+        b"ring 64\nbackends 1\n1: create table t (a int4)\nsteps 1*5 1\nend\n",
+    ),
+];
+
+// The place after the `end` line, and whether there is a ring line.
+fn rest(alloc: Global, text: &[u8], rest: Rest) -> (usize, bool) {
+    match read(alloc, text, rest) {
+        Ok(read) => (read.rest_at, read.has_ring),
+        Err(_) => (0, false),
+    }
 }
 
-// A rest begins after the `end` line, whatever is asked of it.
+// The script before a rest, as it is written.
+fn written_before(alloc: Global, text: &[u8]) -> Result<Vec<u8>, NoMemory> {
+    match read(alloc, text, Rest::Given) {
+        Ok(read) => write_script(alloc, &read.script),
+        Err(_) => Ok(Vec::new(alloc)),
+    }
+}
+
 #[test]
 fn a_rest_begins_after_the_end(rt: HostRuntime) -> Result<(), Fail> {
-    for rest in [Rest::Refused, Rest::Given] {
-        let (rest_at, has_ring, _) = parts(rt.alloc(), b"backends 1\nend\n-- x\n", rest)?;
-        assert!(rt; rest_at == 15 && !has_ring);
+    for (text, rest_at, has_ring, wanted) in RESTS {
+        assert!(rt; rest(rt.alloc(), text, Rest::Given) == (rest_at, has_ring));
+        assert!(rt; written_before(rt.alloc(), text)?.as_slice() == wanted);
     }
-    let text =
-        b"RING 64\nBACKENDS 1\r\n1: CREATE TABLE t (a INT);\nSTEPS 1 * 5 1\nEND\r\nh 1 0 start\n";
-    let wanted = b"ring 64\nbackends 1\n1: create table t (a int4)\nsteps 1*5 1\nend\n";
-    let (rest_at, has_ring, written) = parts(rt.alloc(), text, Rest::Given)?;
-    assert!(rt; rest_at == 66 && has_ring && written.as_slice() == wanted.as_slice());
+    // blank lines and comments may follow also where there is to be no rest
+    assert!(rt; rest(rt.alloc(), b"backends 1\nend\n-- x\n", Rest::Refused) == (15, false));
     Ok(())
 }

@@ -1,7 +1,7 @@
 ghost use Rattle.std.specs.Prelude.{◌≡◌, true};
 ghost use Rattle.walk_run.specs.Built.{is_built as is_built_scenario};
 
-use crate::calls::{STEADY, sink_of};
+use crate::ends::{STEADY, sink_of};
 use crate::scripts::script_of;
 use backend_core::Backend;
 use base_types::NoMemory;
@@ -18,7 +18,8 @@ use walk_run::{is_built, walk_on};
 // `backend_core` is proved to meet. So the backends make these calls here: two creators of one name, of whom
 // the first rolls back and creates it again, and a reader whose lock is refused and then granted. Each step
 // is promised its place, by turns.
-const SCRIPT: &[u8] = b"\
+fn script() -> &'static [u8] {
+    b"\
 backends 2
 1: begin
 1: create table x (a int4)
@@ -32,9 +33,11 @@ backends 2
 2: show x of
 steps 1*3 2*3 1*4 2*1 1*1 2*7 1*2 2*2 1*2 2*40
 end
-";
+"
+}
 
-const HISTORY: &[u8] = b"\
+fn history() -> &'static [u8] {
+    b"\
 h 1 0 start
 h 1 1 look no
 h 1 2 write 1 +class(16384,x,r,-) +att(16384,1,a,int4,-1,l)
@@ -68,7 +71,8 @@ h 2 4 look no
 h 2 4 release 4
 h 2 5 stop
 end
-";
+"
+}
 
 // A segment after the walk of a script, and the backends that were run.
 pub(crate) fn walked_segment(
@@ -83,19 +87,37 @@ pub(crate) fn walked_segment(
 }
 
 // Whether this is the text of a history.
-fn has_text(alloc: Global, history: &[Entry], text: &[u8]) -> Result<bool, NoMemory> {
-    let mut sink = sink_of(alloc, STEADY)?;
-    let sent = put_output(&mut sink, history, &[]);
-    Ok(sent.is_ok() && sink.sent() == text)
+fn has_text(alloc: Global, history: &[Entry], text: &[u8]) -> bool {
+    match sink_of(alloc, STEADY) {
+        Ok(mut sink) => put_output(&mut sink, history, &[]).is_ok() && sink.sent() == text,
+        Err(_) => false,
+    }
+}
+
+// Whether both backends were run, and nothing waits for them.
+fn is_quiet(seg: &Shared, backends: &[Backend]) -> bool {
+    backends.len() == 2 && !seg.waits(1) && !seg.waits(2)
+}
+
+// Whether a walk of this script leaves a segment with the history, and nothing that waits.
+fn leaves_history(alloc: Global, script: &Script) -> Result<bool, NoMemory>
+    requires { is_built_scenario script.now ≡ true }
+{
+    let (seg, backends) = walked_segment(alloc, script)?;
+    let is_so = is_quiet(&seg, &backends) && has_text(alloc, seg.history(), history());
+    Ok(is_so && seg.into_history().len() == 32)
+}
+
+fn has_its_history(alloc: Global) -> Result<bool, NoMemory> {
+    let script = script_of(alloc, script())?;
+    if !is_built(&script) {
+        return Ok(false);
+    }
+    leaves_history(alloc, &script)
 }
 
 #[test]
 fn a_segment_has_its_history(rt: HostRuntime) -> Result<(), Fail> {
-    let script = script_of(rt.alloc(), SCRIPT)?;
-    assert!(rt; is_built(&script));
-    let (seg, backends) = walked_segment(rt.alloc(), &script)?;
-    assert!(rt; backends.len() == 2 && !seg.waits(1) && !seg.waits(2));
-    assert!(rt; has_text(rt.alloc(), seg.history(), HISTORY)?);
-    assert!(rt; seg.into_history().len() == 32);
+    assert!(rt; has_its_history(rt.alloc())?);
     Ok(())
 }

@@ -6,13 +6,17 @@ use crate::scripts::script_of;
 use crate::segments::walked_segment;
 use backend_core::Backend;
 use base_types::{Listed, NoMemory};
+use event_kinds::Line;
 use script_text::Script;
 use std::alloc::Global;
 use std::test::Fail;
 use walk_run::{is_built, walk};
 
-// Scripts, and of each backend its answers in order, and whether it stops.
-const SESSIONS: [(&[u8], &[(&[&[u8]], bool)]); 2] = [
+// Of each backend its answers in order, and whether it stops.
+type Sessions = &'static [(&'static [&'static [u8]], bool)];
+
+// Scripts and their sessions.
+const SESSIONS: [(&[u8], Sessions); 2] = [
     (
         b"backends 2\n2: show u\n1: create table t (a int4)\n1: begin\nend\n",
         &[
@@ -49,52 +53,107 @@ end
 ];
 
 // Whether these are the backends of all numbers from 1, with these answers and stops.
-fn are_sessions(backends: &[Backend], wanted: &[(&[&[u8]], bool)]) -> bool {
-    let mut pairs = backends.iter().zip(wanted.iter()).enumerate();
-    backends.len() == wanted.len()
-        && pairs.all(|(i, (backend, (answers, stops)))| {
-            backend.id() as usize == i + 1
+fn are_sessions(backends: &[Backend], wanted: Sessions) -> bool {
+    if backends.len() != wanted.len() {
+        return false;
+    }
+    for (i, backend) in backends.iter().enumerate() {
+        if !is_session(backend, i, wanted) {
+            return false;
+        }
+    }
+    true
+}
+
+fn is_session(backend: &Backend, i: usize, wanted: Sessions) -> bool {
+    match wanted.get(i) {
+        Some((answers, stops)) => {
+            backend.id() as usize == i.saturating_add(1)
                 && backend.is_stopped() == *stops
                 && has_answered(backend, answers)
-        })
+        }
+        None => false,
+    }
 }
 
 // Whether the transcript of a backend has these answers to its first commands.
 fn has_answered(backend: &Backend, answers: &[&[u8]]) -> bool {
     let lines = backend.transcript();
-    let mut pairs = lines.iter().zip(answers.iter()).enumerate();
-    lines.len() == answers.len()
-        && pairs.all(|(i, (line, answer))| {
-            line.backend == backend.id()
-                && line.command as usize == i + 1
-                && line.text.as_bytes() == *answer
-        })
+    if lines.len() != answers.len() {
+        return false;
+    }
+    for (i, line) in lines.iter().enumerate() {
+        if !is_answer(line, backend.id(), i, answers) {
+            return false;
+        }
+    }
+    true
 }
 
-// The backends of a walk of a script.
-fn walked_backends(alloc: Global, script: &Script) -> Result<Listed<Backend>, NoMemory>
+fn is_answer(line: &Line, backend: u32, i: usize, answers: &[&[u8]]) -> bool {
+    match answers.get(i) {
+        Some(answer) => {
+            line.backend == backend
+                && line.command as usize == i.saturating_add(1)
+                && line.text.as_bytes() == *answer
+        }
+        None => false,
+    }
+}
+
+// Whether a walk of a script has these sessions, its backends being made by it or over a segment.
+fn walk_has_sessions(alloc: Global, script: &Script, wanted: Sessions) -> Result<bool, NoMemory>
     requires { is_built_scenario script.now ≡ true }
 {
-    Ok(walk(alloc, script)?.backends)
+    Ok(are_sessions(walk(alloc, script)?.backends.as_slice(), wanted))
+}
+
+fn segment_has_sessions(alloc: Global, script: &Script, wanted: Sessions) -> Result<bool, NoMemory>
+    requires { is_built_scenario script.now ≡ true }
+{
+    let (_seg, backends) = walked_segment(alloc, script)?;
+    Ok(are_sessions(&backends, wanted))
+}
+
+// The same of the script of a text, and of the top call.
+fn walk_gives(alloc: Global, text: &[u8], wanted: Sessions) -> Result<bool, NoMemory> {
+    let script = script_of(alloc, text)?;
+    if !is_built(&script) {
+        return Ok(false);
+    }
+    walk_has_sessions(alloc, &script, wanted)
+}
+
+fn segment_gives(alloc: Global, text: &[u8], wanted: Sessions) -> Result<bool, NoMemory> {
+    let script = script_of(alloc, text)?;
+    if !is_built(&script) {
+        return Ok(false);
+    }
+    segment_has_sessions(alloc, &script, wanted)
+}
+
+fn top_call_gives(alloc: Global, text: &[u8], wanted: Sessions) -> Result<bool, NoMemory> {
+    Ok(are_sessions(&walked(alloc, text)?.sessions, wanted))
 }
 
 #[test]
 fn each_call_gives_the_sessions(rt: HostRuntime) -> Result<(), Fail> {
     for (text, wanted) in SESSIONS {
-        let script = script_of(rt.alloc(), text)?;
-        assert!(rt; is_built(&script));
-        let backends = walked_backends(rt.alloc(), &script)?;
-        assert!(rt; are_sessions(backends.as_slice(), wanted));
-        let (_seg, backends) = walked_segment(rt.alloc(), &script)?;
-        assert!(rt; are_sessions(&backends, wanted));
-        assert!(rt; are_sessions(&walked(rt.alloc(), text)?.sessions, wanted));
+        assert!(rt; walk_gives(rt.alloc(), text, wanted)?);
+        assert!(rt; segment_gives(rt.alloc(), text, wanted)?);
+        assert!(rt; top_call_gives(rt.alloc(), text, wanted)?);
     }
     Ok(())
 }
 
+// Whether a new backend has its number and hasn't answered.
+fn is_new(alloc: Global) -> Result<bool, NoMemory> {
+    let backend = Backend::new(alloc, 7, Listed::new(alloc))?;
+    Ok(backend.id() == 7 && !backend.is_stopped() && backend.transcript().is_empty())
+}
+
 #[test]
 fn a_new_backend_has_not_answered(rt: HostRuntime) -> Result<(), Fail> {
-    let backend = Backend::new(rt.alloc(), 7, Listed::new(rt.alloc()))?;
-    assert!(rt; backend.id() == 7 && !backend.is_stopped() && backend.transcript().is_empty());
+    assert!(rt; is_new(rt.alloc())?);
     Ok(())
 }

@@ -1,7 +1,8 @@
+use crate::row_texts::rows_of;
 use base_types::{
-    CacheId, Catalog, ColType, ConKind, Field, IndexState, Key, KeyPart, Kind, LineBuffer, Listed,
-    Mode, Name, NameFault, Nums, Oid, Purpose, Row, RowKey, Text, Word, conflicts, field_text,
-    goes_before, has_field, key_hash, read_by, selects, writers,
+    CacheId, Catalog, Field, Key, KeyPart, Kind, LineBuffer, Listed, Mode, Name, NameFault,
+    NoMemory, Oid, Purpose, Row, Text, Word, conflicts, field_text, goes_before, has_field,
+    key_hash, read_by, selects, writers,
 };
 use std::alloc::Global;
 use std::test::Fail;
@@ -40,84 +41,98 @@ const BYTES_63: &[u8] = b"a23456789_123456789_123456789_123456789_123456789_1234
 
 const BYTES_64: &[u8] = b"a23456789_123456789_123456789_123456789_123456789_123456789_1234";
 
-// Bytes that may be a name, and whether they are one.
-const NAMES: [(&[u8], bool); 8] = [
-    (b"t_1", true),
-    (BYTES_63, true),
-    (b"........pg.dropped.1600........", true),
-    (b"", false),
-    (BYTES_64, false),
-    (b"1a", false),
-    (b"a-b", false),
-    (b"........pg.dropped.012........", false),
+// Bytes, and whether they are a name, a word and a text.
+const SHORT_TEXTS: [(&[u8], [bool; 3]); 12] = [
+    (b"t_1", [true, true, true]),
+    (BYTES_63, [true, true, true]),
+    (BYTES_64, [false, false, false]),
+    (b"", [false, false, false]),
+    (b"........pg.dropped.1600........", [true, false, false]),
+    (b"........pg.dropped.012........", [false, false, false]),
+    (b"1a", [false, true, true]),
+    (b"a-b", [false, true, true]),
+    (b"-1a_", [false, true, true]),
+    (b"a+", [false, false, true]),
+    (b"a+b>=-1*c<0", [false, false, true]),
+    (b"a,b", [false, false, false]),
 ];
 
-// Bytes that may be a word, and whether they are one.
-const WORDS: [(&[u8], bool); 5] = [
-    (b"-1a_", true),
-    (BYTES_63, true),
-    (b"", false),
-    (BYTES_64, false),
-    (b"a+", false),
-];
-
-// Bytes that may be a text, and whether they are one.
-const TEXTS: [(&[u8], bool); 5] = [
-    (b"a+b>=-1*c<0", true),
-    (BYTES_63, true),
-    (b"", false),
-    (BYTES_64, false),
-    (b"a,b", false),
-];
-
-pub(crate) fn name(text: &[u8]) -> Result<Name, Fail> {
-    Ok(Name::new(text).ok().ok_or("no name")?)
+// The name of these bytes; of others, that of a dropped column.
+pub(crate) fn name(text: &[u8]) -> Name {
+    match Name::new(text) {
+        Ok(name) => name,
+        Err(_) => Name::dropped(1),
+    }
 }
 
-#[test]
-fn names(rt: HostRuntime) {
-    for (text, good) in NAMES {
-        let found = matches!(Name::new_or_dropped(text), Ok(name) if name.as_bytes() == text);
-        assert!(rt; found == good);
+fn is_name(text: &[u8]) -> bool {
+    match Name::new_or_dropped(text) {
+        Ok(name) => name.as_bytes() == text,
+        Err(_) => false,
+    }
+}
+
+fn is_word(text: &[u8]) -> bool {
+    match Word::new(text) {
+        Ok(word) => word.as_bytes() == text,
+        Err(_) => false,
+    }
+}
+
+fn is_text(text: &[u8]) -> bool {
+    match Text::new(text) {
+        Ok(found) => found.as_bytes() == text,
+        Err(_) => false,
     }
 }
 
 #[test]
-fn words(rt: HostRuntime) {
-    for (text, good) in WORDS {
-        let found = matches!(Word::new(text), Ok(word) if word.as_bytes() == text);
-        assert!(rt; found == good);
+fn names_words_and_texts(rt: HostRuntime) {
+    for (text, wanted) in SHORT_TEXTS {
+        assert!(rt; [is_name(text), is_word(text), is_text(text)] == wanted);
     }
 }
 
-#[test]
-fn texts(rt: HostRuntime) {
-    for (text, good) in TEXTS {
-        let found = matches!(Text::new(text), Ok(found) if found.as_bytes() == text);
-        assert!(rt; found == good);
+// What is first wrong with a name, and the place of a byte that may not be there.
+fn fault(text: &[u8]) -> (&'static str, u32) {
+    match Name::new(text) {
+        Ok(_) => ("none", 0),
+        Err(NameFault::Empty) => ("empty", 0),
+        Err(NameFault::TooLong) => ("too long", 0),
+        Err(NameFault::BadByte { at }) => ("bad byte", at),
     }
 }
+
+// What is first wrong with some names. The name of a dropped column is none that may be given.
+const NAME_FAULTS: [(&[u8], &str, u32); 4] = [
+    (b"", "empty", 0),
+    (BYTES_64, "too long", 0),
+    (b"aB C", "bad byte", 1),
+    (b"........pg.dropped.12........", "bad byte", 0),
+];
 
 #[test]
 fn the_first_fault_of_a_name(rt: HostRuntime) {
-    assert!(rt; matches!(Name::new(b""), Err(NameFault::Empty)));
-    assert!(rt; matches!(Name::new(BYTES_64), Err(NameFault::TooLong)));
-    assert!(rt; matches!(Name::new(b"aB C"), Err(NameFault::BadByte { at: 1 })));
+    for (text, fault_name, at) in NAME_FAULTS {
+        assert!(rt; fault(text) == (fault_name, at));
+    }
+    assert!(rt; Name::dropped(12).as_bytes() == b"........pg.dropped.12........".as_slice());
 }
 
-#[test]
-fn the_name_of_a_dropped_column(rt: HostRuntime) {
-    let dropped = Name::dropped(12);
-    assert!(rt; dropped.as_bytes() == b"........pg.dropped.12........".as_slice());
-    assert!(rt; Name::new(dropped.as_bytes()).is_err());
+// Whether a mode conflicts with those that are marked in its row.
+fn conflicts_so(mode: Mode, row: &[u8; 8]) -> bool {
+    for (other, mark) in Mode::ALL.iter().zip(row.iter()) {
+        if conflicts(mode, *other) != (*mark == b'x') {
+            return false;
+        }
+    }
+    true
 }
 
 #[test]
 fn conflict_table(rt: HostRuntime) {
-    for (a, row) in Mode::ALL.iter().zip(CONFLICTS.iter()) {
-        for (b, mark) in Mode::ALL.iter().zip(row.iter()) {
-            assert!(rt; conflicts(*a, *b) == (*mark == b'x'));
-        }
+    for (mode, row) in Mode::ALL.iter().zip(CONFLICTS.iter()) {
+        assert!(rt; conflicts_so(*mode, row));
     }
 }
 
@@ -135,124 +150,126 @@ fn writers_line(kind: Kind, field: Field) -> LineBuffer {
     line
 }
 
+// Whether these are the writers of a field, and whether the kind has the field where a writer locks all others out.
+fn has_writers(kind: Kind, field: Field, text: &[u8]) -> bool {
+    writers_line(kind, field).as_bytes() == text
+}
+
+fn is_locked_field(kind: Kind, field: Field) -> bool {
+    has_field(kind, field) == writers(kind, field).has(Mode::AccessExclusive)
+}
+
 #[test]
 fn writers_table(rt: HostRuntime) {
     for (kind, field, text) in WRITERS {
-        assert!(rt; writers_line(kind, field).as_bytes() == text);
-        let is_locked = writers(kind, field).has(Mode::AccessExclusive);
-        assert!(rt; has_field(kind, field) == is_locked);
+        assert!(rt; has_writers(kind, field, text) && is_locked_field(kind, field));
     }
 }
 
-fn column(num: u32, name: Name, live: bool) -> Row {
-    Row::Att {
-        rel: Oid(16384),
-        num,
-        name,
-        col_type: ColType::Int4,
-        stat: -1,
-        live,
+// A column `b`, and a column `a` after it.
+const TWO_COLUMNS: &[u8] = b"+att(16384,1,b,int4,-1,l) +att(16384,2,a,int4,-1,l)";
+
+// Whether a scan asks for the first of two rows, gives it before the second, and the second before it.
+fn order(purpose: &Purpose, rows: &[Row]) -> [bool; 3] {
+    match rows {
+        [a, b] => [
+            selects(purpose, a),
+            goes_before(purpose, a, b),
+            goes_before(purpose, b, a),
+        ],
+        _ => [false; 3],
     }
 }
 
 #[test]
 fn columns_go_by_number_or_by_name(rt: HostRuntime) -> Result<(), Fail> {
-    let (a, b) = (name(b"a")?, name(b"b")?);
-    let (first, second) = (column(1, b, true), column(2, a, true));
+    let rows = rows_of(rt.alloc(), TWO_COLUMNS)?;
     let by_number = read_by(Field::Columns, Oid(16384));
-    assert!(rt; selects(&by_number, &first) && goes_before(&by_number, &first, &second));
+    assert!(rt; order(&by_number, &rows) == [true, true, false]);
     let by_name = Purpose::AttList(Oid(16384));
-    assert!(rt; selects(&by_name, &first) && goes_before(&by_name, &second, &first));
+    assert!(rt; order(&by_name, &rows) == [true, false, true]);
     Ok(())
 }
 
-// A field of a table, and its text where there are a live column `b` and a dropped one.
-const OF_COLUMNS: [(Field, &str); 3] = [
-    (Field::Columns, "b:int4"),
-    (Field::Statistics, "1:-1"),
-    (Field::Defaults, "-"),
+// A live column `b` and a dropped one, a foreign key, and an index.
+const COLUMNS: &[u8] =
+    b"+att(16384,1,b,int4,-1,l) +att(16384,2,........pg.dropped.2........,int4,-1,d)";
+
+const KEY: &[u8] = b"+con(16390,16385,k,f,n,2,16384,1)";
+
+const INDEX: &[u8] = b"+ind(16400,16384,v,1+3+12)";
+
+// Rows, a field of a relation, and its text where there are these rows alone.
+const FIELDS: [(&[u8], Field, u32, &str); 9] = [
+    (COLUMNS, Field::Columns, 16384, "b:int4"),
+    (COLUMNS, Field::Statistics, 16384, "1:-1"),
+    (COLUMNS, Field::Defaults, 16384, "-"),
+    (KEY, Field::Constraints, 16385, "k:fk:n:2:16384:1"),
+    (KEY, Field::Constraints, 16384, "-"),
+    (KEY, Field::Referenced, 16384, "16390:16385:1"),
+    (INDEX, Field::Indexes, 16384, "16400:v:1+3+12"),
+    (INDEX, Field::Of, 16400, "16384:1+3+12"),
+    (INDEX, Field::Valid, 16400, "v"),
 ];
 
-// Whether a field has this text by these rows.
-fn is_shown(alloc: Global, field: Field, rel: u32, rows: &[Row], text: &str) -> Result<bool, Fail> {
-    Ok(field_text(alloc, field, Oid(rel), rows)?.as_slice() == text.as_bytes())
+// The text of a field of a relation by these rows.
+fn shown(alloc: Global, rows: &[u8], field: Field, rel: u32) -> Result<Vec<u8>, NoMemory> {
+    field_text(alloc, field, Oid(rel), &rows_of(alloc, rows)?)
 }
 
 #[test]
-fn fields_of_columns(rt: HostRuntime) -> Result<(), Fail> {
-    let b = name(b"b")?;
-    let rows = [column(1, b, true), column(2, Name::dropped(2), false)];
-    for (field, want) in OF_COLUMNS {
-        assert!(rt; is_shown(rt.alloc(), field, 16384, &rows, want)?, "{want}");
+fn fields_have_their_texts(rt: HostRuntime) -> Result<(), Fail> {
+    for (rows, field, rel, want) in FIELDS {
+        let text = shown(rt.alloc(), rows, field, rel)?;
+        assert!(rt; text.as_slice() == want.as_bytes(), "{want}");
     }
     Ok(())
 }
 
-fn foreign_key() -> Result<Row, Fail> {
-    Ok(Row::Con {
-        oid: Oid(16390),
-        rel: Oid(16385),
-        name: name(b"k")?,
-        valid: false,
-        what: ConKind::Foreign {
-            num: 2,
-            refrel: Oid(16384),
-            refnum: 1,
-        },
-    })
-}
-
-fn index() -> Row {
-    Row::Ind {
-        index: Oid(16400),
-        table: Oid(16384),
-        state: IndexState::Valid,
-        nums: Nums::new(&[1, 3, 12]),
+fn catalog_name(row: &Row) -> &'static str {
+    match row.catalog() {
+        Catalog::Class => "pg_class",
+        Catalog::Attribute => "pg_attribute",
+        Catalog::AttrDef => "pg_attrdef",
+        Catalog::Index => "pg_index",
+        Catalog::Constraint => "pg_constraint",
+        Catalog::Trigger => "pg_trigger",
     }
 }
 
-// A field of a relation, and its text where there is the foreign key alone.
-const OF_KEY: [(Field, u32, &str); 3] = [
-    (Field::Constraints, 16385, "k:fk:n:2:16384:1"),
-    (Field::Constraints, 16384, "-"),
-    (Field::Referenced, 16384, "16390:16385:1"),
+// A row of each catalog.
+const CATALOGS: [(&[u8], &str); 6] = [
+    (b"+class(16384,t,r,-)", "pg_class"),
+    (b"+att(16384,1,a,int4,-1,l)", "pg_attribute"),
+    (b"+def(16386,16384,1,0)", "pg_attrdef"),
+    (INDEX, "pg_index"),
+    (KEY, "pg_constraint"),
+    (b"+trg(16389,16384,g,e)", "pg_trigger"),
 ];
 
-// The same with the index alone.
-const OF_INDEX: [(Field, u32, &str); 3] = [
-    (Field::Indexes, 16384, "16400:v:1+3+12"),
-    (Field::Of, 16400, "16384:1+3+12"),
-    (Field::Valid, 16400, "v"),
-];
+fn is_in_catalog(alloc: Global, row: &[u8], wanted: &str) -> Result<bool, NoMemory> {
+    match rows_of(alloc, row)?.first() {
+        Some(row) => Ok(catalog_name(row) == wanted),
+        None => Ok(false),
+    }
+}
 
 #[test]
-fn fields_of_a_foreign_key(rt: HostRuntime) -> Result<(), Fail> {
-    let rows = [foreign_key()?];
-    for (field, rel, want) in OF_KEY {
-        assert!(rt; is_shown(rt.alloc(), field, rel, &rows, want)?, "{want}");
+fn rows_have_their_catalogs(rt: HostRuntime) -> Result<(), Fail> {
+    for (row, wanted) in CATALOGS {
+        assert!(rt; is_in_catalog(rt.alloc(), row, wanted)?, "{wanted}");
     }
     Ok(())
 }
 
 #[test]
-fn fields_of_an_index(rt: HostRuntime) -> Result<(), Fail> {
-    let rows = [index()];
-    for (field, rel, want) in OF_INDEX {
-        assert!(rt; is_shown(rt.alloc(), field, rel, &rows, want)?, "{want}");
-    }
-    assert!(rt; matches!(index().catalog(), Catalog::Index));
-    Ok(())
-}
-
-#[test]
-fn hashes(rt: HostRuntime) -> Result<(), Fail> {
+fn hashes(rt: HostRuntime) {
     for text in [b"an", b"c0"] {
-        let by_name = Key::new(&[KeyPart::Name(name(text)?)]);
+        let by_name = Key::new(&[KeyPart::Name(name(text))]);
         assert!(rt; key_hash(CacheId::RelName, &by_name) == 4078);
     }
-    let by_column = Key::new(&[KeyPart::Oid(Oid(16384)), KeyPart::Name(name(b"a")?)]);
+    let by_column = Key::new(&[KeyPart::Oid(Oid(16384)), KeyPart::Name(name(b"a"))]);
     assert!(rt; key_hash(CacheId::AttName, &by_column) == 85949054);
-    Ok(())
 }
 
 #[test]
