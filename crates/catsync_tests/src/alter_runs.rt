@@ -1038,7 +1038,8 @@ end
 
 #[test]
 fn scripts_with_alterations_have_these_outputs(rt: HostRuntime) -> Result<(), Fail> {
-    for (name, script, output) in RUNS {
+    for run in RUNS.iter() {
+        let (name, script, output) = *run;
         assert!(rt; gives(rt.alloc(), script, output)?, "{name}");
     }
     Ok(())
