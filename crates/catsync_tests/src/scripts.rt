@@ -287,22 +287,21 @@ fn a_script_has_at_most_20000_commands(rt: HostRuntime) -> Result<(), Fail> {
     Ok(())
 }
 
-// Texts with a rest, the place after the `end` line, whether there is a ring line, and the script as it is written.
-const RESTS: [(&[u8], usize, bool, &[u8]); 2] = [
-    (b"backends 1\nend\n-- x\n", 15, false, b"backends 1\nend\n"),
+// Texts with a rest, the place after the `end` line, and the script as it is written.
+const RESTS: [(&[u8], usize, &[u8]); 2] = [
+    (b"backends 1\nend\n-- x\n", 15, b"backends 1\nend\n"),
     (
         b"RING 64\nBACKENDS 1\r\n1: CREATE TABLE t (a INT);\nSTEPS 1 * 5 1\nEND\r\nh 1 0 start\n",
         66,
-        true,
         b"ring 64\nbackends 1\n1: create table t (a int4)\nsteps 1*5 1\nend\n",
     ),
 ];
 
-// The place after the `end` line, and whether there is a ring line.
-fn rest(alloc: Global, text: &[u8], rest: Rest) -> (usize, bool) {
+// The place after the `end` line.
+fn rest(alloc: Global, text: &[u8], rest: Rest) -> usize {
     match read(alloc, text, rest) {
-        Ok(read) => (read.rest_at, read.has_ring),
-        Err(_) => (0, false),
+        Ok(read) => read.rest_at,
+        Err(_) => 0,
     }
 }
 
@@ -316,11 +315,11 @@ fn written_before(alloc: Global, text: &[u8]) -> Result<Vec<u8>, NoMemory> {
 
 #[test]
 fn a_rest_begins_after_the_end(rt: HostRuntime) -> Result<(), Fail> {
-    for (text, rest_at, has_ring, wanted) in RESTS {
-        assert!(rt; rest(rt.alloc(), text, Rest::Given) == (rest_at, has_ring));
+    for (text, rest_at, wanted) in RESTS {
+        assert!(rt; rest(rt.alloc(), text, Rest::Given) == rest_at);
         assert!(rt; written_before(rt.alloc(), text)?.as_slice() == wanted);
     }
     // blank lines and comments may follow also where there is to be no rest
-    assert!(rt; rest(rt.alloc(), b"backends 1\nend\n-- x\n", Rest::Refused) == (15, false));
+    assert!(rt; rest(rt.alloc(), b"backends 1\nend\n-- x\n", Rest::Refused) == 15);
     Ok(())
 }

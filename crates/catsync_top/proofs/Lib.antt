@@ -1,3 +1,3 @@
 pub mod Words
-pub mod Ready
+pub mod NotBuilt
 pub mod Running

@@ -1,5 +1,5 @@
 -- What the program does with the bytes that it reads.
-use Rattle.std.specs.Prelude.{◌≡◌, ◌≤◌, ◌<◌, ◌+◌, ⊤, ℕ, IsSomeAnd, Bool, true, false, not, ◌&&◌, Option, Ok, Err, List, [], ◌∷◌, codes, length}
+use Rattle.std.specs.Prelude.{◌≡◌, ◌≤◌, ◌<◌, ◌+◌, ⊤, ℕ, IsSomeAnd, true, false, Option, Ok, Err, List, [], ◌∷◌, codes, length}
 use Rattle.std.specs.Io.KnownBytes.{Consumes, IsAtEnd}
 use Rattle.edge_io.specs.Causes.{Rose}
 use Rattle.edge_io.specs.declared.reading.TheConstants.{PIECE}
@@ -31,10 +31,6 @@ exit_code_of statuses.WriteFault = 5
 exit_code_of statuses.NoMemory = 6
 exit_code_of statuses.NotYet = 9
 
--- all of a script is built: it has no `ring` line, and its commands can be run
-abbrev pub is_ready : Reading → Bool
-is_ready reading = not reading.has_ring && is_built reading.script
-
 -- the input was read to its end, and is no longer than a script may be
 pub record IsInput (left rest : Option (List ℕ)) (input : List ℕ) : Type 0 where
   pub read : Consumes left rest input
@@ -47,7 +43,7 @@ pub record Ran (left rest : Option (List ℕ)) (taken now : Option (List ℕ)) (
   pub whole : IsInput left rest input
   pub reading : Reading
   pub spelled : script_of Refused input ≡ Ok reading
-  pub ready : is_ready reading ≡ true
+  pub built : is_built reading.script ≡ true
   pub output : List ℕ
   pub is : IsOutput reading.script output
   pub only : SpellsOnly output is.history (lines_of reading.script is.history)
@@ -67,20 +63,20 @@ pub record IsTooLong (left rest : Option (List ℕ)) : Type 0 where
   pub long : MOST_INPUT < length input
   pub bounded : length input ≤ MOST_INPUT + PIECE
 
--- the input is a script of which not all is built
+-- the input is a script with a command that isn't built
 pub record IsNotYet (left rest : Option (List ℕ)) : Type 0 where
   pub input : List ℕ
   pub whole : IsInput left rest input
   pub reading : Reading
   pub spelled : script_of Refused input ≡ Ok reading
-  pub unready : is_ready reading ≡ false
+  pub unbuilt : is_built reading.script ≡ false
 
 -- the bytes are a script that can be walked
 pub record CanBeWalked (input : List ℕ) : Type 0 where
   pub short : length input ≤ MOST_INPUT
   pub reading : Reading
   pub spelled : script_of Refused input ≡ Ok reading
-  pub ready : is_ready reading ≡ true
+  pub built : is_built reading.script ≡ true
 
 -- the arguments are `walk` alone, and the source tells that it has a script that can be walked
 abbrev pub CanRun : List (List ℕ) → Option (List ℕ) → Type 0

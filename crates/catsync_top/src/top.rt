@@ -2,13 +2,13 @@ ghost use Rattle.std.specs.Prelude.{◌≡◌, ◌≢◌, ◌↔◌, ◌≤◌, 
 ghost use Rattle.std.specs.String.{string_bytes};
 ghost use Rattle.edge_io.specs.Causes.{Rose};
 ghost use Rattle.edge_io.specs.Taken.{Grows, GrowsByFront};
-ghost use Rattle.catsync_top.specs.Top.{AreWalk, Ran, IsBad, IsTooLong, IsNotYet, CanRun, HadNoFault, IfBadScript, IsDoneOrNoMemory, is_ready as ready_reading};
+ghost use Rattle.catsync_top.specs.Top.{AreWalk, Ran, IsBad, IsTooLong, IsNotYet, CanRun, HadNoFault, IfBadScript, IsDoneOrNoMemory};
 
 use crate::Status;
 use backend_core::Backend;
 use edge_io::{Gate, ReadRefusal, Sink, Source, read_all};
 use out_text::put_output;
-use script_text::{MOST_BACKENDS, Rest, ScriptFault, ScriptRead, read_script};
+use script_text::{MOST_BACKENDS, Rest, ScriptFault, read_script};
 use std::alloc::Global;
 use walk_run::{World, is_built, walk};
 
@@ -28,7 +28,7 @@ pub const MOST_INPUT: usize = 1_048_576;
 /// - `TooLong`: exactly where the source gives more than [`MOST_INPUT`] bytes before its end.
 /// - `BadScript`: exactly where that line is the first that breaks a rule of scripts, and that rule
 ///   is the first that it breaks.
-/// - `NotYet`: exactly where the input is a script, with a command or a line that isn't built yet.
+/// - `NotYet`: exactly where the input is a script, with a command that isn't built yet.
 /// - `NoMemory`: at any point before writing.
 /// - `Done`: the input was read to its end, and the whole output was written.
 pub fn catsync<S: Source, K: Sink, G: Gate>(
@@ -85,7 +85,7 @@ pub fn catsync<S: Source, K: Sink, G: Gate>(
         Err(ScriptFault::Bad { line, cause }) => return Status::BadScript { line, cause },
         Err(ScriptFault::NoMemory) => return Status::NoMemory,
     };
-    if !is_ready(&read) {
+    if !is_built(&read.script) {
         return Status::NotYet;
     }
     let Ok(world) = walk(alloc, &read.script) else {
@@ -101,13 +101,6 @@ pub fn catsync<S: Source, K: Sink, G: Gate>(
         Ok(()) => Status::Done,
         Err(_) => Status::WriteFault,
     }
-}
-
-// Whether all of a script is built.
-fn is_ready(read: &ScriptRead) -> bool
-    ensures { result ≡ ready_reading (record { script = read.now.script; has_ring = read.now.has_ring; rest_at = read.now.rest_at }) }
-{
-    !read.has_ring && is_built(&read.script)
 }
 
 // Whether the arguments are `walk` alone.

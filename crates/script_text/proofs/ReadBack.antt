@@ -62,17 +62,17 @@ then_leads first next last a b h k = record {
       ∙ ap (λ (n : ℕ). lines_from Refused last (number + (h.count + k.count)) n (text_lines rest)) places;
 }
 
-end_read : (last : Draft) (number place : ℕ) → (last.asked.backends == 0) ≡ false → last.has_end ≡ true → lines_from Refused last number place (text_lines []) ≡ Ok (record { script = last.asked; has_ring = last.has_ring; rest_at = place })
+end_read : (last : Draft) (number place : ℕ) → (last.asked.backends == 0) ≡ false → last.has_end ≡ true → lines_from Refused last number place (text_lines []) ≡ Ok (record { script = last.asked; rest_at = place })
 unfolding lines_from text_lines
 end_read last number place some end = rw (some, end) refl
 
 -- a text that leads to the end is read as what the draft asks for
-whole : (text : List ℕ) (last : Draft) → Leads empty_draft text last → (last.asked.backends == 0) ≡ false → last.has_end ≡ true → script_of Refused text ≡ Ok (record { script = last.asked; has_ring = last.has_ring; rest_at = length text })
+whole : (text : List ℕ) (last : Draft) → Leads empty_draft text last → (last.asked.backends == 0) ≡ false → last.has_end ≡ true → script_of Refused text ≡ Ok (record { script = last.asked; rest_at = length text })
 unfolding script_of
 whole text last h some end =
     let place : 0 + length text ≡ length text = omega arith in
     ap (λ (t : List ℕ). lines_from Refused empty_draft 1 0 (text_lines t)) (sym (append-nil text)) ∙ h.reads 1 0 [] ∙ end_read last (1 + h.count) (0 + length text) some end
-    ∙ ap (λ (n : ℕ). Ok (record { script = last.asked; has_ring = last.has_ring; rest_at = n })) place
+    ∙ ap (λ (n : ℕ). Ok (record { script = last.asked; rest_at = n })) place
 
 -- ---- pieces of lines
 

@@ -20,7 +20,7 @@ text (line ∷ lines) = line ++ 10 ∷ text lines
 
 -- upper case, a carriage return, a semicolon, and a last line with no line feed
 upper_case : script_of Refused (text ((codes "BACKENDS 1" ++ 13 ∷ []) ∷ codes "1: CREATE TABLE t (a INT);" ∷ []) ++ codes "end")
-    ≡ Ok (record { script = record { size = 4096; from = 0; backends = 1; commands = record { backend = 1; command = CreateTable (codes "t") (record { name = codes "a"; col_type = types.Int4 } ∷ []) } ∷ []; steps = [] }; has_ring = false; rest_at = 42 })
+    ≡ Ok (record { script = record { size = 4096; from = 0; backends = 1; commands = record { backend = 1; command = CreateTable (codes "t") (record { name = codes "a"; col_type = types.Int4 } ∷ []) } ∷ []; steps = [] }; rest_at = 42 })
 unfolding whole_scripts
 upper_case = refl
 
@@ -53,14 +53,14 @@ faults = (refl, refl, refl, refl, refl, refl, refl, refl, refl, refl, refl, refl
 
 -- the place is that after the `end` line, whatever is asked of the rest
 place_of_the_rest :
-    (script_of Refused (text (codes "backends 1" ∷ codes "end" ∷ codes "-- x" ∷ [])) ≡ Ok (record { script = record { size = 4096; from = 0; backends = 1; commands = []; steps = [] }; has_ring = false; rest_at = 15 })) ×
-    (script_of Given (text (codes "backends 1" ∷ codes "end" ∷ codes "-- x" ∷ [])) ≡ Ok (record { script = record { size = 4096; from = 0; backends = 1; commands = []; steps = [] }; has_ring = false; rest_at = 15 }))
+    (script_of Refused (text (codes "backends 1" ∷ codes "end" ∷ codes "-- x" ∷ [])) ≡ Ok (record { script = record { size = 4096; from = 0; backends = 1; commands = []; steps = [] }; rest_at = 15 })) ×
+    (script_of Given (text (codes "backends 1" ∷ codes "end" ∷ codes "-- x" ∷ [])) ≡ Ok (record { script = record { size = 4096; from = 0; backends = 1; commands = []; steps = [] }; rest_at = 15 }))
 unfolding whole_scripts
 place_of_the_rest = (refl, refl)
 
 -- a rest, at its place, and a ring line
 rest_is_left : script_of Given (text (codes "ring 64 from 16777215" ∷ codes "backends 02" ∷ codes "steps 1 * 3 2" ∷ codes "end" ∷ codes "h 1 0 start" ∷ []))
-    ≡ Ok (record { script = record { size = 64; from = 16777215; backends = 2; commands = []; steps = (record { backend = 1; count = 3 } ∷ record { backend = 2; count = 1 } ∷ []) ∷ [] }; has_ring = true; rest_at = 52 })
+    ≡ Ok (record { script = record { size = 64; from = 16777215; backends = 2; commands = []; steps = (record { backend = 1; count = 3 } ∷ record { backend = 2; count = 1 } ∷ []) ∷ [] }; rest_at = 52 })
 unfolding whole_scripts
 rest_is_left = refl
 

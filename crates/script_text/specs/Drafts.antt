@@ -33,7 +33,7 @@ pub record IsDraft (asked : Scenario) : Type 0 where
 
 -- the same was read, or the same fault was found; where memory was refused, nothing is said
 abbrev pub Reads : Result ScriptRead ScriptFault → Result Reading (ℕ × ScriptCause) → Type 0
-Reads (Ok read) found = found ≡ Ok (record { script = read.script; has_ring = read.has_ring; rest_at = read.rest_at })
+Reads (Ok read) found = found ≡ Ok (record { script = read.script; rest_at = read.rest_at })
 Reads (Err (Bad line cause)) found = found ≡ Err (line, cause)
 Reads (Err faults.NoMemory) found = ⊤
 

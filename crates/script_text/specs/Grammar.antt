@@ -112,15 +112,14 @@ line_after draft line = if list_any is_bad_byte line then Err BadByte else token
 unfoldable pub any_line : Draft → List ℕ → Result Draft ScriptCause
 any_line draft line = if counts (bare line) then line_after draft (bare line) else Ok draft
 
--- what was read: the script, whether it has a `ring` line, and the place right after the `end` line's line feed
+-- what was read: the script, and the place right after the `end` line's line feed
 pub record Reading : Type 0 where
   pub script : Scenario
-  pub has_ring : Bool
   pub rest_at : ℕ
 
 -- the end of the input
 abbrev pub at_end : Draft → ℕ → ℕ → Result Reading (ℕ × ScriptCause)
-at_end draft number place = if draft.asked.backends == 0 then Err (number, NoBackends) else if draft.has_end then Ok (record { script = draft.asked; has_ring = draft.has_ring; rest_at = place }) else Err (number, NoEnd)
+at_end draft number place = if draft.asked.backends == 0 then Err (number, NoBackends) else if draft.has_end then Ok (record { script = draft.asked; rest_at = place }) else Err (number, NoEnd)
 
 -- reading stops after the `end` line, where a rest is given
 abbrev pub stops : Rest → Draft → Bool

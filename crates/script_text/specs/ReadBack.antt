@@ -12,4 +12,4 @@ writes_ring script = not (none_left (ring_pieces script.size script.from))
 
 -- the text, to its end, is read as the script
 abbrev pub IsReadBack : Scenario → List ℕ → Type 0
-IsReadBack script text = script_of Refused text ≡ Ok (record { script = script; has_ring = writes_ring script; rest_at = length text })
+IsReadBack script text = script_of Refused text ≡ Ok (record { script = script; rest_at = length text })

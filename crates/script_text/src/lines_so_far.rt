@@ -117,7 +117,6 @@ impl LinesSoFar {
                 self.commands,
                 self.steps,
             ),
-            has_ring: self.has_ring,
             rest_at: place,
         })
     }

@@ -12,8 +12,6 @@ use std::alloc::Global;
 #[derive(Drop)]
 pub struct ScriptRead {
     pub script: Script,
-    /// Whether there is a `ring` line.
-    pub has_ring: bool,
     /// The place right after the `end` line's line feed; the length of the input where that line
     /// has none.
     pub rest_at: usize,

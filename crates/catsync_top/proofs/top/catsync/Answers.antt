@@ -2,29 +2,28 @@ use Rattle.std.proofs.Common.{◌∙◌, refl, sym, subst, arith}
 use Rattle.std.specs.List.{All}
 use Rattle.edge_io.specs.Taken.{Grows, GrowsByFront}
 use Rattle.out_text.specs.Typed.{IsTyped, IsLine}
-use Rattle.catsync_top.proofs.Ready.{ready_built, found_unready}
+use Rattle.catsync_top.proofs.NotBuilt.{found_unbuilt}
 use Rattle.catsync_top.proofs.Running.{has_run}
 use Rattle.catsync_top.proofs.top.catsync.Goals as goal
 
 pub walk-requires : goal.walk-requires
 walk-requires g c =
-    let read = c.in-Ok-read_script.read in
-    ready_built (record { script = read.script; has_ring = read.has_ring; rest_at = read.rest_at }) (sym c.if-not-is_ready.false ∙ c.is_ready.ensures)
+    sym c.is_built.ensures ∙ c.if-not-is_built.false
 
-pub returns-then-not-is_ready-clause-not_yet : goal.returns-then-not-is_ready-clause-not_yet
-returns-then-not-is_ready-clause-not_yet g c =
-    λ _. found_unready _ _ _ _ _ _ c.in-Ok.ensures.bytes (grind arith) c.deref.ensures.value c.in-Ok-read_script.ensures c.is_ready.ensures c.if-not-is_ready.true
+pub returns-then-not-is_built-clause-not_yet : goal.returns-then-not-is_built-clause-not_yet
+returns-then-not-is_built-clause-not_yet g c =
+    λ _. found_unbuilt _ _ _ _ _ _ c.in-Ok.ensures.bytes (grind arith) c.deref.ensures.value c.in-Ok-read_script.ensures c.is_built.ensures c.if-not-is_built.true
 
 pub returns-in-Ok-put_output-clause-done : goal.returns-in-Ok-put_output-clause-done
 returns-in-Ok-put_output-clause-done g c =
     let walk = c.in-Ok-walk.ensures.walk in
-    λ _. has_run _ _ _ _ Grows _ _ _ _ _ _ _ _ c.in-Ok.ensures.bytes (grind arith) c.deref.ensures.value c.in-Ok-read_script.ensures c.is_ready.ensures c.if-not-is_ready.false
+    λ _. has_run _ _ _ _ Grows _ _ _ _ _ _ _ _ c.in-Ok.ensures.bytes (grind arith) c.deref.ensures.value c.in-Ok-read_script.ensures c.is_built.ensures c.if-not-is_built.false
     (record { history = c.in-Ok-walk.world.entries; allowed = walk.allowed; follows = walk.follows; looks = walk.looks; complete = walk.complete; text_is = rw (c.as_slice.ensures, c.as_slice-2.ensures, walk.lines_are) refl })
     (subst (All IsTyped) c.as_slice.ensures c.put_output.ensures.typed.0) (subst (All IsLine) (c.as_slice-2.ensures ∙ walk.lines_are) c.put_output.ensures.typed.1) c.in-Ok-walk.ensures.sessions walk.lines_are c.into_vec.ensures c.in-Ok-put_output.ensures.bytes
 
 pub returns-clause-write_front : goal.returns-clause-write_front
 returns-clause-write_front g c =
     let walk = c.in-Ok-walk.ensures.walk in
-    λ _. has_run _ _ _ _ GrowsByFront _ _ _ _ _ _ _ _ c.in-Ok.ensures.bytes (grind arith) c.deref.ensures.value c.in-Ok-read_script.ensures c.is_ready.ensures c.if-not-is_ready.false
+    λ _. has_run _ _ _ _ GrowsByFront _ _ _ _ _ _ _ _ c.in-Ok.ensures.bytes (grind arith) c.deref.ensures.value c.in-Ok-read_script.ensures c.is_built.ensures c.if-not-is_built.false
     (record { history = c.in-Ok-walk.world.entries; allowed = walk.allowed; follows = walk.follows; looks = walk.looks; complete = walk.complete; text_is = rw (c.as_slice.ensures, c.as_slice-2.ensures, walk.lines_are) refl })
     (subst (All IsTyped) c.as_slice.ensures c.put_output.ensures.typed.0) (subst (All IsLine) (c.as_slice-2.ensures ∙ walk.lines_are) c.put_output.ensures.typed.1) c.in-Ok-walk.ensures.sessions walk.lines_are c.into_vec.ensures c.in-Err.ensures.bytes
