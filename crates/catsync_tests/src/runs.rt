@@ -371,7 +371,7 @@ const STATUSES: [(Status, &str); 7] = [
     (Status::NoMemory, "want of memory"),
     (
         Status::NotYet,
-        "the script holds a command or a line that isn't built yet",
+        "the script holds a command that isn't built yet",
     ),
 ];
 

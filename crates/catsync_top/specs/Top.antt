@@ -1,5 +1,5 @@
 -- What the program does with the bytes that it reads.
-use Rattle.std.specs.Prelude.{◌≡◌, ◌≤◌, ◌<◌, ◌+◌, ⊤, ℕ, IsSomeAnd, Bool, true, false, not, ◌&&◌, Option, Ok, Err, List, [], ◌∷◌, codes, length}
+use Rattle.std.specs.Prelude.{◌≡◌, ◌≤◌, ◌<◌, ◌+◌, ⊤, ℕ, IsSomeAnd, Bool, true, false, Option, Ok, Err, List, [], ◌∷◌, codes, length}
 use Rattle.std.specs.Io.KnownBytes.{Consumes, IsAtEnd}
 use Rattle.edge_io.specs.Causes.{Rose}
 use Rattle.edge_io.specs.declared.reading.TheConstants.{PIECE}
@@ -31,9 +31,9 @@ exit_code_of statuses.WriteFault = 5
 exit_code_of statuses.NoMemory = 6
 exit_code_of statuses.NotYet = 9
 
--- all of a script is built: it has no `ring` line, and its commands can be run
+-- all of a script is built: its commands can be run
 abbrev pub is_ready : Reading → Bool
-is_ready reading = not reading.has_ring && is_built reading.script
+is_ready reading = is_built reading.script
 
 -- the input was read to its end, and is no longer than a script may be
 pub record IsInput (left rest : Option (List ℕ)) (input : List ℕ) : Type 0 where

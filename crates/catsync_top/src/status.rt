@@ -29,8 +29,8 @@ pub enum Status {
     /// Out of memory.
     #[error("want of memory")]
     NoMemory,
-    /// The input is a script, with a command or a line that isn't built yet.
-    #[error("the script holds a command or a line that isn't built yet")]
+    /// The input is a script, with a command that isn't built yet.
+    #[error("the script holds a command that isn't built yet")]
     NotYet,
 }
 

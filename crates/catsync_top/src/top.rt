@@ -28,7 +28,7 @@ pub const MOST_INPUT: usize = 1_048_576;
 /// - `TooLong`: exactly where the source gives more than [`MOST_INPUT`] bytes before its end.
 /// - `BadScript`: exactly where that line is the first that breaks a rule of scripts, and that rule
 ///   is the first that it breaks.
-/// - `NotYet`: exactly where the input is a script, with a command or a line that isn't built yet.
+/// - `NotYet`: exactly where the input is a script, with a command that isn't built yet.
 /// - `NoMemory`: at any point before writing.
 /// - `Done`: the input was read to its end, and the whole output was written.
 pub fn catsync<S: Source, K: Sink, G: Gate>(
@@ -107,7 +107,7 @@ pub fn catsync<S: Source, K: Sink, G: Gate>(
 fn is_ready(read: &ScriptRead) -> bool
     ensures { result ≡ ready_reading (record { script = read.now.script; has_ring = read.now.has_ring; rest_at = read.now.rest_at }) }
 {
-    !read.has_ring && is_built(&read.script)
+    is_built(&read.script)
 }
 
 // Whether the arguments are `walk` alone.
