@@ -4,13 +4,12 @@ use Rattle.base_types.specs.Scenario.{Scenario}
 use Rattle.base_types.specs.declared.command.Command.TheVariants as commands
 use Rattle.ddl_effect.specs.Plans.{Plan, Done, Fails, Absent, NotBuilt, Do}
 use Rattle.ddl_effect.specs.Commands.{plan_of}
-use Rattle.cacheless.specs.Runs.{runs}
 use Rattle.ddl_effect.specs.Blocks.{Block, Outside, Inside, Failed, no_block, ends_block, ends_failure, refused_in, refused_by}
 use Rattle.ddl_effect.specs.Stages.{plan_at}
 use Rattle.cacheless.specs.Owed.{Owes, OwesLook}
 use Rattle.cacheless.specs.Session.{Badly, outcome_of, is_settled, none_open, refused_first, plan_admitted, plan_first}
 use Rattle.cacheless.proofs.Ways.{acts, acts_before}
-use Rattle.backend_core.specs.Types.{Oid, Kind, Command, CommandError, Purpose, Entry, Backend}
+use Rattle.backend_core.specs.Types.{Command, CommandError, Purpose, Entry, Backend}
 use Rattle.backend_core.specs.State.{is_ended, begins_in, builds_missing, act_missing, scans_missing, Rest, HasCommand, is_out}
 use Rattle.backend_core.specs.Agrees.{Well, RunsBy, TransactionFits, Agrees}
 use Rattle.backend_core.specs.Steps.{IsWorking}

@@ -1,7 +1,7 @@
 -- A command at its beginning.
 use Rattle.std.proofs.Common.{All, ◌≡◌, ◌≢◌, ◌<◌, ◌+◌, ◌∙◌, inl, ℕ, true, false, Option, Some, None, List, [], refl, sym, ap, subst, is_some, slice_get, arith}
 use Rattle.base_types.specs.declared.command.Command.TheVariants as commands
-use Rattle.ddl_effect.specs.Plans.{Plan, Done, Fails, Absent, Do, Lookup}
+use Rattle.ddl_effect.specs.Plans.{Plan, Done, Fails, Do, Lookup}
 use Rattle.ddl_effect.specs.Commands.{plan_of}
 use Rattle.cacheless.specs.Runs.{runs}
 use Rattle.ddl_effect.specs.Blocks.{Blocks, ends_block, refused_by}

@@ -23,7 +23,6 @@ use Rattle.history_model.specs.Prefixes.{EachEntry}
 use Rattle.history_model.specs.Read.{is_scan_of, read_at, place_read}
 use Rattle.history_model.specs.Transactions.{begun, is_visible}
 use Rattle.history_model.specs.Writes.{has_written, is_write, is_empty}
-use Rattle.history_model.proofs.Every.{every-weaker}
 use Rattle.history_model.proofs.Reading.{read_at-own, place_read-other, has_written-more}
 use Rattle.history_model.proofs.Sound.{sound_is_legal}
 use Rattle.history_model.proofs.Waiting.{not_waited}

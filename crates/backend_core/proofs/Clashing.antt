@@ -9,6 +9,7 @@ use Rattle.ddl_effect.specs.declared.exec.Exec.TheVariants as stages
 use Rattle.ddl_effect.specs.Plans.{Fails}
 use Rattle.ddl_effect.specs.Commands.{writing}
 use Rattle.ddl_effect.specs.Stages.{plan_at}
+use Rattle.history_model.specs.Lapped.{FetchesFrom}
 use Rattle.history_model.specs.Drawn.{next_oid}
 use Rattle.history_model.specs.Names.{new_names}
 use Rattle.history_model.specs.Read.{ScansOnlyIfNeeded, is_scan_of}
@@ -33,7 +34,7 @@ use Rattle.backend_core.specs.State.{is_ended, builds_missing, running_in, is_ta
 use Rattle.backend_core.specs.Agrees.{IsPlayed, FactsFit, TallyFits, Agrees}
 use Rattle.backend_core.specs.Steps.{IsWorking, Enters}
 use Rattle.backend_core.proofs.Stepping.{facts_after, session_after, rest_after, Keeps, Follows, Suits, GoesOn, own_enters}
-use Rattle.backend_core.proofs.Carry.{accepted-clear, has_written-quiet, kept-more, no_answer, may_come}
+use Rattle.backend_core.proofs.Carry.{accepted-clear, has_written-quiet, kept-more, no_answer}
 use Rattle.backend_core.proofs.Writing.{after_asking, asked_well, is_unanswered, is_unblocked, runs, fits, locks_clear, waits, nothing_owed}
 
 -- the entry that shows what has the name
@@ -62,6 +63,7 @@ pub record FailsWith (old : List Entry) (was : Backend) (rest : Rest) (name : Li
   pub needed : ScansOnlyIfNeeded old was.id event
   pub truly : LooksTruly old was.id event
   pub tables : KeepsTablesBy old was.id event
+  pub queue : (size : ℕ) → FetchesFrom size old was.id event
   pub plays : (facts : Facts) (command : Command) (s : Session) → owed_of facts command s ≡ [] → IsClash facts (next_oid old) s.left name → MayPlay (next_oid old) facts command s event
 
 fails_with : (old : List Entry) (was : Backend) (rest : Rest) (name : List ℕ) (clash : Clash) → FailsWith old was rest name (clash_event name clash) (clash_error name clash)
@@ -77,6 +79,7 @@ fails_with old was rest name (clashes.Row rel) = record {
   needed = tt;
   truly = tt;
   tables = tt;
+  queue = λ size. tt;
   plays = λ facts command s owed clash. (owed, clash);
 }
 fails_with old was rest name (clashes.Running xid) = record {
@@ -91,6 +94,7 @@ fails_with old was rest name (clashes.Running xid) = record {
   needed = tt;
   truly = tt;
   tables = tt;
+  queue = λ size. tt;
   plays = λ facts command s owed clash. (owed, clash);
 }
 
@@ -153,6 +157,7 @@ module _ (scenario : Scenario) (old : List Entry) (was : Backend) (agrees : Agre
     needed = with.needed;
     truly = with.truly;
     tables = with.tables;
+    queue = with.queue scenario.size;
   }
 
   follows : Follows scenario old was failed event agrees.rest

@@ -1,7 +1,7 @@
 -- A backend that stands in a sound history is coherent with it.
 use Rattle.std.proofs.Common.{◌≡◌, ◌∙◌, ◌||◌, ℕ, Bool, true, false, Some, List, [], ◌∷◌, All, refl, sym, ap, subst, take}
 use Rattle.std.specs.Prelude.{⊤}
-use Rattle.std.specs.List.{AllByRecursion, list_any}
+use Rattle.std.specs.List.{AllByRecursion}
 use Rattle.std.proofs.lemmas.List.Elements.{All-from_recursion, recursion_from_All}
 use Rattle.base_types.specs.Scans.{same_scan}
 use Rattle.base_types.proofs.SameScan.{same_scan-itself}
@@ -11,7 +11,7 @@ use Rattle.history_model.specs.Coming.{IsAccounted}
 use Rattle.history_model.specs.Versions.{answer_of}
 use Rattle.history_model.proofs.Accounted.{usable_accounted, usable_read}
 use Rattle.history_model.proofs.Every.{every-weaker, every-both}
-use Rattle.backend_core.specs.Types.{Scenario, Entry, Purpose, KeptScan, Life, Backend}
+use Rattle.backend_core.specs.Types.{Scenario, Entry, KeptScan, Life, Backend}
 use Rattle.backend_core.specs.declared.phase.Life.TheVariants as lives
 use Rattle.backend_core.specs.State.{is_kept}
 use Rattle.backend_core.specs.Agrees.{ReadRight, KeptAt, Agrees, HasNotJoined, AwaitsEntry, HasLeft, Stands}

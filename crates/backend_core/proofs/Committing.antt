@@ -82,7 +82,7 @@ commit_enters scenario old new had has was xid agrees played next appends =
     own_enters scenario old new had has was now (events.Visible xid) agrees played
     (waits_to_end scenario old was agrees works (events.Visible xid) out (ends.1))
     (record { session = λ _ _ _ _ _ _. refl; finished = λ _. refl; life = λ _. refl })
-    (record { plays = subst (λ o. MayPlayIn (next_oid old) facts o (session_at was agrees.rest) (events.Visible xid)) (sym works.at) ends; needed = tt; truly = tt; tables = tt })
+    (record { plays = subst (λ o. MayPlayIn (next_oid old) facts o (session_at was agrees.rest) (events.Visible xid)) (sym works.at) ends; needed = tt; truly = tt; tables = tt; queue = tt })
     (record {
       moves = record { id = refl; commands = refl; finished = refl; life = refl; lines = refl };
       session = session_clear old was (events.Visible xid) agrees.rest clear

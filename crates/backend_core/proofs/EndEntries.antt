@@ -23,7 +23,7 @@ use Rattle.cacheless.specs.Sessions.{placed_at, counted}
 use Rattle.backend_core.specs.Types.{Row, Purpose, Command, Scenario, Entry, Event, OwnLock, KeptScan, Phase, OwnTransaction, Backend}
 use Rattle.backend_core.specs.declared.phase.Phase.TheVariants as phases
 use Rattle.backend_core.specs.State.{is_accepting, is_visible_at, published_at, running_in, is_out, is_ended, builds_missing, begins_in, owed_first, Rest, session_at, HasCommand}
-use Rattle.backend_core.specs.Agrees.{RowsFit, RunsBy, HasOpened, Well, GivenSeen, KeptAt, Agrees, IsPlayed, OpenedFit}
+use Rattle.backend_core.specs.Agrees.{RowsFit, RunsBy, HasOpened, Well, GivenSeen, KeptAt, Agrees, OpenedFit}
 use Rattle.backend_core.proofs.Stepping.{facts_after, session_after, rest_after, Follows}
 use Rattle.backend_core.proofs.Carry.{place_read-more, has_written-quiet, kept-more, SameCommand, later-more, place-more, answer-more, accepted-clear}
 use Rattle.backend_core.proofs.Ending.{has_or_none}

@@ -1,37 +1,48 @@
--- The fetch of messages that wait.
-use Rattle.std.proofs.Common.{◌≡◌, ◌≤◌, ◌+◌, ◌∙◌, ℕ, Bool, true, false, not, Option, Some, List, [], ◌∷◌, ◌++◌, ◌==◌, ◌&&◌, ◌||◌, refl, sym, ap, subst, length, arith}
+-- The fetch of messages that wait, or of a reset.
+use Rattle.std.proofs.Common.{◌≡◌, ◌≤◌, ◌+◌, ◌∙◌, ℕ, Bool, true, false, not, Option, Some, List, [], ◌∷◌, ◌++◌, ◌==◌, ◌&&◌, ◌||◌, refl, sym, ap, subst, length, map, drop, is_none, get_or, All, arith}
 use Rattle.std.specs.Option.{option_map_or}
 use Rattle.std.proofs.Math.Bool.{and-false}
 use Rattle.base_types.specs.Scans.{is_build_scan}
 use Rattle.base_types.specs.Scenario.{Scenario}
+use Rattle.base_types.specs.declared.scan.Purpose.TheVariants as scans
 use Rattle.base_types.specs.declared.fetched.Fetched.TheVariants as fetches
 use Rattle.event_kinds.specs.declared.entry.Event.TheVariants as events
+use Rattle.inval_messages.specs.Lists.{Written}
 use Rattle.inval_messages.specs.declared.message.Message.{Message}
 use Rattle.inval_messages.specs.Messages.{is_spared}
+use Rattle.lock_modes.specs.Own.{cleared}
 use Rattle.lock_modes.specs.Rooms.{Roomy}
 use Rattle.ddl_effect.specs.Plans.{Plan, Absent}
 use Rattle.ddl_effect.specs.Stages.{plan_at}
 use Rattle.history_model.specs.Drawn.{next_oid}
+use Rattle.history_model.specs.Lapped.{is_lapped, FetchesFrom}
 use Rattle.history_model.specs.Lives.{last_event_of}
 use Rattle.history_model.specs.Log.{fetched_by}
-use Rattle.history_model.specs.Transactions.{begun}
-use Rattle.history_model.specs.Writes.{is_empty}
-use Rattle.seg_calls.specs.Calls.{entry_of, due_to, Fetches, Appends, MayCall}
-use Rattle.cacheless.specs.Facts.{facts_of}
-use Rattle.cacheless.specs.Session.{Session, Tally}
-use Rattle.cacheless.specs.Owed.{Owes, OwesFetch, OwesLook, owed_at_start, owed_after, owes_build}
-use Rattle.cacheless.specs.Sessions.{resumed, tally_by, placed_at, counted}
-use Rattle.cacheless.specs.Plays.{MayPlayIn}
+use Rattle.history_model.specs.Read.{ScansOnlyIfNeeded, is_scan_of}
+use Rattle.history_model.specs.Sent.{lists_by}
+use Rattle.history_model.specs.Transactions.{Running, begun, running_by}
+use Rattle.history_model.specs.Versions.{answer_of}
+use Rattle.history_model.specs.Writes.{is_empty, is_write}
+use Rattle.history_model.proofs.Locked.{IsIdle}
+use Rattle.seg_calls.specs.Calls.{entry_of, due_to, took_back, Fetches, Appends, MayCall}
+use Rattle.cacheless.specs.Facts.{Facts, facts_of}
+use Rattle.cacheless.specs.Session.{Session, Tally, first_of}
+use Rattle.cacheless.specs.Owed.{Owes, OwesFetch, OwesLook, owed_at_start, owed_after, owes_build, owes_accept}
+use Rattle.cacheless.specs.Sessions.{resumed, tally_by, placed_at, counted, ends_command}
+use Rattle.cacheless.specs.Plays.{MayPlay, MayPlayIn}
+use Rattle.cacheless.specs.Schedule.{LooksTruly}
+use Rattle.cacheless.specs.TableWrites.{KeepsTablesBy}
 use Rattle.cacheless.proofs.Settling.{waits-owed}
-use Rattle.backend_core.specs.Types.{OwnLock, Purpose, Entry, Event, KeptScan, Phase, Backend}
+use Rattle.backend_core.specs.Types.{Command, OwnLock, Row, Purpose, Entry, Event, KeptScan, Phase, Backend}
 use Rattle.backend_core.specs.declared.phase.Phase.TheVariants as phases
 use Rattle.backend_core.specs.State.{owed_at, is_accepting, looks_due, phase_fetched, locks_accepted, is_absent, is_visible_at, is_taken_back, one_if, kept_spared, Rest, session_at, HasCommand, is_in_accept, lacks_builds, is_kept}
+use Rattle.backend_core.specs.Fetched.{after_messages, after_reset, has_begun, marks_build}
 use Rattle.backend_core.specs.Agrees.{IsPlayed, TallyFits, ReadRight, KeptAt, EndFits, IsAccepting, Agrees}
 use Rattle.backend_core.specs.Steps.{Enters}
-use Rattle.backend_core.proofs.Stepping.{facts_after, session_after, rest_after, own_enters}
+use Rattle.backend_core.proofs.Stepping.{GoesOn, facts_after, session_after, rest_after, own_enters}
 use Rattle.backend_core.proofs.Carry.{MayCome, may_come, Leaves, own_leaves, kept-more, command-more, no_answer, may_call, waits_at, rows_fit-locked, found_locked-more}
 use Rattle.backend_core.proofs.Sparing.{is_kept-spared, all-spared}
-use Rattle.backend_core.proofs.Looks.{in_command, Quiet, quiet, runs_begun, runs_same, same_locks, locks_after, owes_in, Accepts, accepted_state, accept_well, accepts_in, first_begun, accepting_opened, not_empty-after}
+use Rattle.backend_core.proofs.Looks.{in_command, Quiet, quiet, runs_begun, runs_same, same_locks, locks_after, owes_in, Accepts, accepted_state, accept_well, accepts_in, first_begun, accepting_opened, not_empty-after, one_at_most}
 
 -- after a fetch of 32 a look is owed
 fetched_in : (count : ℕ) → in_command (phase_fetched count) ≡ true
@@ -65,6 +76,10 @@ resumed_same : (p : Plan) (s : Session) → is_absent p ≡ false → resumed p 
 resumed_same (Absent name) s present = absurd (cc)
 resumed_same p s present = refl
 
+same_finished : (p : Plan) (s : Session) → (resumed p s).finished ≡ s.finished
+same_finished (Absent name) s = refl
+same_finished p s = refl
+
 -- what a full fetch counts
 full_more : (t : Bool) (tally : Tally) → elim t as (λ x. Tally) [ true ↦ record tally { full = tally.full + 1 } | false ↦ tally ] ≡ record tally { full = tally.full + one_if t }
 full_more true tally = refl
@@ -78,157 +93,267 @@ counts_most true true = omega arith
 counts_most true false = omega arith
 counts_most false counts = omega arith
 
-at_most_one : (t : Bool) → one_if t ≤ 1
-at_most_one true = omega arith
-at_most_one false = omega arith
-
 -- a look may not count any more
-fewer_looked : (looked marked now : Bool) → now ≡ (looked && not marked) → one_if now ≤ one_if looked
-fewer_looked looked true now is = omega (arith, ap one_if (is ∙ and-false looked))
-fewer_looked true false now is = omega (arith, ap one_if is)
-fewer_looked false false now is = omega (arith, ap one_if is)
+fewer_looked : (looked marked : Bool) → one_if (looked && not marked) ≤ one_if looked
+fewer_looked looked true = omega (arith, ap one_if (and-false looked))
+fewer_looked true false = omega arith
+fewer_looked false false = omega arith
 
-fetched_to : (scenario : Scenario) (old new : List Entry) (had has : ℕ → ℕ) (was : Backend) (count : ℕ) (looked : Bool) (locks : Roomy OwnLock) → one_if looked ≤ one_if was.looked → Agrees scenario old was → IsPlayed scenario old → was.phase ≡ phases.Fetching
-    → locks.items ≡ locks_accepted (is_accepting (phase_fetched count) || lacks_builds (record was { kept = kept_spared (fetched_by old was.id count) was.kept })) was.locks.items
-    → Appends old new had has (entry_of was.id (was.finished + 1) (events.Fetch count)) → Enters scenario old new was (accepted_state was (phase_fetched count) looked locks (kept_spared (fetched_by old was.id count) was.kept))
-fetched_to scenario old new had has was count looked locks fewer agrees played phase items appends =
-    own_enters scenario old new had has was now event agrees played
-    (waits_at scenario old was agrees at (λ rest. waits-owed (facts_of old was.id) at.command rest (session_at was agrees.rest)
-    (not_empty-after (owed_at_start (facts_of old was.id) at.command (session_at was agrees.rest)) (owed_after (facts_of old was.id).last) (ap is_empty (agrees.facts.owed ∙ ap owed_at phase)))))
-    (record { session = λ _ _ _ _ _ _. refl; finished = λ s. same_finished s.left s; life = λ _. refl })
-    (record {
-      plays = subst (λ o. MayPlayIn (next_oid old) (facts_of old was.id) o (session_at was agrees.rest) event) (sym at.at) tt;
-      needed = tt;
-      truly = tt;
-      tables = tt;
-    })
-    (record {
-      moves = record { id = refl; commands = refl; finished = refl; life = refl; lines = refl };
-      session = λ i. record (session_after old was event agrees.rest) {
-        blocks = (same i).blocks;
-        left = (same i).left;
-        blocked = (same i).blocked;
-        opened = (same i).opened;
-        read = (same i).read;
-        ended = (ap (λ t. t.ended) same ∙ before.going ∙ sym after.going) i;
-        locks = same_after i;
-      };
-      facts = record {
-        running = ap (λ o. Some (begun (was.finished + 1) o)) agrees.facts.running ∙ runs_begun (was.finished + 1) was.phase (phase_fetched count) was.running before after;
-        lists = agrees.facts.lists;
-        owed = owed_fetched count;
-        took = sym after.standing;
-        taken = λ from is. absurd (cc (after.standing, ap is_taken_back is));
-        usable = usable;
-        kept = all-spared (ReadRight (facts_of old was.id).rows) messages was.kept agrees.facts.kept;
-        given = λ read. rows_fit-locked (facts_of old was.id) (facts_after old was event) was.locks.items locks.items (plan_at was.exec) was.given.items (λ name. refl)
-            (found_locked-more was.locks.items locks.items (plan_at was.exec) was.given.items (same_locks (is_in_accept now) was.locks.items locks.items was.given.items items) (accepting.locked read)) (agrees.facts.given read);
-      };
-      tally = λ _. subst (λ t. TallyFits t now) (sym counts) (record {
-        enough = omega (arith, (agrees.tally before.going).enough, ap looks_due phase, due_fetched count, counts_most (count == 32) (not (lacks_builds now)), same_first, fewer);
-        within = omega (arith, (agrees.tally before.going).within, ap looks_due phase, due_fetched count, at_most_one (count == 32), at_most_one was.looked, same_first);
-      });
-      well = accept_well was (phase_fetched count) looked locks now.kept accepts agrees.well;
-    })
-    (record {
-      command = command-more old e was now agrees.rest later (record { id = refl; commands = refl; finished = refl; answer = refl; plan = refl; opened = refl; block = refl; refused = ap (λ t. t.refused) same; found = ap (λ t. t.found) same }) (record { read = refl; given = refl; given_at = refl })
-          leaves.writes leaves.places leaves.relations agrees.command;
-      kept = all-spared (KeptAt (old ++ e ∷ []) was.id) messages was.kept (kept-more old e was.id was.kept (λ i d within. refl) agrees.kept);
-      answer = no_answer scenario (old ++ e ∷ []) now later accepting.unanswered;
-      judged = λ _ _. refl;
-    })
-    appends
+-- the session after such an event, but for its locks and its tally
+abbrev entry_noted : Session → Tally → ℕ → Session
+entry_noted s tally at = record s { tally = tally; judged = at; last = at }
+
+-- what a fetch brings, messages or a reset: nothing changes but the place of the acceptance, what is kept, and the tally
+record Brings (scenario : Scenario) (old : List Entry) (was : Backend) (rest : Rest) (event : Event) (phase : Phase) (kept : List KeptScan) (tally : Tally) : Type 0 where
+  goes : GoesOn event
+  plays : (next : ℕ) (facts : Facts) (command : Command) (s : Session) → MayPlay next facts command s event
+  needed : ScansOnlyIfNeeded old was.id event
+  truly : LooksTruly old was.id event
+  tables : KeepsTablesBy old was.id event
+  queue : FetchesFrom scenario.size old was.id event
+  inside : in_command phase ≡ true
+  runs : (own : Option Running) → running_by (was.finished + 1) event own ≡ Some (begun (was.finished + 1) own)
+  lists : (lists : List Written) → lists_by old was.id (was.finished + 1) event lists ≡ lists
+  owed : owed_after (Some event) ≡ owed_at phase
+  took : took_back (Some event) ≡ false
+  scans : (scan : Purpose) → is_scan_of scan event ≡ false
+  usable : (scan : Purpose) → is_build_scan scan ≡ true → (facts_after old was event).usable scan ≡ is_kept kept scan
+  writes : is_write event ≡ false
+  idle : IsIdle was.id old (entry_of was.id (was.finished + 1) event)
+  goes_on : ends_command event ≡ false
+  noted : counted (facts_after old was event) event (placed_at (length old + 1) (was.finished + 1) event (session_at was rest)) ≡ entry_noted (session_at was rest) tally (length old + 1)
+  fetches : tally.fetches ≡ rest.tally.fetches + 1
+  looks : tally.looks ≡ rest.tally.looks
+  made : (tally.scans ≡ rest.tally.scans) × (tally.grants ≡ rest.tally.grants)
+  full : tally.full ≤ rest.tally.full + looks_due phase
+  due : looks_due phase ≤ 1
+
+module _ (scenario : Scenario) (old new : List Entry) (had has : ℕ → ℕ) (was : Backend) (event : Event) (phase : Phase) (to_build : Bool) (locks : Roomy OwnLock) (kept : List KeptScan) (tally : Tally) (agrees : Agrees scenario old was) (brings : Brings scenario old was agrees.rest event phase kept tally)
+    (stays : (P : KeptScan → Type 0) → All P was.kept → All P kept) (played : IsPlayed scenario old) (fetching : was.phase ≡ phases.Fetching) (fewer : one_if to_build ≤ one_if was.looked_to_build) (items : locks.items ≡ locks_accepted (is_accepting phase || lacks_builds (record was { kept = kept })) was.locks.items)
+    (appends : Appends old new had has (entry_of was.id (was.finished + 1) event)) where
+  this : HasCommand was
+  this = has_fetching was fetching agrees.well.end
+
+  accepting : IsAccepting was
+  accepting = agrees.well.accepting (ap is_accepting fetching)
+
+  abbrev now : Backend
+  now = accepted_state was phase was.looked to_build locks kept
+
+  accepts : Accepts was phase was.looked to_build locks kept
+  accepts = record {
+    has = this;
+    before = ap in_command fetching;
+    after = brings.inside;
+    opened = accepting_opened was agrees.well (ap is_accepting fetching);
+    unanswered = accepting.unanswered;
+    unsettled = accepting.unsettled;
+    found = accepting.locked;
+    first = first_begun was accepting.runs agrees.well;
+    transaction = accepts_in was phase was.looked to_build locks kept (ap in_command fetching) brings.inside accepting.runs agrees.well;
+    items = items;
+  }
+
+  before : Quiet was.phase
+  before = quiet was.phase accepts.before
+
+  after : Quiet phase
+  after = quiet phase accepts.after
+
+  abbrev noted : Session
+  noted = entry_noted (session_at was agrees.rest) tally (length old + 1)
+
+  same_after : (session_after old was event agrees.rest).locks ≡ locks.items
+  same_after = ap (λ (s : Session). elim (owes_accept (facts_after old was event) (first_of (drop was.finished was.commands)) s) as (λ x. List OwnLock) [ true ↦ s.locks | false ↦ map cleared s.locks ]) brings.noted
+      ∙ locks_after (facts_after old was event) was noted phase (lacks_builds now) locks.items this accepts.after (ap is_none (brings.runs (facts_of old was.id).running)) brings.owed
+      (owes_in (facts_after old was event) was noted kept brings.usable refl refl accepts.opened) items
+
+  same_first : option_map_or (λ t. one_if (t.first == was.finished + 1)) now.running 0 ≡ option_map_or (λ t. one_if (t.first == was.finished + 1)) was.running 0
+  same_first = ap (λ o. option_map_or (λ t. one_if (t.first == was.finished + 1)) o 0) (runs_same (was.finished + 1) was.running accepting.runs)
+
+  abbrev e : Entry
+  e = entry_of was.id (was.finished + 1) event
+
+  abbrev later : Rest
+  later = rest_after old was event agrees.rest
+
+  -- what is noted of the running command is what was
+  part : {X : Type 0} (get : Session → X) → get (counted (facts_after old was event) event (placed_at (length old + 1) (was.finished + 1) event (session_at was agrees.rest))) ≡ get noted
+  part get = ap get brings.noted
+
+  may : MayCome old e
+  may = may_come scenario old e played appends.comes brings.tables
+
+  carries : Leaves old e was.id
+  carries = own_leaves old e was.id may brings.writes (λ name. brings.scans (scans.RelName name)) brings.idle
+
+  tally_fits : TallyFits tally now
+  tally_fits = let fits = agrees.tally before.going in record {
+    enough = omega (arith, fits.enough, ap looks_due fetching, brings.full, brings.looks, brings.made.0, brings.made.1, same_first, fewer);
+    within = omega (arith, fits.within, ap looks_due fetching, brings.due, brings.looks, brings.fetches, brings.made.0, brings.made.1, one_at_most was.looked_to_build, same_first);
+  }
+
+  brought : Enters scenario old new was now
+  brought =
+      own_enters scenario old new had has was now event agrees played
+      (waits_at scenario old was agrees this (λ rest. waits-owed (facts_of old was.id) this.command rest (session_at was agrees.rest)
+      (not_empty-after (owed_at_start (facts_of old was.id) this.command (session_at was agrees.rest)) (owed_after (facts_of old was.id).last) (ap is_empty (agrees.facts.owed ∙ ap owed_at fetching)))))
+      brings.goes
+      (record {
+        plays = subst (λ o. MayPlayIn (next_oid old) (facts_of old was.id) o (session_at was agrees.rest) event) (sym this.at) (brings.plays (next_oid old) (facts_of old was.id) this.command (session_at was agrees.rest));
+        needed = brings.needed;
+        truly = brings.truly;
+        tables = brings.tables;
+        queue = brings.queue;
+      })
+      (record {
+        moves = record { id = refl; commands = refl; finished = refl; life = refl; lines = refl };
+        session = λ i. record (session_after old was event agrees.rest) {
+          blocks = part (λ s. s.blocks) i;
+          left = part (λ s. s.left) i;
+          blocked = part (λ s. s.blocked) i;
+          opened = part (λ s. s.opened) i;
+          read = part (λ s. s.read) i;
+          ended = (part (λ s. s.ended) ∙ before.going ∙ sym after.going) i;
+          locks = same_after i;
+        };
+        facts = record {
+          running = brings.runs (facts_of old was.id).running ∙ ap (λ o. Some (begun (was.finished + 1) o)) agrees.facts.running ∙ runs_begun (was.finished + 1) was.phase phase was.running before after;
+          lists = brings.lists (facts_of old was.id).lists ∙ agrees.facts.lists;
+          owed = brings.owed;
+          took = brings.took ∙ sym after.standing;
+          taken = λ from is. absurd (cc (after.standing, ap is_taken_back is));
+          usable = brings.usable;
+          kept = stays (ReadRight (facts_after old was event).rows) (λ i d within. let k = agrees.facts.kept i d within in record { build = k.build; rows_are = k.rows_are ∙ sym (rows_same (get_or was.kept i d).scan) });
+          given = λ read. rows_fit-locked (facts_of old was.id) (facts_after old was event) was.locks.items locks.items (plan_at was.exec) was.given.items (λ name. rows_same (scans.RelName name))
+              (found_locked-more was.locks.items locks.items (plan_at was.exec) was.given.items (same_locks (is_in_accept now) was.locks.items locks.items was.given.items items) (accepting.locked read)) (agrees.facts.given read);
+        };
+        tally = λ _. subst (λ t. TallyFits t now) (sym (part (λ s. s.tally))) tally_fits;
+        well = accept_well was phase was.looked to_build locks kept accepts agrees.well;
+      })
+      (record {
+        command = command-more old e was now agrees.rest later (record { id = refl; commands = refl; finished = refl; answer = refl; plan = refl; opened = refl; block = refl; refused = part (λ s. s.refused); found = part (λ s. s.found) }) (record { read = refl; given = refl; given_at = refl })
+            carries.writes carries.places carries.relations agrees.command;
+        kept = stays (KeptAt (old ++ e ∷ []) was.id) (kept-more old e was.id was.kept (λ i d within. brings.scans (get_or was.kept i d).scan) agrees.kept);
+        answer = no_answer scenario (old ++ e ∷ []) now later accepting.unanswered;
+        judged = λ _ _. brings.goes_on;
+      })
+      appends
+    where
+      rows_same : (scan : Purpose) → (facts_after old was event).rows scan ≡ (facts_of old was.id).rows scan
+      rows_same scan = ap (λ t. elim t as (λ x. List Row) [ true ↦ answer_of old was.id scan | false ↦ (facts_of old was.id).rows scan ]) (brings.scans scan)
+
+-- a fetch of messages
+messages_bring : (scenario : Scenario) (old : List Entry) (was : Backend) (agrees : Agrees scenario old was) (count : ℕ) → is_lapped scenario.size old was.id ≡ false → was.phase ≡ phases.Fetching
+    → let kept = kept_spared (fetched_by old was.id count) was.kept in
+    Brings scenario old was agrees.rest (events.Fetch count) (phase_fetched count) kept (record (tally_by (events.Fetch count) agrees.rest.tally) { full = agrees.rest.tally.full + one_if ((count == 32) && not (lacks_builds (record was { kept = kept }))) })
+messages_bring scenario old was agrees count served fetching = record {
+  goes = record { session = λ _ _ _ _ _ _. refl; finished = λ s. same_finished s.left s; life = λ _. refl };
+  plays = λ _ _ _ _. tt;
+  needed = tt;
+  truly = tt;
+  tables = tt;
+  queue = served;
+  inside = fetched_in count;
+  runs = λ _. refl;
+  lists = λ _. refl;
+  owed = owed_fetched count;
+  took = refl;
+  scans = λ _. refl;
+  usable = usable;
+  writes = refl;
+  idle = λ _. tt;
+  goes_on = refl;
+  noted = noted;
+  fetches = refl;
+  looks = refl;
+  made = (refl, refl);
+  full = omega (arith, due_fetched count, counts_most (count == 32) (not (lacks_builds now)));
+  due = omega (arith, due_fetched count, one_at_most (count == 32));
+}
   where
-    at : HasCommand was
-    at = has_fetching was phase agrees.well.end
-
-    accepting : IsAccepting was
-    accepting = agrees.well.accepting (ap is_accepting phase)
-
-    event : Event
-    event = events.Fetch count
-
     messages : List Message
     messages = fetched_by old was.id count
 
     now : Backend
-    now = accepted_state was (phase_fetched count) looked locks (kept_spared messages was.kept)
+    now = record was { kept = kept_spared messages was.kept }
 
-    accepts : Accepts was (phase_fetched count) looked locks now.kept
-    accepts = record {
-      has = at;
-      before = ap in_command phase;
-      after = fetched_in count;
-      opened = accepting_opened was agrees.well (ap is_accepting phase);
-      unanswered = accepting.unanswered;
-      unsettled = accepting.unsettled;
-      found = accepting.locked;
-      first = first_begun was accepting.runs agrees.well;
-      transaction = accepts_in was (phase_fetched count) looked locks now.kept (ap in_command phase) (fetched_in count) accepting.runs agrees.well;
-      items = items;
-    }
+    accepting : IsAccepting was
+    accepting = agrees.well.accepting (ap is_accepting fetching)
 
-    before : Quiet was.phase
-    before = quiet was.phase accepts.before
-
-    after : Quiet (phase_fetched count)
-    after = quiet (phase_fetched count) accepts.after
+    usable : (scan : Purpose) → is_build_scan scan ≡ true → (facts_after old was (events.Fetch count)).usable scan ≡ is_kept now.kept scan
+    usable scan build = ap (λ t. is_spared scan messages && t) (agrees.facts.usable scan build) ∙ sym (is_kept-spared messages was.kept scan)
 
     same : resumed (plan_at was.exec) (session_at was agrees.rest) ≡ session_at was agrees.rest
     same = resumed_same (plan_at was.exec) (session_at was agrees.rest) accepting.unsettled
 
-    same_finished : (p : Plan) (s : Session) → (resumed p s).finished ≡ s.finished
-    same_finished (Absent name) s = refl
-    same_finished p s = refl
-
     placed : Session
-    placed = counted (facts_after old was event) event (placed_at (length old + 1) (was.finished + 1) event (session_at was agrees.rest))
+    placed = placed_at (length old + 1) (was.finished + 1) (events.Fetch count) (session_at was agrees.rest)
 
-    usable : (scan : Purpose) → is_build_scan scan ≡ true → (facts_after old was event).usable scan ≡ is_kept now.kept scan
-    usable scan build = ap (λ t. is_spared scan messages && t) (agrees.facts.usable scan build) ∙ sym (is_kept-spared messages was.kept scan)
+    owes : owes_build (facts_after old was (events.Fetch count)) placed ≡ lacks_builds now
+    owes = owes_in (facts_after old was (events.Fetch count)) was placed now.kept usable (ap (λ t. t.left) same) (ap (λ t. t.opened) same) (accepting_opened was agrees.well (ap is_accepting fetching))
 
-    -- the scans that it lacks now, before and after the fetch is counted
-    owes : (s : Session) → s.left ≡ plan_at was.exec → s.opened ≡ was.opened → owes_build (facts_after old was event) s ≡ lacks_builds now
-    owes s left opened = owes_in (facts_after old was event) was s now.kept usable left opened accepts.opened
+    tally : Tally
+    tally = tally_by (events.Fetch count) agrees.rest.tally
 
-    same_after : (session_after old was event agrees.rest).locks ≡ locks.items
-    same_after = locks_after (facts_after old was event) was placed (phase_fetched count) (lacks_builds now) locks.items at accepts.after refl (owed_fetched count)
-        (owes placed (ap (λ t. t.left) same) (ap (λ t. t.opened) same)) items
+    counts : elim ((count == 32) && not (owes_build (facts_after old was (events.Fetch count)) placed)) as (λ x. Tally) [ true ↦ record tally { full = tally.full + 1 } | false ↦ tally ] ≡ record tally { full = agrees.rest.tally.full + one_if ((count == 32) && not (lacks_builds now)) }
+    counts = ap (λ t. elim ((count == 32) && not t) as (λ x. Tally) [ true ↦ record tally { full = tally.full + 1 } | false ↦ tally ]) owes ∙ full_more ((count == 32) && not (lacks_builds now)) tally
 
-    same_first : option_map_or (λ t. one_if (t.first == was.finished + 1)) now.running 0 ≡ option_map_or (λ t. one_if (t.first == was.finished + 1)) was.running 0
-    same_first = ap (λ o. option_map_or (λ t. one_if (t.first == was.finished + 1)) o 0) (runs_same (was.finished + 1) was.running accepting.runs)
+    noted : counted (facts_after old was (events.Fetch count)) (events.Fetch count) placed ≡ entry_noted (session_at was agrees.rest) (record tally { full = agrees.rest.tally.full + one_if ((count == 32) && not (lacks_builds now)) }) (length old + 1)
+    noted = λ i. record (same i) { tally = counts i; locks = was.locks.items; judged = length old + 1; last = length old + 1 }
 
-    e : Entry
-    e = entry_of was.id (was.finished + 1) event
+-- a reset
+reset_brings : (scenario : Scenario) (old : List Entry) (was : Backend) (agrees : Agrees scenario old was) → is_lapped scenario.size old was.id ≡ true → was.phase ≡ phases.Fetching
+    → Brings scenario old was agrees.rest events.FetchReset phases.Working [] (tally_by events.FetchReset agrees.rest.tally)
+reset_brings scenario old was agrees lapped fetching = record {
+  goes = record { session = λ _ _ _ _ _ _. refl; finished = λ s. same_finished s.left s; life = λ _. refl };
+  plays = λ _ _ _ _. tt;
+  needed = tt;
+  truly = tt;
+  tables = tt;
+  queue = lapped;
+  inside = refl;
+  runs = λ _. refl;
+  lists = λ _. refl;
+  owed = refl;
+  took = refl;
+  scans = λ _. refl;
+  usable = λ _ _. refl;
+  writes = refl;
+  idle = λ _. tt;
+  goes_on = refl;
+  noted = λ i. record (same i) { tally = tally_by events.FetchReset agrees.rest.tally; locks = was.locks.items; judged = length old + 1; last = length old + 1 };
+  fetches = refl;
+  looks = refl;
+  made = (refl, refl);
+  full = omega arith;
+  due = omega arith;
+}
+  where
+    same : resumed (plan_at was.exec) (session_at was agrees.rest) ≡ session_at was agrees.rest
+    same = resumed_same (plan_at was.exec) (session_at was agrees.rest) (agrees.well.accepting (ap is_accepting fetching)).unsettled
 
-    later : Rest
-    later = rest_after old was event agrees.rest
+-- its transaction goes on, so only the place of the acceptance, the looks, the locks and what is kept have changed
+runs_on : (scenario : Scenario) (old new : List Entry) (was : Backend) (phase : Phase) (to_build : Bool) (locks : Roomy OwnLock) (kept : List KeptScan) → Agrees scenario old was → was.phase ≡ phases.Fetching → Enters scenario old new was (accepted_state was phase was.looked to_build locks kept)
+    → Enters scenario old new was (record was { phase = phase; looked_to_build = to_build; locks = locks; kept = kept })
+runs_on scenario old new was phase to_build locks kept agrees fetching enters =
+    subst (λ r. Enters scenario old new was (record was { phase = phase; running = r; looked_to_build = to_build; locks = locks; kept = kept })) (runs_same (was.finished + 1) was.running (agrees.well.accepting (ap is_accepting fetching)).runs) enters
 
-    counts : later.tally ≡ record (tally_by event agrees.rest.tally) { full = agrees.rest.tally.full + one_if ((count == 32) && not (lacks_builds now)) }
-    counts =
-        ap (λ t. elim ((count == 32) && not t) as (λ x. Tally) [ true ↦ record (tally_by event agrees.rest.tally) { full = agrees.rest.tally.full + 1 } | false ↦ tally_by event agrees.rest.tally ])
-        (owes (placed_at (length old + 1) (was.finished + 1) event (session_at was agrees.rest)) (ap (λ t. t.left) same) (ap (λ t. t.opened) same))
-        ∙ full_more ((count == 32) && not (lacks_builds now)) (tally_by event agrees.rest.tally)
-
-    may : MayCome old e
-    may = may_come scenario old e played appends.comes tt
-
-    leaves : Leaves old e was.id
-    leaves = own_leaves old e was.id may refl (λ name. refl) (λ _. tt)
-
--- the same for what the call answered
-pub fetch_enters : (scenario : Scenario) (old new : List Entry) (had has : ℕ → ℕ) (was : Backend) (count : ℕ) (given : List Message) (phase : Phase) (looked marked : Bool) (locks : Roomy OwnLock) (kept : List KeptScan) → Agrees scenario old was → IsPlayed scenario old → was.phase ≡ phases.Fetching
-    → Fetches old new had has was.id (was.finished + 1) given (fetches.Messages count) → kept ≡ kept_spared given was.kept → looked ≡ (was.looked && not marked) → phase ≡ phase_fetched count
-    → locks.items ≡ locks_accepted (is_accepting phase || lacks_builds (record was { kept = kept })) was.locks.items → Enters scenario old new was (record was { phase = phase; looked = looked; locks = locks; kept = kept })
-fetch_enters scenario old new had has was count given phase looked marked locks kept agrees played fetching gives spared looked_is phase_is items =
-    subst (λ k. Enters scenario old new was (record was { phase = phase; looked = looked; locks = locks; kept = k })) (sym kept_is)
-    (subst (λ p. Enters scenario old new was (record was { phase = p; looked = looked; locks = locks; kept = kept_spared messages was.kept })) (sym phase_is)
-    (subst (λ r. Enters scenario old new was (record was { phase = phase_fetched count; running = r; looked = looked; locks = locks; kept = kept_spared messages was.kept })) (runs_same (was.finished + 1) was.running (agrees.well.accepting (ap is_accepting fetching)).runs)
-    (fetched_to scenario old new had has was count looked locks (fewer_looked was.looked marked looked looked_is) agrees played fetching
-    (items ∙ (λ i. locks_accepted (is_accepting (phase_is i) || lacks_builds (record was { kept = kept_is i })) was.locks.items)) gives.appends)))
+-- the fetch, by what the call answered
+pub messages_enter : (scenario : Scenario) (old new : List Entry) (had has : ℕ → ℕ) (was : Backend) (count : ℕ) (given : List Message) (locks : Roomy OwnLock) → Agrees scenario old was → IsPlayed scenario old → was.phase ≡ phases.Fetching
+    → Fetches scenario.size old new had has was.id (was.finished + 1) given (fetches.Messages count) → locks.items ≡ locks_accepted (is_in_accept (after_messages given count was)) was.locks.items → Enters scenario old new was (record (after_messages given count was) { locks = locks })
+messages_enter scenario old new had has was count given locks agrees played fetching gives items =
+    subst (λ m. Enters scenario old new was (record (after_messages m count was) { locks = locks })) (sym gives.messages)
+    (runs_on scenario old new was (phase_fetched count) (was.looked_to_build && not (marks_build was messages)) locks (kept_spared messages was.kept) agrees fetching
+    (brought scenario old new had has was (events.Fetch count) (phase_fetched count) (was.looked_to_build && not (marks_build was messages)) locks (kept_spared messages was.kept) _ agrees (messages_bring scenario old was agrees count gives.served fetching)
+    (λ P holds. all-spared P messages was.kept holds) played fetching (fewer_looked was.looked_to_build (marks_build was messages)) (items ∙ ap (λ m. locks_accepted (is_in_accept (after_messages m count was)) was.locks.items) gives.messages) gives.appends))
   where
     messages : List Message
     messages = fetched_by old was.id count
 
-    kept_is : kept ≡ kept_spared messages was.kept
-    kept_is = spared ∙ ap (λ m. kept_spared m was.kept) gives.messages
+pub reset_enters : (scenario : Scenario) (old new : List Entry) (had has : ℕ → ℕ) (was : Backend) (given : List Message) (locks : Roomy OwnLock) → Agrees scenario old was → IsPlayed scenario old → was.phase ≡ phases.Fetching
+    → Fetches scenario.size old new had has was.id (was.finished + 1) given fetches.Reset → locks.items ≡ locks_accepted (is_in_accept (after_reset was)) was.locks.items → Enters scenario old new was (record (after_reset was) { locks = locks })
+reset_enters scenario old new had has was given locks agrees played fetching gives items =
+    runs_on scenario old new was phases.Working (was.looked_to_build && not (has_begun was)) locks [] agrees fetching
+    (brought scenario old new had has was events.FetchReset phases.Working (was.looked_to_build && not (has_begun was)) locks [] _ agrees (reset_brings scenario old was agrees gives.lapped fetching)
+    (λ P holds i d within. absurd (omega (arith, within))) played fetching (fewer_looked was.looked_to_build (has_begun was)) items gives.appends)

@@ -263,7 +263,7 @@ finishes_at s well next = by_end next.ended
 -- the state at the next command
 abbrev pub at_next : Backend → Exec → Bool → Blocks → List Opening → List Line → Backend
 at_next was exec blocked blocks opened lines =
-    record was { finished = was.finished + 1; exec = exec; blocked = blocked; phase = phases.Working; answer = None; blocks = blocks; looked = false; read = false; opened = opened; lines = lines }
+    record was { finished = was.finished + 1; exec = exec; blocked = blocked; phase = phases.Working; answer = None; blocks = blocks; looked = false; looked_to_build = false; read = false; opened = opened; lines = lines }
 
 -- it agrees there
 pub finish_keeps : (scenario : Scenario) (seen : List Entry) (was : Backend) (exec : Exec) (blocked : Bool) (blocks : Blocks) (opened : List Opening) (lines : List Line) (text : List ℕ)

@@ -116,8 +116,9 @@ join_enters scenario old new had has was before played appends = record {
   needed = tt;
   truly = tt;
   tables = tt;
+  queue = tt;
   agrees = subst (λ h. AgreesNow scenario h now) (sym appends.entries) (record {
-    played = IsPlayed-more scenario old e played appends.comes next tt tt tt;
+    played = IsPlayed-more scenario old e played appends.comes next tt tt tt tt;
     agrees = record {
       number = before.number;
       commands = before.commands;
@@ -138,8 +139,8 @@ join_enters scenario old new had has was before played appends = record {
           })));
       facts = subst (λ f. FactsFit f now) (sym (facts_of-own old e was.id own ∙ ap (facts_by old was.id 0 events.Start) before.facts)) (new_facts old was before.new);
       tally = λ _. record {
-        enough = omega (arith, ap looks_due before.new.phase, ap (λ o. option_map_or (λ t. one_if (t.first == was.finished + 1)) o 0) before.new.running, ap one_if before.new.looked);
-        within = omega (arith, ap looks_due before.new.phase, ap (λ o. option_map_or (λ t. one_if (t.first == was.finished + 1)) o 0) before.new.running, ap one_if before.new.looked);
+        enough = omega (arith, ap looks_due before.new.phase, ap (λ o. option_map_or (λ t. one_if (t.first == was.finished + 1)) o 0) before.new.running, ap one_if before.new.looked, ap one_if before.new.looked_to_build);
+        within = omega (arith, ap looks_due before.new.phase, ap (λ o. option_map_or (λ t. one_if (t.first == was.finished + 1)) o 0) before.new.running, ap one_if before.new.looked, ap one_if before.new.looked_to_build);
       };
       life = record { last = 0; alive = life_of-own old e was.id own; most = omega arith };
       well = new_well was before.built before.few before.new;

@@ -59,6 +59,7 @@ leave_steps scenario old new had has was agrees past none appends = record {
   needed = tt;
   truly = tt;
   tables = tt;
+  queue = tt;
   stands = subst (λ h. HasLeft scenario h (record was { life = lives.Stopped })) (sym appends.entries) (record {
     number = agrees.number;
     life = life_of-own old e was.id own;

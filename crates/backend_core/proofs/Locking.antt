@@ -139,6 +139,7 @@ granted_enters scenario old new had has was rel mode held locks agrees played wo
       needed = tt;
       truly = tt;
       tables = tt;
+      queue = tt;
     })
     (record {
       moves = record { id = refl; commands = refl; finished = refl; life = refl; lines = refl };
@@ -233,6 +234,7 @@ refused_enters scenario old new had has was rel mode holder held locks agrees pl
       needed = tt;
       truly = tt;
       tables = tt;
+      queue = tt;
     })
     (record {
       moves = record { id = refl; commands = refl; finished = refl; life = refl; lines = refl };

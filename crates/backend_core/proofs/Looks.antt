@@ -28,7 +28,7 @@ use Rattle.cacheless.proofs.Settling.{waits-owed}
 use Rattle.cacheless.proofs.Ways.{acts}
 use Rattle.backend_core.specs.Types.{Command, Mode, OwnLock, Row, Purpose, Entry, KeptScan, Phase, OwnTransaction, Backend}
 use Rattle.backend_core.specs.declared.phase.Phase.TheVariants as phases
-use Rattle.backend_core.specs.State.{owed_at, is_accepting, is_in_accept, lacks_builds, is_kept, builds_missing, is_out, looks_due, phase_looked, locks_accepted, published_at, is_absent, is_visible_at, is_taken_back, is_ended, one_if, running_in, begun_own, begins_in, owed_first, scans_missing, Rest, session_at, HasCommand}
+use Rattle.backend_core.specs.State.{owed_at, is_accepting, is_in_accept, lacks_builds, is_kept, builds_missing, is_out, looks_due, phase_looked, locks_accepted, published_at, is_absent, is_visible_at, is_taken_back, is_ended, one_if, running_in, begun_own, begins_in, owed_first, is_looked_for, scans_missing, Rest, session_at, HasCommand}
 use Rattle.backend_core.specs.Agrees.{IsPlayed, FactsFit, TallyFits, Well, RunsBy, TransactionFits, EndFits, OpenedFit, IsFoundLocked, IsAccepting, Agrees}
 use Rattle.backend_core.specs.Steps.{OwesLookNow, IsWorking, Enters}
 use Rattle.backend_core.proofs.Stepping.{Waits, facts_after, session_after, rest_after, own_enters}
@@ -39,16 +39,16 @@ pub one_at_most : (t : Bool) → one_if t ≤ 1
 one_at_most true = omega arith
 one_at_most false = omega arith
 
--- a look stays within its bound
-pub may_look_at : (facts : Facts) (s : Backend) (rest : Rest) → FactsFit facts s → TallyFits rest.tally s → s.phase ≢ phases.Fetching → may_look facts (session_at s rest) ≡ true
-may_look_at facts s rest fits tally unfetched = ap (λ l. elim l [ OwesFetch ∷ owed ↦ false | owed ↦ nat_le (rest.tally.looks + 1) (rest.tally.scans + rest.tally.grants + 2 * rest.tally.fetches + 3) ]) fits.owed ∙ at_phase s.phase unfetched
+-- how many looks were made for scans that are still to come, or owed at the start of the running command's transaction
+abbrev pub looks_ahead : Backend → ℕ
+looks_ahead s = option_map_or (λ t. one_if (t.first == s.finished + 1)) s.running 0 + one_if s.looked + one_if s.looked_to_build
+
+-- where no more than two were, or a look is due, a look stays within its bound
+pub may_look_at : (facts : Facts) (s : Backend) (rest : Rest) → FactsFit facts s → TallyFits rest.tally s → s.phase ≢ phases.Fetching → looks_ahead s ≤ 2 + looks_due s.phase → may_look facts (session_at s rest) ≡ true
+may_look_at facts s rest fits tally unfetched few = ap (λ l. elim l [ OwesFetch ∷ owed ↦ false | owed ↦ nat_le (rest.tally.looks + 1) (rest.tally.scans + rest.tally.grants + 2 * rest.tally.fetches + 3) ]) fits.owed ∙ at_phase s.phase unfetched
   where
     within : nat_le (rest.tally.looks + 1) (rest.tally.scans + rest.tally.grants + 2 * rest.tally.fetches + 3) ≡ true
-    within = le-leb _ _ (omega (arith, tally.within, one_at_most s.looked, at_most s.running))
-      where
-        at_most : (own : Option OwnTransaction) → option_map_or (λ t. one_if (t.first == s.finished + 1)) own 0 ≤ 1
-        at_most None = omega arith
-        at_most (Some t) = one_at_most (t.first == s.finished + 1)
+    within = le-leb _ _ (omega (arith, tally.within, few))
 
     at_phase : (p : Phase) → p ≢ phases.Fetching → elim (owed_at p) [ OwesFetch ∷ owed ↦ false | owed ↦ nat_le (rest.tally.looks + 1) (rest.tally.scans + rest.tally.grants + 2 * rest.tally.fetches + 3) ] ≡ true
     at_phase phases.Working un = within
@@ -57,6 +57,11 @@ may_look_at facts s rest fits tally unfetched = ap (λ l. elim l [ OwesFetch ∷
     at_phase (phases.Visible published) un = within
     at_phase (phases.TakenBack from) un = within
     at_phase phases.Ended un = within
+
+-- the transaction started in the running command, or not
+started_once : (number : ℕ) (own : Option OwnTransaction) → option_map_or (λ t. one_if (t.first == number)) own 0 ≤ 1
+started_once number None = omega arith
+started_once number (Some t) = one_at_most (t.first == number)
 
 -- a command does what its plan says, or accepts messages
 abbrev pub in_command : Phase → Bool
@@ -143,11 +148,11 @@ written_xid number None xid = absurd (cc)
 written_xid number (Some t) xid = xid
 
 -- the state after an entry of an accept
-abbrev pub accepted_state : Backend → Phase → Bool → Roomy OwnLock → List KeptScan → Backend
-accepted_state was p looked locks kept = record was { phase = p; running = Some (begun_own (was.finished + 1) was.running); looked = looked; locks = locks; kept = kept }
+abbrev pub accepted_state : Backend → Phase → Bool → Bool → Roomy OwnLock → List KeptScan → Backend
+accepted_state was p looked to_build locks kept = record was { phase = p; running = Some (begun_own (was.finished + 1) was.running); looked = looked; looked_to_build = to_build; locks = locks; kept = kept }
 
 -- what it needs to stay well
-pub record Accepts (was : Backend) (p : Phase) (looked : Bool) (locks : Roomy OwnLock) (kept : List KeptScan) : Type 0 where
+pub record Accepts (was : Backend) (p : Phase) (looked to_build : Bool) (locks : Roomy OwnLock) (kept : List KeptScan) : Type 0 where
   pub has : HasCommand was
   pub before : in_command was.phase ≡ true
   pub after : in_command p ≡ true
@@ -156,13 +161,13 @@ pub record Accepts (was : Backend) (p : Phase) (looked : Bool) (locks : Roomy Ow
   pub unsettled : is_absent (plan_at was.exec) ≡ false
   pub found : was.read ≡ true → IsFoundLocked was.locks.items (plan_at was.exec) was.given.items
   pub first : (begun_own (was.finished + 1) was.running).first ≤ was.finished + 1
-  pub transaction : TransactionFits (accepted_state was p looked locks kept) p
-  pub items : locks.items ≡ locks_accepted (is_in_accept (accepted_state was p looked locks kept)) was.locks.items
+  pub transaction : TransactionFits (accepted_state was p looked to_build locks kept) p
+  pub items : locks.items ≡ locks_accepted (is_in_accept (accepted_state was p looked to_build locks kept)) was.locks.items
 
 -- its opened descriptors
-opened_in : (was : Backend) (p : Phase) (looked : Bool) (locks : Roomy OwnLock) (kept : List KeptScan) → (was.opened ≡ []) ⊎ (is_out was ≡ false) → OpenedFit (accepted_state was p looked locks kept)
-opened_in was p looked locks kept (inl none) = inl none
-opened_in was p looked locks kept (inr inside) = opened_inside (accepted_state was p looked locks kept) refl inside
+opened_in : (was : Backend) (p : Phase) (looked to_build : Bool) (locks : Roomy OwnLock) (kept : List KeptScan) → (was.opened ≡ []) ⊎ (is_out was ≡ false) → OpenedFit (accepted_state was p looked to_build locks kept)
+opened_in was p looked to_build locks kept (inl none) = inl none
+opened_in was p looked to_build locks kept (inr inside) = opened_inside (accepted_state was p looked to_build locks kept) refl inside
 
 -- what its session owes for them
 pub owes_in : (facts : Facts) (was : Backend) (s : Session) (kept : List KeptScan) → ((scan : Purpose) → is_build_scan scan ≡ true → facts.usable scan ≡ is_kept kept scan) → s.left ≡ plan_at was.exec → s.opened ≡ was.opened → (was.opened ≡ []) ⊎ (is_out was ≡ false)
@@ -176,12 +181,12 @@ owes_in facts was s kept usable left opened closed =
     well (inl none) is = ap (builds_missing kept) (opened ∙ none)
     well (inr inside) is = absurd (let both : true ≡ false = sym (ap is_settled is) ∙ ap (λ p. is_settled (outcome_of p)) left ∙ inside in cc)
 
-pub accept_well : (was : Backend) (p : Phase) (looked : Bool) (locks : Roomy OwnLock) (kept : List KeptScan) → Accepts was p looked locks kept → Well was → Well (accepted_state was p looked locks kept)
-accept_well was p looked locks kept accepts well = record {
+pub accept_well : (was : Backend) (p : Phase) (looked to_build : Bool) (locks : Roomy OwnLock) (kept : List KeptScan) → Accepts was p looked to_build locks kept → Well was → Well (accepted_state was p looked to_build locks kept)
+accept_well was p looked to_build locks kept accepts well = record {
   built = well.built;
   few = well.few;
   most = well.most;
-  opened = opened_in was p looked locks kept accepts.opened;
+  opened = opened_in was p looked to_build locks kept accepts.opened;
   reads = well.reads;
   last = λ read. inr (found read);
   blocked = well.blocked;
@@ -193,18 +198,18 @@ accept_well was p looked locks kept accepts well = record {
   transaction = accepts.transaction;
   ended = well.ended;
   written = λ some. written_xid (was.finished + 1) was.running (well.written some);
-  end = end_in (accepted_state was p looked locks kept) p accepts.after (record { command = accepts.has.command; at = accepts.has.at });
+  end = end_in (accepted_state was p looked to_build locks kept) p accepts.after (record { command = accepts.has.command; at = accepts.has.at });
   answered = λ _ _. (quiet p accepts.after).works;
   come_out = well.come_out;
   past = well.past;
   free = λ some. absurd (cc (some, accepts.unanswered));
-  starts = λ has some. absurd (some (runs_unowed (accepted_state was p looked locks kept) has.command refl));
+  starts = λ has some. absurd (some (runs_unowed (accepted_state was p looked to_build locks kept) has.command refl));
   accepting = λ is. record { runs = refl; unanswered = accepts.unanswered; unsettled = accepts.unsettled; locked = found };
-  clear = subst (λ l. (is_in_accept (accepted_state was p looked locks kept) ≡ true) ⊎ (map cleared l ≡ l)) (sym accepts.items) (clears (is_in_accept (accepted_state was p looked locks kept)) was.locks.items);
+  clear = subst (λ l. (is_in_accept (accepted_state was p looked to_build locks kept) ≡ true) ⊎ (map cleared l ≡ l)) (sym accepts.items) (clears (is_in_accept (accepted_state was p looked to_build locks kept)) was.locks.items);
 }
   where
     found : was.read ≡ true → IsFoundLocked locks.items (plan_at was.exec) was.given.items
-    found read = found_locked-more was.locks.items locks.items (plan_at was.exec) was.given.items (same_locks (is_in_accept (accepted_state was p looked locks kept)) was.locks.items locks.items was.given.items accepts.items) (accepts.found read)
+    found read = found_locked-more was.locks.items locks.items (plan_at was.exec) was.given.items (same_locks (is_in_accept (accepted_state was p looked to_build locks kept)) was.locks.items locks.items was.given.items accepts.items) (accepts.found read)
 
 looked_in : (some_wait : Bool) → in_command (phase_looked some_wait) ≡ true
 looked_in true = refl
@@ -219,22 +224,24 @@ none_due true = refl
 none_due false = refl
 
 -- a look: what all that a backend makes owe
-record Looks (scenario : Scenario) (old : List Entry) (was : Backend) (some_wait : Bool) (agrees : Agrees scenario old was) (looked : Bool) (locks : Roomy OwnLock) : Type 0 where
+record Looks (scenario : Scenario) (old : List Entry) (was : Backend) (some_wait : Bool) (agrees : Agrees scenario old was) (looked to_build : Bool) (locks : Roomy OwnLock) : Type 0 where
   waits : Waits agrees
   unfetched : was.phase ≢ phases.Fetching
-  accepts : Accepts was (phase_looked some_wait) looked locks was.kept
-  counted : option_map_or (λ t. one_if (t.first == was.finished + 1)) was.running 0 + one_if was.looked + 1 ≡ looks_due was.phase + one_if ((begun_own (was.finished + 1) was.running).first == was.finished + 1) + one_if looked
+  accepts : Accepts was (phase_looked some_wait) looked to_build locks was.kept
+  few : looks_ahead was ≤ 2 + looks_due was.phase
+  counted : looks_ahead was + 1 ≡ looks_due was.phase + one_if ((begun_own (was.finished + 1) was.running).first == was.finished + 1) + one_if looked + one_if to_build
 
-looks_enter : (scenario : Scenario) (old new : List Entry) (had has : ℕ → ℕ) (was : Backend) (some_wait looked : Bool) (locks : Roomy OwnLock) → (agrees : Agrees scenario old was) → IsPlayed scenario old → is_waiting old was.id ≡ some_wait
-    → Looks scenario old was some_wait agrees looked locks → Appends old new had has (entry_of was.id (was.finished + 1) (events.Look some_wait)) → Enters scenario old new was (accepted_state was (phase_looked some_wait) looked locks was.kept)
-looks_enter scenario old new had has was some_wait looked locks agrees played true_is looks appends =
+looks_enter : (scenario : Scenario) (old new : List Entry) (had has : ℕ → ℕ) (was : Backend) (some_wait looked to_build : Bool) (locks : Roomy OwnLock) → (agrees : Agrees scenario old was) → IsPlayed scenario old → is_waiting old was.id ≡ some_wait
+    → Looks scenario old was some_wait agrees looked to_build locks → Appends old new had has (entry_of was.id (was.finished + 1) (events.Look some_wait)) → Enters scenario old new was (accepted_state was (phase_looked some_wait) looked to_build locks was.kept)
+looks_enter scenario old new had has was some_wait looked to_build locks agrees played true_is looks appends =
     own_enters scenario old new had has was now (events.Look some_wait) agrees played looks.waits
     (record { session = λ _ _ _ _ _ _. refl; finished = λ _. refl; life = λ _. refl })
     (record {
-      plays = subst (λ o. MayPlayIn (next_oid old) (facts_of old was.id) o (session_at was agrees.rest) (events.Look some_wait)) (sym accepts.has.at) (may_look_at (facts_of old was.id) was agrees.rest agrees.facts (agrees.tally before.going) looks.unfetched);
+      plays = subst (λ o. MayPlayIn (next_oid old) (facts_of old was.id) o (session_at was agrees.rest) (events.Look some_wait)) (sym accepts.has.at) (may_look_at (facts_of old was.id) was agrees.rest agrees.facts (agrees.tally before.going) looks.unfetched looks.few);
       needed = tt;
       truly = look_true old was.id some_wait true_is;
       tables = tt;
+      queue = tt;
     })
     (record {
       moves = record { id = refl; commands = refl; finished = refl; life = refl; lines = refl };
@@ -251,7 +258,7 @@ looks_enter scenario old new had has was some_wait looked locks agrees played tr
             (same_locks (is_in_accept now) was.locks.items locks.items was.given.items accepts.items) (agrees.facts.given read);
       };
       tally = λ _. let t = agrees.tally before.going in record { enough = omega (arith, t.enough, looks.counted, none_due some_wait); within = omega (arith, t.within, looks.counted, none_due some_wait) };
-      well = accept_well was (phase_looked some_wait) looked locks was.kept accepts agrees.well;
+      well = accept_well was (phase_looked some_wait) looked to_build locks was.kept accepts agrees.well;
     })
     (record {
       command = command-more old e was now agrees.rest later (record { id = refl; commands = refl; finished = refl; answer = refl; plan = refl; opened = refl; block = refl; refused = refl; found = refl }) (record { read = refl; given = refl; given_at = refl })
@@ -262,7 +269,7 @@ looks_enter scenario old new had has was some_wait looked locks agrees played tr
     })
     appends
   where
-    accepts : Accepts was (phase_looked some_wait) looked locks was.kept
+    accepts : Accepts was (phase_looked some_wait) looked to_build locks was.kept
     accepts = looks.accepts
 
     before : Quiet was.phase
@@ -272,7 +279,7 @@ looks_enter scenario old new had has was some_wait looked locks agrees played tr
     after = quiet (phase_looked some_wait) accepts.after
 
     now : Backend
-    now = accepted_state was (phase_looked some_wait) looked locks was.kept
+    now = accepted_state was (phase_looked some_wait) looked to_build locks was.kept
 
     same : (session_after old was (events.Look some_wait) agrees.rest).locks ≡ locks.items
     same = locks_after (facts_after old was (events.Look some_wait)) was (placed_at (length old + 1) (was.finished + 1) (events.Look some_wait) (session_at was agrees.rest)) (phase_looked some_wait) (lacks_builds now) locks.items accepts.has accepts.after refl (owed_looked some_wait)
@@ -310,8 +317,8 @@ none_is (Some x) none = absurd (cc)
 
 first_look : (scenario : Scenario) (old new : List Entry) (had has : ℕ → ℕ) (was : Backend) (some_wait : Bool) (locks : Roomy OwnLock) → (agrees : Agrees scenario old was) → IsPlayed scenario old → is_waiting old was.id ≡ some_wait
     → (at : HasCommand was) → owed_first was at.command ≢ [] → was.phase ≡ phases.Working → is_some was.answer ≡ false → locks.items ≡ locks_accepted (is_accepting (phase_looked some_wait) || lacks_builds was) was.locks.items
-    → Appends old new had has (entry_of was.id (was.finished + 1) (events.Look some_wait)) → Enters scenario old new was (accepted_state was (phase_looked some_wait) was.looked locks was.kept)
-first_look scenario old new had has was some_wait locks agrees played true_is at some phase unanswered items appends = looks_enter scenario old new had has was some_wait was.looked locks agrees played true_is (record {
+    → Appends old new had has (entry_of was.id (was.finished + 1) (events.Look some_wait)) → Enters scenario old new was (accepted_state was (phase_looked some_wait) was.looked was.looked_to_build locks was.kept)
+first_look scenario old new had has was some_wait locks agrees played true_is at some phase unanswered items appends = looks_enter scenario old new had has was some_wait was.looked was.looked_to_build locks agrees played true_is (record {
   waits = waits_at scenario old was agrees at (λ rest. waits-owed (facts_of old was.id) at.command rest (session_at was agrees.rest)
       (not_empty _ (owed_after (facts_of old was.id).last) (subst (λ l. l ≢ []) (sym (start_owed (facts_of old was.id) at.command was agrees.rest agrees.facts)) some)));
   unfetched = λ is. absurd (cc (is, phase));
@@ -327,11 +334,12 @@ first_look scenario old new had has was some_wait locks agrees played true_is at
     transaction = transaction_in now (phase_looked some_wait) (looked_in some_wait) (by_block was.blocks.block begun);
     items = items;
   };
+  few = omega (arith, ap (λ o. option_map_or (λ t. one_if (t.first == was.finished + 1)) o 0) none, one_at_most was.looked, one_at_most was.looked_to_build);
   counted = omega (arith, ap looks_due phase, ap (λ o. option_map_or (λ t. one_if (t.first == was.finished + 1)) o 0) none, ap (λ o. one_if ((begun_own (was.finished + 1) o).first == was.finished + 1)) none, ap one_if (eq-eqb (was.finished + 1) (was.finished + 1) refl));
 }) appends
   where
     now : Backend
-    now = accepted_state was (phase_looked some_wait) was.looked locks was.kept
+    now = accepted_state was (phase_looked some_wait) was.looked was.looked_to_build locks was.kept
 
     begun : begins_in was.blocks was.phase at.command ≡ true
     begun = (first_owed (begins_in was.blocks was.phase at.command) (is_none was.running) some).0
@@ -358,9 +366,9 @@ runs_same number None runs = absurd (cc)
 runs_same number (Some t) runs = refl
 
 -- the transaction goes on in an accept
-pub accepts_in : (was : Backend) (p : Phase) (looked : Bool) (locks : Roomy OwnLock) (kept : List KeptScan) → in_command was.phase ≡ true → in_command p ≡ true → is_some was.running ≡ true → Well was → TransactionFits (accepted_state was p looked locks kept) p
-accepts_in was p looked locks kept before after runs well =
-    transaction-more was (accepted_state was p looked locks kept) (quiet was.phase before).going (quiet p after).going refl (runs_same (was.finished + 1) was.running runs) refl refl well.transaction
+pub accepts_in : (was : Backend) (p : Phase) (looked to_build : Bool) (locks : Roomy OwnLock) (kept : List KeptScan) → in_command was.phase ≡ true → in_command p ≡ true → is_some was.running ≡ true → Well was → TransactionFits (accepted_state was p looked to_build locks kept) p
+accepts_in was p looked to_build locks kept before after runs well =
+    transaction-more was (accepted_state was p looked to_build locks kept) (quiet was.phase before).going (quiet p after).going refl (runs_same (was.finished + 1) was.running runs) refl refl well.transaction
 
 -- its first command is none after the running one
 pub first_begun : (was : Backend) → is_some was.running ≡ true → Well was → (begun_own (was.finished + 1) was.running).first ≤ was.finished + 1
@@ -380,8 +388,8 @@ accepting_opened s well accepting = by_side well.opened
 
 next_look : (scenario : Scenario) (old new : List Entry) (had has : ℕ → ℕ) (was : Backend) (some_wait : Bool) (locks : Roomy OwnLock) → (agrees : Agrees scenario old was) → IsPlayed scenario old → is_waiting old was.id ≡ some_wait
     → (at : HasCommand was) → was.phase ≡ phases.Looking → locks.items ≡ locks_accepted (is_accepting (phase_looked some_wait) || lacks_builds was) was.locks.items
-    → Appends old new had has (entry_of was.id (was.finished + 1) (events.Look some_wait)) → Enters scenario old new was (accepted_state was (phase_looked some_wait) was.looked locks was.kept)
-next_look scenario old new had has was some_wait locks agrees played true_is at phase items appends = looks_enter scenario old new had has was some_wait was.looked locks agrees played true_is (record {
+    → Appends old new had has (entry_of was.id (was.finished + 1) (events.Look some_wait)) → Enters scenario old new was (accepted_state was (phase_looked some_wait) was.looked was.looked_to_build locks was.kept)
+next_look scenario old new had has was some_wait locks agrees played true_is at phase items appends = looks_enter scenario old new had has was some_wait was.looked was.looked_to_build locks agrees played true_is (record {
   waits = waits_at scenario old was agrees at (λ rest. waits-owed (facts_of old was.id) at.command rest (session_at was agrees.rest)
       (not_empty-after (owed_at_start (facts_of old was.id) at.command (session_at was agrees.rest)) (owed_after (facts_of old was.id).last) (ap is_empty (agrees.facts.owed ∙ ap owed_at phase))));
   unfetched = λ is. absurd (cc (is, phase));
@@ -394,9 +402,10 @@ next_look scenario old new had has was some_wait locks agrees played true_is at 
     unsettled = accepting.unsettled;
     found = accepting.locked;
     first = first_begun was accepting.runs agrees.well;
-    transaction = accepts_in was (phase_looked some_wait) was.looked locks was.kept (ap in_command phase) (looked_in some_wait) accepting.runs agrees.well;
+    transaction = accepts_in was (phase_looked some_wait) was.looked was.looked_to_build locks was.kept (ap in_command phase) (looked_in some_wait) accepting.runs agrees.well;
     items = items;
   };
+  few = omega (arith, ap looks_due phase, started_once (was.finished + 1) was.running, one_at_most was.looked, one_at_most was.looked_to_build);
   counted = omega (arith, ap looks_due phase, ap (λ o. option_map_or (λ t. one_if (t.first == was.finished + 1)) o 0) (runs_same (was.finished + 1) was.running accepting.runs));
 }) appends
   where
@@ -438,7 +447,7 @@ look_enters scenario old new had has was some_wait own phase locks agrees played
     held = items ∙ ap (λ p. locks_accepted (is_accepting p || lacks_builds was) was.locks.items) phase_is
 
     by_owed : ((was.phase ≡ phases.Working) × (is_some was.answer ≡ false)) ⊎ (was.phase ≡ phases.Looking) → ((owed_first was owes.0.command ≢ []) × (was.phase ≡ phases.Working)) ⊎ (was.phase ≡ phases.Looking)
-        → Enters scenario old new was (accepted_state was (phase_looked some_wait) was.looked locks was.kept)
+        → Enters scenario old new was (accepted_state was (phase_looked some_wait) was.looked was.looked_to_build locks was.kept)
     by_owed (inr looking) how = next_look scenario old new had has was some_wait locks agrees played (sym is) owes.0 looking held appends
     by_owed (inl working) (inl some) = first_look scenario old new had has was some_wait locks agrees played (sym is) owes.0 some.0 working.0 working.1 held appends
     by_owed (inl working) (inr looking) = next_look scenario old new had has was some_wait locks agrees played (sym is) owes.0 looking held appends
@@ -458,14 +467,26 @@ acts_unsettled : (p : Plan) → acts p ≡ true → (is_settled (outcome_of p) �
 acts_unsettled (Do act rest) acting = (refl, refl)
 acts_unsettled p acting = absurd (cc)
 
+-- one look more, for a descriptor or for a name
+abbrev looked_for : Bool → Bool → Bool → Bool
+looked_for builds looked to_build = elim builds [ true ↦ to_build | false ↦ looked ]
+
+more : (builds looked to_build : Bool) → looked_for builds looked to_build ≡ false → one_if looked + one_if to_build + 1 ≡ one_if (looked || not builds) + one_if (to_build || builds)
+more true true false un = refl
+more true false false un = refl
+more true looked true un = absurd (cc)
+more false false true un = refl
+more false false false un = refl
+more false true to_build un = absurd (cc)
+
 -- the look before a scan
-pub scan_look_enters : (scenario : Scenario) (old new : List Entry) (had has : ℕ → ℕ) (was : Backend) (some_wait : Bool) (phase : Phase) → Agrees scenario old was → IsPlayed scenario old → IsWorking was → scans_missing was ≢ [] → was.looked ≡ false
-    → some_wait ≡ is_waiting old was.id → phase ≡ phase_looked some_wait
-    → Appends old new had has (entry_of was.id (was.finished + 1) (events.Look some_wait)) → Enters scenario old new was (record was { looked = true; phase = phase })
-scan_look_enters scenario old new had has was some_wait phase agrees played works some unlooked is phase_is appends =
-    subst (λ p. Enters scenario old new was (record was { looked = true; phase = p })) (sym phase_is)
-    (subst (λ r. Enters scenario old new was (record was { phase = phase_looked some_wait; running = r; looked = true })) (runs_same (was.finished + 1) was.running acting.runs)
-    (looks_enter scenario old new had has was some_wait true was.locks agrees played (sym is) (record {
+pub scan_look_enters : (scenario : Scenario) (old new : List Entry) (had has : ℕ → ℕ) (was : Backend) (some_wait builds : Bool) (phase : Phase) (looked to_build : Bool) → Agrees scenario old was → IsPlayed scenario old → IsWorking was → scans_missing was ≢ [] → is_looked_for builds was ≡ false
+    → some_wait ≡ is_waiting old was.id → phase ≡ phase_looked some_wait → looked ≡ (was.looked || not builds) → to_build ≡ (was.looked_to_build || builds)
+    → Appends old new had has (entry_of was.id (was.finished + 1) (events.Look some_wait)) → Enters scenario old new was (record was { looked = looked; looked_to_build = to_build; phase = phase })
+scan_look_enters scenario old new had has was some_wait builds phase looked to_build agrees played works some unlooked is phase_is looked_is build_is appends =
+    subst (λ p. Enters scenario old new was (record was { looked = looked; looked_to_build = to_build; phase = p })) (sym phase_is)
+    (subst (λ r. Enters scenario old new was (record was { phase = phase_looked some_wait; running = r; looked = looked; looked_to_build = to_build })) (runs_same (was.finished + 1) was.running acting.runs)
+    (looks_enter scenario old new had has was some_wait looked to_build was.locks agrees played (sym is) (record {
       waits = waits_scan scenario old was agrees works.has some;
       unfetched = λ fetches. absurd (cc (fetches, works.phase));
       accepts = record {
@@ -477,10 +498,11 @@ scan_look_enters scenario old new had has was some_wait phase agrees played work
         unsettled = unsettled.1;
         found = missing_found was agrees.well some;
         first = first_begun was acting.runs agrees.well;
-        transaction = accepts_in was (phase_looked some_wait) true was.locks was.kept (ap in_command works.phase) (looked_in some_wait) acting.runs agrees.well;
+        transaction = accepts_in was (phase_looked some_wait) looked to_build was.locks was.kept (ap in_command works.phase) (looked_in some_wait) acting.runs agrees.well;
         items = by_test (is_accepting (phase_looked some_wait)) (lacks_builds was) refl;
       };
-      counted = omega (arith, ap looks_due works.phase, ap one_if unlooked, ap (λ o. option_map_or (λ t. one_if (t.first == was.finished + 1)) o 0) (runs_same (was.finished + 1) was.running acting.runs));
+      few = omega (arith, (one_more builds unlooked).1, started_once (was.finished + 1) was.running);
+      counted = omega (arith, ap looks_due works.phase, (one_more builds unlooked).0, ap one_if looked_is, ap one_if build_is, ap (λ o. option_map_or (λ t. one_if (t.first == was.finished + 1)) o 0) (runs_same (was.finished + 1) was.running acting.runs));
     }) appends))
   where
     acting : IsActing old was agrees.rest works.has.command
@@ -488,6 +510,10 @@ scan_look_enters scenario old new had has was some_wait phase agrees played work
 
     unsettled : (is_settled (outcome_of (plan_at was.exec)) ≡ false) × (is_absent (plan_at was.exec) ≡ false)
     unsettled = acts_unsettled (plan_at was.exec) (missing_acts was agrees.well some)
+
+    one_more : (t : Bool) → is_looked_for t was ≡ false → (one_if was.looked + one_if was.looked_to_build + 1 ≡ one_if (was.looked || not t) + one_if (was.looked_to_build || t)) × (one_if was.looked + one_if was.looked_to_build ≤ 1)
+    one_more true un = (more true was.looked was.looked_to_build un, omega (arith, one_at_most was.looked, ap one_if un))
+    one_more false un = (more false was.looked was.looked_to_build un, omega (arith, one_at_most was.looked_to_build, ap one_if un))
 
     by_test : (t lacks : Bool) → lacks_builds was ≡ lacks → was.locks.items ≡ locks_accepted (t || lacks) was.locks.items
     by_test true lacks is = refl

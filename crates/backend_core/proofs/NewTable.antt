@@ -1,11 +1,10 @@
 -- A new table may always be written, but for its name: its rows are new, and nobody else knows its oid.
-use Rattle.std.proofs.Common.{◌≡◌, ◌≤◌, ◌<◌, ◌+◌, ◌-◌, ◌∙◌, ℕ, nat_lt, negsuc, Bool, true, false, not, None, List, [], ◌∷◌, ◌++◌, ◌==◌, ◌&&◌, ◌||◌, refl, sym, ap, subst, fold, map, cond, arith, append-nil}
+use Rattle.std.proofs.Common.{◌≡◌, ◌<◌, ◌+◌, ◌∙◌, ℕ, Bool, true, false, not, List, [], ◌∷◌, ◌++◌, ◌==◌, ◌&&◌, ◌||◌, refl, sym, ap, subst, fold, map, cond, arith}
 use Rattle.std.specs.List.{AllByRecursion, flat_map, filter_map, list_any, list_all, enumerate_from, range_with_len}
-use Rattle.std.proofs.lemmas.Bool.{ne_eqb, eq-eqb, or_left, or_right, lt-ltb}
+use Rattle.std.proofs.lemmas.Bool.{ne_eqb, eq-eqb, or_left, or_right}
 use Rattle.std.proofs.lemmas.List.Folds.{list_any-append}
 use Rattle.base_types.specs.RowKeys.{key_of, same_key, are_distinct_keys}
 use Rattle.base_types.specs.declared.ids.Oid.{Oid}
-use Rattle.base_types.specs.declared.kind.Kind.TheVariants.{Table}
 use Rattle.base_types.specs.declared.mode.Mode.TheVariants.{AccessExclusive}
 use Rattle.base_types.specs.declared.key.CacheId.TheVariants.{RelName, RelOid, AttName}
 use Rattle.base_types.specs.declared.key.KeyPart.TheVariants as parts
@@ -15,7 +14,6 @@ use Rattle.base_types.specs.declared.row_key.RowKey.TheVariants as keys
 use Rattle.base_types.specs.declared.scan.Purpose.TheVariants as scans
 use Rattle.event_kinds.specs.declared.entry.Entry.{Entry}
 use Rattle.event_kinds.specs.declared.entry.Item.{Item}
-use Rattle.event_kinds.specs.declared.entry.Item.TheVariants as forms
 use Rattle.row_visibility.specs.declared.version.Version.{Version}
 use Rattle.lock_modes.specs.Grants.{holds}
 use Rattle.lock_modes.specs.declared.own_lock.OwnLock.{OwnLock}
@@ -24,9 +22,7 @@ use Rattle.inval_messages.specs.declared.message.Message.TheVariants.{Rel}
 use Rattle.inval_messages.specs.Messages.{message_for, same_message, covers}
 use Rattle.inval_messages.specs.Lists.{once_more}
 use Rattle.inval_messages.proofs.Covers.{same_message-itself}
-use Rattle.ddl_effect.specs.Commands.{new_table, new_column}
-use Rattle.ddl_effect.specs.Drawing.{drawn_change}
-use Rattle.history_model.specs.Changes.{item_of}
+use Rattle.ddl_effect.specs.Commands.{new_table}
 use Rattle.history_model.specs.Covered.{scans_of, is_covered}
 use Rattle.history_model.specs.Drawn.{drawn_by, made_by, next_oid}
 use Rattle.history_model.specs.Names.{new_names}

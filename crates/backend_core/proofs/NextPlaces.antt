@@ -1,10 +1,10 @@
 -- Where the scan stands on which a plan's next act rests, or its error that no relation has a name, after an act.
-use Rattle.std.proofs.Common.{◌≡◌, ◌-◌, ℕ, Bool, true, false, List, [], ◌∷◌, refl, sym, ap, subst}
+use Rattle.std.proofs.Common.{◌≡◌, ◌-◌, ℕ, true, false, List, [], ◌∷◌, refl, sym, subst}
 use Rattle.base_types.specs.declared.row.Row.TheVariants as rows
 use Rattle.ddl_effect.specs.Plans.{Plan, Do, Lookup, Open, Column, Read, Absent}
 use Rattle.ddl_effect.specs.Commands.{found}
 use Rattle.cacheless.proofs.EffectAlong.{plain_row}
-use Rattle.cacheless.proofs.ActOrder.{FollowsOpen, FollowsFound, FollowsOrder, HasCome, at_lookup}
+use Rattle.cacheless.proofs.ActOrder.{FollowsOpen, FollowsFound, FollowsOrder, HasCome}
 use Rattle.backend_core.specs.Types.{Oid, Mode, Kind, Purpose, Row, Entry, Opening}
 use Rattle.backend_core.specs.State.{is_absent}
 use Rattle.backend_core.specs.Agrees.{PlaceFits}

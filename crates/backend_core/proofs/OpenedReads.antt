@@ -1,12 +1,12 @@
 -- What a command reads is of a descriptor that it has opened before.
-use Rattle.std.proofs.Common.{◌≡◌, ◌-◌, ◌∙◌, ℕ, Bool, true, false, not, ◌||◌, Option, Some, None, List, [], ◌∷◌, ◌++◌, refl, sym, ap, subst, length, filter, cond, Contains, arith}
+use Rattle.std.proofs.Common.{◌≡◌, ◌-◌, ◌∙◌, ℕ, Bool, true, false, not, ◌||◌, Option, Some, None, List, [], ◌∷◌, ◌++◌, refl, sym, ap, subst, cond, Contains}
 use Rattle.std.specs.List.{list_any}
 use Rattle.std.proofs.lemmas.List.{append-nil}
 use Rattle.std.proofs.lemmas.List.Folds.{list_any_at}
 use Rattle.base_types.specs.Scans.{same_scan, build_scans}
 use Rattle.base_types.specs.declared.row.Row.TheVariants as rows
 use Rattle.base_types.proofs.SameScan.{same_scan-true, same_scan-itself}
-use Rattle.ddl_effect.specs.Plans.{Plan, Act, Done, Fails, Absent, NotBuilt, Do, Lookup, Open, Column, Read, Lock, Write}
+use Rattle.ddl_effect.specs.Plans.{Plan, Act, Do, Lookup, Open, Column, Read, Lock, Write}
 use Rattle.ddl_effect.specs.Commands.{plan_of, found}
 use Rattle.cacheless.specs.Runs.{runs}
 use Rattle.ddl_effect.specs.Blocks.{Blocks, refused_by}

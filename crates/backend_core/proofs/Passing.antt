@@ -178,7 +178,7 @@ read_lock s mode rel unlocked = ap (λ o. s.read && is_none o) unlocked ∙ and_
 -- what comes next is an entry exactly where it doesn't go on without one
 pub silent_is : (s : Backend) → Well s → (next : Next) → IsNextOf s next → is_silent s ≡ not (makes_entry next)
 silent_is s well nexts.Look is = look_now s is
-silent_is s well nexts.LookBeforeScan (work, some, unlooked) = look_before_scan s well work some
+silent_is s well (nexts.LookBeforeScan builds) (work, some, unlooked) = look_before_scan s well work some
 silent_is s well nexts.Fetch is = by_command s (λ command. ap (passes_in s command) is)
 silent_is s well (nexts.LookUp scan) (work, next, looked) = in_act s work false next.act next.rest next.at next.whole (unread_here s scan next.act next.rest next.by next.unread)
 silent_is s well (nexts.Build scan) (work, next, looked) = build_now s scan work next

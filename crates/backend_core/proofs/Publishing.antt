@@ -128,7 +128,7 @@ publish_enters scenario old new had has was published messages agrees played nex
     own_enters scenario old new had has was now event agrees played
     (waits_to_end scenario old was agrees works event fits.out ends.1)
     (record { session = λ _ _ _ _ _ _. refl; finished = λ _. refl; life = λ _. refl })
-    (record { plays = subst (λ o. MayPlayIn (next_oid old) facts o (session_at was agrees.rest) event) (sym works.at) ends; needed = tt; truly = tt; tables = tt })
+    (record { plays = subst (λ o. MayPlayIn (next_oid old) facts o (session_at was agrees.rest) event) (sym works.at) ends; needed = tt; truly = tt; tables = tt; queue = tt })
     (record {
       moves = record { id = refl; commands = refl; finished = refl; life = refl; lines = refl };
       session = session_clear old was event agrees.rest clear ∙ (λ i. record (placed_at (length old + 1) (was.finished + 1) event (session_at was agrees.rest)) { ended = ap is_ended phase i });

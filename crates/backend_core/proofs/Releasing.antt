@@ -251,7 +251,7 @@ release_enters scenario old new had has was from lists locks agrees played next 
     own_enters scenario old new had has was now (events.Release from) agrees played
     (elim (has_or_none was) [ inl command ↦ waits_to_end scenario old was agrees command (events.Release from) out (ends command).1 | inr past ↦ waits_after_all scenario old was agrees past ])
     (record { session = λ _ _ _ _ _ _. refl; finished = λ _. refl; life = λ _. refl })
-    (record { plays = plays; needed = tt; truly = tt; tables = tt })
+    (record { plays = plays; needed = tt; truly = tt; tables = tt; queue = tt })
     (record {
       moves = record { id = refl; commands = refl; finished = refl; life = refl; lines = refl };
       session = session_clear old was (events.Release from) agrees.rest (filter-cleared from was.locks.items ∙ ap (filter (λ lock. nat_lt lock.command from)) clear)

@@ -1,5 +1,5 @@
 -- The scans of a backend.
-use Rattle.std.proofs.Common.{◌≡◌, ◌≢◌, ◌<◌, ◌+◌, ◌⊎◌, inl, inr, ◌∙◌, ℕ, Bool, true, false, not, Option, Some, None, List, [], ◌∷◌, ◌++◌, ◌==◌, ◌||◌, refl, sym, ap, subst, length, get_or, cond, filter, map, take, drop, All, is_some, slice_get, lt-ltb, arith}
+use Rattle.std.proofs.Common.{◌≡◌, ◌≢◌, ◌≤◌, ◌<◌, ◌+◌, ◌⊎◌, inl, inr, ◌∙◌, ℕ, Bool, true, false, not, Option, Some, None, List, [], ◌∷◌, ◌++◌, ◌==◌, ◌||◌, refl, sym, ap, subst, length, get_or, cond, filter, map, take, drop, All, is_some, slice_get, lt-ltb, arith}
 use Rattle.std.specs.List.{list_any, flat_map, AllByRecursion}
 use Rattle.std.specs.Option.{option_map_or}
 use Rattle.std.proofs.Math.Bool.{or_comm}
@@ -40,15 +40,14 @@ use Rattle.backend_core.specs.Steps.{IsWorking, NextLookUp, NextBuild, Enters, F
 use Rattle.backend_core.proofs.Stepping.{facts_after, rest_after, own_enters, session_after}
 use Rattle.backend_core.proofs.Carry.{transaction-more, end_free, waits_scan, runs_on, MayCome, may_come, Leaves, own_leaves, LeavesWrites, LeavesRelations, leaves_relations, has_written-quiet, place_read-scan, kept-more, SameCommand, way-more, later-more, command-more, no_answer, act_same, missing_at, owed_free, clear_at, accepted-clear, builds_same, lacks_none, opened_inside, is_locked-accepted, rows_fit-more, found_locked-more}
 use Rattle.backend_core.proofs.Acting.{IsActing, is_acting, inside_acts}
-use Rattle.backend_core.proofs.Ending.{built_at}
 use Rattle.backend_core.proofs.Looks.{in_command, cleared_twice, locks_after, owes_in}
 use Rattle.backend_core.proofs.Nexting.{the_command}
 
 -- the same state but for its reading: where it works, it stays well
-pub reads_well : (was : Backend) (looked read : Bool) (given : Vec Row Global) (given_at : ℕ) (kept : List KeptScan) (locks : Roomy OwnLock) → IsWorking was → is_out was ≡ false → is_some was.running ≡ true → Well was
+pub reads_well : (was : Backend) (looked to_build read : Bool) (given : Vec Row Global) (given_at : ℕ) (kept : List KeptScan) (locks : Roomy OwnLock) → IsWorking was → is_out was ≡ false → is_some was.running ≡ true → Well was
     → (read ≡ true → (builds_missing kept was.opened ≡ []) ⊎ IsFoundLocked locks.items (plan_at was.exec) given.items) → (lacks_builds (record was { kept = kept }) ≡ true) ⊎ (map cleared locks.items ≡ locks.items)
-    → Well (record was { looked = looked; read = read; given = given; given_at = given_at; kept = kept; locks = locks })
-reads_well was looked read given given_at kept locks works inside runs well last clear = record {
+    → Well (record was { looked = looked; looked_to_build = to_build; read = read; given = given; given_at = given_at; kept = kept; locks = locks })
+reads_well was looked to_build read given given_at kept locks works inside runs well last clear = record {
   built = well.built;
   few = well.few;
   most = well.most;
@@ -75,13 +74,13 @@ reads_well was looked read given given_at kept locks works inside runs well last
 }
   where
     now : Backend
-    now = record was { looked = looked; read = read; given = given; given_at = given_at; kept = kept; locks = locks }
+    now = record was { looked = looked; looked_to_build = to_build; read = read; given = given; given_at = given_at; kept = kept; locks = locks }
 
 -- the count of looks is enough for one more scan
-pub looked_enough : (facts : Facts) (s : Backend) (rest : Rest) → FactsFit facts s → TallyFits rest.tally s → length rest.finished ≡ s.finished → s.phase ≡ phases.Working → s.looked ≡ true → has_looked facts (session_at s rest) ≡ true
+pub looked_enough : (facts : Facts) (s : Backend) (rest : Rest) → FactsFit facts s → TallyFits rest.tally s → length rest.finished ≡ s.finished → s.phase ≡ phases.Working → 1 ≤ one_if s.looked + one_if s.looked_to_build → has_looked facts (session_at s rest) ≡ true
 looked_enough facts s rest fits tally count phase looked =
     lt-ltb (rest.tally.scans + rest.tally.grants + started_in (length rest.finished + 1) facts + rest.tally.full) rest.tally.looks
-    (omega (arith, tally.enough, ap looks_due phase, ap one_if looked, ap (λ o. option_map_or (λ t. elim (t.first == length rest.finished + 1) as (λ x. ℕ) [ true ↦ 1 | false ↦ 0 ]) o 0) fits.running, same s.running))
+    (omega (arith, tally.enough, ap looks_due phase, looked, ap (λ o. option_map_or (λ t. elim (t.first == length rest.finished + 1) as (λ x. ℕ) [ true ↦ 1 | false ↦ 0 ]) o 0) fits.running, same s.running))
   where
     one : (t : Bool) → elim t as (λ x. ℕ) [ true ↦ 1 | false ↦ 0 ] ≡ one_if t
     one true = refl
@@ -119,7 +118,7 @@ next_opened : (facts : Facts) (s : Session) (scan : Purpose) (more : List Purpos
 next_opened facts s scan more unsettled first = by_unsettled scan _ (outcome_of s.left) unsettled (first_opened facts scan more (act_next facts s.locks s.read s.left) s.opened first)
 
 -- what a scan needs: it comes next, and a look was made for it
-pub may_scan : (scenario : Scenario) (seen : List Entry) (s : Backend) (agrees : Agrees scenario seen s) (works : IsWorking s) (scan : Purpose) (count : ℕ) → s.looked ≡ true → is_next_scan scan (facts_of seen s.id) (session_at s agrees.rest) ≡ true
+pub may_scan : (scenario : Scenario) (seen : List Entry) (s : Backend) (agrees : Agrees scenario seen s) (works : IsWorking s) (scan : Purpose) (count : ℕ) → 1 ≤ one_if s.looked + one_if s.looked_to_build → is_next_scan scan (facts_of seen s.id) (session_at s agrees.rest) ≡ true
     → MayPlayIn (next_oid seen) (facts_of seen s.id) (slice_get s.commands s.finished) (session_at s agrees.rest) (events.Scan scan count)
 may_scan scenario seen s agrees works scan count looked next =
     subst (λ o. MayPlayIn (next_oid seen) (facts_of seen s.id) o (session_at s agrees.rest) (events.Scan scan count)) (sym works.has.at) (
@@ -205,11 +204,12 @@ looked_up_to scenario old new had has was scan given at agrees played works next
     own_enters scenario old new had has was now event agrees played (waits_scan scenario old was agrees works.has (look_up_missing was scan next))
     (record { session = λ _ _ _ _ _ _. refl; finished = λ _. refl; life = λ _. refl })
     (record {
-      plays = may_scan scenario old was agrees works scan count looked (next_scan (facts_of old was.id) (session_at was agrees.rest) scan inside
+      plays = may_scan scenario old was agrees works scan count (omega (arith, ap one_if looked)) (next_scan (facts_of old was.id) (session_at was agrees.rest) scan inside
           (ap (act_next (facts_of old was.id) was.locks.items was.read) next.at ∙ ap (λ r. act_next (facts_of old was.id) was.locks.items r (Do next.act next.rest)) next.unread ∙ this.next_is));
       needed = λ build. absurd (let both : true ≡ false = sym build ∙ this.named in cc);
       truly = tt;
       tables = tt;
+      queue = tt;
     })
     (record {
       moves = record { id = refl; commands = refl; finished = refl; life = refl; lines = refl };
@@ -228,7 +228,7 @@ looked_up_to scenario old new had has was scan given at agrees played works next
             (or_left (same_scan scan scan) ((facts_of old was.id).usable scan) (same_scan-itself scan)));
       };
       tally = λ _. let t = agrees.tally (ap is_ended works.phase) in record { enough = omega (arith, t.enough, ap one_if looked); within = omega (arith, t.within, ap one_if looked) };
-      well = reads_well was false true given at was.kept was.locks works inside acting.runs agrees.well (λ read. inl next.whole) (inr cleared_locks);
+      well = reads_well was false was.looked_to_build true given at was.kept was.locks works inside acting.runs agrees.well (λ read. inl next.whole) (inr cleared_locks);
     })
     (record {
       command = record {
@@ -378,18 +378,19 @@ unwanted scan (Do (Column rel name) rest) build = other_scan (scans.AttName rel 
 unwanted scan (Do act rest) build = refl
 unwanted scan p build = refl
 
-built_to : (scenario : Scenario) (old new : List Entry) (had has : ℕ → ℕ) (was : Backend) (scan : Purpose) (given : List Row) (at : ℕ) (locks : Roomy OwnLock) → Agrees scenario old was → IsPlayed scenario old → IsWorking was → NextBuild was scan → was.looked ≡ true
+built_to : (scenario : Scenario) (old new : List Entry) (had has : ℕ → ℕ) (was : Backend) (scan : Purpose) (given : List Row) (at : ℕ) (locks : Roomy OwnLock) → Agrees scenario old was → IsPlayed scenario old → IsWorking was → NextBuild was scan → was.looked_to_build ≡ true
     → given ≡ answer_of old was.id scan → at ≡ length old + 1 → locks.items ≡ locks_accepted (is_accepting was.phase || lacks_builds (record was { kept = was.kept ++ record { scan = scan; rows = given; at = at } ∷ [] })) was.locks.items
     → Appends old new had has (entry_of was.id (was.finished + 1) (events.Scan scan (length (answer_of old was.id scan))))
-    → Enters scenario old new was (record was { looked = false; kept = was.kept ++ record { scan = scan; rows = given; at = at } ∷ []; locks = locks })
+    → Enters scenario old new was (record was { looked_to_build = false; kept = was.kept ++ record { scan = scan; rows = given; at = at } ∷ []; locks = locks })
 built_to scenario old new had has was scan given at locks agrees played works next looked rows_are at_is items appends =
     own_enters scenario old new had has was now event agrees played (waits_scan scenario old was agrees works.has this.some)
     (record { session = λ _ _ _ _ _ _. refl; finished = λ _. refl; life = λ _. refl })
     (record {
-      plays = may_scan scenario old was agrees works scan count looked this.next;
+      plays = may_scan scenario old was agrees works scan count (omega (arith, ap one_if looked)) this.next;
       needed = λ build. agrees.facts.usable scan build ∙ unkept;
       truly = tt;
       tables = tt;
+      queue = tt;
     })
     (record {
       moves = record { id = refl; commands = refl; finished = refl; life = refl; lines = refl };
@@ -410,7 +411,7 @@ built_to scenario old new had has was scan given at locks agrees played works ne
             held (agrees.facts.given read);
       };
       tally = λ _. let t = agrees.tally (ap is_ended works.phase) in record { enough = omega (arith, t.enough, ap one_if looked); within = omega (arith, t.within, ap one_if looked) };
-      well = reads_well was false was.read was.given was.given_at now.kept locks works this.inside acting.runs agrees.well
+      well = reads_well was was.looked false was.read was.given was.given_at now.kept locks works this.inside acting.runs agrees.well
           (λ read. inr (found_locked-more was.locks.items locks.items (plan_at was.exec) was.given.items held (elim (agrees.well.last read) [ inl whole ↦ this.whole whole | inr found ↦ found ])))
           (clear_locks (lacks_builds now) refl);
     })
@@ -440,7 +441,7 @@ built_to scenario old new had has was scan given at locks agrees played works ne
     made = record { scan = scan; rows = given; at = at }
 
     now : Backend
-    now = record was { looked = false; kept = was.kept ++ made ∷ []; locks = locks }
+    now = record was { looked_to_build = false; kept = was.kept ++ made ∷ []; locks = locks }
 
     acting : IsActing old was agrees.rest works.has.command
     acting = is_acting scenario old was agrees works (inside_acts was this.inside)
@@ -485,10 +486,10 @@ built_to scenario old new had has was scan given at locks agrees played works ne
     leaves = own_leaves old e was.id may refl (λ name. other_scan (scans.RelName name) scan (no_build (scans.RelName name) scan refl build)) (λ _. tt)
 
 -- a scan for a descriptor
-pub built_enters : (scenario : Scenario) (old new : List Entry) (had has : ℕ → ℕ) (was : Backend) (scan : Purpose) (scanned : Scanned) (given : List Row) (kept : List KeptScan) (locks : Roomy OwnLock) → Agrees scenario old was → IsPlayed scenario old → IsWorking was → NextBuild was scan → was.looked ≡ true
+pub built_enters : (scenario : Scenario) (old new : List Entry) (had has : ℕ → ℕ) (was : Backend) (scan : Purpose) (scanned : Scanned) (given : List Row) (kept : List KeptScan) (locks : Roomy OwnLock) → Agrees scenario old was → IsPlayed scenario old → IsWorking was → NextBuild was scan → was.looked_to_build ≡ true
     → GivesRows old new had has was.id (was.finished + 1) scan scanned → given ≡ scanned.rows.items → kept ≡ was.kept ++ record { scan = scan; rows = given; at = scanned.at } ∷ []
-    → locks.items ≡ locks_accepted (is_accepting was.phase || lacks_builds (record was { kept = kept })) was.locks.items → Enters scenario old new was (record was { looked = false; kept = kept; locks = locks })
+    → locks.items ≡ locks_accepted (is_accepting was.phase || lacks_builds (record was { kept = kept })) was.locks.items → Enters scenario old new was (record was { looked_to_build = false; kept = kept; locks = locks })
 built_enters scenario old new had has was scan scanned given kept locks agrees played works next looked gives rows_are pushed items =
-    subst (λ k. Enters scenario old new was (record was { looked = false; kept = k; locks = locks })) (sym pushed)
+    subst (λ k. Enters scenario old new was (record was { looked_to_build = false; kept = k; locks = locks })) (sym pushed)
     (built_to scenario old new had has was scan given scanned.at locks agrees played works next looked (rows_are ∙ gives.rows) gives.at
     (items ∙ (λ i. locks_accepted (is_accepting was.phase || lacks_builds (record was { kept = pushed i })) was.locks.items)) gives.appends)

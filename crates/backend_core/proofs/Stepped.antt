@@ -11,7 +11,7 @@ use Rattle.backend_core.proofs.Waiting.{waits_next}
 
 -- the history is still played after the entry
 pub enters_played : (scenario : Scenario) (old new : List Entry) (was now : Backend) → IsPlayed scenario old → Enters scenario old new was now → IsPlayed scenario new
-enters_played scenario old new was now played enters = subst (IsPlayed scenario) (sym enters.is) (IsPlayed-more scenario old enters.entry played enters.comes enters.next enters.needed enters.truly enters.tables)
+enters_played scenario old new was now played enters = subst (IsPlayed scenario) (sym enters.is) (IsPlayed-more scenario old enters.entry played enters.comes enters.next enters.needed enters.truly enters.tables enters.queue)
 
 -- where an entry comes next, nothing is left to settle
 pub awaits : (scenario : Scenario) (seen : List Entry) (s : Backend) (next : Next) → AgreesNow scenario seen s → IsNextOf s next → makes_entry next ≡ true → AwaitsEntry scenario seen s
@@ -45,6 +45,7 @@ stepped scenario old new was now done played enters waits same = record {
   needed = enters.needed;
   truly = enters.truly;
   tables = enters.tables;
+  queue = enters.queue;
   stands = awaits_stands scenario new done waits;
   coherent = stands_coherent scenario new done (enters_played scenario old new was now played enters).sound (awaits_stands scenario new done waits);
 }

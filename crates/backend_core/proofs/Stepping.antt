@@ -5,6 +5,7 @@ use Rattle.std.proofs.lemmas.List.{take-append-le, length_push}
 use Rattle.base_types.specs.Scenario.{IsBackend}
 use Rattle.ddl_effect.specs.Commands.{commands_of}
 use Rattle.history_model.specs.Drawn.{next_oid}
+use Rattle.history_model.specs.Lapped.{FetchesFrom}
 use Rattle.history_model.specs.Lives.{Alive, life_by, life_of}
 use Rattle.history_model.specs.Read.{ScansOnlyIfNeeded}
 use Rattle.history_model.proofs.Reading.{life_of-own}
@@ -77,6 +78,7 @@ pub record Suits (scenario : Scenario) (old : List Entry) (was : Backend) (event
   pub needed : ScansOnlyIfNeeded old was.id event
   pub truly : LooksTruly old was.id event
   pub tables : KeepsTablesBy old was.id event
+  pub queue : FetchesFrom scenario.size old was.id event
 
 -- the lines of finished commands stay with one more entry
 pub lines-more : (scenario : Scenario) (seen : List Entry) (e : Entry) (b c : ℕ) (finished : List Finished) (commands : List Command) → All (λ f. f.judged ≤ length seen) finished
@@ -195,7 +197,8 @@ own_enters scenario old new had has was now event agrees played waits on suits k
   needed = suits.needed;
   truly = suits.truly;
   tables = suits.tables;
-  agrees = subst (λ h. AgreesNow scenario h now) (sym appends.entries) (own_agrees scenario old was now event agrees (IsPlayed-more scenario old (entry_of was.id (was.finished + 1) event) played appends.comes next suits.needed suits.truly suits.tables) waits on keeps follows);
+  queue = suits.queue;
+  agrees = subst (λ h. AgreesNow scenario h now) (sym appends.entries) (own_agrees scenario old was now event agrees (IsPlayed-more scenario old (entry_of was.id (was.finished + 1) event) played appends.comes next suits.needed suits.truly suits.tables suits.queue) waits on keeps follows);
 }
   where
     next : IsNext scenario old (entry_of was.id (was.finished + 1) event)

@@ -113,7 +113,7 @@ take_back_enters scenario old new had has was from lists cats rels kept agrees p
     own_enters scenario old new had has was now (events.Gone from) agrees played
     (elim (has_or_none was) [ inl command ↦ waits_to_end scenario old was agrees command (events.Gone from) out (ends command).1 | inr none ↦ waits_after_all scenario old was agrees none ])
     (record { session = λ _ _ _ _ _ _. refl; finished = λ _. refl; life = λ _. refl })
-    (record { plays = plays; needed = tt; truly = tt; tables = tt })
+    (record { plays = plays; needed = tt; truly = tt; tables = tt; queue = tt })
     (record {
       moves = record { id = refl; commands = refl; finished = refl; life = refl; lines = refl };
       session = session_clear old was (events.Gone from) agrees.rest clear ∙ (λ i. record (placed_at (length old + 1) (was.finished + 1) (events.Gone from) (session_at was agrees.rest)) { ended = ap is_ended next.phase i });

@@ -94,7 +94,7 @@ module _ (scenario : Scenario) (seen : List Entry) (s : Backend) (agrees : Agree
   -- whichever entry comes next
   pub waits_next : (next : Next) → IsNextOf s next → makes_entry next ≡ true → Waits agrees
   waits_next nexts.Look is makes = waits_look is
-  waits_next nexts.LookBeforeScan (work, some, unlooked) makes = waits_scan scenario seen s agrees work.has some
+  waits_next (nexts.LookBeforeScan builds) (work, some, unlooked) makes = waits_scan scenario seen s agrees work.has some
   waits_next nexts.Fetch is makes = waits_fetch is
   waits_next (nexts.LookUp scan) (work, next, looked) makes = waits_look_up work scan next
   waits_next (nexts.Build scan) (work, next, looked) makes = waits_build work scan next

@@ -1,6 +1,5 @@
 -- What a command is about to write, a new table or an alteration of one, may be written.
 use Rattle.std.proofs.Common.{◌≡◌, ◌∙◌, ◌⊎◌, inl, inr, ℕ, Bool, true, false, Option, Some, None, List, [], ◌∷◌, ◌++◌, refl, sym, ap, subst, map, length, nat_le}
-use Rattle.std.specs.Prelude.{⊤}
 use Rattle.std.specs.List.{list_any, flat_map}
 use Rattle.std.specs.Str.{bytes_eq}
 use Rattle.std.proofs.lemmas.List.{append-nil}
@@ -10,8 +9,8 @@ use Rattle.base_types.specs.declared.dropped.TheConstants.{MOST_COLUMNS}
 use Rattle.base_types.specs.declared.mode.Mode.TheVariants.{AccessShare, AccessExclusive}
 use Rattle.base_types.specs.declared.row.Row.TheVariants as rows
 use Rattle.rel_desc.specs.declared.error.CommandError.TheVariants as errors
-use Rattle.ddl_effect.specs.Plans.{Plan, Do, Done, Lookup, Write}
-use Rattle.ddl_effect.specs.Commands.{plan_of, found, looking_up, if_passes, if_no_column, first_twice, writing, showing, showing_field, opening, is_table, locking, new_table}
+use Rattle.ddl_effect.specs.Plans.{Plan, Do, Done, Write}
+use Rattle.ddl_effect.specs.Commands.{plan_of, looking_up, if_passes, if_no_column, first_twice, writing, showing, showing_field, opening, is_table, locking, new_table}
 use Rattle.cacheless.specs.Runs.{runs}
 use Rattle.history_model.specs.Drawn.{next_oid}
 use Rattle.history_model.specs.Names.{new_names}

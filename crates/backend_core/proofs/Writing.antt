@@ -51,7 +51,7 @@ use Rattle.backend_core.specs.Steps.{IsWorking, Enters}
 use Rattle.backend_core.specs.Way.{OnItsWay}
 use Rattle.backend_core.proofs.Acting.{IsActing, is_acting}
 use Rattle.backend_core.proofs.Stepping.{Waits, facts_after, session_after, rest_after, Keeps, Follows, Suits, GoesOn, own_enters}
-use Rattle.backend_core.proofs.Carry.{may_request, waits_at, missing_at, owed_scans, clear_at, accepted-clear, kept-more, no_answer, out_found, lacks_none, may_come}
+use Rattle.backend_core.proofs.Carry.{may_request, waits_at, missing_at, owed_scans, clear_at, accepted-clear, kept-more, no_answer, out_found, lacks_none}
 use Rattle.backend_core.proofs.WriteFits.{WriteFits, write_fits}
 use Rattle.backend_core.proofs.OpenedReads.{reads_out}
 use Rattle.backend_core.proofs.Nexting.{the_command}
@@ -333,6 +333,7 @@ module _ (scenario : Scenario) (old : List Entry) (was : Backend) (agrees : Agre
     needed = tt;
     truly = tt;
     tables = (fits scenario old was agrees works draft at whole played).keeps;
+    queue = tt;
   }
 
   follows : Follows scenario old was now event agrees.rest

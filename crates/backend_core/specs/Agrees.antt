@@ -16,6 +16,7 @@ use Rattle.ddl_effect.specs.Blocks.{Block, Outside, Inside, Failed, no_block, is
 use Rattle.ddl_effect.specs.Stages.{plan_at}
 use Rattle.history_model.specs.Lives.{Life, Unstarted, Alive, Stopped, life_of}
 use Rattle.history_model.specs.Orderly.{IsSound}
+use Rattle.history_model.specs.Lapped.{FollowsQueue}
 use Rattle.history_model.specs.Prefixes.{EachEntry}
 use Rattle.history_model.specs.Read.{IsEconomical, place_read}
 use Rattle.history_model.specs.Writes.{has_written, is_empty}
@@ -40,13 +41,14 @@ use Rattle.backend_core.specs.Passing.{is_silent}
 use Rattle.backend_core.specs.Way.{SeesRelation, Way}
 use Rattle.backend_core.specs.State.{owed_at, is_absent, published_at, is_accepting, looks_due, is_taken_back, is_ended, one_if, running_at, lists_at, is_kept, builds_missing, is_out, begins_in, owed_first, end_at, is_inside, blocks_next, has_write_since, end_of_running, Rest, session_at, HasCommand, is_in_accept}
 
--- a history that the script's commands played so far
+-- a history that the script's commands played so far, with each fetch of a queue of the script's size
 pub record IsPlayed (scenario : Scenario) (history : List Entry) : Type 0 where
   pub sound : IsSound history
   pub plays : Plays scenario history
   pub economical : IsEconomical history
   pub looks : AreLooksTrue history
   pub tables : EachEntry WritesTables history
+  pub queue : FollowsQueue scenario.size history
 
 -- what the scan of a name gave is what the backend holds of it, and it serves: it is usable, or the relation that a lookup's gave is locked
 abbrev pub RowsFit : Facts → List OwnLock → Plan → List Row → Type 0
@@ -70,9 +72,9 @@ pub record FactsFit (facts : Facts) (s : Backend) : Type 0 where
   pub kept : All (ReadRight facts.rows) s.kept
   pub given : s.read ≡ true → RowsFit facts s.locks.items (plan_at s.exec) s.given.items
 
--- how many looks the command owed for its scans, its grants and its transaction's start, with the one that was made for the next scan
+-- how many looks the command owed for its scans, its grants and its transaction's start, with those that were made for the next scans
 abbrev pub looks_owed : Tally → Backend → ℕ
-looks_owed tally s = tally.scans + tally.grants + option_map_or (λ t. one_if (t.first == s.finished + 1)) s.running 0 + one_if s.looked
+looks_owed tally s = tally.scans + tally.grants + option_map_or (λ t. one_if (t.first == s.finished + 1)) s.running 0 + one_if s.looked + one_if s.looked_to_build
 
 -- its looks are as many as these and its full fetches that ask for one, and no more than these and two for each fetch
 pub record TallyFits (tally : Tally) (s : Backend) : Type 0 where
@@ -264,6 +266,7 @@ pub record IsNew (s : Backend) (id : ℕ) (commands : List Command) : Type 0 whe
   pub running : s.running ≡ None
   pub lists : s.lists.lists ≡ no_lists
   pub looked : s.looked ≡ false
+  pub looked_to_build : s.looked_to_build ≡ false
   pub read : s.read ≡ false
   pub opened : s.opened ≡ []
   pub locks : s.locks.items ≡ []

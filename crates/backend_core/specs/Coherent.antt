@@ -6,7 +6,7 @@ use Rattle.history_model.specs.Coming.{IsAccounted}
 use Rattle.backend_core.specs.Types.{Entry, KeptScan, Backend}
 use Rattle.backend_core.specs.declared.phase.Life.TheVariants as lives
 
--- what is kept of a scan: it stands at the backend's last such scan, and is what that gave; and a message that covers it is on its way, or it is the answer at each place since
+-- what is kept of a scan (after a reset nothing is): it stands at the backend's last such scan, and is what that gave; and a message that covers it is on its way, or it is the answer at each place since
 pub record IsCoherentScan (seen : List Entry) (b : ℕ) (k : KeptScan) : Type 0 where
   pub at : read_at seen b k.scan ≡ Some k.at
   pub right : answer_of (take k.at seen) b k.scan ≡ k.rows

@@ -1,5 +1,6 @@
 pub mod Types
 pub mod State
+pub mod Fetched
 pub mod Passing
 pub mod Way
 pub mod Agrees

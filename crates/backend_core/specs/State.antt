@@ -11,7 +11,7 @@ use Rattle.inval_messages.specs.Lists.{Written, has_write_from, unsent_after}
 use Rattle.inval_messages.specs.declared.message.Message.TheVariants.{Cat, Rel}
 use Rattle.inval_messages.specs.Messages.{is_spared}
 use Rattle.command_lists.specs.Lists.{all_lists}
-use Rattle.ddl_effect.specs.Plans.{Plan, Absent, Do, Lookup, Open, Column, rests_on}
+use Rattle.ddl_effect.specs.Plans.{Plan, Absent, Do, Lookup, Column, rests_on}
 use Rattle.ddl_effect.specs.Blocks.{Block, Outside, Inside, Failed, Blocks, no_block, ends_block, refused_by, innermost, blocks_well, blocks_badly}
 use Rattle.ddl_effect.specs.Stages.{plan_at}
 use Rattle.history_model.specs.Writes.{is_empty}
@@ -127,11 +127,6 @@ abbrev pub covers_relation : Purpose → Message → Bool
 covers_relation scan (Rel rel) = option_map_or (λ own. same_oid rel own) (relation_of scan) false
 covers_relation scan (Cat cache hash) = false
 
--- messages mark the descriptor that is being built: its first scan is made, and one of them is for its relation, so that the build starts over, with another look
-abbrev pub marks_build : List KeptScan → Plan → List Message → Bool
-marks_build kept (Do (Open rel kind) rest) messages = is_kept kept (scans.Class rel) && list_any (covers_relation (scans.Class rel)) messages
-marks_build kept plan messages = false
-
 -- what is kept once messages are executed: what none of them covers
 abbrev pub kept_spared : List Message → List KeptScan → List KeptScan
 kept_spared messages kept = filter (λ k. is_spared k.scan messages) kept
@@ -150,6 +145,11 @@ act_missing kept read (Do (Lookup name mode) rest) = if read then [] else scans.
 act_missing kept read (Do (Column rel name) rest) = if read then [] else scans.AttName rel name ∷ []
 act_missing kept read (Do act rest) = missing kept (rests_on act)
 act_missing kept read plan = []
+
+-- a look was made for the next scan: for a descriptor, or of a name or a column
+abbrev pub is_looked_for : Bool → Backend → Bool
+is_looked_for true s = s.looked_to_build
+is_looked_for false s = s.looked
 
 -- a lookup has found nothing
 abbrev pub is_absent : Plan → Bool

@@ -6,6 +6,7 @@ use Rattle.base_types.specs.declared.scan.Purpose.TheVariants as scans
 use Rattle.ddl_effect.specs.Plans.{Plan, Act, Do, Lookup, Open, Column, Read, Write}
 use Rattle.ddl_effect.specs.Stages.{plan_at}
 use Rattle.history_model.specs.Orderly.{MayComeNext}
+use Rattle.history_model.specs.Lapped.{FetchesFrom}
 use Rattle.history_model.specs.Read.{ScansOnlyIfNeeded}
 use Rattle.cacheless.specs.Ends.{Ends, Commits, TakesBack}
 use Rattle.cacheless.specs.Plays.{IsNext}
@@ -14,7 +15,7 @@ use Rattle.cacheless.specs.TableWrites.{WritesTables}
 use Rattle.backend_core.specs.Types.{Oid, Mode, Kind, Row, Purpose, Scenario, Entry, Draft, Next, Backend}
 use Rattle.backend_core.specs.declared.next.Next.TheVariants as nexts
 use Rattle.backend_core.specs.declared.phase.Phase.TheVariants as phases
-use Rattle.backend_core.specs.State.{owed_first, scans_missing, missing, is_out, end_at, end_of_running, has_write_since, unsent_at, unlocked_of, Rest, HasCommand, is_kept, builds_missing}
+use Rattle.backend_core.specs.State.{owed_first, is_looked_for, scans_missing, missing, is_out, end_at, end_of_running, has_write_since, unsent_at, unlocked_of, Rest, HasCommand, is_kept, builds_missing}
 use Rattle.backend_core.specs.Agrees.{IsPlayed, Agrees, Stands}
 use Rattle.backend_core.specs.Coherent.{IsCoherent}
 
@@ -29,6 +30,7 @@ pub record Steps (scenario : Scenario) (old new : List Entry) (was now : Backend
   pub needed : ScansOnlyIfNeeded old entry.backend entry.event
   pub truly : LooksTruly old entry.backend entry.event
   pub tables : WritesTables old entry
+  pub queue : FetchesFrom scenario.size old entry.backend entry.event
   pub stands : Stands scenario new now
   pub coherent : IsCoherent new now
 
@@ -54,6 +56,7 @@ pub record Enters (scenario : Scenario) (old new : List Entry) (was now : Backen
   pub needed : ScansOnlyIfNeeded old entry.backend entry.event
   pub truly : LooksTruly old entry.backend entry.event
   pub tables : WritesTables old entry
+  pub queue : FetchesFrom scenario.size old entry.backend entry.event
   pub agrees : AgreesNow scenario new now
 
 -- a look is owed: at the start of a transaction, or in an accept of messages
@@ -162,10 +165,10 @@ pub record NextFinish (s : Backend) : Type 0 where
 -- what comes next, with all that it needs
 abbrev pub IsNextOf : Backend → Next → Type 0
 IsNextOf s nexts.Look = OwesLookNow s
-IsNextOf s nexts.LookBeforeScan = IsWorking s × (scans_missing s ≢ []) × (s.looked ≡ false)
+IsNextOf s (nexts.LookBeforeScan builds) = IsWorking s × (scans_missing s ≢ []) × (is_looked_for builds s ≡ false)
 IsNextOf s nexts.Fetch = s.phase ≡ phases.Fetching
 IsNextOf s (nexts.LookUp scan) = IsWorking s × NextLookUp s scan × (s.looked ≡ true)
-IsNextOf s (nexts.Build scan) = IsWorking s × NextBuild s scan × (s.looked ≡ true)
+IsNextOf s (nexts.Build scan) = IsWorking s × NextBuild s scan × (s.looked_to_build ≡ true)
 IsNextOf s (nexts.Lock rel mode) = IsWorking s × NextLock s rel mode
 IsNextOf s nexts.Write = IsWorking s × NextWrite s
 IsNextOf s (nexts.Commit xid) = NextCommit s xid.0

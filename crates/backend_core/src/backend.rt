@@ -27,8 +27,10 @@ pub struct Backend {
     pub(crate) blocks: TxnBlocks,
     pub(crate) running: Option<OwnTransaction>,
     pub(crate) lists: InvalLists,
-    // a look was made for the next scan
+    // a look was made for the next scan of a name or a column, and one for the next for a descriptor:
+    // where a reset takes an opened descriptor away before a column is looked up, both may be
     pub(crate) looked: bool,
+    pub(crate) looked_to_build: bool,
     // the scan of the name that it looks up is made, and what it gave, in the entry of this number
     pub(crate) read: bool,
     pub(crate) given: Vec<Row>,
@@ -67,6 +69,7 @@ impl Backend {
             running: None,
             lists: InvalLists::new(alloc),
             looked: false,
+            looked_to_build: false,
             read: false,
             given: Vec::new(alloc),
             given_at: 0,

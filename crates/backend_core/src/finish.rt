@@ -46,6 +46,7 @@ impl Backend {
         self.blocked = next.blocked;
         self.phase = Phase::Working;
         self.looked = false;
+        self.looked_to_build = false;
         self.read = false;
         self.opened = Listed::new(alloc);
         Ok(())

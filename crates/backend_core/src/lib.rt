@@ -7,7 +7,9 @@
 //! after each grant and before each scan, and the scans that the act needs and that aren't kept
 //! from earlier ones. Where messages wait it fetches them, at most 32, and drops the scans that one
 //! of them covers, those of an open descriptor too, which it then makes again; after a fetch of 32
-//! it looks again. A command that has come out is answered, and then ended: a transaction of its
+//! it looks again. A backend that the queue has lapped fetches a reset in their place: all scans are
+//! dropped, a build that has made its first scan starts over with another look, and what an opened
+//! descriptor lacks is scanned before the command goes on. A command that has come out is answered, and then ended: a transaction of its
 //! own is committed or taken back, a block goes on, fails or ends
 //! (`src/backend/access/transam/xact.c`). A commit publishes the messages of its writes between its
 //! visibility step and its release, at most 64 at a time, all for the catalog caches before all for

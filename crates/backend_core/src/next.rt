@@ -8,8 +8,8 @@ use base_types::{Kind, Mode, Oid, Purpose, Xid};
 pub enum Next {
     /// The look at its transaction's start, after a grant, or after a fetch of the most messages.
     Look,
-    /// The look before a scan.
-    LookBeforeScan,
+    /// The look before a scan: one for a descriptor, or one of a name or a column.
+    LookBeforeScan { builds: bool },
     /// It fetches the messages that wait.
     Fetch,
     /// The scan of a relation's or a column's name.

@@ -122,8 +122,8 @@ impl Backend {
     {
         match self.first_build() {
             None => self.next_of_want(want),
-            Some(scan) if self.looked => Next::Build(scan),
-            Some(_) => Next::LookBeforeScan,
+            Some(scan) if self.looked_to_build => Next::Build(scan),
+            Some(_) => Next::LookBeforeScan { builds: true },
         }
     }
 
@@ -143,7 +143,7 @@ impl Backend {
             Want::Column { rel, name } if self.looked => Next::LookUp(Purpose::AttName(
                 *rel, *name,
             )),
-            Want::Column { .. } => Next::LookBeforeScan,
+            Want::Column { .. } => Next::LookBeforeScan { builds: false },
             Want::Read(_) => Next::Find,
             Want::Write => Next::Write,
             Want::Lock { .. } | Want::Done | Want::Fails(_) | Want::Absent(_) => unreachable!(),
@@ -188,7 +188,7 @@ impl Backend {
         if self.looked {
             return Next::LookUp(Purpose::RelName(name));
         }
-        Next::LookBeforeScan
+        Next::LookBeforeScan { builds: false }
     }
 
     // The relation that the lookup's rows name, if it isn't locked in the mode.
@@ -211,8 +211,8 @@ impl Backend {
     {
         match first_missing(self.kept.as_slice(), kind, rel) {
             None => Next::Open { rel, kind },
-            Some(scan) if self.looked => Next::Build(scan),
-            Some(_) => Next::LookBeforeScan,
+            Some(scan) if self.looked_to_build => Next::Build(scan),
+            Some(_) => Next::LookBeforeScan { builds: true },
         }
     }
 
@@ -331,7 +331,7 @@ fn ends_block(command: &Command) -> bool
 }
 
 // The first of these descriptors that lacks a scan.
-fn first_lacking(kept: &[KeptScan], opened: &[Opening]) -> Option<Opening>
+pub(crate) fn first_lacking(kept: &[KeptScan], opened: &[Opening]) -> Option<Opening>
     ensures { result ≡ find (λ o. is_some (find (λ scan. not (is_kept kept.now scan)) (build_scans o.kind o.rel))) opened.now }
 {
     opened.iter().find(|o| lacks_scan(kept, o)).copied()

@@ -36,12 +36,12 @@ impl Backend {
         requires played { IsPlayed (L.script seg.old) (L.history seg.old) }
         requires works { IsWorking self.old }
         requires next { NextBuild self.old scan.now }
-        requires looked { self.old.looked ≡ true }
+        requires looked { self.old.looked_to_build ≡ true }
         ensures script { L.script seg.new ≡ L.script seg.old }
         ensures enters { OnOk result (Enters (L.script seg.old) (L.history seg.old) (L.history seg.new) self.old self.new) }
     {
         let scanned = seg.scan(self.id, self.finished + 1, scan)?;
-        self.looked = false;
+        self.looked_to_build = false;
         let made = KeptScan {
             scan: *scan,
             rows: Listed::from_vec(scanned.rows),

@@ -49,7 +49,7 @@ impl Backend {
     {
         match next {
             Next::Look => self.look(seg),
-            Next::LookBeforeScan => self.look_before_scan(seg),
+            Next::LookBeforeScan { builds } => self.look_before_scan(seg, *builds),
             Next::Fetch => self.fetch(alloc, seg),
             Next::LookUp(scan) => self.look_up(seg, scan)?,
             Next::Build(scan) => self.build(seg, scan)?,

@@ -8,6 +8,7 @@ use Rattle.base_types.specs.declared.command.Command.TheVariants as commands
 use Rattle.event_kinds.specs.declared.entry.Entry.{Entry}
 use Rattle.event_kinds.specs.declared.entry.Event.TheVariants.{Start, Look, Fetch, LockOk, Scan, Write, Visible, Publish, Release, Stop}
 use Rattle.event_kinds.specs.Texts.{text_of}
+use Rattle.history_model.specs.Lapped.{FollowsQueue}
 use Rattle.history_model.specs.Orderly.{MayComeNext, IsSound}
 use Rattle.history_model.specs.Read.{IsEconomical}
 use Rattle.history_model.proofs.Sound.{sound_is_legal}
@@ -269,6 +270,9 @@ show_of_anothers_table_plays = (started_plays_1, (started_plays_2, (written_play
 pub show_of_anothers_table_sound : IsSound stopped
 show_of_anothers_table_sound = (started_comes_1, (started_comes_2, (written_comes_1, (written_comes_2, (written_comes_3, (visible_comes, (published_comes_1, (published_comes_2, (released_comes, (writer_stopped_comes, (looked_comes, (fetched_comes, (name_scanned_comes, (locked_comes, (looked_after_lock_comes, (class_scanned_comes_1, (class_scanned_comes_2, (attribute_scanned_comes_1, (attribute_scanned_comes_2, (attrdef_scanned_comes_1, (attrdef_scanned_comes_2, (constraint_scanned_comes_1, (constraint_scanned_comes_2, (index_scanned_comes_1, (index_scanned_comes_2, (trigger_scanned_comes_1, (trigger_scanned_comes_2, (shown_comes, (stopped_comes, tt)))))))))))))))))))))))))))))
 
+pub show_of_anothers_table_queue : FollowsQueue 4096 stopped
+show_of_anothers_table_queue = (tt, (tt, (tt, (tt, (tt, (tt, (tt, (tt, (tt, (tt, (tt, (refl, (tt, (tt, (tt, (tt, (tt, (tt, (tt, (tt, (tt, (tt, (tt, (tt, (tt, (tt, (tt, (tt, (tt, tt)))))))))))))))))))))))))))))
+
 pub show_of_anothers_table_economical : IsEconomical stopped
 show_of_anothers_table_economical = (tt, (tt, (tt, (tt, (tt, (tt, (tt, (tt, (tt, (tt, (tt, (tt, (λ build. absurd (cc), (tt, (tt, (tt, (λ build. refl, (tt, (λ build. refl, (tt, (λ build. refl, (tt, (λ build. refl, (tt, (λ build. refl, (tt, (λ build. refl, (tt, (tt, tt)))))))))))))))))))))))))))))
 
@@ -289,4 +293,4 @@ unfolding digits
 show_of_anothers_table_spelled = refl
 
 pub show_of_anothers_table_output : IsOutput show_of_anothers_table show_of_anothers_table_text
-show_of_anothers_table_output = record { history = stopped; allowed = record { legal = sound_is_legal stopped show_of_anothers_table_sound; plays = show_of_anothers_table_plays; economical = show_of_anothers_table_economical }; follows = show_of_anothers_table_follows; looks = show_of_anothers_table_looks; complete = show_of_anothers_table_complete; text_is = sym show_of_anothers_table_spelled }
+show_of_anothers_table_output = record { history = stopped; allowed = record { legal = sound_is_legal stopped show_of_anothers_table_sound; queue = show_of_anothers_table_queue; plays = show_of_anothers_table_plays; economical = show_of_anothers_table_economical }; follows = show_of_anothers_table_follows; looks = show_of_anothers_table_looks; complete = show_of_anothers_table_complete; text_is = sym show_of_anothers_table_spelled }

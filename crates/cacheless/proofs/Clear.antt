@@ -153,7 +153,9 @@ comes_by history b c (events.Release from) sound comes patient' known = by_visib
         (kept_own history b c (events.Release from) (held_of history) (is_waiting after b) sound (λ at release. hidden) patient' known))
 comes_by history b c events.Stop sound comes patient' known =
     every-weaker (λ g. (g.backend == b) ≡ true → ⊥) (KnowsOf (history ++ entry_of b c events.Stop ∷ []) b [] (is_waiting (history ++ entry_of b c events.Stop ∷ []) b)) (λ g not' mine. absurd (not' mine)) (held_of history) (unheld history b sound comes.follows.event)
-comes_by history b c events.FetchReset sound comes patient' known = absurd comes.follows.event
+comes_by history b c events.FetchReset sound comes patient' known =
+    all_past (history ++ entry_of b c events.FetchReset ∷ []) b [] (is_waiting (history ++ entry_of b c events.FetchReset ∷ []) b) (held_of history)
+    (omega (arith, ap length (log_of-more history (entry_of b c events.FetchReset)), position_of-own history (entry_of b c events.FetchReset) b (eq-eqb b b refl)))
 comes_by history b c event sound comes patient' known = kept_own history b c event (held_of history) (waited_by (history ++ entry_of b c event ∷ []) b event (has_waited history b)) sound (λ from release. absurd (cc)) patient' known
 
 -- after an own entry

@@ -8,6 +8,7 @@ use Rattle.base_types.specs.declared.command.Command.TheVariants as commands
 use Rattle.event_kinds.specs.declared.entry.Entry.{Entry}
 use Rattle.event_kinds.specs.declared.entry.Event.TheVariants.{Start, Look, Fetch, LockOk, Scan, Write, Visible, Publish, Release, Stop}
 use Rattle.event_kinds.specs.Texts.{text_of}
+use Rattle.history_model.specs.Lapped.{FollowsQueue}
 use Rattle.history_model.specs.Orderly.{MayComeNext, IsSound}
 use Rattle.history_model.specs.Read.{IsEconomical}
 use Rattle.history_model.proofs.Sound.{sound_is_legal}
@@ -257,6 +258,9 @@ create_then_show_plays = (started_plays, (looked_plays, (written_plays, (visible
 pub create_then_show_sound : IsSound stopped
 create_then_show_sound = (started_comes, (looked_comes, (written_comes, (visible_comes, (first_part_published_comes, (published_comes, (released_comes, (looked_at_start_comes, (fetched_comes, (looked_before_name_comes, (name_scanned_comes, (locked_comes, (looked_after_lock_comes, (class_scanned_comes_1, (class_scanned_comes_2, (attribute_scanned_comes_1, (attribute_scanned_comes_2, (attrdef_scanned_comes_1, (attrdef_scanned_comes_2, (constraint_scanned_comes_1, (constraint_scanned_comes_2, (index_scanned_comes_1, (index_scanned_comes_2, (trigger_scanned_comes_1, (trigger_scanned_comes_2, (shown_comes, (stopped_comes, tt)))))))))))))))))))))))))))
 
+pub create_then_show_queue : FollowsQueue 4096 stopped
+create_then_show_queue = (tt, (tt, (tt, (tt, (tt, (tt, (tt, (tt, (refl, (tt, (tt, (tt, (tt, (tt, (tt, (tt, (tt, (tt, (tt, (tt, (tt, (tt, (tt, (tt, (tt, (tt, (tt, tt)))))))))))))))))))))))))))
+
 pub create_then_show_economical : IsEconomical stopped
 create_then_show_economical = (tt, (tt, (tt, (tt, (tt, (tt, (tt, (tt, (tt, (tt, (λ build. absurd (cc), (tt, (tt, (tt, (λ build. refl, (tt, (λ build. refl, (tt, (λ build. refl, (tt, (λ build. refl, (tt, (λ build. refl, (tt, (λ build. refl, (tt, (tt, tt)))))))))))))))))))))))))))
 
@@ -277,4 +281,4 @@ unfolding digits
 create_then_show_spelled = refl
 
 pub create_then_show_output : IsOutput create_then_show create_then_show_text
-create_then_show_output = record { history = stopped; allowed = record { legal = sound_is_legal stopped create_then_show_sound; plays = create_then_show_plays; economical = create_then_show_economical }; follows = create_then_show_follows; looks = create_then_show_looks; complete = create_then_show_complete; text_is = sym create_then_show_spelled }
+create_then_show_output = record { history = stopped; allowed = record { legal = sound_is_legal stopped create_then_show_sound; queue = create_then_show_queue; plays = create_then_show_plays; economical = create_then_show_economical }; follows = create_then_show_follows; looks = create_then_show_looks; complete = create_then_show_complete; text_is = sym create_then_show_spelled }

@@ -7,6 +7,7 @@ use Rattle.base_types.specs.declared.command.Command.TheVariants as commands
 use Rattle.event_kinds.specs.declared.entry.Entry.{Entry}
 use Rattle.event_kinds.specs.declared.entry.Event.TheVariants.{Start, Look, Scan, Write, Release, Gone, Stop}
 use Rattle.event_kinds.specs.Texts.{text_of}
+use Rattle.history_model.specs.Lapped.{FollowsQueue}
 use Rattle.history_model.specs.Orderly.{MayComeNext, IsSound}
 use Rattle.history_model.specs.Read.{IsEconomical}
 use Rattle.history_model.proofs.Sound.{sound_is_legal}
@@ -100,6 +101,9 @@ failed_block_plays = (begun_plays_1, (begun_plays_2, (written_plays, (looked_pla
 pub failed_block_sound : IsSound stopped
 failed_block_sound = (begun_comes_1, (begun_comes_2, (written_comes, (looked_comes, (scanned_comes, (taken_back_comes, (released_comes, (stopped_comes, tt))))))))
 
+pub failed_block_queue : FollowsQueue 4096 stopped
+failed_block_queue = (tt, (tt, (tt, (tt, (tt, (tt, (tt, (tt, tt))))))))
+
 pub failed_block_economical : IsEconomical stopped
 failed_block_economical = (tt, (tt, (tt, (tt, (λ build. absurd (cc), (tt, (tt, (tt, tt))))))))
 
@@ -120,4 +124,4 @@ unfolding digits
 failed_block_spelled = refl
 
 pub failed_block_output : IsOutput failed_block failed_block_text
-failed_block_output = record { history = stopped; allowed = record { legal = sound_is_legal stopped failed_block_sound; plays = failed_block_plays; economical = failed_block_economical }; follows = failed_block_follows; looks = failed_block_looks; complete = failed_block_complete; text_is = sym failed_block_spelled }
+failed_block_output = record { history = stopped; allowed = record { legal = sound_is_legal stopped failed_block_sound; queue = failed_block_queue; plays = failed_block_plays; economical = failed_block_economical }; follows = failed_block_follows; looks = failed_block_looks; complete = failed_block_complete; text_is = sym failed_block_spelled }

@@ -7,6 +7,7 @@ use Rattle.base_types.specs.declared.command.Command.TheVariants as commands
 use Rattle.event_kinds.specs.declared.entry.Entry.{Entry}
 use Rattle.event_kinds.specs.declared.entry.Event.TheVariants.{Start, Look, Fetch, Scan, Write, Visible, Publish, Release, Stop}
 use Rattle.event_kinds.specs.Texts.{text_of}
+use Rattle.history_model.specs.Lapped.{FollowsQueue}
 use Rattle.history_model.specs.Orderly.{MayComeNext, IsSound}
 use Rattle.history_model.specs.Read.{IsEconomical}
 use Rattle.history_model.proofs.Sound.{sound_is_legal}
@@ -172,6 +173,9 @@ fetch_of_exactly_32_plays = (started_plays_1, (started_plays_2, (written_plays_1
 pub fetch_of_exactly_32_sound : IsSound writer_stopped
 fetch_of_exactly_32_sound = (started_comes_1, (started_comes_2, (written_comes_1, (written_comes_2, (visible_comes, (published_comes_1, (published_comes_2, (released_comes, (looked_comes, (fetched_comes, (looked_again_comes, (looked_before_name_comes, (name_scanned_comes, (ended_comes, (stopped_comes, (writer_stopped_comes, tt))))))))))))))))
 
+pub fetch_of_exactly_32_queue : FollowsQueue 4096 writer_stopped
+fetch_of_exactly_32_queue = (tt, (tt, (tt, (tt, (tt, (tt, (tt, (tt, (tt, (refl, (tt, (tt, (tt, (tt, (tt, (tt, tt))))))))))))))))
+
 pub fetch_of_exactly_32_economical : IsEconomical writer_stopped
 fetch_of_exactly_32_economical = (tt, (tt, (tt, (tt, (tt, (tt, (tt, (tt, (tt, (tt, (tt, (tt, (λ build. absurd (cc), (tt, (tt, (tt, tt))))))))))))))))
 
@@ -192,4 +196,4 @@ unfolding digits
 fetch_of_exactly_32_spelled = refl
 
 pub fetch_of_exactly_32_output : IsOutput fetch_of_exactly_32 fetch_of_exactly_32_text
-fetch_of_exactly_32_output = record { history = writer_stopped; allowed = record { legal = sound_is_legal writer_stopped fetch_of_exactly_32_sound; plays = fetch_of_exactly_32_plays; economical = fetch_of_exactly_32_economical }; follows = fetch_of_exactly_32_follows; looks = fetch_of_exactly_32_looks; complete = fetch_of_exactly_32_complete; text_is = sym fetch_of_exactly_32_spelled }
+fetch_of_exactly_32_output = record { history = writer_stopped; allowed = record { legal = sound_is_legal writer_stopped fetch_of_exactly_32_sound; queue = fetch_of_exactly_32_queue; plays = fetch_of_exactly_32_plays; economical = fetch_of_exactly_32_economical }; follows = fetch_of_exactly_32_follows; looks = fetch_of_exactly_32_looks; complete = fetch_of_exactly_32_complete; text_is = sym fetch_of_exactly_32_spelled }

@@ -35,6 +35,10 @@ turns b count = record { backend = b; count = count }
 abbrev pub script : ℕ → List Placed → List (List Turns) → Scenario
 script backends commands steps = record { size = 4096; from = 0; backends = backends; commands = commands; steps = steps }
 
+-- with the smallest queue
+abbrev pub small_queue : ℕ → List Placed → List (List Turns) → Scenario
+small_queue backends commands steps = record { size = 64; from = 0; backends = backends; commands = commands; steps = steps }
+
 -- `create table NAME (COLUMN int4)`
 abbrev pub creating : List ℕ → List ℕ → Command
 creating name column = CreateTable name (record { name = column; col_type = Int4 } ∷ [])

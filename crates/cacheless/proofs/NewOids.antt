@@ -6,6 +6,7 @@ use Rattle.base_types.specs.declared.command.Command.TheVariants as commands
 use Rattle.event_kinds.specs.declared.entry.Entry.{Entry}
 use Rattle.event_kinds.specs.declared.entry.Event.TheVariants.{Start, Look, Write, Visible, Publish, Release, Gone, Stop}
 use Rattle.event_kinds.specs.Texts.{text_of}
+use Rattle.history_model.specs.Lapped.{FollowsQueue}
 use Rattle.history_model.specs.Orderly.{MayComeNext, IsSound}
 use Rattle.history_model.specs.Read.{IsEconomical}
 use Rattle.history_model.proofs.Sound.{sound_is_legal}
@@ -132,6 +133,9 @@ oids_are_not_drawn_again_plays = (begun_plays_1, (begun_plays_2, (written_plays,
 pub oids_are_not_drawn_again_sound : IsSound stopped
 oids_are_not_drawn_again_sound = (begun_comes_1, (begun_comes_2, (written_comes, (taken_back_comes, (released_comes, (looked_comes, (written_again_comes, (visible_comes, (published_comes_1, (published_comes_2, (ended_comes, (stopped_comes, tt))))))))))))
 
+pub oids_are_not_drawn_again_queue : FollowsQueue 4096 stopped
+oids_are_not_drawn_again_queue = (tt, (tt, (tt, (tt, (tt, (tt, (tt, (tt, (tt, (tt, (tt, (tt, tt))))))))))))
+
 pub oids_are_not_drawn_again_economical : IsEconomical stopped
 oids_are_not_drawn_again_economical = (tt, (tt, (tt, (tt, (tt, (tt, (tt, (tt, (tt, (tt, (tt, (tt, tt))))))))))))
 
@@ -152,4 +156,4 @@ unfolding digits
 oids_are_not_drawn_again_spelled = refl
 
 pub oids_are_not_drawn_again_output : IsOutput oids_are_not_drawn_again oids_are_not_drawn_again_text
-oids_are_not_drawn_again_output = record { history = stopped; allowed = record { legal = sound_is_legal stopped oids_are_not_drawn_again_sound; plays = oids_are_not_drawn_again_plays; economical = oids_are_not_drawn_again_economical }; follows = oids_are_not_drawn_again_follows; looks = oids_are_not_drawn_again_looks; complete = oids_are_not_drawn_again_complete; text_is = sym oids_are_not_drawn_again_spelled }
+oids_are_not_drawn_again_output = record { history = stopped; allowed = record { legal = sound_is_legal stopped oids_are_not_drawn_again_sound; queue = oids_are_not_drawn_again_queue; plays = oids_are_not_drawn_again_plays; economical = oids_are_not_drawn_again_economical }; follows = oids_are_not_drawn_again_follows; looks = oids_are_not_drawn_again_looks; complete = oids_are_not_drawn_again_complete; text_is = sym oids_are_not_drawn_again_spelled }

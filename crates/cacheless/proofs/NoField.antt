@@ -9,6 +9,7 @@ use Rattle.base_types.specs.declared.field.Field.TheVariants as fields
 use Rattle.event_kinds.specs.declared.entry.Entry.{Entry}
 use Rattle.event_kinds.specs.declared.entry.Event.TheVariants.{Start, Look, Fetch, LockOk, Scan, Write, Visible, Publish, Release, Stop}
 use Rattle.event_kinds.specs.Texts.{text_of}
+use Rattle.history_model.specs.Lapped.{FollowsQueue}
 use Rattle.history_model.specs.Orderly.{MayComeNext, IsSound}
 use Rattle.history_model.specs.Read.{IsEconomical}
 use Rattle.history_model.proofs.Sound.{sound_is_legal}
@@ -141,6 +142,9 @@ no_field_plays = (looked_plays_1, (looked_plays_2, (created_plays_1, (created_pl
 pub no_field_sound : IsSound stopped
 no_field_sound = (looked_comes_1, (looked_comes_2, (created_comes_1, (created_comes_2, (created_comes_3, (created_comes_4, (created_comes_5, (scanned_comes_1, (scanned_comes_2, (scanned_comes_3, (scanned_comes_4, (locked_comes_1, (locked_comes_2, (field_refused_comes, (stopped_comes, tt)))))))))))))))
 
+pub no_field_queue : FollowsQueue 4096 stopped
+no_field_queue = (tt, (tt, (tt, (tt, (tt, (tt, (tt, (tt, (refl, (tt, (tt, (tt, (tt, (tt, (tt, tt)))))))))))))))
+
 pub no_field_economical : IsEconomical stopped
 no_field_economical = (tt, (tt, (tt, (tt, (tt, (tt, (tt, (tt, (tt, (tt, (λ build. absurd (cc), (tt, (tt, (tt, (tt, tt)))))))))))))))
 
@@ -161,4 +165,4 @@ unfolding digits
 no_field_spelled = refl
 
 pub no_field_output : IsOutput no_field no_field_text
-no_field_output = record { history = stopped; allowed = record { legal = sound_is_legal stopped no_field_sound; plays = no_field_plays; economical = no_field_economical }; follows = no_field_follows; looks = no_field_looks; complete = no_field_complete; text_is = sym no_field_spelled }
+no_field_output = record { history = stopped; allowed = record { legal = sound_is_legal stopped no_field_sound; queue = no_field_queue; plays = no_field_plays; economical = no_field_economical }; follows = no_field_follows; looks = no_field_looks; complete = no_field_complete; text_is = sym no_field_spelled }

@@ -25,6 +25,7 @@ abbrev pub IsPatient : List Owes → Event → Type 0
 IsPatient owed events.Start = ⊤
 IsPatient owed (events.Look some_wait) = IsNoFetch owed
 IsPatient owed (events.Fetch count) = ⊤
+IsPatient owed events.FetchReset = ⊤
 IsPatient owed events.Stop = ⊤
 IsPatient owed event = owed ≡ []
 
@@ -62,6 +63,7 @@ look_allowed facts s may = by_last facts.last may
 in_command : (next : ℕ) (facts : Facts) (command : Command) (s : Session) (event : Event) → MayPlay next facts command s event → IsPatient (owed_after facts.last) event
 in_command next facts command s (events.Look some_wait) may = look_allowed facts s may
 in_command next facts command s (events.Fetch count) may = tt
+in_command next facts command s events.FetchReset may = tt
 in_command next facts command s (events.Scan scan count) may = may.0
 in_command next facts command s (events.LockOk rel mode) may = nothing_owed facts command s may.0
 in_command next facts command s (events.LockHeld rel mode holder held) may = nothing_owed facts command s may.0
@@ -77,6 +79,7 @@ in_command next facts command s event may = absurd may
 after_all : (facts : Facts) (s : Session) (event : Event) → MayPlayLast facts s event → IsPatient (owed_after facts.last) event
 after_all facts s (events.Look some_wait) may = look_allowed facts s may.1
 after_all facts s (events.Fetch count) may = tt
+after_all facts s events.FetchReset may = tt
 after_all facts s (events.Gone from) may = may.0
 after_all facts s (events.Release from) may = may.0
 after_all facts s events.Stop may = tt

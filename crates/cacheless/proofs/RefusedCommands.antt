@@ -7,6 +7,7 @@ use Rattle.base_types.specs.declared.command.Command.TheVariants as commands
 use Rattle.event_kinds.specs.declared.entry.Entry.{Entry}
 use Rattle.event_kinds.specs.declared.entry.Event.TheVariants.{Start, Look, Write, Visible, Publish, Release, Stop}
 use Rattle.event_kinds.specs.Texts.{text_of}
+use Rattle.history_model.specs.Lapped.{FollowsQueue}
 use Rattle.history_model.specs.Orderly.{MayComeNext, IsSound}
 use Rattle.history_model.specs.Read.{IsEconomical}
 use Rattle.history_model.proofs.Sound.{sound_is_legal}
@@ -103,6 +104,9 @@ refused_commands_plays = (looked_plays_1, (looked_plays_2, (column_refused_plays
 pub refused_commands_sound : IsSound stopped
 refused_commands_sound = (looked_comes_1, (looked_comes_2, (column_refused_comes, (created_comes_1, (created_comes_2, (created_comes_3, (created_comes_4, (created_comes_5, (created_comes_6, (stopped_comes, tt))))))))))
 
+pub refused_commands_queue : FollowsQueue 4096 stopped
+refused_commands_queue = (tt, (tt, (tt, (tt, (tt, (tt, (tt, (tt, (tt, (tt, tt))))))))))
+
 pub refused_commands_economical : IsEconomical stopped
 refused_commands_economical = (tt, (tt, (tt, (tt, (tt, (tt, (tt, (tt, (tt, (tt, tt))))))))))
 
@@ -123,4 +127,4 @@ unfolding digits
 refused_commands_spelled = refl
 
 pub refused_commands_output : IsOutput refused_commands refused_commands_text
-refused_commands_output = record { history = stopped; allowed = record { legal = sound_is_legal stopped refused_commands_sound; plays = refused_commands_plays; economical = refused_commands_economical }; follows = refused_commands_follows; looks = refused_commands_looks; complete = refused_commands_complete; text_is = sym refused_commands_spelled }
+refused_commands_output = record { history = stopped; allowed = record { legal = sound_is_legal stopped refused_commands_sound; queue = refused_commands_queue; plays = refused_commands_plays; economical = refused_commands_economical }; follows = refused_commands_follows; looks = refused_commands_looks; complete = refused_commands_complete; text_is = sym refused_commands_spelled }

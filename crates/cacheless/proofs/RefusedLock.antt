@@ -8,6 +8,7 @@ use Rattle.base_types.specs.declared.command.Command.TheVariants as commands
 use Rattle.event_kinds.specs.declared.entry.Entry.{Entry}
 use Rattle.event_kinds.specs.declared.entry.Event.TheVariants.{Start, Look, LockHeld, Scan, Write, Visible, Publish, Release, Stop}
 use Rattle.event_kinds.specs.Texts.{text_of}
+use Rattle.history_model.specs.Lapped.{FollowsQueue}
 use Rattle.history_model.specs.Orderly.{MayComeNext, IsSound}
 use Rattle.history_model.specs.Read.{IsEconomical}
 use Rattle.history_model.proofs.Sound.{sound_is_legal}
@@ -155,6 +156,9 @@ refused_lock_plays = (visible_plays_1, (visible_plays_2, (visible_plays_3, (visi
 pub refused_lock_sound : IsSound stopped
 refused_lock_sound = (visible_comes_1, (visible_comes_2, (visible_comes_3, (visible_comes_4, (started_comes_1, (started_comes_2, (scanned_comes_1, (scanned_comes_2, (refused_comes, (ended_comes, (published_comes_1, (published_comes_2, (released_comes, (writer_stopped_comes, (stopped_comes, tt)))))))))))))))
 
+pub refused_lock_queue : FollowsQueue 4096 stopped
+refused_lock_queue = (tt, (tt, (tt, (tt, (tt, (tt, (tt, (tt, (tt, (tt, (tt, (tt, (tt, (tt, (tt, tt)))))))))))))))
+
 pub refused_lock_economical : IsEconomical stopped
 refused_lock_economical = (tt, (tt, (tt, (tt, (tt, (tt, (tt, (λ build. absurd (cc), (tt, (tt, (tt, (tt, (tt, (tt, (tt, tt)))))))))))))))
 
@@ -175,4 +179,4 @@ unfolding digits
 refused_lock_spelled = refl
 
 pub refused_lock_output : IsOutput refused_lock refused_lock_text
-refused_lock_output = record { history = stopped; allowed = record { legal = sound_is_legal stopped refused_lock_sound; plays = refused_lock_plays; economical = refused_lock_economical }; follows = refused_lock_follows; looks = refused_lock_looks; complete = refused_lock_complete; text_is = sym refused_lock_spelled }
+refused_lock_output = record { history = stopped; allowed = record { legal = sound_is_legal stopped refused_lock_sound; queue = refused_lock_queue; plays = refused_lock_plays; economical = refused_lock_economical }; follows = refused_lock_follows; looks = refused_lock_looks; complete = refused_lock_complete; text_is = sym refused_lock_spelled }

@@ -8,6 +8,7 @@ use Rattle.base_types.specs.declared.command.Command.TheVariants as commands
 use Rattle.event_kinds.specs.declared.entry.Entry.{Entry}
 use Rattle.event_kinds.specs.declared.entry.Event.TheVariants.{Start, Look, Fetch, LockOk, LockHeld, Scan, Write, Visible, Publish, Release}
 use Rattle.event_kinds.specs.Texts.{text_of}
+use Rattle.history_model.specs.Lapped.{FollowsQueue}
 use Rattle.history_model.specs.Orderly.{MayComeNext, IsSound}
 use Rattle.history_model.specs.Read.{IsEconomical}
 use Rattle.history_model.proofs.Sound.{sound_is_legal}
@@ -227,6 +228,9 @@ holders_in_order_of_grant_plays = (created_plays_1, (created_plays_2, (created_p
 pub holders_in_order_of_grant_sound : IsSound third_released
 holders_in_order_of_grant_sound = (created_comes_1, (created_comes_2, (created_comes_3, (created_comes_4, (created_comes_5, (created_comes_6, (created_comes_7, (first_begun_comes_1, (first_begun_comes_2, (first_scanned_comes_1, (first_scanned_comes_2, (first_locked_comes_1, (first_locked_comes_2, (second_begun_comes_1, (second_begun_comes_2, (second_scanned_comes_1, (second_scanned_comes_2, (second_locked_comes_1, (second_locked_comes_2, (third_begun_comes_1, (third_begun_comes_2, (third_scanned_comes_1, (third_scanned_comes_2, (third_refused_comes, (third_released_comes, tt)))))))))))))))))))))))))
 
+pub holders_in_order_of_grant_queue : FollowsQueue 4096 third_released
+holders_in_order_of_grant_queue = (tt, (tt, (tt, (tt, (tt, (tt, (tt, (tt, (refl, (tt, (tt, (tt, (tt, (tt, (tt, (tt, (tt, (tt, (tt, (tt, (tt, (tt, (tt, (tt, (tt, tt)))))))))))))))))))))))))
+
 pub holders_in_order_of_grant_economical : IsEconomical third_released
 holders_in_order_of_grant_economical = (tt, (tt, (tt, (tt, (tt, (tt, (tt, (tt, (tt, (tt, (λ build. absurd (cc), (tt, (tt, (tt, (tt, (tt, (λ build. absurd (cc), (tt, (tt, (tt, (tt, (tt, (λ build. absurd (cc), (tt, (tt, tt)))))))))))))))))))))))))
 
@@ -247,4 +251,4 @@ unfolding digits
 holders_in_order_of_grant_spelled = refl
 
 pub holders_in_order_of_grant_output : IsOutput holders_in_order_of_grant holders_in_order_of_grant_text
-holders_in_order_of_grant_output = record { history = third_released; allowed = record { legal = sound_is_legal third_released holders_in_order_of_grant_sound; plays = holders_in_order_of_grant_plays; economical = holders_in_order_of_grant_economical }; follows = holders_in_order_of_grant_follows; looks = holders_in_order_of_grant_looks; complete = holders_in_order_of_grant_complete; text_is = sym holders_in_order_of_grant_spelled }
+holders_in_order_of_grant_output = record { history = third_released; allowed = record { legal = sound_is_legal third_released holders_in_order_of_grant_sound; queue = holders_in_order_of_grant_queue; plays = holders_in_order_of_grant_plays; economical = holders_in_order_of_grant_economical }; follows = holders_in_order_of_grant_follows; looks = holders_in_order_of_grant_looks; complete = holders_in_order_of_grant_complete; text_is = sym holders_in_order_of_grant_spelled }

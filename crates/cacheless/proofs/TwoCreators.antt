@@ -6,6 +6,7 @@ use Rattle.base_types.specs.declared.command.Command.TheVariants as commands
 use Rattle.event_kinds.specs.declared.entry.Entry.{Entry}
 use Rattle.event_kinds.specs.declared.entry.Event.TheVariants.{Start, Look, Fetch, Write, ClashRow, ClashRunning, Visible, Publish, Release, Stop}
 use Rattle.event_kinds.specs.Texts.{text_of}
+use Rattle.history_model.specs.Lapped.{FollowsQueue}
 use Rattle.history_model.specs.Orderly.{MayComeNext, IsSound}
 use Rattle.history_model.specs.Read.{IsEconomical}
 use Rattle.history_model.proofs.Sound.{sound_is_legal}
@@ -189,6 +190,9 @@ clash_of_two_creators_plays = (first_started_plays, (first_looked_plays, (first_
 pub clash_of_two_creators_sound : IsSound second_stopped
 clash_of_two_creators_sound = (first_started_comes, (first_looked_comes, (first_written_comes, (second_started_comes, (second_looked_comes, (second_clashed_comes, (second_released_comes, (first_visible_comes, (first_part_published_comes, (first_published_comes, (first_released_comes, (first_stopped_comes, (second_looked_again_comes, (second_fetched_comes, (second_clashed_again_comes, (second_released_again_comes, (second_stopped_comes, tt)))))))))))))))))
 
+pub clash_of_two_creators_queue : FollowsQueue 4096 second_stopped
+clash_of_two_creators_queue = (tt, (tt, (tt, (tt, (tt, (tt, (tt, (tt, (tt, (tt, (tt, (tt, (tt, (refl, (tt, (tt, (tt, tt)))))))))))))))))
+
 pub clash_of_two_creators_economical : IsEconomical second_stopped
 clash_of_two_creators_economical = (tt, (tt, (tt, (tt, (tt, (tt, (tt, (tt, (tt, (tt, (tt, (tt, (tt, (tt, (tt, (tt, (tt, tt)))))))))))))))))
 
@@ -209,4 +213,4 @@ unfolding digits
 clash_of_two_creators_spelled = refl
 
 pub clash_of_two_creators_output : IsOutput clash_of_two_creators clash_of_two_creators_text
-clash_of_two_creators_output = record { history = second_stopped; allowed = record { legal = sound_is_legal second_stopped clash_of_two_creators_sound; plays = clash_of_two_creators_plays; economical = clash_of_two_creators_economical }; follows = clash_of_two_creators_follows; looks = clash_of_two_creators_looks; complete = clash_of_two_creators_complete; text_is = sym clash_of_two_creators_spelled }
+clash_of_two_creators_output = record { history = second_stopped; allowed = record { legal = sound_is_legal second_stopped clash_of_two_creators_sound; queue = clash_of_two_creators_queue; plays = clash_of_two_creators_plays; economical = clash_of_two_creators_economical }; follows = clash_of_two_creators_follows; looks = clash_of_two_creators_looks; complete = clash_of_two_creators_complete; text_is = sym clash_of_two_creators_spelled }

@@ -8,7 +8,7 @@ use Rattle.base_types.specs.declared.row.ConKind.TheVariants.{Foreign}
 use Rattle.base_types.specs.declared.col_type.ColType.TheVariants.{Int4}
 use Rattle.base_types.specs.declared.row_key.RowKey.TheVariants as keys
 use Rattle.base_types.specs.declared.scan.Purpose.TheVariants as scans
-use Rattle.event_kinds.specs.declared.entry.Event.TheVariants.{Start, Look, Fetch, FetchReset, LockOk, LockHeld, Unlock, Scan, Write, ClashRow, ClashRunning, Visible, Publish, Release, Gone, Fail, Stop}
+use Rattle.event_kinds.specs.declared.entry.Event.TheVariants.{Start, Look, Fetch, LockOk, LockHeld, Unlock, Scan, Write, ClashRow, ClashRunning, Visible, Publish, Release, Gone, Fail, Stop}
 use Rattle.event_kinds.specs.declared.entry.Entry.{Entry}
 use Rattle.event_kinds.specs.declared.entry.Item.{Item}
 use Rattle.event_kinds.specs.declared.entry.Item.TheVariants.{Add, Put, Remove, Force}
@@ -344,10 +344,6 @@ referred_table_passed_over h = search arith
 -- unlocking isn't built
 pub unlock_not_built : MayFollow show.locked (entry 1 2 (Unlock (oid 16384) AccessShare)) → ⊥
 unlock_not_built h = search arith
-
--- a reset, until the queue is bounded
-pub reset_not_built : MayFollow show.looked_at_start (entry 1 2 FetchReset) → ⊥
-reset_not_built h = search arith
 
 -- a refusal of memory isn't built
 pub fail_not_built : MayFollow show.locked (entry 1 2 Fail) → ⊥

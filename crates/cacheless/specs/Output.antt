@@ -2,15 +2,17 @@
 use Rattle.std.specs.Prelude.{ℕ, List, ◌≡◌}
 use Rattle.event_kinds.specs.Texts.{text_of}
 use Rattle.history_model.specs.Legal.{IsLegal}
+use Rattle.history_model.specs.Lapped.{FollowsQueue}
 use Rattle.history_model.specs.Read.{IsEconomical}
 use Rattle.cacheless.specs.Types.{Scenario, Entry}
 use Rattle.cacheless.specs.Plays.{Plays}
 use Rattle.cacheless.specs.Lines.{lines_of}
 use Rattle.cacheless.specs.Schedule.{FollowsSchedule, AreLooksTrue, IsComplete}
 
--- a history that the script allows: legal, played by its commands, and with no needless scan
+-- a history that the script allows: legal, with each fetch of a queue of the script's size, played by its commands, and with no needless scan
 pub record IsAllowed (scenario : Scenario) (history : List Entry) : Type 0 where
   pub legal : IsLegal history
+  pub queue : FollowsQueue scenario.size history
   pub plays : Plays scenario history
   pub economical : IsEconomical history
 

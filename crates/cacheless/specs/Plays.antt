@@ -73,6 +73,7 @@ IsEnd facts command s event = (owed_at_end facts command s ≡ []) × (end_left 
 abbrev pub MayPlay : ℕ → Facts → Command → Session → Event → Type 0
 MayPlay next facts command s (events.Look some_wait) = may_look facts s ≡ true
 MayPlay next facts command s (events.Fetch count) = ⊤
+MayPlay next facts command s events.FetchReset = ⊤
 MayPlay next facts command s (events.Scan scan count) = (owed_after facts.last ≡ []) × (is_next_scan scan facts s ≡ true) × (has_looked facts s ≡ true)
 MayPlay next facts command s (events.LockOk rel mode) = (owed_of facts command s ≡ []) × IsLock facts s.left rel mode
 MayPlay next facts command s (events.LockHeld rel mode holder held) = (owed_of facts command s ≡ []) × IsLock facts s.left rel mode
@@ -93,6 +94,7 @@ IsLastEnd facts event = (owed_after facts.last ≡ []) × (next_of_end facts (en
 abbrev pub MayPlayLast : Facts → Session → Event → Type 0
 MayPlayLast facts s (events.Look some_wait) = (is_some facts.running ≡ true) × (may_look facts s ≡ true)
 MayPlayLast facts s (events.Fetch count) = ⊤
+MayPlayLast facts s events.FetchReset = ⊤
 MayPlayLast facts s (events.Gone from) = IsLastEnd facts (events.Gone from)
 MayPlayLast facts s (events.Release from) = IsLastEnd facts (events.Release from)
 MayPlayLast facts s events.Stop = facts.running ≡ None

@@ -43,6 +43,7 @@ tally_by (events.Look some_wait) old = record old { looks = old.looks + 1 }
 tally_by (events.Scan scan rows) old = record old { scans = old.scans + 1 }
 tally_by (events.LockOk rel mode) old = record old { grants = old.grants + 1 }
 tally_by (events.Fetch count) old = record old { fetches = old.fetches + 1 }
+tally_by events.FetchReset old = record old { fetches = old.fetches + 1 }
 tally_by event old = old
 
 -- what an event changes of the running command
@@ -53,6 +54,7 @@ noted (events.ClashRow name rel) s = refused_with (errors.RelationExists name) s
 noted (events.ClashRunning name xid) s = refused_with (errors.NameInUse name xid) s
 noted (events.Write xid items) s = written s.left s
 noted (events.Fetch count) s = resumed s.left s
+noted events.FetchReset s = resumed s.left s
 noted (events.Release from) s = record s { ended = true }
 noted event s = s
 

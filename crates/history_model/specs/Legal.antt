@@ -4,7 +4,7 @@ use Rattle.std.specs.Option.{option_map}
 use Rattle.std.specs.List.{list_any}
 use Rattle.lock_modes.specs.Grants.{holds, first_conflict}
 use Rattle.inval_messages.specs.Lists.{has_write_from}
-use Rattle.history_model.specs.Types.{Mode, Entry, Event, Start, Look, Fetch, LockOk, LockHeld, Scan, Write, ClashRow, ClashRunning, Visible, Publish, Release, Gone, Stop}
+use Rattle.history_model.specs.Types.{Mode, Entry, Event, Start, Look, Fetch, FetchReset, LockOk, LockHeld, Scan, Write, ClashRow, ClashRunning, Visible, Publish, Release, Gone, Stop}
 use Rattle.history_model.specs.Prefixes.{EachEntry}
 use Rattle.history_model.specs.Lives.{FollowsLife, life_of, last_event_of}
 use Rattle.history_model.specs.Transactions.{running_transaction_of, is_visible, runs_as}
@@ -51,6 +51,7 @@ abbrev pub AllowsEvent : List Entry → ℕ → ℕ → Event → Type 0
 AllowsEvent before b c Start = ⊤
 AllowsEvent before b c (Look some_wait) = AllowsLook before b some_wait
 AllowsEvent before b c (Fetch count) = AllowsFetch before b count
+AllowsEvent before b c FetchReset = last_event_of before b ≡ Some (Look true)
 AllowsEvent before b c (Scan purpose rows) = rows ≡ length (answer_of before b purpose)
 AllowsEvent before b c (LockOk rel mode) = (holds (held_of before) b rel mode ≡ false) × (first_conflict (held_of before) b rel mode ≡ None)
 AllowsEvent before b c (LockHeld rel mode holder held) = (holds (held_of before) b rel mode ≡ false) × (option_map {U = ℕ × Mode} (λ g. (g.backend, g.mode)) (first_conflict (held_of before) b rel mode) ≡ Some (holder, held))

@@ -14,5 +14,6 @@ pub mod Covered
 pub mod Coming
 pub mod Writes
 pub mod Legal
+pub mod Lapped
 pub mod Read
 pub mod Orderly

@@ -11,6 +11,7 @@ use Rattle.ddl_effect.specs.Commands.{commands_of}
 use Rattle.ddl_effect.specs.Drawing.{changes_of}
 use Rattle.history_model.specs.Changes.{items_of}
 use Rattle.history_model.specs.Drawn.{drawn_by, made_by, next_oid}
+use Rattle.history_model.specs.Lapped.{is_lapped}
 use Rattle.history_model.specs.Legal.{MayFollow}
 use Rattle.history_model.specs.Lives.{Alive, life_of, last_event_of}
 use Rattle.history_model.specs.Log.{log_of, position_of, fetched_by}
@@ -20,7 +21,7 @@ use Rattle.history_model.specs.Sent.{cats_by, rels_by, unsent_of}
 use Rattle.history_model.specs.Transactions.{running_transaction_of, is_visible}
 use Rattle.history_model.specs.Versions.{answer_of, ended_key}
 use Rattle.history_model.specs.Writes.{changed_key, has_row, has_written, is_guarded, keeps_kind}
-use Rattle.seg_calls.specs.Types.{Oid, Fetched, NoMemory, Mode, Purpose, Scanned, Scenario, Entry, Event, Fetch, Gone, LockOk, LockHeld, Scan, Write, ClashRow, ClashRunning, Item, Message, Row, Running, Draft, LockRefusal, WriteRefusal, Written}
+use Rattle.seg_calls.specs.Types.{Oid, Fetched, NoMemory, Mode, Purpose, Scanned, Scenario, Entry, Event, Fetch, FetchReset, Gone, LockOk, LockHeld, Scan, Write, ClashRow, ClashRunning, Item, Message, Row, Running, Draft, LockRefusal, WriteRefusal, Written}
 use Rattle.seg_calls.specs.declared.refusal.WriteRefusal.TheVariants as write_refusals
 
 -- the entry of a backend and a command
@@ -128,16 +129,23 @@ pub record Clashes (old new : List Entry) (had has : ℕ → ℕ) (b : ℕ) (dra
 abbrev pub due_to : List Entry → ℕ → ℕ
 due_to before b = min 32 (length (log_of before) - position_of before b)
 
--- a fetch gives the next messages of the log, and its entry says how many they are
-pub record GivesMessages (old new : List Entry) (had has : ℕ → ℕ) (b c count : ℕ) (given : List Message) : Type 0 where
+-- a fetch of a backend that a queue of this size hasn't lapped gives the next messages of the log, and its entry says how many they are
+pub record GivesMessages (size : ℕ) (old new : List Entry) (had has : ℕ → ℕ) (b c count : ℕ) (given : List Message) : Type 0 where
   pub appends : Appends old new had has (entry_of b c (Fetch count))
+  pub served : is_lapped size old b ≡ false
   pub due : count ≡ due_to old b
   pub messages : given ≡ fetched_by old b count
 
--- a fetch
-abbrev pub Fetches : List Entry → List Entry → (ℕ → ℕ) → (ℕ → ℕ) → ℕ → ℕ → List Message → Fetched → Type 0
-Fetches old new had has b c given (fetches.Messages count) = GivesMessages old new had has b c count given
-Fetches old new had has b c given fetches.Reset = ⊥
+-- a fetch of a lapped backend gives nothing: it is past all messages then
+pub record Resets (size : ℕ) (old new : List Entry) (had has : ℕ → ℕ) (b c : ℕ) (given : List Message) : Type 0 where
+  pub appends : Appends old new had has (entry_of b c FetchReset)
+  pub lapped : is_lapped size old b ≡ true
+  pub none : given ≡ []
+
+-- a fetch of a queue of this size: the next messages, or a reset
+abbrev pub Fetches : ℕ → List Entry → List Entry → (ℕ → ℕ) → (ℕ → ℕ) → ℕ → ℕ → List Message → Fetched → Type 0
+Fetches size old new had has b c given (fetches.Messages count) = GivesMessages size old new had has b c count given
+Fetches size old new had has b c given fetches.Reset = Resets size old new had has b c given
 
 -- the messages are the next of those that the backend has to publish
 abbrev pub ArePublishedNext : List Entry → ℕ → List Message → Type 0

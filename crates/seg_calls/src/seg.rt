@@ -54,13 +54,15 @@ pub trait Seg {
         ensures appends { Appends (history self.old) (history self.new) (promised self.old) (promised self.new) (entry_of b c (Event.Look yes)) };
 
     /// It takes the next messages of the queue, at most 32, into an empty buffer (`SIGetDataEntries`
-    /// in `src/backend/storage/ipc/sinvaladt.c`). Condition: its last look said that messages wait.
+    /// in `src/backend/storage/ipc/sinvaladt.c`). `Reset`: exactly where more messages waited for it
+    /// than the queue keeps; it gets none of them, and is past all then. Condition: its last look said
+    /// that messages wait.
     fn fetch(&mut self, b: u32, c: u32, into: &mut ArrayVec<Message, 32>) -> Fetched
         requires call { MayCall (script self.old) (history self.old) (entry_of b c (Event.Fetch (due_to (history self.old) b))) }
         requires place { 0 < promised self.old b }
         requires empty { into.old.items ≡ [] }
         ensures script { script self.new ≡ script self.old }
-        ensures fetches { Fetches (history self.old) (history self.new) (promised self.old) (promised self.new) b c into.new.items result };
+        ensures fetches { Fetches (script self.old).size (history self.old) (history self.new) (promised self.old) (promised self.new) b c into.new.items result };
 
     /// What a scan gives it, its own writes among it (`systable_beginscan` and `systable_getnext` in
     /// `src/backend/access/index/genam.c`). Out of memory, nothing changes.

@@ -38,7 +38,7 @@ stopped_as s h x stands = of x.life stands
 
 -- the history of one step more was played
 pub played_more : (s : Scenario) (h h' : List Entry) (was now : Backend) → IsPlayed s h → Steps s h h' was now → IsPlayed s h'
-played_more s h h' was now played steps = subst (IsPlayed s) (sym steps.is) (IsPlayed-more s h steps.entry played steps.comes steps.next steps.needed steps.truly steps.tables)
+played_more s h h' was now played steps = subst (IsPlayed s) (sym steps.is) (IsPlayed-more s h steps.entry played steps.comes steps.next steps.needed steps.truly steps.tables steps.queue)
 
 -- the entry of a step isn't another backend's
 entry_apart : (e : Entry) (was other : Backend) (i j : ℕ) → e.backend ≡ was.id → was.id ≡ i + 1 → other.id ≡ j + 1 → i ≢ j → (e.backend == other.id) ≡ false

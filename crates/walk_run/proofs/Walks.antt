@@ -29,7 +29,7 @@ some_steps s (line ∷ lines) same some = omega (arith, ap length same)
 
 ended_walk : (s : Scenario) (h : List Entry) (bs : List Backend) → AllStand s h bs → FollowsSchedule s h × IsComplete s h → IsWalk s h (transcripts_of bs)
 ended_walk s h bs stand end = record {
-  allowed = record { legal = sound_is_legal h stand.played.sound; plays = stand.played.plays; economical = stand.played.economical };
+  allowed = record { legal = sound_is_legal h stand.played.sound; queue = stand.played.queue; plays = stand.played.plays; economical = stand.played.economical };
   follows = end.0;
   looks = stand.played.looks;
   complete = end.1;

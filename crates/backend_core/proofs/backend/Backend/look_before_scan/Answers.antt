@@ -8,4 +8,4 @@ pub looked-requires-clause-call : goal.looked-requires-clause-call
 looked-requires-clause-call g c = look_call _ _ _ _ c.requires.agrees c.requires.played (ap is_visible_at c.requires.works.phase) (ap is_taken_back c.requires.works.phase) (sym c.waits-some_wait.ensures)
 
 pub returns-clause-enters : goal.returns-clause-enters
-returns-clause-enters g c = scan_look_enters _ _ _ _ _ _ _ _ c.requires.agrees c.requires.played c.requires.works c.requires.missing c.requires.unlooked c.waits-some_wait.ensures c.after_look-self.ensures c.looked.ensures.appends
+returns-clause-enters g c = scan_look_enters _ _ _ _ _ _ _ _ _ _ _ c.requires.agrees c.requires.played c.requires.works c.requires.missing c.requires.unlooked c.waits-some_wait.ensures c.after_look-self.ensures c.looked_with-self.ensures c.looked_with-self-2.ensures c.looked.ensures.appends
