@@ -1,5 +1,5 @@
 -- Resets that no history allows and no command does, and at the end those beside them that may be: a worked example up to a place, and one entry there.
-use Rattle.std.proofs.Common.{List, ◌≡◌, ◌++◌, true, false, None, [], ◌∷◌, codes, arith}
+use Rattle.std.proofs.Common.{List, ◌≡◌, ◌++◌, true, false, [], ◌∷◌, codes, arith}
 use Rattle.base_types.specs.declared.mode.Mode.TheVariants.{AccessShare}
 use Rattle.base_types.specs.declared.kind.Kind.TheVariants.{Table}
 use Rattle.base_types.specs.declared.scan.Purpose.TheVariants as scans
