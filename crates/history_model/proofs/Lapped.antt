@@ -1,8 +1,8 @@
 -- The queue laps a backend where a publish finds it further back than the queue keeps with what is added, and at no other entry; a start and a fetch leave it within the queue.
-use Rattle.std.proofs.Common.{◌≡◌, ◌≤◌, ◌<◌, ◌+◌, ◌-◌, ◌∙◌, ℕ, Bool, true, false, not, List, [], ◌∷◌, ◌++◌, ◌==◌, ◌||◌, ◌&&◌, refl, sym, ap, subst, arith, length, take, min}
+use Rattle.std.proofs.Common.{◌≡◌, ◌≤◌, ◌<◌, ◌+◌, ◌-◌, ◌*◌, ◌∙◌, ℕ, Bool, true, false, not, List, [], ◌∷◌, ◌++◌, ◌==◌, ◌||◌, ◌&&◌, refl, sym, ap, subst, arith, length, take, min}
 use Rattle.std.specs.Prelude.{nat_lt}
 use Rattle.std.proofs.lemmas.Bool.{eqb-true, ltb-true, ltb-false, lt-ltb, false_from_ne_true}
-use Rattle.std.proofs.lemmas.List.{length-append, length-take-le}
+use Rattle.std.proofs.lemmas.List.{length-append, length-take-le, length_push}
 use Rattle.event_kinds.specs.declared.entry.Entry.{Entry}
 use Rattle.event_kinds.specs.declared.entry.Event.{Event}
 use Rattle.event_kinds.specs.declared.entry.Event.TheVariants as events
@@ -15,12 +15,14 @@ use Rattle.history_model.proofs.Prefixes.{along-more, each-keeps, EachEntry-more
 use Rattle.history_model.proofs.Reading.{log_of-more, position_of-own, position_of-other}
 use Rattle.history_model.proofs.Touched.{entry_of}
 
-same_test : (s t : Bool) → (s ≡ true → t ≡ true) → (t ≡ true → s ≡ true) → s ≡ t
+-- two tests are one where each gives the other
+pub same_test : (s t : Bool) → (s ≡ true → t ≡ true) → (t ≡ true → s ≡ true) → s ≡ t
 same_test true t to from = sym (to refl)
 same_test false true to from = from refl
 same_test false false to from = refl
 
-or_longer : (x n m : ℕ) → n ≤ m → (nat_lt x n || nat_lt x m) ≡ nat_lt x m
+-- less than the one or the other is less than the greater
+pub or_longer : (x n m : ℕ) → n ≤ m → (nat_lt x n || nat_lt x m) ≡ nat_lt x m
 or_longer x n m longer = by_first (nat_lt x n) refl
   where
     by_first : (t : Bool) → nat_lt x n ≡ t → (t || nat_lt x m) ≡ nat_lt x m
@@ -117,3 +119,14 @@ lapped_by_publish size history b legal queue =
         along-more (λ h old x. lapped_by size h b x.backend x.event old) false before e
         ∙ ap (lapped_by size before b e.backend e.event) was
         ∙ lapped_step size before e.backend e.command e.event b may.0.event may.1
+
+log_by-few : (before : List Entry) (b c : ℕ) (event : Event) (old : List Message) → AllowsEvent before b c event → length (log_by before b event old) ≤ length old + 64
+log_by-few before b c (events.Publish count) old allows = omega (arith, allows.2, length-append old (take count (unsent_of before b)), length-take-le count (unsent_of before b) (omega (arith, allows.2)))
+log_by-few before b c event old allows = omega arith
+
+-- no entry adds more than 64 messages
+pub log_of-few : (history : List Entry) → IsLegal history → length (log_of history) ≤ 64 * length history
+log_of-few history legal = each-keeps MayFollow (λ h. length (log_of h) ≤ 64 * length h) (omega arith) step history legal
+  where
+    step : (before : List Entry) (e : Entry) → length (log_of before) ≤ 64 * length before → MayFollow before e → length (log_of (before ++ e ∷ [])) ≤ 64 * length (before ++ e ∷ [])
+    step before e was follows = omega (arith, ap length (log_of-more before e), log_by-few before e.backend e.command e.event (log_of before) follows.event, was, length_push before e)
