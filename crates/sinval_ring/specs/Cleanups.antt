@@ -1,7 +1,8 @@
 -- What a cleanup makes of the readers.
-use Rattle.std.specs.Prelude.{ℕ, Bool, true, false, Option, Some, None, List, [], ◌∷◌, ◌+◌, ◌-◌, ◌*◌, ◌/◌, nat_lt, min, slice_index_or, slice_set, if◌then◌else◌}
+use Rattle.std.specs.Prelude.{ℕ, Bool, true, false, Option, Some, None, List, [], ◌∷◌, ◌+◌, ◌*◌, ◌/◌, nat_lt, min, slice_index_or, slice_set, if◌then◌else◌}
 use Rattle.std.specs.List.{fold}
-use Rattle.sinval_ring.specs.Readers.{Reader, Inactive, At, Reset, is_below}
+use Rattle.sinval_ring.specs.declared.call.Call.{Call}
+use Rattle.sinval_ring.specs.Readers.{Reader, Inactive, At, Reset, is_below, signaled}
 
 -- a reader that is past fewer messages than that goes into reset state
 abbrev pub swept : ℕ → Reader → Reader
@@ -9,17 +10,12 @@ swept low reader = if is_below low reader then Reset else reader
 
 -- the lesser of a number and a reader's position
 abbrev pub least_by : ℕ → Reader → ℕ
-least_by least (At position signaled) = min position least
+least_by least (At position mark) = min position least
 least_by least reader = least
 
 -- the least position of the readers, at most the end
 abbrev pub least_of : ℕ → List Reader → ℕ
 least_of end readers = fold least_by end readers
-
--- who is to be signaled, and how far back a reader has to be to be signaled in its place
-pub record Call : Type 0 where
-  pub backend : Option ℕ
-  pub below : ℕ
 
 -- the next reader is further back and wasn't signaled yet
 abbrev pub called_by : ℕ → Call → Reader → Call
@@ -35,12 +31,7 @@ called_from b call (reader ∷ rest) = called_from (b + 1) (called_by b call rea
 abbrev pub furthest : ℕ → List Reader → Option ℕ
 furthest bound readers = (called_from 0 (record { backend = None; below = bound }) readers).backend
 
--- a reader is signaled
-abbrev pub signaled : Reader → Reader
-signaled (At position marked) = At position true
-signaled reader = reader
-
--- so is that of a backend, if there is one to be signaled
+-- the reader of a backend is signaled, if there is one to be
 abbrev pub marked : Option ℕ → List Reader → List Reader
 marked None readers = readers
 marked (Some b) readers = slice_set readers b (signaled (slice_index_or readers b Inactive))

@@ -1,11 +1,24 @@
-ghost use Rattle.std.specs.Prelude.{◌≡◌, ◌≤◌, ◌<◌, ◌+◌, ◌^◌, map, length};
+ghost use Rattle.std.specs.Prelude.{◌≡◌, ◌≤◌, ◌<◌, ◌+◌, ◌^◌, map, drop, length, IfSome};
 ghost use Rattle.sinval_ring.specs.Readers.{is_below};
 ghost use Rattle.sinval_ring.specs.Cleanups.{bits_of, swept, least_of, furthest, marked, threshold_of};
 
 use crate::Reader;
+use crate::call::Call;
 
-// The backends whose readers are below a number, as bits: the first reader's is the lowest.
+// The backends whose readers are below a number, as bits: backend 1 is the lowest. The first reader is
+// nobody's.
 pub(crate) fn bits_below(low: u64, readers: &[Reader]) -> u64
+    requires { length readers.now ≤ 65 }
+    ensures { result ≡ bits_of (map (is_below low) (drop 1 readers.now)) }
+{
+    let Some((_nobody, backends)) = readers.split_first() else {
+        return 0;
+    };
+    flag_bits(low, backends)
+}
+
+// Which readers are below a number, as bits: the first is the lowest.
+fn flag_bits(low: u64, readers: &[Reader]) -> u64
     requires { length readers.now ≤ 64 }
     ensures { result ≡ bits_of (map (is_below low) readers.now) }
 {
@@ -42,44 +55,29 @@ pub(crate) fn least_position(end: u64, readers: &[Reader]) -> u64
     least
 }
 
-// The index of the reader furthest back that is below a number and wasn't signaled; of several the
-// first.
+// The backend to be signaled: the reader furthest back that is below a number and wasn't signaled, the
+// first of several.
 pub(crate) fn furthest_back(bound: u64, readers: &[Reader]) -> Option<u32>
     requires { length readers.now ≤ 65 }
     ensures { result ≡ furthest bound readers.now }
 {
-    let mut backend = None;
-    let mut below = bound;
+    let mut call = Call {
+        backend: None,
+        below: bound,
+    };
     for (i, reader) in readers.iter().enumerate() {
-        if let Reader::At {
-            position,
-            signaled: false,
-        } = *reader
-        {
-            if position < below {
-                backend = Some(i as u32);
-                below = position;
-            }
-        }
+        call = call.after(i as u32, *reader);
     }
-    backend
+    call.backend
 }
 
-// Marks a reader as signaled, if there is one to be signaled.
+// Marks the reader of a backend as signaled, if one is to be signaled.
 pub(crate) fn mark(backend: Option<u32>, readers: &mut [Reader])
+    requires { IfSome backend (λ b. b < length readers.old) }
     ensures { readers.new ≡ marked backend readers.old }
 {
-    let Some(b) = backend else {
-        return;
-    };
-    let Some(reader) = readers.get_mut(b as usize) else {
-        return;
-    };
-    if let Reader::At { position, .. } = *reader {
-        *reader = Reader::At {
-            position,
-            signaled: true,
-        };
+    if let Some(b) = backend {
+        readers[b as usize] = readers[b as usize].signaled();
     }
 }
 

@@ -1,6 +1,7 @@
 //! The queue of shared invalidation messages, after PostgreSQL's `src/backend/storage/ipc/sinvaladt.c`.
 #![tactic(auto)]
 
+mod call;
 mod cleaned;
 mod cleanup;
 mod log;

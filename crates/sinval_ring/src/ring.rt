@@ -4,7 +4,8 @@ ghost use Rattle.sinval_ring.specs.Readers.{Inactive, At, is_active, is_behind, 
 ghost use Rattle.sinval_ring.specs.Cleanups.{swept};
 
 use crate::cleanup::{bits_below, furthest_back, least_position, mark, next_threshold, sweep};
-use crate::window::{MOST_FETCHED, Window};
+use crate::reader::MOST_FETCHED;
+use crate::window::Window;
 use crate::{Cleaned, Reader};
 use arrayvec::ArrayVec;
 use base_types::{Fetched, NoMemory};
@@ -136,25 +137,14 @@ impl Ring {
             readers,
             ..
         } = self;
-        match readers[b as usize] {
-            Reader::At { position, signaled } => {
-                let behind = *max - position;
-                let count = MOST_FETCHED.min(behind);
-                window.copy(behind, into);
-                readers[b as usize] = Reader::At {
-                    position: position + count,
-                    signaled: signaled && count < behind,
-                };
-                Fetched::Messages(count as u32)
-            }
-            Reader::Reset | Reader::Inactive => {
-                readers[b as usize] = Reader::At {
-                    position: *max,
-                    signaled: false,
-                };
-                Fetched::Reset
-            }
+        let reader = readers[b as usize];
+        readers[b as usize] = reader.after_fetch(*max);
+        if let Reader::At { position, .. } = reader {
+            let behind = *max - position;
+            window.copy(behind, into);
+            return Fetched::Messages(MOST_FETCHED.min(behind) as u32);
         }
+        Fetched::Reset
     }
 
     /// Inserts messages, after a cleanup where there is no room for them or the threshold is reached
@@ -175,12 +165,13 @@ impl Ring {
         cleaned
     }
 
-    // Makes room for so many messages. A cleanup leaves room for them and fewer messages than the new
-    // threshold, so that there is never need of a second one.
+    // Makes room for so many messages. The server goes on while it has to clean, but a cleanup leaves room
+    // for them and fewer messages than the next threshold, so that there is never a second one.
     fn make_room(&mut self, count: u32) -> Cleaned
         requires { count ≤ 64 }
         ensures queue { self.new ≡ made_room self.old count }
         ensures answer { result ≡ room_answer self.old count }
+        ensures done { must_clean self.new count ≡ false }
         ensures room { length self.new.log + count ≤ self.new.least + self.new.size }
         ensures lapped { (b : ℕ) → unmarked (reader_of self.new b) ≡ unmarked (swept (length self.old.log + count - self.old.size) (reader_of self.old b)) }
     {
@@ -212,14 +203,15 @@ impl Ring {
             readers,
             ..
         } = self;
+        let readers = readers.as_mut_slice();
         let size = window.size();
         let low = (*max + u64::from(min_free)).saturating_sub(size);
-        let reset = bits_below(low, &readers[1..]);
+        let reset = bits_below(low, readers);
         sweep(low, readers);
-        let signal = furthest_back(max.saturating_sub(size / 2), readers);
-        mark(signal, readers);
         *min = least_position(*max, readers);
         *threshold = next_threshold(size, *max - *min);
+        let signal = furthest_back(max.saturating_sub(size / 2), readers);
+        mark(signal, readers);
         Cleaned {
             ran: true,
             reset,

@@ -1,15 +1,13 @@
 ghost use Rattle.std.specs.Prelude.{◌≡◌, ◌≤◌, ◌-◌, ◌^◌, ◌<◌, ◌++◌, [], length, min, take, drop, IfOk};
 
 use crate::log::Log;
+use crate::reader::MOST_FETCHED;
 use arrayvec::ArrayVec;
 use base_types::NoMemory;
 use circular_buffer::HeapCircularBuffer;
 use inval_messages::Message;
 use std::alloc::Global;
 use std::marker::Model;
-
-/// The most messages that one fetch gives.
-pub(crate) const MOST_FETCHED: u64 = 32;
 
 // The last messages of all that were inserted, as many as there is room for.
 #[derive(Drop)]
