@@ -23,6 +23,8 @@ pub mod NewOids
 pub mod CreateThenShow
 pub mod AnothersTable
 pub mod FullFetch
+pub mod LappedReader
+pub mod ResetInsideBuild
 pub mod FailedBlock
 pub mod RefusedLock
 pub mod ThreeHolders
@@ -34,6 +36,7 @@ pub mod AlteredTable
 pub mod ProtectedColumns
 pub mod WrongEntries
 pub mod WrongPlays
+pub mod WrongResets
 pub mod SeenRows
 pub mod WrittenMessages
 pub mod FitToWrite

@@ -1,7 +1,6 @@
 -- What is kept beside the history stays what the definitions read off it, over one more entry.
-use Rattle.std.proofs.Common.{◌≡◌, ◌≤◌, ◌<◌, ◌∙◌, ◌||◌, ◌==◌, ◌⊎◌, inl, inr, ℕ, Bool, true, false, Option, List, [], ◌∷◌, ◌++◌, length, slice_set, refl, sym, ap, arith}
+use Rattle.std.proofs.Common.{◌≡◌, ◌≤◌, ◌<◌, ◌∙◌, ◌||◌, ◌==◌, ◌⊎◌, inl, inr, ℕ, Bool, true, false, Option, List, [], ◌∷◌, ◌++◌, length, refl, sym, ap, arith}
 use Rattle.std.proofs.Math.Bool.{or-false}
-use Rattle.std.proofs.lemmas.List.{length-set}
 use Rattle.base_types.specs.Scenario.{Scenario}
 use Rattle.event_kinds.specs.declared.entry.Entry.{Entry}
 use Rattle.event_kinds.specs.declared.entry.Event.{Event}
@@ -74,20 +73,3 @@ quiet_steps history b c event store locks locked transactions own next last no_v
   slots = slots;
   own_is = own_is;
 }
-
--- a promise changes nothing but promises
-pub promise_keeps : (script : Scenario) (history after : List Entry) (promised has : List ℕ) (store : Store) (locks : List Grant) (transactions : List (Option Transaction)) (next last b n : ℕ)
-    → KeepsFolds script history promised store locks transactions next last → after ≡ history → has ≡ slice_set promised b n → KeepsFolds script after has store locks transactions next last
-promise_keeps script history after promised has store locks transactions next last b n k entries made = rw (entries) (record {
-  script_is = k.script_is;
-  backends = ap length made ∙ length-set promised b n ∙ k.backends;
-  slots = k.slots;
-  versions = k.versions;
-  committed = k.committed;
-  places = k.places;
-  locks_are = k.locks_are;
-  next_is = k.next_is;
-  last_is = k.last_is;
-  own = k.own;
-  sound = k.sound;
-})

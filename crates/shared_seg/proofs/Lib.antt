@@ -13,4 +13,5 @@ mod Start
 mod Writing
 mod Written
 pub mod Queue
+mod Fetched
 pub mod Announcing

@@ -1,67 +1,80 @@
 -- The queue stays what the definitions read off the history, over one more entry.
-use Rattle.std.proofs.Common.{◌≡◌, ◌≤◌, ◌<◌, ◌+◌, ◌-◌, ◌*◌, ◌∙◌, ℕ, Bool, true, false, Option, Some, None, List, [], ◌∷◌, ◌++◌, ◌==◌, ◌&&◌, nat_lt, length, max, min, sum, slice_set, take, drop, replicate, unwrap_or, refl, sym, ap, subst, arith}
-use Rattle.std.specs.Option.{option_map_or}
-use Rattle.std.proofs.lemmas.Bool.{eqb-true, eqb-false, eq-eqb}
-use Rattle.std.proofs.lemmas.List.{get_or-set_other, length-set, length-replicate}
-use Rattle.std.proofs.lemmas.List.Sums.{sum_by-set}
-use Rattle.std.proofs.lemmas.List.Folds.{sum_by-replicate}
-use Rattle.std.proofs.lemmas.Option.{unwrap_or-slice_get}
+use Rattle.std.proofs.Common.{◌≡◌, ◌≤◌, ◌<◌, ◌+◌, ◌-◌, ◌^◌, ◌∙◌, ℕ, Bool, true, false, Option, Some, None, List, [], ◌∷◌, ◌++◌, ◌==◌, ◌&&◌, ◌||◌, if◌then◌else◌, nat_lt, length, take, replicate, refl, sym, ap, subst, arith}
+use Rattle.std.proofs.lemmas.Bool.{eqb-true, eqb-false, eq-eqb, ltb-true, lt-ltb}
+use Rattle.std.proofs.lemmas.List.{get_or-set_other, length-set, length-map, length-replicate, length-append}
 use Rattle.std.proofs.lemmas.Grind.{get_or-set_at}
-use Rattle.base_types.specs.Scenario.{Scenario, IsBackend, IsScript}
+use Rattle.base_types.specs.Scenario.{Scenario, IsScript}
 use Rattle.base_types.specs.declared.ids.TheConstants.{FIRST_OID}
-use Rattle.lock_modes.specs.declared.grant.Grant.{Grant}
-use Rattle.catalog_rows.specs.Store.{Store, no_rows}
-use Rattle.shared_seg.specs.declared.transaction.Transaction.{Transaction}
 use Rattle.event_kinds.specs.declared.entry.Entry.{Entry}
 use Rattle.event_kinds.specs.declared.entry.Event.{Event}
 use Rattle.event_kinds.specs.declared.entry.Event.TheVariants as events
 use Rattle.row_visibility.specs.declared.clash.Clash.{Clash}
 use Rattle.row_visibility.specs.declared.clash.Clash.TheVariants.{Row, Running}
+use Rattle.lock_modes.specs.declared.grant.Grant.{Grant}
 use Rattle.inval_messages.specs.declared.message.Message.{Message}
+use Rattle.sinval_ring.specs.declared.reader.Reader.{Reader}
+use Rattle.sinval_ring.specs.declared.reader.Reader.TheVariants.{Inactive, At, Reset}
+use Rattle.sinval_ring.specs.Readers.{is_active, is_behind, unmarked}
+use Rattle.sinval_ring.specs.Cleanups.{swept, marked}
+use Rattle.sinval_ring.specs.Cleaning.{must_clean, signal_of, swept_of, low_of, cleaned, made_room, inserted}
+use Rattle.sinval_ring.specs.Queues.{Queue, empty_queue, reader_of, with_reader}
+use Rattle.catalog_rows.specs.Store.{Store, no_rows}
+use Rattle.history_model.specs.Lapped.{is_lapped}
 use Rattle.history_model.specs.Legal.{AllowsEvent, MayFollow, IsLegal}
 use Rattle.history_model.specs.Lives.{Life, Unstarted, Alive, Stopped, FollowsLife, is_alive, life_by, life_of}
-use Rattle.history_model.specs.Log.{log_by, log_of, position_by, position_of, fetched_by, is_waiting}
+use Rattle.history_model.specs.Log.{log_by, log_of, position_by, position_of, is_waiting}
 use Rattle.history_model.specs.Sent.{unsent_of}
-use Rattle.history_model.proofs.Prefixes.{each-keeps}
-use Rattle.history_model.proofs.Waiting.{log_of-grows}
+use Rattle.history_model.proofs.Lapped.{same_test, or_longer, not_lapped, leaves_lapped, other_lapped, publish_laps, log_of-few}
 use Rattle.history_model.proofs.Reading.{life_of-own, life_of-other, log_of-more, position_of-own, position_of-other}
-use Rattle.seg_calls.specs.Calls.{entry_of, due_to, GivesMessages, MayCall, MayRequest}
+use Rattle.seg_calls.specs.Calls.{entry_of, MayCall, MayRequest}
 use Rattle.seg_calls.proofs.Allowed.{is_start, request_follows}
-use Rattle.shared_seg.specs.Kept.{Kept, places_in}
+use Rattle.shared_seg.specs.declared.transaction.Transaction.{Transaction}
+use Rattle.shared_seg.specs.Kept.{Kept}
 use Rattle.shared_seg.specs.Naming.{clash_event_of}
-use Rattle.shared_seg.specs.Places.{promised_in}
-use Rattle.shared_seg.specs.MessageLog.{Queue, position_at, has_more, IsPast}
-use Rattle.shared_seg.specs.KeepsQueue.{position_kept, KeepsQueue, KeepsShared}
-use Rattle.shared_seg.proofs.Entered.{within, call_inside, placed_appends}
+use Rattle.shared_seg.specs.KeepsQueue.{reader_at, reader_kept, KeepsQueue, KeepsShared}
+use Rattle.shared_seg.proofs.Entered.{call_inside}
 use Rattle.shared_seg.proofs.Asked.{request_inside}
-use Rattle.shared_seg.proofs.Promises.{promised_in-le, sum-taken}
 use Rattle.shared_seg.proofs.Start.{all_same, keeps_start_at}
 
--- what an entry makes of the queue
-pub record QueueSteps (history : List Entry) (e : Entry) (queue after : Queue) : Type 0 where
-  pub log : after.messages ≡ log_by history e.backend e.event queue.messages
-  pub slots : length after.positions ≡ length queue.positions
-  pub own : position_at after.positions e.backend ≡ position_kept (history ++ e ∷ []) e.backend
-  pub others : (b : ℕ) → (e.backend == b) ≡ false → position_at after.positions b ≡ position_at queue.positions b
+-- an entry leaves the reader of a backend
+reader_same : (size : ℕ) (history : List Entry) (e : Entry) (b : ℕ) → is_alive (life_of (history ++ e ∷ []) b) ≡ is_alive (life_of history b) → is_lapped size (history ++ e ∷ []) b ≡ is_lapped size history b → position_of (history ++ e ∷ []) b ≡ position_of history b
+    → reader_kept size (history ++ e ∷ []) b ≡ reader_kept size history b
+reader_same size history e b alive lapped at = λ i. reader_at (alive i) (lapped i) (at i)
 
-kept-other : (history : List Entry) (e : Entry) (b : ℕ) → (e.backend == b) ≡ false → position_kept (history ++ e ∷ []) b ≡ position_kept history b
-kept-other history e b other =
-    ap (λ t. elim t as (λ x. Option ℕ) [ true ↦ Some (position_of (history ++ e ∷ []) b) | false ↦ None ]) (ap is_alive (life_of-other history e b other))
-    ∙ ap (λ p. elim (is_alive (life_of history b)) as (λ x. Option ℕ) [ true ↦ Some p | false ↦ None ]) (position_of-other history e b other)
+-- another's entry does that adds no message
+reader_other : (size : ℕ) (history : List Entry) (e : Entry) (b : ℕ) → (e.backend == b) ≡ false → ((old : List Message) → log_by history e.backend e.event old ≡ old) → reader_kept size (history ++ e ∷ []) b ≡ reader_kept size history b
+reader_other size history e b other log = reader_same size history e b (ap is_alive (life_of-other history e b other)) (other_lapped size history e b other log) (position_of-other history e b other)
 
--- what is kept after one more entry
-pub queue_more : (script : Scenario) (history : List Entry) (e : Entry) (promised places : List ℕ) (queue after : Queue) → KeepsQueue script history promised queue → QueueSteps history e queue after → 64 * sum places ≤ after.room
-    → KeepsQueue script (history ++ e ∷ []) places after
-queue_more script history e promised places queue after k s room = record {
-  log = s.log ∙ ap (log_by history e.backend e.event) k.log ∙ sym (log_of-more history e);
-  slots = s.slots ∙ k.slots;
-  positions = λ b. by_owner b (e.backend == b) refl;
-  room = room;
+-- what is kept after an entry that adds no message and leaves all readers
+queue_left : (script : Scenario) (history : List Entry) (e : Entry) (queue : Queue) → KeepsQueue script history queue → ((old : List Message) → log_by history e.backend e.event old ≡ old) → reader_kept script.size (history ++ e ∷ []) e.backend ≡ reader_kept script.size history e.backend
+    → KeepsQueue script (history ++ e ∷ []) queue
+queue_left script history e queue k log own = record {
+  size = k.size;
+  from = k.from;
+  log = k.log ∙ sym (log_of-more history e ∙ log (log_of history));
+  slots = k.slots;
+  readers = λ b. by_owner b (e.backend == b) refl;
 }
   where
-    by_owner : (b : ℕ) (t : Bool) → (e.backend == b) ≡ t → position_at after.positions b ≡ position_kept (history ++ e ∷ []) b
-    by_owner b true own = ap (position_at after.positions) (sym (eqb-true e.backend b own)) ∙ s.own ∙ ap (position_kept (history ++ e ∷ [])) (eqb-true e.backend b own)
-    by_owner b false other = s.others b other ∙ k.positions b ∙ sym (kept-other history e b other)
+    by_owner : (b : ℕ) (t : Bool) → (e.backend == b) ≡ t → unmarked (reader_of queue b) ≡ reader_kept script.size (history ++ e ∷ []) b
+    by_owner b true mine = subst (λ a. unmarked (reader_of queue a) ≡ reader_kept script.size (history ++ e ∷ []) a) (eqb-true e.backend b mine) (k.readers e.backend ∙ sym own)
+    by_owner b false other = k.readers b ∙ sym (reader_other script.size history e b other log)
+
+-- and after one that adds no message and sets its backend's reader
+pub queue_set : (script : Scenario) (history : List Entry) (e : Entry) (queue : Queue) (reader : Reader) → KeepsQueue script history queue → e.backend < length queue.readers → ((old : List Message) → log_by history e.backend e.event old ≡ old)
+    → unmarked reader ≡ reader_kept script.size (history ++ e ∷ []) e.backend → KeepsQueue script (history ++ e ∷ []) (with_reader queue e.backend reader)
+queue_set script history e queue reader k within log own = record {
+  size = k.size;
+  from = k.from;
+  log = k.log ∙ sym (log_of-more history e ∙ log (log_of history));
+  slots = length-set queue.readers e.backend reader ∙ k.slots;
+  readers = λ b. by_owner b (e.backend == b) refl;
+}
+  where
+    by_owner : (b : ℕ) (t : Bool) → (e.backend == b) ≡ t → unmarked (reader_of (with_reader queue e.backend reader) b) ≡ reader_kept script.size (history ++ e ∷ []) b
+    by_owner b true mine = subst (λ a. unmarked (reader_of (with_reader queue e.backend reader) a) ≡ reader_kept script.size (history ++ e ∷ []) a) (eqb-true e.backend b mine)
+        (ap unmarked (get_or-set_at queue.readers e.backend e.backend reader Inactive refl within) ∙ own)
+    by_owner b false other = ap unmarked (get_or-set_other queue.readers e.backend b reader Inactive (λ same. eqb-false e.backend b other (sym same))) ∙ k.readers b ∙ sym (reader_other script.size history e b other log)
 
 -- the event leaves the queue and the backend's place in it
 abbrev pub is_still : Event → Bool
@@ -72,7 +85,7 @@ is_still events.FetchReset = false
 is_still (events.Publish count) = false
 is_still event = true
 
-still-log : (history : List Entry) (b : ℕ) (event : Event) (messages : List Message) → is_still event ≡ true → messages ≡ log_by history b event messages
+still-log : (history : List Entry) (b : ℕ) (event : Event) (messages : List Message) → is_still event ≡ true → log_by history b event messages ≡ messages
 still-log history b (events.Publish count) messages still = absurd (cc)
 still-log history b event messages still = refl
 
@@ -82,7 +95,7 @@ still-position history events.FetchReset at still = absurd (cc)
 still-position history (events.Fetch count) at still = absurd (cc)
 still-position history event at still = refl
 
--- it is alive before and after it
+-- its backend is alive before it
 pub lives-before : (life : Life) (c : ℕ) (event : Event) → FollowsLife life c event → (event ≡ events.Start → ⊥) → is_alive life ≡ true
 lives-before Unstarted c events.Start follows other = absurd (other refl)
 lives-before Unstarted c event follows other = absurd follows
@@ -97,251 +110,218 @@ no-start : (event : Event) → is_still event ≡ true → event ≡ events.Star
 no-start event still is = absurd (cc (ap is_still is))
 
 -- so the queue needs no step
-pub still_steps : (script : Scenario) (history : List Entry) (e : Entry) (promised : List ℕ) (queue : Queue) → KeepsQueue script history promised queue → MayFollow history e → is_still e.event ≡ true → QueueSteps history e queue queue
-still_steps script history e promised queue k follows still = record {
-  log = still-log history e.backend e.event queue.messages still;
-  slots = refl;
-  own = k.positions e.backend ∙ sym kept;
-  others = λ b other. refl;
-}
+queue_still : (script : Scenario) (history : List Entry) (e : Entry) (queue : Queue) → KeepsQueue script history queue → MayFollow history e → is_still e.event ≡ true → KeepsQueue script (history ++ e ∷ []) queue
+queue_still script history e queue k follows still =
+    queue_left script history e queue k (λ old. still-log history e.backend e.event old still)
+    (reader_same script.size history e e.backend
+    (ap is_alive (life_of-own history e e.backend own) ∙ still-lives e.command e.event still ∙ sym (lives-before (life_of history e.backend) e.command e.event follows.life (no-start e.event still)))
+    (leaves_lapped script.size history e e.backend (λ old. still-position history e.event old still) (λ old. still-log history e.backend e.event old still))
+    (position_of-own history e e.backend own ∙ still-position history e.event (position_of history e.backend) still))
   where
     own : (e.backend == e.backend) ≡ true
     own = eq-eqb e.backend e.backend refl
 
-    kept : position_kept (history ++ e ∷ []) e.backend ≡ position_kept history e.backend
-    kept = ap (λ t. elim t as (λ x. Option ℕ) [ true ↦ Some (position_of (history ++ e ∷ []) e.backend) | false ↦ None ])
-        (ap is_alive (life_of-own history e e.backend own) ∙ still-lives e.command e.event still ∙ sym (lives-before (life_of history e.backend) e.command e.event follows.life (no-start e.event still)))
-        ∙ ap (λ p. elim (is_alive (life_of history e.backend)) as (λ x. Option ℕ) [ true ↦ Some p | false ↦ None ]) (position_of-own history e e.backend own ∙ still-position history e.event (position_of history e.backend) still)
-
--- where the backend is alive after its entry
-pub kept-own : (history : List Entry) (b c : ℕ) (event : Event) → is_alive (life_by c event) ≡ true → position_kept (history ++ entry_of b c event ∷ []) b ≡ Some (position_by history event (position_of history b))
-kept-own history b c event alive =
-    ap (λ t. elim t as (λ x. Option ℕ) [ true ↦ Some (position_of (history ++ entry_of b c event ∷ []) b) | false ↦ None ]) (ap is_alive (life_of-own history (entry_of b c event) b (eq-eqb b b refl)) ∙ alive)
-    ∙ ap Some (position_of-own history (entry_of b c event) b (eq-eqb b b refl))
-
--- an entry that sets its backend's position and adds no message
-set_steps : (history : List Entry) (b c : ℕ) (event : Event) (queue after : Queue) (at : Option ℕ) → b < length queue.positions → after.messages ≡ queue.messages → after.positions ≡ slice_set queue.positions b at
-    → at ≡ position_kept (history ++ entry_of b c event ∷ []) b → log_by history b event queue.messages ≡ queue.messages → QueueSteps history (entry_of b c event) queue after
-set_steps history b c event queue after at within messages positions kept log = record {
-  log = messages ∙ sym log;
-  slots = ap length positions ∙ length-set queue.positions b at;
-  own = ap (λ l. position_at l b) positions ∙ get_or-set_at queue.positions b b at None refl within ∙ kept;
-  others = λ a other. ap (λ l. position_at l a) positions ∙ get_or-set_other queue.positions b a at None (λ same. eqb-false b a other (sym same));
-}
-
--- with one promise less there are no more of all
-pub sum-less : (promised : List ℕ) (b : ℕ) → b < length promised → sum (slice_set promised b (promised_in promised b - 1)) ≤ sum promised
-sum-less promised b within = omega (arith, unwrap_or-slice_get promised b 0, sum_by-set (λ n. n) promised b (promised_in promised b - 1) 0 within)
-
--- a promise adds what it promises more
-pub sum-promised : (promised : List ℕ) (b n : ℕ) → b < length promised → sum (slice_set promised b (max (promised_in promised b) n)) ≤ sum promised + (n - promised_in promised b)
-sum-promised promised b n within = omega (arith, unwrap_or-slice_get promised b 0, sum_by-set (λ n. n) promised b (max (promised_in promised b) n) 0 within)
-
 -- an entry that takes a promised place, where the queue makes its step
-pub placed_queued : (k now : Kept) (after : List Entry) (has : List ℕ) (e : Entry) (queue queued : Queue) → k ≡ now → KeepsQueue k.script k.history k.promised queue → MayCall now.script now.history e → length k.promised ≡ k.script.backends + 1
-    → after ≡ k.history ++ e ∷ [] → has ≡ slice_set k.promised e.backend (promised_in k.promised e.backend - 1) → QueueSteps k.history e queue queued → 64 * sum has ≤ queued.room → KeepsQueue k.script after has queued
-placed_queued k now after has e queue queued is keeps call backends entries taken steps room =
-    subst (λ h. KeepsQueue k.script h has queued) (sym entries) (queue_more k.script k.history e k.promised has queue queued keeps steps room)
+pub placed_queued : (script : Scenario) (history after : List Entry) (e : Entry) (queue queued : Queue) → after ≡ history ++ e ∷ [] → queued ≡ queue → KeepsQueue script (history ++ e ∷ []) queue → KeepsQueue script after queued
+placed_queued script history after e queue queued entries is keeps = rw (entries, is) keeps
 
 -- an entry that takes one and leaves the queue
-pub placed_still : (k now : Kept) (after : List Entry) (has : List ℕ) (e : Entry) (queue : Queue) → k ≡ now → KeepsQueue k.script k.history k.promised queue → MayCall now.script now.history e → length k.promised ≡ k.script.backends + 1 → is_still e.event ≡ true
-    → after ≡ k.history ++ e ∷ [] → has ≡ slice_set k.promised e.backend (promised_in k.promised e.backend - 1) → KeepsQueue k.script after has queue
-placed_still k now after has e queue is keeps call backends still entries taken =
+pub placed_still : (k now : Kept) (after : List Entry) (e : Entry) (queue : Queue) → k ≡ now → KeepsQueue k.script k.history queue → MayCall now.script now.history e → is_still e.event ≡ true → after ≡ k.history ++ e ∷ [] → KeepsQueue k.script after queue
+placed_still k now after e queue is keeps call still entries =
     let inside : MayCall k.script k.history e = call_inside k now e is call in
-    placed_queued k now after has e queue queue is keeps call backends entries taken (still_steps k.script k.history e k.promised queue keeps inside.follows still)
-    (omega (arith, keeps.room, ap sum taken, sum-less k.promised e.backend (within k.script e.backend (length k.promised) inside.backend backends)))
+    subst (λ h. KeepsQueue k.script h queue) (sym entries) (queue_still k.script k.history e queue keeps inside.follows still)
 
 -- an entry that takes none and leaves the queue
-pub asked_still : (k now : Kept) (after : List Entry) (has : List ℕ) (b c : ℕ) (event : Event) (queue : Queue) → k ≡ now → KeepsQueue k.script k.history k.promised queue → MayRequest now.script now.history b c → is_start event ≡ false → AllowsEvent k.history b c event → is_still event ≡ true
-    → after ≡ k.history ++ entry_of b c event ∷ [] → has ≡ k.promised → KeepsQueue k.script after has queue
-asked_still k now after has b c event queue is keeps request asked allows still entries same =
-    subst (λ h. KeepsQueue k.script h has queue) (sym entries)
-    (queue_more k.script k.history (entry_of b c event) k.promised has queue queue keeps
-    (still_steps k.script k.history (entry_of b c event) k.promised queue keeps (request_follows k.script k.history b c event (request_inside k now b c is request) asked allows) still)
-    (omega (arith, keeps.room, ap sum same)))
-
--- where nothing is entered
-pub same_queued : (script : Scenario) (history after : List Entry) (promised has : List ℕ) (queue queued : Queue) → KeepsQueue script history promised queue → after ≡ history → has ≡ promised → queued.messages ≡ queue.messages → queued.positions ≡ queue.positions → queue.room ≤ queued.room
-    → KeepsQueue script after has queued
-same_queued script history after promised has queue queued keeps entries same messages positions room = record {
-  log = messages ∙ keeps.log ∙ sym (ap log_of entries);
-  slots = ap length positions ∙ keeps.slots;
-  positions = λ b. ap (λ l. position_at l b) positions ∙ keeps.positions b ∙ sym (ap (λ h. position_kept h b) entries);
-  room = omega (arith, keeps.room, ap sum same, room);
-}
-
--- a promise
-pub promised_queued : (script : Scenario) (history after : List Entry) (promised has : List ℕ) (queue queued : Queue) (b n more : ℕ) → KeepsQueue script history promised queue → b < length promised → after ≡ history → has ≡ slice_set promised b (max (promised_in promised b) n)
-    → queued.messages ≡ queue.messages → queued.positions ≡ queue.positions → more ≡ n - promised_in promised b → 64 * (sum promised + more) ≤ queued.room → KeepsQueue script after has queued
-promised_queued script history after promised has queue queued b n more keeps within entries made messages positions more_is room = record {
-  log = messages ∙ keeps.log ∙ sym (ap log_of entries);
-  slots = ap length positions ∙ keeps.slots;
-  positions = λ a. ap (λ l. position_at l a) positions ∙ keeps.positions a ∙ sym (ap (λ h. position_kept h a) entries);
-  room = omega (arith, ap sum made, sum-promised promised b n within, more_is, room);
-}
-
--- a backend joins
-pub join_steps : (history : List Entry) (b : ℕ) (queue after : Queue) → b < length queue.positions → queue.messages ≡ log_of history → after.messages ≡ queue.messages → after.positions ≡ slice_set queue.positions b (Some (length queue.messages))
-    → QueueSteps history (entry_of b 0 events.Start) queue after
-join_steps history b queue after within log messages positions = set_steps history b 0 events.Start queue after (Some (length queue.messages)) within messages positions
-    (ap (λ l. Some (length l)) log ∙ sym (kept-own history b 0 events.Start refl)) refl
-
--- and leaves
-pub leave_steps : (history : List Entry) (b c : ℕ) (queue after : Queue) → b < length queue.positions → after.messages ≡ queue.messages → after.positions ≡ slice_set queue.positions b None → QueueSteps history (entry_of b c events.Stop) queue after
-leave_steps history b c queue after within messages positions = set_steps history b c events.Stop queue after None within messages positions
-    (sym (ap (λ t. elim t as (λ x. Option ℕ) [ true ↦ Some (position_of (history ++ entry_of b c events.Stop ∷ []) b) | false ↦ None ]) (ap is_alive (life_of-own history (entry_of b c events.Stop) b (eq-eqb b b refl))))) refl
-
--- messages wait where the queue has more
-pub waits_same : (script : Scenario) (history : List Entry) (promised : List ℕ) (queue : Queue) (b : ℕ) → KeepsQueue script history promised queue → has_more queue b ≡ is_waiting history b
-waits_same script history promised queue b k =
-    ap (λ l. option_map_or (λ at. nat_lt at (length l)) (position_at queue.positions b) false) k.log
-    ∙ ap (λ o. option_map_or (λ at. nat_lt at (length (log_of history))) o false) (k.positions b)
-    ∙ by_life (is_alive (life_of history b))
-  where
-    by_life : (t : Bool) → option_map_or (λ at. nat_lt at (length (log_of history))) (elim t as (λ x. Option ℕ) [ true ↦ Some (position_of history b) | false ↦ None ]) false ≡ (t && nat_lt (position_of history b) (length (log_of history)))
-    by_life true = refl
-    by_life false = refl
-
--- a backend that is alive is past no more messages than there are
-abbrev IsWithin : List Entry → ℕ → Type 0
-IsWithin history b = position_of history b ≤ length (log_of history)
-
-within-by : (history : List Entry) (b c : ℕ) (event : Event) → AllowsEvent history b c event → IsWithin history b → position_by history event (position_of history b) ≤ length (log_of history)
-within-by history b c events.Start allows was = omega arith
-within-by history b c events.FetchReset allows was = omega arith
-within-by history b c (events.Fetch count) allows was = omega (arith, allows.1, was)
-within-by history b c event allows was = was
-
-pub position_within : (history : List Entry) (b : ℕ) → IsLegal history → IsWithin history b
-position_within history b legal = each-keeps MayFollow (λ h. IsWithin h b) (omega arith) step history legal
-  where
-    step : (before : List Entry) (e : Entry) → IsWithin before b → MayFollow before e → IsWithin (before ++ e ∷ []) b
-    step before e was follows = by_owner (e.backend == b) refl
-      where
-        by_owner : (t : Bool) → (e.backend == b) ≡ t → IsWithin (before ++ e ∷ []) b
-        by_owner true own =
-            omega (
-              arith,
-              position_of-own before e b own,
-              log_of-grows before e,
-              subst (λ a. position_by before e.event (position_of before a) ≤ length (log_of before)) (eqb-true e.backend b own)
-                  (within-by before e.backend e.command e.event follows.event (subst (IsWithin before) (sym (eqb-true e.backend b own)) was)),
-            )
-        by_owner false other = omega (arith, position_of-other before e b other, log_of-grows before e, was)
-
--- so its place in the queue is one of it
-pub is_past : (script : Scenario) (history : List Entry) (promised : List ℕ) (queue : Queue) (b : ℕ) → KeepsQueue script history promised queue → IsLegal history → is_alive (life_of history b) ≡ true → IsPast queue b
-is_past script history promised queue b k legal alive = record {
-  at = position_of history b;
-  is = k.positions b ∙ ap (λ t. elim t as (λ x. Option ℕ) [ true ↦ Some (position_of history b) | false ↦ None ]) alive;
-  within = omega (arith, ap length k.log, position_within history b legal);
-}
-
--- a fetch
-pub fetch_steps : (script : Scenario) (history : List Entry) (promised : List ℕ) (queue after : Queue) (b c count : ℕ) → KeepsQueue script history promised queue → is_alive (life_of history b) ≡ true → b < length queue.positions → after.messages ≡ queue.messages
-    → after.positions ≡ slice_set queue.positions b (Some (unwrap_or (position_at queue.positions b) 0 + count)) → QueueSteps history (entry_of b c (events.Fetch count)) queue after
-fetch_steps script history promised queue after b c count k alive within messages positions =
-    set_steps history b c (events.Fetch count) queue after (Some (unwrap_or (position_at queue.positions b) 0 + count)) within messages positions
-    (ap (λ o. Some (unwrap_or o 0 + count)) (k.positions b ∙ ap (λ t. elim t as (λ x. Option ℕ) [ true ↦ Some (position_of history b) | false ↦ None ]) alive) ∙ sym (kept-own history b c (events.Fetch count) refl)) refl
-
--- what it gives is due
-pub fetch_due : (script : Scenario) (history : List Entry) (promised : List ℕ) (queue : Queue) (b count : ℕ) → KeepsQueue script history promised queue → is_alive (life_of history b) ≡ true → count ≡ min 32 (length queue.messages - unwrap_or (position_at queue.positions b) 0) → count ≡ due_to history b
-fetch_due script history promised queue b count k alive is =
-    is ∙ (λ i. min 32 (length (k.log i) - unwrap_or ((k.positions b ∙ ap (λ t. elim t as (λ x. Option ℕ) [ true ↦ Some (position_of history b) | false ↦ None ]) alive) i) 0))
-
-pub fetch_given : (script : Scenario) (history : List Entry) (promised : List ℕ) (queue : Queue) (b count : ℕ) (given : List Message) → KeepsQueue script history promised queue → is_alive (life_of history b) ≡ true → given ≡ take count (drop (unwrap_or (position_at queue.positions b) 0) queue.messages)
-    → given ≡ fetched_by history b count
-fetch_given script history promised queue b count given k alive is =
-    is ∙ (λ i. take count (drop (unwrap_or ((k.positions b ∙ ap (λ t. elim t as (λ x. Option ℕ) [ true ↦ Some (position_of history b) | false ↦ None ]) alive) i) 0) (k.log i)))
-
--- a publish
-pub publish_steps : (script : Scenario) (history : List Entry) (promised : List ℕ) (queue after : Queue) (b c count : ℕ) (added : List Message) → KeepsQueue script history promised queue → MayFollow history (entry_of b c (events.Publish count)) → added ≡ take count (unsent_of history b)
-    → after.messages ≡ queue.messages ++ added → after.positions ≡ queue.positions → QueueSteps history (entry_of b c (events.Publish count)) queue after
-publish_steps script history promised queue after b c count added k follows next messages positions = record {
-  log = messages ∙ ap (λ l. queue.messages ++ l) next;
-  slots = ap length positions;
-  own = ap (λ l. position_at l b) positions ∙ k.positions b ∙ ap (λ t. elim t as (λ x. Option ℕ) [ true ↦ Some (position_of history b) | false ↦ None ]) (lives-before (life_of history b) c (events.Publish count) follows.life (λ is. absurd (cc (ap is_start is))))
-      ∙ sym (kept-own history b c (events.Publish count) refl);
-  others = λ a other. ap (λ l. position_at l a) positions;
-}
-
--- an entry that takes a promised place leaves the queue room for the others
-pub room_placed : (script : Scenario) (history : List Entry) (promised has : List ℕ) (queue after : Queue) (b : ℕ) → KeepsQueue script history promised queue → b < length promised → has ≡ slice_set promised b (promised_in promised b - 1) → after.room ≡ queue.room → 64 * sum has ≤ after.room
-room_placed script history promised has queue after b k within taken room = omega (arith, k.room, ap sum taken, sum-less promised b within, room)
-
--- also where at most 64 messages take their room
-pub room_published : (script : Scenario) (history : List Entry) (promised has : List ℕ) (queue after : Queue) (b count : ℕ) → KeepsQueue script history promised queue → b < length promised → 0 < promised_in promised b → has ≡ slice_set promised b (promised_in promised b - 1)
-    → count ≤ 64 → after.room ≡ queue.room - count → 64 * sum has ≤ after.room
-room_published script history promised has queue after b count k within place taken few room = omega (arith, k.room, ap sum taken, sum-taken promised b within place, few, room)
-
--- what a fetch needs, of the parts
-pub fetch_call : (k now : Kept) (b c count : ℕ) → k ≡ now → MayCall now.script now.history (entry_of b c (events.Fetch (due_to now.history b))) → count ≡ due_to k.history b → MayCall now.script now.history (entry_of b c (events.Fetch count))
-fetch_call k now b c count is call due = subst (λ n. MayCall now.script now.history (entry_of b c (events.Fetch n))) (sym (due ∙ ap (λ (x : Kept). due_to x.history b) is)) call
-
--- its backend is alive
-pub fetch_alive : (k now : Kept) (b c count : ℕ) → k ≡ now → MayCall now.script now.history (entry_of b c (events.Fetch count)) → is_alive (life_of k.history b) ≡ true
-fetch_alive k now b c count is call =
-    let inside : MayCall k.script k.history (entry_of b c (events.Fetch count)) = call_inside k now (entry_of b c (events.Fetch count)) is call in
-    lives-before (life_of k.history b) c (events.Fetch count) inside.follows.life (λ start. absurd (cc (ap is_start start)))
-
--- and what callers see of it
-pub gives_messages : (k now : Kept) (after : List Entry) (has : List ℕ) (b c count : ℕ) (given : List Message) → k ≡ now → MayCall now.script now.history (entry_of b c (events.Fetch count)) → length k.promised ≡ k.script.backends + 1 → count ≡ due_to k.history b → given ≡ fetched_by k.history b count
-    → after ≡ k.history ++ entry_of b c (events.Fetch count) ∷ [] → has ≡ slice_set k.promised b (promised_in k.promised b - 1) → GivesMessages now.history after (places_in now) (promised_in has) b c count given
-gives_messages k now after has b c count given is call backends due messages entries taken = record {
-  appends = placed_appends k now after has (entry_of b c (events.Fetch count)) refl is call tt backends entries taken;
-  due = due ∙ ap (λ (x : Kept). due_to x.history b) is;
-  messages = messages ∙ ap (λ (x : Kept). fetched_by x.history b count) is;
-}
-
--- a publish is of 64 messages at most
-pub few_published : (k now : Kept) (b c count : ℕ) → k ≡ now → MayCall now.script now.history (entry_of b c (events.Publish count)) → count ≤ 64
-few_published k now b c count is call =
-    let inside : MayCall k.script k.history (entry_of b c (events.Publish count)) = call_inside k now (entry_of b c (events.Publish count)) is call in
-    omega (arith, inside.follows.event.2)
-
--- for which there is room
-pub fits_published : (script : Scenario) (history : List Entry) (promised : List ℕ) (queue : Queue) (b count : ℕ) → KeepsQueue script history promised queue → b < length promised → 0 < promised_in promised b → count ≤ 64 → count ≤ queue.room
-fits_published script history promised queue b count k within place few = omega (arith, k.room, promised_in-le promised b within, place, few)
-
--- a place is promised, of the parts
-pub place_inside : (k now : Kept) (b : ℕ) → k ≡ now → 0 < places_in now b → 0 < promised_in k.promised b
-place_inside k now b is place = subst (λ (x : Kept). 0 < places_in x b) (sym is) place
-
-times-zero : (n : ℕ) → n * 0 ≡ 0
-times-zero n = omega arith
-
-sum-zeros : (n : ℕ) → sum (replicate n 0) ≡ 0
-sum-zeros n = sum_by-replicate (λ x. x) n 0 ∙ times-zero n
-
--- the queue of an empty history
-pub queue_start : (script : Scenario) (n : ℕ) (queue : Queue) → n ≡ script.backends → queue.messages ≡ [] → queue.positions ≡ replicate (n + 1) None → KeepsQueue script [] (replicate (n + 1) 0) queue
-queue_start script n queue size messages positions = record {
-  log = messages;
-  slots = ap length positions ∙ length-replicate (n + 1) None ∙ ap (λ m. m + 1) size;
-  positions = λ b. ap (λ l. position_at l b) positions ∙ all_same (n + 1) b None;
-  room = omega (arith, sum-zeros (n + 1));
-}
-
--- the same of what the parts are
-pub queue_start_at : (script given : Scenario) (n : ℕ) (entries : List Entry) (promised : List ℕ) (queue : Queue) → n ≡ given.backends → script ≡ given → entries ≡ [] → promised ≡ replicate (n + 1) 0 → queue.messages ≡ [] → queue.positions ≡ replicate (n + 1) None
-    → KeepsQueue script entries promised queue
-queue_start_at script given n entries promised queue size script_is entries_are promised_are messages positions = rw (script_is, entries_are, promised_are) (queue_start given n queue size messages positions)
-
--- what a promise needs, of the parts
-pub backend_inside : (k now : Kept) (b : ℕ) → k ≡ now → IsBackend now.script.backends b → IsBackend k.script.backends b
-backend_inside k now b is backend = subst (λ (x : Kept). IsBackend x.script.backends b) (sym is) backend
+pub asked_still : (k now : Kept) (after : List Entry) (b c : ℕ) (event : Event) (queue : Queue) → k ≡ now → KeepsQueue k.script k.history queue → MayRequest now.script now.history b c → is_start event ≡ false → AllowsEvent k.history b c event → is_still event ≡ true
+    → after ≡ k.history ++ entry_of b c event ∷ [] → KeepsQueue k.script after queue
+asked_still k now after b c event queue is keeps request asked allows still entries =
+    subst (λ h. KeepsQueue k.script h queue) (sym entries) (queue_still k.script k.history (entry_of b c event) queue keeps (request_follows k.script k.history b c event (request_inside k now b c is request) asked allows) still)
 
 -- a clash
-pub clash_still : (k now : Kept) (after : List Entry) (has : List ℕ) (b c : ℕ) (name : List ℕ) (clash : Clash) (queue : Queue) → k ≡ now → KeepsQueue k.script k.history k.promised queue → MayRequest now.script now.history b c → AllowsEvent k.history b c (clash_event_of name clash)
-    → after ≡ k.history ++ entry_of b c (clash_event_of name clash) ∷ [] → has ≡ k.promised → KeepsQueue k.script after has queue
-clash_still k now after has b c name (Row rel) queue is keeps request allows entries same = asked_still k now after has b c (events.ClashRow name rel) queue is keeps request refl allows refl entries same
-clash_still k now after has b c name (Running xid) queue is keeps request allows entries same = asked_still k now after has b c (events.ClashRunning name xid) queue is keeps request refl allows refl entries same
+pub clash_still : (k now : Kept) (after : List Entry) (b c : ℕ) (name : List ℕ) (clash : Clash) (queue : Queue) → k ≡ now → KeepsQueue k.script k.history queue → MayRequest now.script now.history b c → AllowsEvent k.history b c (clash_event_of name clash)
+    → after ≡ k.history ++ entry_of b c (clash_event_of name clash) ∷ [] → KeepsQueue k.script after queue
+clash_still k now after b c name (Row rel) queue is keeps request allows entries = asked_still k now after b c (events.ClashRow name rel) queue is keeps request refl allows refl entries
+clash_still k now after b c name (Running xid) queue is keeps request allows entries = asked_still k now after b c (events.ClashRunning name xid) queue is keeps request refl allows refl entries
+
+-- what is kept of a reader tells whether it takes part
+active_is : (reader : Reader) (alive lapped : Bool) (at : ℕ) → unmarked reader ≡ reader_at alive lapped at → is_active reader ≡ alive
+active_is Inactive false lapped at is = refl
+active_is Inactive true true at is = absurd (cc)
+active_is Inactive true false at is = absurd (cc)
+active_is Reset false lapped at is = absurd (cc)
+active_is Reset true lapped at is = refl
+active_is (At position signaled) false lapped at is = absurd (cc)
+active_is (At position signaled) true lapped at is = refl
+
+-- the reader of a backend takes part where the backend is alive
+pub reader_active : (script : Scenario) (history : List Entry) (queue : Queue) (b : ℕ) → KeepsQueue script history queue → is_active (reader_of queue b) ≡ is_alive (life_of history b)
+reader_active script history queue b k = active_is (reader_of queue b) (is_alive (life_of history b)) (is_lapped script.size history b) (position_of history b) (k.readers b)
+
+not_started : (life : Life) → FollowsLife life 0 events.Start → is_alive life ≡ false
+not_started Unstarted follows = refl
+not_started (Alive last) follows = absurd follows
+not_started Stopped follows = refl
+
+-- what a start needs
+pub start_needs : (k now : Kept) (b : ℕ) (queue : Queue) → k ≡ now → KeepsQueue k.script k.history queue → MayCall now.script now.history (entry_of b 0 events.Start) → is_active (reader_of queue b) ≡ false
+start_needs k now b queue is keeps call =
+    let inside : MayCall k.script k.history (entry_of b 0 events.Start) = call_inside k now (entry_of b 0 events.Start) is call in
+    reader_active k.script k.history queue b keeps ∙ not_started (life_of k.history b) inside.follows.life
+
+-- and what a call of a backend that has started needs
+pub active_needs : (k now : Kept) (b c : ℕ) (event : Event) (queue : Queue) → k ≡ now → KeepsQueue k.script k.history queue → MayCall now.script now.history (entry_of b c event) → is_start event ≡ false → is_active (reader_of queue b) ≡ true
+active_needs k now b c event queue is keeps call other =
+    let inside : MayCall k.script k.history (entry_of b c event) = call_inside k now (entry_of b c event) is call in
+    reader_active k.script k.history queue b keeps ∙ lives-before (life_of k.history b) c event inside.follows.life (λ start. absurd (cc (other, ap is_start start)))
+
+-- a start
+pub start_queued : (script : Scenario) (history : List Entry) (b : ℕ) (queue : Queue) → b < length queue.readers → KeepsQueue script history queue → KeepsQueue script (history ++ entry_of b 0 events.Start ∷ []) (with_reader queue b (At (length queue.log) false))
+start_queued script history b queue within k = queue_set script history e queue (At (length queue.log) false) k within (λ old. refl)
+    (ap (λ log. At (length log) false) k.log ∙ sym (λ i. reader_at (alive i) (near i) (at i)))
+  where
+    e : Entry
+    e = entry_of b 0 events.Start
+
+    alive : is_alive (life_of (history ++ e ∷ []) b) ≡ true
+    alive = ap is_alive (life_of-own history e b (eq-eqb b b refl))
+
+    at : position_of (history ++ e ∷ []) b ≡ length (log_of history)
+    at = position_of-own history e b (eq-eqb b b refl)
+
+    near : is_lapped script.size (history ++ e ∷ []) b ≡ false
+    near = not_lapped script.size (history ++ e ∷ []) b (omega (arith, at, ap length (log_of-more history e)))
+
+-- a stop
+pub stop_queued : (script : Scenario) (history : List Entry) (b c : ℕ) (queue : Queue) → b < length queue.readers → KeepsQueue script history queue → KeepsQueue script (history ++ entry_of b c events.Stop ∷ []) (with_reader queue b Inactive)
+stop_queued script history b c queue within k = queue_set script history e queue Inactive k within (λ old. refl)
+    (sym (ap (λ t. reader_at t (is_lapped script.size (history ++ e ∷ []) b) (position_of (history ++ e ∷ []) b)) (ap is_alive (life_of-own history e b (eq-eqb b b refl)))))
+  where
+    e : Entry
+    e = entry_of b c events.Stop
+
+-- messages wait where a reader is behind
+behind_is : (reader : Reader) (alive lapped : Bool) (at size end : ℕ) → unmarked reader ≡ reader_at alive lapped at → lapped ≡ nat_lt (at + size) end → is_behind end reader ≡ (alive && nat_lt at end)
+behind_is Inactive false lapped at size end is far = refl
+behind_is Inactive true true at size end is far = absurd (cc)
+behind_is Inactive true false at size end is far = absurd (cc)
+behind_is Reset false lapped at size end is far = absurd (cc)
+behind_is Reset true true at size end is far = sym (lt-ltb at end (omega (arith, ltb-true (at + size) end (sym far))))
+behind_is Reset true false at size end is far = absurd (cc)
+behind_is (At position signaled) false lapped at size end is far = absurd (cc)
+behind_is (At position signaled) true true at size end is far = absurd (cc)
+behind_is (At position signaled) true false at size end is far = let same : position ≡ at = cc in ap (λ p. nat_lt p end) same
+
+pub waits_same : (script : Scenario) (history : List Entry) (queue : Queue) (b : ℕ) → KeepsQueue script history queue → is_behind (length queue.log) (reader_of queue b) ≡ is_waiting history b
+waits_same script history queue b k =
+    ap (λ log. is_behind (length log) (reader_of queue b)) k.log ∙ behind_is (reader_of queue b) (is_alive (life_of history b)) (is_lapped script.size history b) (position_of history b) script.size (length (log_of history)) (k.readers b) refl
+
+-- a cleanup leaves all but the readers
+record LeavesMessages (queue after : Queue) : Type 0 where
+  size : after.size ≡ queue.size
+  from : after.from ≡ queue.from
+  log : after.log ≡ queue.log
+  slots : length after.readers ≡ length queue.readers
+
+length-marked : (who : Option ℕ) (readers : List Reader) → length (marked who readers) ≡ length readers
+length-marked None readers = refl
+length-marked (Some b) readers = length-set readers b _
+
+room_leaves : (queue : Queue) (count : ℕ) → LeavesMessages queue (made_room queue count)
+room_leaves queue count = by_test (must_clean queue count)
+  where
+    by_test : (t : Bool) → LeavesMessages queue (if t then cleaned queue count else queue)
+    by_test true = record { size = refl; from = refl; log = refl; slots = length-marked (signal_of queue count) (swept_of queue count) ∙ length-map queue.readers (swept (low_of queue count)) }
+    by_test false = record { size = refl; from = refl; log = refl; slots = refl }
+
+less_minus : (at size end : ℕ) → nat_lt at (end - size) ≡ nat_lt (at + size) end
+less_minus at size end = same_test (nat_lt at (end - size)) (nat_lt (at + size) end) (λ is. lt-ltb (at + size) end (omega (arith, ltb-true at (end - size) is))) (λ is. lt-ltb at (end - size) (omega (arith, ltb-true (at + size) end is)))
+
+-- readers below a position go into reset state
+swept_is : (reader : Reader) (alive lapped : Bool) (at low : ℕ) → unmarked reader ≡ reader_at alive lapped at → unmarked (swept low reader) ≡ reader_at alive (lapped || nat_lt at low) at
+swept_is Inactive false lapped at low is = refl
+swept_is Inactive true true at low is = absurd (cc)
+swept_is Inactive true false at low is = absurd (cc)
+swept_is Reset false lapped at low is = absurd (cc)
+swept_is Reset true true at low is = refl
+swept_is Reset true false at low is = absurd (cc)
+swept_is (At position signaled) false lapped at low is = absurd (cc)
+swept_is (At position signaled) true true at low is = absurd (cc)
+swept_is (At position signaled) true false at low is = let same : position ≡ at = cc in by_test (nat_lt position low) same ∙ ap (λ p. reader_at true (nat_lt p low) at) same
+  where
+    by_test : (t : Bool) → position ≡ at → unmarked (if t then Reset else At position signaled) ≡ reader_at true t at
+    by_test true same = refl
+    by_test false same = ap (λ p. At p false) same
+
+-- a publish
+pub publish_queued : (script : Scenario) (history : List Entry) (b c : ℕ) (messages : List Message) (queue after : Queue) → KeepsQueue script history queue → MayFollow history (entry_of b c (events.Publish (length messages))) → messages ≡ take (length messages) (unsent_of history b)
+    → after ≡ inserted queue messages → ((a : ℕ) → unmarked (reader_of after a) ≡ unmarked (swept (length after.log - after.size) (reader_of queue a))) → KeepsQueue script (history ++ entry_of b c (events.Publish (length messages)) ∷ []) after
+publish_queued script history b c messages queue after k follows next is sweeps = record {
+  size = ap (λ (q : Queue). q.size) is ∙ leaves.size ∙ k.size;
+  from = ap (λ (q : Queue). q.from) is ∙ leaves.from ∙ k.from;
+  log = longer ∙ ap (λ ms. log_of history ++ ms) next ∙ sym (log_of-more history e);
+  slots = ap (λ (q : Queue). length q.readers) is ∙ leaves.slots ∙ k.slots;
+  readers = λ a. sweeps a
+      ∙ swept_is (reader_of queue a) (is_alive (life_of history a)) (is_lapped script.size history a) (position_of history a) (length after.log - after.size) (k.readers a)
+      ∙ sym (λ i. reader_at (alive a i) (lapped a i) (at a i));
+}
+  where
+    e : Entry
+    e = entry_of b c (events.Publish (length messages))
+
+    leaves : LeavesMessages queue (made_room queue (length messages))
+    leaves = room_leaves queue (length messages)
+
+    longer : after.log ≡ log_of history ++ messages
+    longer = ap (λ (q : Queue). q.log) is ∙ ap (λ log. log ++ messages) (leaves.log ∙ k.log)
+
+    end : length after.log - after.size ≡ length (log_of history) + length messages - script.size
+    end = (λ i. length (longer i) - (ap (λ (q : Queue). q.size) is ∙ leaves.size ∙ k.size) i) ∙ ap (λ n. n - script.size) (length-append (log_of history) messages)
+
+    alive : (a : ℕ) → is_alive (life_of (history ++ e ∷ []) a) ≡ is_alive (life_of history a)
+    alive a = by_owner (b == a) refl
+      where
+        by_owner : (t : Bool) → (b == a) ≡ t → is_alive (life_of (history ++ e ∷ []) a) ≡ is_alive (life_of history a)
+        by_owner true own = ap is_alive (life_of-own history e a own) ∙ sym (subst (λ o. is_alive (life_of history o) ≡ true) (eqb-true b a own) (lives-before (life_of history b) c (events.Publish (length messages)) follows.life (λ start. absurd (cc))))
+        by_owner false other = ap is_alive (life_of-other history e a other)
+
+    at : (a : ℕ) → position_of (history ++ e ∷ []) a ≡ position_of history a
+    at a = by_owner (b == a) refl
+      where
+        by_owner : (t : Bool) → (b == a) ≡ t → position_of (history ++ e ∷ []) a ≡ position_of history a
+        by_owner true own = position_of-own history e a own
+        by_owner false other = position_of-other history e a other
+
+    lapped : (a : ℕ) → is_lapped script.size (history ++ e ∷ []) a ≡ (is_lapped script.size history a || nat_lt (position_of history a) (length after.log - after.size))
+    lapped a =
+        publish_laps script.size history b c (length messages) a follows.event
+        ∙ sym (or_longer (position_of history a + script.size) (length (log_of history)) (length (log_of history) + length messages) (omega arith))
+        ∙ ap (λ t. is_lapped script.size history a || t) (sym (ap (nat_lt (position_of history a)) end ∙ less_minus (position_of history a) script.size (length (log_of history) + length messages)))
+
+-- what an insertion needs: 1 to 64 messages
+pub few_published : (k now : Kept) (b c count : ℕ) → k ≡ now → MayCall now.script now.history (entry_of b c (events.Publish count)) → (1 ≤ count) × (count ≤ 64)
+few_published k now b c count is call =
+    let inside : MayCall k.script k.history (entry_of b c (events.Publish count)) = call_inside k now (entry_of b c (events.Publish count)) is call in
+    (inside.follows.event.1, omega (arith, inside.follows.event.2))
+
+-- and room for their numbers
+pub number_fits : (script : Scenario) (history : List Entry) (queue : Queue) → IsScript script → IsLegal history → length history ≤ 2 ^ 56 → KeepsQueue script history queue → queue.from + length queue.log < 2 ^ 63
+number_fits script history queue is legal short k = omega (arith, k.from, is.from, is.size.most, ap length k.log, log_of-few history legal, short)
+
+-- the queue of an empty history
+queue_start : (script : Scenario) → KeepsQueue script [] (empty_queue script.size script.backends script.from)
+queue_start script = record {
+  size = refl;
+  from = refl;
+  log = refl;
+  slots = length-replicate (script.backends + 1) Inactive;
+  readers = λ b. ap unmarked (all_same (script.backends + 1) b Inactive);
+}
 
 -- all that is kept beside an empty history
 pub shared_start_at : (script given : Scenario) (n : ℕ) (entries : List Entry) (promised : List ℕ) (store : Store) (locks : List Grant) (transactions : List (Option Transaction)) (queue : Queue) → IsScript given → n ≡ given.backends
-    → script ≡ given → entries ≡ [] → promised ≡ replicate (n + 1) 0 → store ≡ no_rows → locks ≡ [] → transactions ≡ replicate (n + 1) None → queue.messages ≡ [] → queue.positions ≡ replicate (n + 1) None
+    → script ≡ given → entries ≡ [] → promised ≡ replicate (n + 1) 0 → store ≡ no_rows → locks ≡ [] → transactions ≡ replicate (n + 1) None → queue ≡ empty_queue given.size given.backends given.from
     → KeepsShared script entries promised store locks transactions FIRST_OID 0 queue
-shared_start_at script given n entries promised store locks transactions queue is size script_is entries_are promised_are store_is locks_are transactions_are messages positions = record {
+shared_start_at script given n entries promised store locks transactions queue is size script_is entries_are promised_are store_is locks_are transactions_are queue_is = record {
   folds = keeps_start_at script given n entries promised store locks transactions is size script_is entries_are promised_are store_is locks_are transactions_are;
-  queued = queue_start_at script given n entries promised queue size script_is entries_are promised_are messages positions;
+  queued = rw (script_is, entries_are, queue_is) (queue_start given);
 }

@@ -1,27 +1,47 @@
 -- The queue of messages beside the history is what the definitions read off it.
-use Rattle.std.specs.Prelude.{◌≡◌, ◌≤◌, ◌+◌, ◌*◌, ℕ, true, false, Option, Some, None, List, length, sum}
+use Rattle.std.specs.Prelude.{◌≡◌, ◌+◌, ℕ, Bool, true, false, Option, List, length}
 use Rattle.base_types.specs.Scenario.{Scenario}
+use Rattle.base_types.specs.declared.fetched.Fetched.{Fetched}
+use Rattle.base_types.specs.declared.fetched.Fetched.TheVariants as fetches
 use Rattle.event_kinds.specs.declared.entry.Entry.{Entry}
+use Rattle.event_kinds.specs.declared.entry.Event.{Event}
+use Rattle.event_kinds.specs.declared.entry.Event.TheVariants as events
+use Rattle.history_model.specs.Lapped.{is_lapped}
 use Rattle.history_model.specs.Lives.{is_alive, life_of}
 use Rattle.history_model.specs.Log.{log_of, position_of}
 use Rattle.lock_modes.specs.declared.grant.Grant.{Grant}
+use Rattle.sinval_ring.specs.Queues.{Queue, reader_of}
+use Rattle.sinval_ring.specs.declared.reader.Reader.{Reader}
+use Rattle.sinval_ring.specs.declared.reader.Reader.TheVariants.{Inactive, At, Reset}
+use Rattle.sinval_ring.specs.Readers.{unmarked}
 use Rattle.catalog_rows.specs.Store.{Store}
 use Rattle.shared_seg.specs.declared.transaction.Transaction.{Transaction}
 use Rattle.shared_seg.specs.KeepsFolds.{KeepsFolds}
-use Rattle.shared_seg.specs.MessageLog.{Queue, position_at}
 
--- how many messages a backend is past, if it has joined and hasn't left
-abbrev pub position_kept : List Entry → ℕ → Option ℕ
-position_kept history b = elim (is_alive (life_of history b)) [ true ↦ Some (position_of history b) | false ↦ None ]
+-- the reader of a backend that is alive or not, is lapped or not, and is past so many messages
+abbrev pub reader_at : Bool → Bool → ℕ → Reader
+reader_at false lapped position = Inactive
+reader_at true true position = Reset
+reader_at true false position = At position false
 
--- the queue has the log's messages and the backends' positions, and room for 64 messages a promised place
-pub record KeepsQueue (script : Scenario) (history : List Entry) (promised : List ℕ) (queue : Queue) : Type 0 where
-  pub log : queue.messages ≡ log_of history
-  pub slots : length queue.positions ≡ script.backends + 1
-  pub positions : (b : ℕ) → position_at queue.positions b ≡ position_kept history b
-  pub room : 64 * sum promised ≤ queue.room
+-- the reader that a backend has: none where it isn't alive, and one in reset state where it is lapped
+abbrev pub reader_kept : ℕ → List Entry → ℕ → Reader
+reader_kept size history b = reader_at (is_alive (life_of history b)) (is_lapped size history b) (position_of history b)
+
+-- the queue is of the script's size and first number, and has the log's messages and the backends' readers, whether they were signaled or not
+pub record KeepsQueue (script : Scenario) (history : List Entry) (queue : Queue) : Type 0 where
+  pub size : queue.size ≡ script.size
+  pub from : queue.from ≡ script.from
+  pub log : queue.log ≡ log_of history
+  pub slots : length queue.readers ≡ script.backends + 1
+  pub readers : (b : ℕ) → unmarked (reader_of queue b) ≡ reader_kept script.size history b
+
+-- the event of a fetch, by what it gave
+abbrev pub event_of_fetch : Fetched → Event
+event_of_fetch (fetches.Messages count) = events.Fetch count
+event_of_fetch fetches.Reset = events.FetchReset
 
 -- all that is kept beside the history
 pub record KeepsShared (script : Scenario) (history : List Entry) (promised : List ℕ) (store : Store) (locks : List Grant) (transactions : List (Option Transaction)) (next last : ℕ) (queue : Queue) : Type 0 where
   pub folds : KeepsFolds script history promised store locks transactions next last
-  pub queued : KeepsQueue script history promised queue
+  pub queued : KeepsQueue script history queue

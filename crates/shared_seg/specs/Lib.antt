@@ -7,6 +7,5 @@ pub mod Undone
 pub mod Drawn
 pub mod Naming
 pub mod IsDrawn
-pub mod MessageLog
 pub mod Announced
 pub mod KeepsQueue

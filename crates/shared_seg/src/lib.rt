@@ -3,9 +3,11 @@
 //! It keeps the history, the versions of all rows, the locks that are held, the running transaction of
 //! each backend, and the next numbers to be drawn. The history alone says what all of these are: each is
 //! what the definitions read off it, so that is the invariant, with one law of one more entry for each
-//! (`specs/KeepsFolds.antt`, `proofs/Keeps.antt`). Rows and locks are kept by the crates below, a
-//! [`RowStore`](catalog_rows::RowStore) and a [`LockTable`](lock_modes::LockTable), each of which is
-//! one list to the contracts. And the history is sound: each of its entries may follow those before
+//! (`specs/KeepsFolds.antt`, `proofs/Keeps.antt`). Rows, locks and messages are kept by the crates below,
+//! a [`RowStore`](catalog_rows::RowStore) and a [`LockTable`](lock_modes::LockTable), each of which is
+//! one list to the contracts, and a [`Ring`](sinval_ring::Ring), which is all messages that were ever
+//! sent and a reader for each backend (`specs/KeepsQueue.antt`): a reader is in reset state exactly
+//! where its backend is lapped. And the history is sound: each of its entries may follow those before
 //! it.
 //!
 //! The promise to the layers above is the contract of `Seg`: a call appends its one entry, which the
@@ -22,14 +24,12 @@
 //!
 //! Different from the server: a lock is never waited for, and the first holder in the way is named; a new
 //! name that a running transaction has in use is refused where the server would wait; Xids and oids that
-//! would pass 32 bits are answered as out of memory. The queue of messages is never shortened, so no
-//! backend is ever reset.
+//! would pass 32 bits are answered as out of memory.
 #![tactic(auto)]
 
 mod announce;
 mod drawing;
 mod grants;
-mod message_log;
 mod naming;
 mod places;
 mod shared;

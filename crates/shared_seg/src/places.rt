@@ -78,14 +78,6 @@ impl Places {
         self.promised.get(b as usize).copied().unwrap_or(0)
     }
 
-    // How many places are promised to all backends together.
-    pub(crate) fn total(&self) -> usize
-        ensures value { result ≡ sum self.now.promised }
-        ensures short { sum self.now.promised ≤ 2 ^ 56 }
-    {
-        self.total
-    }
-
     // Promises a backend at least so many places.
     pub(crate) fn promise(&mut self, b: u32, n: u32) -> Result<(), NoMemory>
         requires { b < length self.old.promised }

@@ -1,11 +1,11 @@
 ghost use Rattle.std.specs.Prelude.{◌≡◌, ◌≤◌, ◌<◌, ◌+◌, ◌++◌, ◌^◌, [], false, None, length, replicate, vec_len, vec_capacity, IfOk};
 ghost use Rattle.shared_seg.specs.Undone.{undone};
+ghost use Rattle.shared_seg.specs.KeepsQueue.{event_of_fetch};
 ghost use Rattle.shared_seg.specs.Naming.{clash_with, refuses};
 
 use crate::announce::announced;
 use crate::drawing::{Drawn, draw};
 use crate::grants::new_grants;
-use crate::message_log::MessageLog;
 use crate::naming::{Taken, first_taken};
 use crate::places::Places;
 use crate::transaction::{Transaction, begin, begin_writing, clear, end_from, own_xid};
@@ -19,12 +19,10 @@ use lock_modes::{Granted, LockTable};
 use row_visibility::{Clash, Reader};
 use script_text::Script;
 use seg_calls::{LockRefusal, Seg, WriteRefusal, Written};
+use sinval_ring::Ring;
 use std::alloc::Global;
 use std::marker::Model;
 use std::snapshot::Snapshot;
-
-// The most messages that one publish adds.
-const MOST_PUBLISHED: usize = 64;
 
 /// What all backends of a script share.
 #[derive(Drop)]
@@ -34,7 +32,7 @@ pub struct Shared {
     places: Places,
     store: RowStore,
     locks: LockTable,
-    queue: MessageLog,
+    queue: Ring,
     // by backend
     transactions: Vec<Option<Transaction>>,
     next_oid: u32,
@@ -62,7 +60,7 @@ impl Shared {
     {
         let backends = script.backends();
         let places = Places::new(alloc, backends)?;
-        let queue = MessageLog::new(alloc, backends)?;
+        let queue = Ring::starting_at(alloc, script.size(), backends, script.from())?;
         let mut transactions = Vec::new(alloc);
         transactions.reserve(backends as usize + 1)?;
         add_slots(&mut transactions, backends as usize + 1);
@@ -115,11 +113,7 @@ impl Seg for Shared {
     ghost promised = { places_in };
 
     fn promise(&mut self, b: u32, n: u32) -> Result<(), NoMemory> {
-        let more = n.saturating_sub(self.places.promised(b)) as usize;
-        self.queue
-            .reserve(MOST_PUBLISHED * (self.places.total() + more))?;
-        self.places.promise(b, n)?;
-        Ok(())
+        self.places.promise(b, n)
     }
 
     fn promised(&self, b: u32) -> u32 {
@@ -127,7 +121,7 @@ impl Seg for Shared {
     }
 
     fn waits(&self, b: u32) -> bool {
-        self.queue.waits(b)
+        self.queue.has(b)
     }
 
     fn start(&mut self, b: u32) {
@@ -136,7 +130,7 @@ impl Seg for Shared {
             command: 0,
             event: Event::Start,
         });
-        self.queue.join(b);
+        self.queue.start(b);
         clear(&mut self.transactions, b);
     }
 
@@ -150,14 +144,14 @@ impl Seg for Shared {
     }
 
     fn fetch(&mut self, b: u32, c: u32, into: &mut ArrayVec<Message, 32>) -> Fetched {
-        let count = self.queue.fetch(b, into);
+        let fetched = self.queue.fetch(b, into);
         self.places.append(Entry {
             backend: b,
             command: c,
-            event: Event::Fetch { count },
+            event: fetch_event(fetched),
         });
         begin(&mut self.transactions, b, c);
-        Fetched::Messages(count)
+        fetched
     }
 
     fn scan(&mut self, b: u32, c: u32, purpose: &Purpose) -> Result<Scanned, NoMemory> {
@@ -295,7 +289,7 @@ impl Seg for Shared {
                 count: messages.len() as u32,
             },
         });
-        self.queue.publish(messages);
+        self.queue.insert(messages);
         begin(&mut self.transactions, b, c);
     }
 
@@ -326,10 +320,20 @@ impl Seg for Shared {
             command: c,
             event: Event::Stop,
         });
-        self.queue.leave(b);
+        self.queue.stop(b);
     }
 
     ghost short = { λ s. s.short };
+}
+
+// The event of a fetch, by what it gave.
+fn fetch_event(fetched: Fetched) -> Event
+    ensures { result ≡ event_of_fetch fetched }
+{
+    match fetched {
+        Fetched::Messages(count) => Event::Fetch { count },
+        Fetched::Reset => Event::FetchReset,
+    }
 }
 
 // The refusal of a clash.

@@ -4,5 +4,4 @@ use Rattle.shared_seg.proofs.shared.Shared.new.Goals as goal
 
 pub invariant_of-result-2 : goal.invariant_of-result-2
 invariant_of-result-2 c =
-    shared_start_at _ c.args.script.now c.backends-backends.result _ _ _ _ _ _ c.backends-backends.ensures.kept c.backends-backends.ensures.value c.of.ensures c.in_ok-places.ensures.0 c.in_ok-places.ensures.1 c.new-3.ensures c.new-4.ensures.held (search rules)
-    c.in_ok-queue.ensures.messages c.in_ok-queue.ensures.positions
+    shared_start_at _ c.args.script.now c.backends-backends.result _ _ _ _ _ _ c.backends-backends.ensures.kept c.backends-backends.ensures.value c.of.ensures c.in_ok-places.ensures.0 c.in_ok-places.ensures.1 c.new-2.ensures c.new-3.ensures.held (search rules) (search rules)

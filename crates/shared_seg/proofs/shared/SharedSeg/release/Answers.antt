@@ -9,7 +9,7 @@ pub invariant_of-self : goal.invariant_of-self
 invariant_of-self c = record {
   folds =
       quiet_keeps _ _ _ _ c.args.b c.args.c (Release c.args.from) _ _ _ _ _ _ _ c.self.view_is c.self.invariant.folds c.requires.call tt c.append.ensures.entries c.append.ensures.promised refl refl refl (λ x. refl) (λ x. refl) c.release.ensures.held c.end_from.ensures;
-  queued = placed_still _ _ _ _ (entry_of c.args.b c.args.c (Release c.args.from)) _ c.self.view_is c.self.invariant.queued c.requires.call c.self.invariant.folds.backends refl c.append.ensures.entries c.append.ensures.promised;
+  queued = placed_still _ _ _ (entry_of c.args.b c.args.c (Release c.args.from)) _ c.self.view_is c.self.invariant.queued c.requires.call refl c.append.ensures.entries;
 }
 
 pub returns-clause-appends : goal.returns-clause-appends

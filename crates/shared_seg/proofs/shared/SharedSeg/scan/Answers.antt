@@ -17,7 +17,7 @@ invariant_of-self-2 c =
     let answer = scan_is_answer _ _ _ _ _ _ _ _ c.args.b c.args.c c.args.purpose.now c.self.invariant.folds (request_inside _ _ c.args.b c.args.c c.self.view_is c.requires.call) in
     record {
       folds = asked_quiet _ _ _ _ c.args.b c.args.c (Scan c.args.purpose.now c.in_ok-count.count) _ _ _ _ _ _ _ c.self.view_is c.self.invariant.folds c.requires.call refl (counted ∙ ap length (given ∙ answer)) tt c.in_ok-add.ensures.ok c.add.ensures.promised refl refl refl (λ x. refl) (λ x. refl) refl c.begin.ensures;
-      queued = asked_still _ _ _ _ c.args.b c.args.c (Scan c.args.purpose.now c.in_ok-count.count) _ c.self.view_is c.self.invariant.queued c.requires.call refl (counted ∙ ap length (given ∙ answer)) refl c.in_ok-add.ensures.ok c.add.ensures.promised;
+      queued = asked_still _ _ _ c.args.b c.args.c (Scan c.args.purpose.now c.in_ok-count.count) _ c.self.view_is c.self.invariant.queued c.requires.call refl (counted ∙ ap length (given ∙ answer)) refl c.in_ok-add.ensures.ok;
     }
 
 pub returns-clause-scans : goal.returns-clause-scans

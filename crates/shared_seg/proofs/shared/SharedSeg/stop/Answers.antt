@@ -4,8 +4,11 @@ use Rattle.seg_calls.specs.Calls.{entry_of}
 use Rattle.shared_seg.proofs.Own.{kept_same}
 use Rattle.shared_seg.proofs.Keeps.{quiet_steps}
 use Rattle.shared_seg.proofs.Entered.{call_inside, within, placed_appends, placed_keeps}
-use Rattle.shared_seg.proofs.Queue.{placed_queued, leave_steps, room_placed}
+use Rattle.shared_seg.proofs.Queue.{placed_queued, active_needs, stop_queued}
 use Rattle.shared_seg.proofs.shared.SharedSeg.stop.Goals as goal
+
+pub stop-requires : goal.stop-requires
+stop-requires c = record { active = active_needs _ _ c.args.b c.args.c Stop _ c.self.view_is c.self.invariant.queued c.requires.call refl }
 
 pub invariant_of-self : goal.invariant_of-self
 invariant_of-self c = record {
@@ -13,9 +16,7 @@ invariant_of-self c = record {
       placed_keeps _ _ _ _ (entry_of c.args.b c.args.c Stop) _ _ _ _ _ _ _ _ _ _ c.self.view_is c.self.invariant.folds c.requires.call tt c.append.ensures.entries c.append.ensures.promised
       (quiet_steps _ c.args.b c.args.c Stop _ _ _ _ _ _ _ refl refl refl (λ x. refl) (λ x. refl) refl refl (kept_same c.args.b c.args.c _));
   queued = let call = call_inside _ _ (entry_of c.args.b c.args.c Stop) c.self.view_is c.requires.call in
-      placed_queued _ _ _ _ (entry_of c.args.b c.args.c Stop) _ _ c.self.view_is c.self.invariant.queued c.requires.call c.self.invariant.folds.backends c.append.ensures.entries c.append.ensures.promised
-      (leave_steps _ c.args.b c.args.c _ _ (within c.self.inside.script.value c.args.b _ call.backend c.self.invariant.queued.slots) c.leave.ensures.messages c.leave.ensures.positions)
-      (room_placed c.self.inside.script.value _ _ _ _ c.leave.new.self c.args.b c.self.invariant.queued (within c.self.inside.script.value c.args.b _ call.backend c.self.invariant.folds.backends) c.append.ensures.promised c.leave.ensures.room);
+      placed_queued c.self.inside.script.value _ _ (entry_of c.args.b c.args.c Stop) _ _ c.append.ensures.entries c.stop.ensures (stop_queued c.self.inside.script.value _ c.args.b c.args.c _ (within c.self.inside.script.value c.args.b _ call.backend c.self.invariant.queued.slots) c.self.invariant.queued);
 }
 
 pub returns-clause-appends : goal.returns-clause-appends

@@ -3,4 +3,4 @@ use Rattle.shared_seg.proofs.Queue.{waits_same}
 use Rattle.shared_seg.proofs.shared.SharedSeg.waits.Goals as goal
 
 pub returns : goal.returns
-returns c = rw (← c.self.view_is) (c.waits.ensures ∙ waits_same _ _ _ _ c.args.b c.self.invariant.queued)
+returns c = rw (← c.self.view_is) (c.has.ensures ∙ waits_same _ _ _ c.args.b c.self.invariant.queued)

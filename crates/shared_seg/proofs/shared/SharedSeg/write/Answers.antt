@@ -25,7 +25,7 @@ invariant_of-self-in-Some c =
     let allowed = taken_allowed _ _ _ _ _ _ _ _ c.args.b c.args.c c.self.invariant.folds c.in-Ok.drawn.changes.items c.in-Some.taken taken in
     record {
       folds = clash_keeps _ _ _ _ c.args.b c.args.c c.in-Some.taken.name c.in-Some.taken.clash _ _ _ _ _ _ c.self.view_is c.self.invariant.folds c.requires.call allowed (search rules) c.add.ensures.promised c.begin.ensures;
-      queued = clash_still _ _ _ _ c.args.b c.args.c c.in-Some.taken.name c.in-Some.taken.clash _ c.self.view_is c.self.invariant.queued c.requires.call allowed (search rules) c.add.ensures.promised;
+      queued = clash_still _ _ _ c.args.b c.args.c c.in-Some.taken.name c.in-Some.taken.clash _ c.self.view_is c.self.invariant.queued c.requires.call allowed (search rules);
     }
 
 pub returns-in-Some-clause-writes : goal.returns-in-Some-clause-writes
@@ -61,7 +61,7 @@ invariant_of-self-2 c =
           (entry_written _ _ _ c.args.b c.args.c c.in-Ok.drawn.xid _ _ _ c.push.ensures.entries c.make_room.ensures.same.entries c.from_vec.ensures made) (c.push.ensures.promised ∙ c.make_room.ensures.same.promised)
           (write_steps _ _ _ _ _ _ _ _ c.args.b c.args.c c.self.invariant.folds c.args.draft.now c.in-Ok.drawn _ _ _ request may drawn (c.in-Ok-apply.ensures.ok ∙ ap (after_write c.self.inside.store c.in-Ok.drawn.xid c.args.c) c.deref-5.ensures.value)
           granted c.begin_writing.ensures));
-      queued = asked_still _ _ _ _ c.args.b c.args.c (Write c.in-Ok.drawn.xid (items_drawn c.self.inside.places.entries c.args.draft.now)) _ c.self.view_is c.self.invariant.queued c.requires.call refl allowed refl entries (c.push.ensures.promised ∙ c.make_room.ensures.same.promised);
+      queued = asked_still _ _ _ c.args.b c.args.c (Write c.in-Ok.drawn.xid (items_drawn c.self.inside.places.entries c.args.draft.now)) _ c.self.view_is c.self.invariant.queued c.requires.call refl allowed refl entries;
     }
 
 pub returns-clause-writes : goal.returns-clause-writes

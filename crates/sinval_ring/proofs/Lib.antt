@@ -1,0 +1,7 @@
+pub mod Sweeping
+pub mod Numbers
+pub mod Sound
+pub mod Windows
+pub mod Keeping
+pub mod Calling
+mod Rows

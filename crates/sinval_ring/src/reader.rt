@@ -1,0 +1,61 @@
+ghost use Rattle.std.specs.Prelude.{◌≡◌, ◌≤◌, ◌^◌, ◌<◌};
+ghost use Rattle.sinval_ring.specs.Readers.{is_below, after_fetch, signaled, IsUpTo};
+
+// The most messages that one fetch gives.
+pub(crate) const MOST_FETCHED: u64 = 32;
+
+/// How far a backend is in the queue (`ProcState` in `src/backend/storage/ipc/sinvaladt.c`).
+#[derive(Clone, Copy)]
+pub enum Reader {
+    /// It takes no part.
+    Inactive,
+    /// Its next message is the one of this number. It was signaled to catch up, or wasn't.
+    At { position: u64, signaled: bool },
+    /// It was lapped: it has to drop all that it cached.
+    Reset,
+}
+
+impl Reader {
+    // Whether its next message comes before the one of this number.
+    pub(crate) fn is_below(self, low: u64) -> bool
+        ensures { result ≡ is_below low self }
+    {
+        match self {
+            Reader::At { position, .. } => position < low,
+            Reader::Inactive | Reader::Reset => false,
+        }
+    }
+
+    // The reader as one that was signaled, if it is one that can be.
+    pub(crate) fn signaled(self) -> Reader
+        ensures { result ≡ signaled self }
+    {
+        match self {
+            Reader::At { position, .. } => Reader::At {
+                position,
+                signaled: true,
+            },
+            Reader::Inactive | Reader::Reset => self,
+        }
+    }
+
+    // The reader after a fetch, where the next message to be inserted has this number.
+    pub(crate) fn after_fetch(self, end: u64) -> Reader
+        requires { IsUpTo end self }
+        ensures { result ≡ after_fetch end self }
+    {
+        match self {
+            Reader::At { position, signaled } => {
+                let next = position + MOST_FETCHED.min(end - position);
+                Reader::At {
+                    position: next,
+                    signaled: signaled && next < end,
+                }
+            }
+            Reader::Inactive | Reader::Reset => Reader::At {
+                position: end,
+                signaled: false,
+            },
+        }
+    }
+}
