@@ -1,5 +1,5 @@
 -- The queue laps a backend where a publish finds it further back than the queue keeps with what is added, and at no other entry; a start and a fetch leave it within the queue.
-use Rattle.std.proofs.Common.{◌≡◌, ◌≤◌, ◌<◌, ◌+◌, ◌-◌, ◌*◌, ◌∙◌, ℕ, Bool, true, false, not, List, [], ◌∷◌, ◌++◌, ◌==◌, ◌||◌, ◌&&◌, refl, sym, ap, subst, arith, length, take, min}
+use Rattle.std.proofs.Common.{◌≡◌, ◌≤◌, ◌+◌, ◌*◌, ◌∙◌, ℕ, Bool, true, false, not, List, [], ◌∷◌, ◌++◌, ◌==◌, ◌||◌, ◌&&◌, refl, sym, ap, subst, arith, length, take}
 use Rattle.std.specs.Prelude.{nat_lt}
 use Rattle.std.proofs.lemmas.Bool.{eqb-true, ltb-true, ltb-false, lt-ltb, false_from_ne_true}
 use Rattle.std.proofs.lemmas.List.{length-append, length-take-le, length_push}
@@ -7,13 +7,30 @@ use Rattle.event_kinds.specs.declared.entry.Entry.{Entry}
 use Rattle.event_kinds.specs.declared.entry.Event.{Event}
 use Rattle.event_kinds.specs.declared.entry.Event.TheVariants as events
 use Rattle.inval_messages.specs.declared.message.Message.{Message}
+use Rattle.history_model.specs.Prefixes.{along}
 use Rattle.history_model.specs.Sent.{unsent_of}
 use Rattle.history_model.specs.Log.{log_of, log_by, position_of, position_by}
 use Rattle.history_model.specs.Legal.{AllowsEvent, MayFollow, IsLegal}
-use Rattle.history_model.specs.Lapped.{is_lapped, FetchesFrom, FollowsQueue, lapped_by, was_lapped}
-use Rattle.history_model.proofs.Prefixes.{along-more, each-keeps, EachEntry-more, EachFrom-both}
+use Rattle.history_model.specs.Lapped.{is_lapped, FetchesFrom, FollowsQueue}
+use Rattle.history_model.proofs.Prefixes.{along-more, each-keeps, EachFrom-both}
 use Rattle.history_model.proofs.Reading.{log_of-more, position_of-own, position_of-other}
 use Rattle.history_model.proofs.Touched.{entry_of}
+
+-- a start and a fetch set the position of their backend
+abbrev pub sets_position : Event → Bool
+sets_position events.Start = true
+sets_position (events.Fetch count) = true
+sets_position events.FetchReset = true
+sets_position event = false
+
+-- whether a publish has lapped the backend: it found it further back than the queue keeps with what is added, and neither a start nor a fetch of the backend came since
+abbrev pub lapped_by : ℕ → List Entry → ℕ → ℕ → Event → Bool → Bool
+lapped_by size before b a (events.Publish count) old = old || nat_lt (position_of before b + size) (length (log_of before) + count)
+lapped_by size before b a event old = old && not ((a == b) && sets_position event)
+
+-- a publish has lapped the backend since its start or its last fetch
+abbrev pub was_lapped : ℕ → List Entry → ℕ → Bool
+was_lapped size history b = along (λ before old e. lapped_by size before b e.backend e.event old) false history
 
 -- two tests are one where each gives the other
 pub same_test : (s t : Bool) → (s ≡ true → t ≡ true) → (t ≡ true → s ≡ true) → s ≡ t
