@@ -43,6 +43,8 @@ mod readers;
 #[cfg(test)]
 mod rel_caches;
 #[cfg(test)]
+mod reset_runs;
+#[cfg(test)]
 mod row_texts;
 #[cfg(test)]
 mod rows;
