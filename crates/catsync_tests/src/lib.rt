@@ -39,6 +39,8 @@ mod messages_runs;
 #[cfg(test)]
 mod pins;
 #[cfg(test)]
+mod queues;
+#[cfg(test)]
 mod readers;
 #[cfg(test)]
 mod rel_caches;

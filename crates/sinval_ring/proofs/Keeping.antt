@@ -196,23 +196,24 @@ view_empty window size first backends readers size_is log are = λ i. record {
     none : first - first ≡ 0
     none = omega arith
 
-pub empty_sound : (size first backends : ℕ) → IsQueueSize size → backends ≤ 64 → IsSound (empty_queue size backends first)
-empty_sound size first backends sized few = record {
+pub empty_sound : (size first backends : ℕ) → IsQueueSize size → 1 ≤ backends → backends ≤ 64 → IsSound (empty_queue size backends first)
+empty_sound size first backends sized some few = record {
   least = omega arith;
   readers = λ b. subst (IsReachable (empty_queue size backends first)) (sym (all_inactive (backends + 1) b)) tt;
+  some = omega (arith, some, length-replicate (backends + 1) Inactive);
   backends = omega (arith, few, length-replicate (backends + 1) Inactive);
   small = sized.least;
   large = sized.most;
 }
 
-pub keeps_empty : (window : Window) (size first value backends : ℕ) (readers : List Reader) → IsQueueSize size → backends ≤ 64 → first < size * 262144 → value ≡ first → window.size ≡ size → window.log ≡ [] → readers ≡ replicate (backends + 1) Inactive
+pub keeps_empty : (window : Window) (size first value backends : ℕ) (readers : List Reader) → IsQueueSize size → 1 ≤ backends → backends ≤ 64 → first < size * 262144 → value ≡ first → window.size ≡ size → window.log ≡ [] → readers ≡ replicate (backends + 1) Inactive
     → Keeps window value first first (size / 2) readers
-keeps_empty window size first value backends readers sized few number value_is size_is log are = subst (λ n. Keeps window n first first (size / 2) readers) (sym value_is) record {
+keeps_empty window size first value backends readers sized some few number value_is size_is log are = subst (λ n. Keeps window n first first (size / 2) readers) (sym value_is) record {
   end = omega (arith, ap length log);
   short = omega (arith, number, sized.most);
   begin = omega arith;
   numbers = are ∙ sym (ap (λ l. map (numbered first) (map (counted first) l)) are ∙ ap (map (numbered first)) (counted_inactive first (backends + 1)) ∙ numbered_inactive first (backends + 1));
-  sound = subst IsSound (sym (view_empty window size first backends readers size_is log are)) (empty_sound size first backends sized few);
+  sound = subst IsSound (sym (view_empty window size first backends readers size_is log are)) (empty_sound size first backends sized some few);
 }
 
 -- an active backend is one of the queue's

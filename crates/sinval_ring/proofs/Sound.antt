@@ -116,6 +116,7 @@ cleaned_sound q room sound = record {
       (λ b. subst (IsReachable (record q { least = least_after q room })) (sym (reader_swept (low_of q room) q.readers b))
       (reach_swept q (least_after q room) (low_of q room) (get_or q.readers b Inactive) (sound.readers b)
       (subst (IsFrom (least_after q room)) (reader_swept (low_of q room) q.readers b) (least_of-from (length q.log) (swept_of q room) b))));
+  some = omega (arith, sound.some, length-marked (signal_of q room) (swept_of q room), length-map q.readers (swept (low_of q room)));
   backends = omega (arith, sound.backends, length-marked (signal_of q room) (swept_of q room), length-map q.readers (swept (low_of q room)));
   small = sound.small;
   large = sound.large;
@@ -170,6 +171,7 @@ pub more_sound : (q : Queue) (messages : List Message) → length q.log + length
 more_sound q messages has sound = record {
   least = omega (arith, length-append q.log messages, sound.least);
   readers = λ b. reach_more q messages (reader_of q b) has (sound.readers b);
+  some = sound.some;
   backends = sound.backends;
   small = sound.small;
   large = sound.large;
@@ -180,6 +182,7 @@ pub reader_sound : (q : Queue) (b : ℕ) (reader : Reader) → IsReachable q rea
 reader_sound q b reader reach sound = record {
   least = sound.least;
   readers = each_set (IsReachable q) q.readers b reader reach sound.readers;
+  some = omega (arith, sound.some, length-set q.readers b reader);
   backends = omega (arith, sound.backends, length-set q.readers b reader);
   small = sound.small;
   large = sound.large;

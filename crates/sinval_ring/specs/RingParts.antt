@@ -27,10 +27,11 @@ abbrev pub IsReachable : Queue → Reader → Type 0
 IsReachable q (At position mark) = (q.least ≤ position) × (position ≤ length q.log) × (length q.log ≤ position + q.size)
 IsReachable q reader = Unit {0}
 
--- every reader can go on, and there are at most 64 backends
+-- every reader can go on, and there are 1 to 64 backends
 pub record IsSound (q : Queue) : Type 0 where
   pub least : q.least ≤ length q.log
   pub readers : (b : ℕ) → IsReachable q (reader_of q b)
+  pub some : 2 ≤ length q.readers
   pub backends : length q.readers ≤ 65
   pub small : 64 ≤ q.size
   pub large : q.size ≤ 4096

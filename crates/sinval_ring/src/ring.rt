@@ -108,6 +108,23 @@ impl Ring {
         self.readers[b as usize] = Reader::Inactive;
     }
 
+    /// How many backends the queue is made for.
+    pub fn backends(&self) -> u32
+        ensures { length self.now.readers ≡ result + 1 }
+    {
+        (self.readers.len() - 1) as u32
+    }
+
+    /// Whether a backend is active.
+    pub fn is_active(&self, b: u32) -> bool
+        ensures { result ≡ is_active (reader_of self.now b) }
+    {
+        match self.readers.get(b as usize) {
+            Some(Reader::At { .. } | Reader::Reset) => true,
+            Some(Reader::Inactive) | None => false,
+        }
+    }
+
     /// Whether an active backend has something to fetch: it is in reset state, or messages wait for it.
     /// Of one that isn't active: no. (`hasMessages` of its `ProcState`.)
     pub fn has(&self, b: u32) -> bool

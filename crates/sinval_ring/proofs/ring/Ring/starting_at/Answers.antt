@@ -10,7 +10,7 @@ inactive c = c.add_inactive.ensures ∙ ap (λ l. l ++ replicate (c.args.backend
 pub invariant_of-result : goal.invariant_of-result
 invariant_of-result c =
     subst (λ n. Keeps c.in_ok-window.window c.of.result.value c.args.number c.args.number (n / 2) c.add_inactive.new.readers.items) (sym c.from.ensures)
-    (keeps_empty c.in_ok-window.window c.args.size c.args.number c.of.result.value c.args.backends c.add_inactive.new.readers.items c.requires.size c.requires.backends.1 c.requires.number c.of.ensures c.in_ok-window.ensures.size c.in_ok-window.ensures.log (inactive c))
+    (keeps_empty c.in_ok-window.window c.args.size c.args.number c.of.result.value c.args.backends c.add_inactive.new.readers.items c.requires.size c.requires.backends.0 c.requires.backends.1 c.requires.number c.of.ensures c.in_ok-window.ensures.size c.in_ok-window.ensures.log (inactive c))
 
 pub returns : goal.returns
 returns c =
