@@ -108,7 +108,7 @@ fn a_sink_fails_at_each_call_in_turn(rt: HostRuntime) -> Result<(), Fail> {
 }
 
 // Arguments and scripts that are refused, and the exit status and the first word that is said.
-const REFUSED: [(&[&str], &[u8], u8, &str); 13] = [
+const REFUSED: [(&[&str], &[u8], u8, &str); 12] = [
     (&[], ABSENT, 1, "usage"),
     (&[""], ABSENT, 1, "usage"),
     (&["Walk"], ABSENT, 1, "usage"),
@@ -131,12 +131,6 @@ const REFUSED: [(&[&str], &[u8], u8, &str); 13] = [
     (
         &["walk"],
         b"backends 1\n1: begin\n1: columns t\nend\n",
-        9,
-        "the script holds",
-    ),
-    (
-        &["walk"],
-        b"ring 4096\nbackends 1\nend\n",
         9,
         "the script holds",
     ),
