@@ -1,6 +1,5 @@
 /// What a backend gets from the queue of invalidation messages (`SIGetDataEntries` in
 /// `src/backend/storage/ipc/sinvaladt.c`).
-// used by the queue of messages, which is not built yet
 #[derive(Clone, Copy)]
 pub enum Fetched {
     /// So many messages.

@@ -24,7 +24,6 @@ pub fn fields_of(kind: Kind) -> &'static [Field]
 }
 
 /// Whether relations of this kind have the field.
-// used by `show` of one field, which is not built yet
 pub fn has_field(kind: Kind, field: Field) -> bool
     ensures { result ≡ is_field_of kind field }
 {

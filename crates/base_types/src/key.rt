@@ -6,7 +6,6 @@ use crate::{Name, Oid};
 use std::marker::Model;
 
 /// The catalog caches: relations by name, relations by oid, and columns by relation and name.
-// used by the catalog caches, which are not built yet
 #[derive(Clone, Copy)]
 pub enum CacheId {
     RelName,
@@ -37,7 +36,6 @@ pub enum KeyPart {
 }
 
 /// A key of a catalog cache, or a prefix of one, of 1 to 4 parts kept in place.
-// used by the catalog caches, which are not built yet
 #[derive(Clone, Copy)]
 pub struct Key {
     len: usize,

@@ -6,7 +6,6 @@ use crate::{CacheId, Key, KeyPart};
 /// The hash of a key in a cache: from the cache's number on, 31 times the hash plus the next byte,
 /// modulo 2^32. (The server has hashes of its own, `CatalogCacheComputeHashValue` in
 /// `src/backend/utils/cache/catcache.c`.)
-// used by the catalog caches, which are not built yet
 pub fn key_hash(cache: CacheId, key: &Key) -> u32
     ensures { result ≡ hash_of cache key.now }
 {

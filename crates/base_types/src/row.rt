@@ -63,7 +63,6 @@ impl Row {
     ghost use Rattle.base_types.specs.RowKeys.{key_of};
 
     /// The catalog of the row.
-    // used by the invalidation messages, which are not built yet
     pub fn catalog(&self) -> Catalog
         ensures { result ≡ catalog_of self.now }
     {
@@ -78,7 +77,6 @@ impl Row {
     }
 
     /// What identifies the row within its catalog.
-    // used by the writers of rows, which are not built yet
     pub fn key(&self) -> RowKey
         ensures { result ≡ key_of self.now }
     {

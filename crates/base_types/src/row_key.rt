@@ -16,7 +16,6 @@ impl RowKey {
     ghost use Rattle.base_types.specs.RowKeys.{same_key};
 
     /// Whether two keys are one.
-    // used by the writers of rows, which are not built yet
     pub fn is(&self, other: &RowKey) -> bool
         ensures { result ≡ same_key self.now other.now }
     {
