@@ -1,5 +1,5 @@
 -- Who is signaled is furthest back.
-use Rattle.std.proofs.Common.{◌≡◌, ◌≤◌, ◌<◌, ◌+◌, ◌⊎◌, inl, inr, ◌∙◌, ℕ, Bool, true, false, cond, nat_lt, Option, Some, None, List, [], ◌∷◌, length, get_or, zero, suc, refl, sym, ap, subst, arith}
+use Rattle.std.proofs.Common.{◌≡◌, ◌≤◌, ◌<◌, ◌+◌, ◌⊎◌, inl, inr, ◌∙◌, ℕ, Bool, true, false, cond, nat_lt, Some, None, List, [], ◌∷◌, get_or, zero, suc, refl, sym, ap, subst, arith}
 use Rattle.std.proofs.lemmas.Bool.{ltb-true, ltb-false}
 use Rattle.sinval_ring.specs.declared.call.Call.{Call}
 use Rattle.sinval_ring.specs.Readers.{Reader, Inactive, At, Reset}
