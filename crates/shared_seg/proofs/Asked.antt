@@ -65,11 +65,6 @@ asked_keeps k now after has b c event store stored locks locked transactions own
 pub same_unchanged : (k now : Kept) (after : List Entry) (has : List ℕ) → k ≡ now → after ≡ k.history → has ≡ k.promised → IsUnchanged now.history after (places_in now) (promised_in has)
 same_unchanged k now after has is entries same = record { entries = entries ∙ ap (λ (x : Kept). x.history) is; places = λ b. ap (λ l. promised_in l b) (same ∙ ap (λ (x : Kept). x.promised) is) }
 
--- what is kept stays
-pub same_keeps : (script : Scenario) (history after : List Entry) (promised has : List ℕ) (store : Store) (locks : List Grant) (transactions : List (Option Transaction)) (next last : ℕ)
-    → KeepsFolds script history promised store locks transactions next last → after ≡ history → has ≡ promised → KeepsFolds script after has store locks transactions next last
-same_keeps script history after promised has store locks transactions next last keeps entries same = rw (entries, same) keeps
-
 -- the same of an entry that begins a transaction, if none runs, and changes no row, no oid and no Xid
 pub asked_quiet : (k now : Kept) (after : List Entry) (has : List ℕ) (b c : ℕ) (event : Event) (store : Store) (locks locked : List Grant) (transactions own : List (Option Transaction)) (next last : ℕ)
     → k ≡ now → KeepsFolds k.script k.history k.promised store locks transactions next last → MayRequest now.script now.history b c → is_start event ≡ false → AllowsEvent k.history b c event → IsOrderlyEvent k.history b event

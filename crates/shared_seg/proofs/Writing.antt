@@ -11,6 +11,7 @@ use Rattle.base_types.specs.declared.change.Change.{Change}
 use Rattle.event_kinds.specs.declared.entry.Entry.{Entry}
 use Rattle.event_kinds.specs.declared.entry.Event.TheVariants.{Write, ClashRow, ClashRunning}
 use Rattle.row_visibility.specs.declared.clash.Clash.{Clash}
+use Rattle.row_visibility.specs.declared.version.Reader.{Reader}
 use Rattle.row_visibility.specs.declared.clash.Clash.TheVariants.{Row, Running}
 use Rattle.lock_modes.specs.declared.grant.Grant.{Grant}
 use Rattle.seg_calls.specs.declared.refusal.Written.{Written}
@@ -125,9 +126,13 @@ module _ (script : Scenario) (history : List Entry) (promised : List ℕ) (store
       ap (list_any (bytes_eq taken.name)) (sym (names_same history b store (record { xid = xid_at transactions b; command = c + 1 }) k.versions (reads_same script history promised store locks transactions next last b c k request) drawn.changes.items draft.forced
       ∙ ap (new_names history b) (ap (λ cs. items_of cs draft.forced) is.changes ∙ items_are draft))) ∙ at.is_new
 
--- the entry of a write, of its parts
-pub entry_written : (history mid after : List Entry) (b c : ℕ) (xid : Xid) (list made drawn : List Item) → after ≡ mid ++ entry_of b c (Write xid list) ∷ [] → mid ≡ history → list ≡ made → made ≡ drawn → after ≡ history ++ entry_of b c (Write xid drawn) ∷ []
-entry_written history mid after b c xid list made drawn entries same listed are = entries ∙ (λ i. same i ++ entry_of b c (Write xid ((listed ∙ are) i)) ∷ [])
+-- the entry of a write, by the items that its draft has
+pub entry_written : (history after : List Entry) (b c : ℕ) (xid : Xid) (made drawn : List Item) → after ≡ history ++ entry_of b c (Write xid made) ∷ [] → made ≡ drawn → after ≡ history ++ entry_of b c (Write xid drawn) ∷ []
+entry_written history after b c xid made drawn entries are = entries ∙ (λ i. history ++ entry_of b c (Write xid (are i)) ∷ [])
+
+-- a new name is taken, by other names of the reader and the changes
+pub taken_of : (store : Store) (reader own : Reader) (given changes : List Change) (taken : Taken) → reader ≡ own → given ≡ changes → IsTaken store reader given taken → IsTaken store own changes taken
+taken_of store reader own given changes taken is same at = subst (λ r. IsTaken store r changes taken) is (subst (λ cs. IsTaken store reader cs taken) same at)
 
 -- what is kept after a clash
 pub clash_keeps : (k now : Kept) (after : List Entry) (has : List ℕ) (b c : ℕ) (name : List ℕ) (clash : Clash) (store : Store) (locks : List Grant) (transactions own : List (Option Transaction)) (next last : ℕ)

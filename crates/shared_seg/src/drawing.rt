@@ -84,79 +84,31 @@ fn drawn_change(first: u32, new_oids: u32, change: &Change) -> Change
 }
 
 // A row with its new oids drawn.
-fn drawn_row(first: u32, new_oids: u32, row: Row) -> Row
+fn drawn_row(first: u32, new_oids: u32, mut row: Row) -> Row
     requires { first + new_oids < 2 ^ 32 }
     ensures { result ≡ row_drawn first new_oids row }
 {
-    match row {
-        Row::Class {
-            oid,
-            name,
-            kind,
-            fill,
-        } => Row::Class {
-            oid: drawn_oid(first, new_oids, oid),
-            name,
-            kind,
-            fill,
-        },
-        Row::Att {
-            rel,
-            num,
-            name,
-            col_type,
-            stat,
-            live,
-        } => Row::Att {
-            rel: drawn_oid(first, new_oids, rel),
-            num,
-            name,
-            col_type,
-            stat,
-            live,
-        },
-        Row::Def {
-            oid,
-            rel,
-            num,
-            word,
-        } => Row::Def {
-            oid: drawn_oid(first, new_oids, oid),
-            rel: drawn_oid(first, new_oids, rel),
-            num,
-            word,
-        },
-        Row::Ind {
-            index,
-            table,
-            state,
-            nums,
-        } => Row::Ind {
-            index: drawn_oid(first, new_oids, index),
-            table: drawn_oid(first, new_oids, table),
-            state,
-            nums,
-        },
-        Row::Con {
-            oid,
-            rel,
-            name,
-            valid,
-            what,
-        } => Row::Con {
-            oid: drawn_oid(first, new_oids, oid),
-            rel: drawn_oid(first, new_oids, rel),
-            name,
-            valid,
-            what,
-        },
-        Row::Trg { oid, rel, name, on } => Row::Trg {
-            oid: drawn_oid(first, new_oids, oid),
-            rel: drawn_oid(first, new_oids, rel),
-            name,
-            on,
-        },
+    match &mut row {
+        Row::Class { oid, .. } => *oid = drawn_oid(first, new_oids, *oid),
+        Row::Att { rel, .. } => *rel = drawn_oid(first, new_oids, *rel),
+        Row::Ind { index, table, .. } => {
+            *index = drawn_oid(first, new_oids, *index);
+            *table = drawn_oid(first, new_oids, *table);
+        }
+        Row::Def { oid, rel, .. } => {
+            *oid = drawn_oid(first, new_oids, *oid);
+            *rel = drawn_oid(first, new_oids, *rel);
+        }
+        Row::Con { oid, rel, .. } => {
+            *oid = drawn_oid(first, new_oids, *oid);
+            *rel = drawn_oid(first, new_oids, *rel);
+        }
+        Row::Trg { oid, rel, .. } => {
+            *oid = drawn_oid(first, new_oids, *oid);
+            *rel = drawn_oid(first, new_oids, *rel);
+        }
     }
+    row
 }
 
 // The new oid that a number up to `new_oids` means; any other oid stays.

@@ -34,5 +34,6 @@ mod naming;
 mod places;
 mod shared;
 mod transaction;
+mod write;
 
 pub use shared::Shared;

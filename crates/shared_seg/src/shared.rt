@@ -1,22 +1,20 @@
 ghost use Rattle.std.specs.Prelude.{◌≡◌, ◌≤◌, ◌<◌, ◌+◌, ◌++◌, ◌^◌, [], false, None, length, replicate, vec_len, vec_capacity, IfOk};
 ghost use Rattle.shared_seg.specs.Undone.{undone};
 ghost use Rattle.shared_seg.specs.KeepsQueue.{event_of_fetch};
-ghost use Rattle.shared_seg.specs.Naming.{clash_with, refuses};
 
 use crate::announce::announced;
-use crate::drawing::{Drawn, draw};
-use crate::grants::new_grants;
-use crate::naming::{Taken, first_taken};
+use crate::drawing::draw;
+use crate::naming::first_taken;
 use crate::places::Places;
-use crate::transaction::{Transaction, begin, begin_writing, clear, end_from, own_xid};
+use crate::transaction::{Transaction, begin, begin_writing, clear, end_from, own_xid, reader_in};
+use crate::write::{clash_entry, enter_write, refusal_of};
 use arrayvec::ArrayVec;
-use base_types::{FIRST_OID, Fetched, Listed, Mode, NoMemory, Oid, Purpose, Scanned, Xid};
+use base_types::{FIRST_OID, Fetched, Mode, NoMemory, Oid, Purpose, Scanned, Xid};
 use catalog_rows::RowStore;
 use ddl_effect::Draft;
 use event_kinds::{Entry, Event};
 use inval_messages::Message;
 use lock_modes::{Granted, LockTable};
-use row_visibility::{Clash, Reader};
 use script_text::Script;
 use seg_calls::{LockRefusal, Seg, WriteRefusal, Written};
 use sinval_ring::Ring;
@@ -155,10 +153,7 @@ impl Seg for Shared {
     }
 
     fn scan(&mut self, b: u32, c: u32, purpose: &Purpose) -> Result<Scanned, NoMemory> {
-        let reader = Reader {
-            xid: own_xid(&self.transactions, b),
-            command: c + 1,
-        };
+        let reader = reader_in(&self.transactions, b, c);
         let rows = self.store.scan(purpose, reader)?;
         let count = u32::try_from(rows.len()).map_err(|_| NoMemory)?;
         self.places.add(Entry {
@@ -210,56 +205,33 @@ impl Seg for Shared {
     }
 
     fn write(&mut self, b: u32, c: u32, draft: &Draft) -> Result<Written, WriteRefusal> {
-        let own = own_xid(&self.transactions, b);
-        let Ok(drawn) = draw(self.alloc, own, draft, self.next_oid, self.last_xid) else {
+        let reader = reader_in(&self.transactions, b, c);
+        let Ok(drawn) = draw(self.alloc, reader.xid, draft, self.next_oid, self.last_xid) else {
             return Err(WriteRefusal::NoMemory);
         };
-        let Drawn {
-            xid,
-            next_oid,
-            changes,
-            items,
-        } = drawn;
-        let reader = Reader {
-            xid: own,
-            command: c + 1,
-        };
-        if let Some(taken) = first_taken(&self.store, reader, &changes) {
-            let Ok(()) = self.places.add(Entry {
-                backend: b,
-                command: c,
-                event: clash_event(&taken),
-            })
-            else {
+        if let Some(taken) = first_taken(&self.store, reader, &drawn.changes) {
+            let Ok(()) = self.places.add(clash_entry(b, c, &taken)) else {
                 return Err(WriteRefusal::NoMemory);
             };
             begin(&mut self.transactions, b, c);
             return Err(refusal_of(&taken));
         }
-        let Ok(messages) = announced(self.alloc, &self.store, reader, &items) else {
+        let Ok(messages) = announced(self.alloc, &self.store, reader, &drawn.items) else {
             return Err(WriteRefusal::NoMemory);
         };
-        let Ok(grants) = new_grants(self.alloc, b, c, &items) else {
+        let xid = drawn.xid;
+        let next_oid = drawn.next_oid;
+        let Ok(()) = enter_write(
+            self.alloc,
+            &mut self.store,
+            &mut self.locks,
+            &mut self.places,
+            b,
+            c,
+            drawn,
+        ) else {
             return Err(WriteRefusal::NoMemory);
         };
-        let Ok(()) = self.locks.prepare(grants) else {
-            return Err(WriteRefusal::NoMemory);
-        };
-        let Ok(()) = self.places.make_room() else {
-            return Err(WriteRefusal::NoMemory);
-        };
-        let Ok(()) = self.store.apply(xid, c, &changes) else {
-            return Err(WriteRefusal::NoMemory);
-        };
-        self.locks.grant_prepared();
-        self.places.push(Entry {
-            backend: b,
-            command: c,
-            event: Event::Write {
-                xid,
-                items: Listed::from_vec(items),
-            },
-        });
         begin_writing(&mut self.transactions, b, c, xid);
         let first_oid = Oid(self.next_oid);
         self.next_oid = next_oid;
@@ -333,25 +305,6 @@ fn fetch_event(fetched: Fetched) -> Event
     match fetched {
         Fetched::Messages(count) => Event::Fetch { count },
         Fetched::Reset => Event::FetchReset,
-    }
-}
-
-// The refusal of a clash.
-fn refusal_of(taken: &Taken) -> WriteRefusal
-    ensures { result ≡ refuses taken.now }
-{
-    let Taken { name, clash } = *taken;
-    WriteRefusal::Clash(name, clash)
-}
-
-// The entry of a clash.
-fn clash_event(taken: &Taken) -> Event
-    ensures { result ≡ clash_with taken.now }
-{
-    let Taken { name, clash } = *taken;
-    match clash {
-        Clash::Row(rel) => Event::ClashRow { name, rel },
-        Clash::Running(xid) => Event::ClashRunning { name, xid },
     }
 }
 

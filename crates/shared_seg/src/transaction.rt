@@ -1,7 +1,8 @@
-ghost use Rattle.std.specs.Prelude.{◌≡◌, ◌<◌, None, Some, length, slice_set, vec_len};
+ghost use Rattle.std.specs.Prelude.{◌≡◌, ◌<◌, ◌+◌, ◌^◌, None, Some, length, slice_set, vec_len};
 ghost use Rattle.shared_seg.specs.Transactions.{begun_own, after_own_release, transaction_at, with_own_xid, xid_at};
 
 use base_types::Xid;
+use row_visibility::Reader;
 
 // The running transaction of a backend: its first command, and its Xid once it has written.
 #[derive(Clone, Copy)]
@@ -79,5 +80,17 @@ pub(crate) fn own_xid(transactions: &[Option<Transaction>], b: u32) -> Option<Xi
     match transactions[b as usize] {
         Some(transaction) => transaction.xid,
         None => None,
+    }
+}
+
+// The backend as a reader of rows in this command: it sees what it wrote up to this command.
+pub(crate) fn reader_in(transactions: &[Option<Transaction>], b: u32, command: u32) -> Reader
+    requires within { b < length transactions.now }
+    requires number { command + 1 < 2 ^ 32 }
+    ensures { result ≡ record { xid = xid_at transactions.now b; command = command + 1 } }
+{
+    Reader {
+        xid: own_xid(transactions, b),
+        command: command + 1,
     }
 }

@@ -1,4 +1,4 @@
-use Rattle.std.proofs.Common.{◌≡◌, ◌+◌, ◌∙◌, ◌<◌, ◌^◌, length, refl, ap, rules}
+use Rattle.std.proofs.Common.{◌≡◌, ◌+◌, ◌∙◌, length, refl, ap, rules}
 use Rattle.event_kinds.specs.declared.entry.Event.TheVariants.{Scan}
 use Rattle.catalog_rows.specs.Store.{rows_of_scan}
 use Rattle.shared_seg.specs.Transactions.{xid_at}
@@ -7,8 +7,8 @@ use Rattle.shared_seg.proofs.Scanned.{scan_is_answer, gives_rows}
 use Rattle.shared_seg.proofs.Queue.{asked_still}
 use Rattle.shared_seg.proofs.shared.SharedSeg.scan.Goals as goal
 
-pub overflow_add-reader : goal.overflow_add-reader
-overflow_add-reader c = let small : c.args.c + 1 < 2 ^ 32 = small_number _ _ c.args.b c.args.c c.self.invariant.folds.script_is (request_inside _ _ c.args.b c.args.c c.self.view_is c.requires.call) in search rules
+pub reader_in-reader-requires-clause-number : goal.reader_in-reader-requires-clause-number
+reader_in-reader-requires-clause-number c = small_number _ _ c.args.b c.args.c c.self.invariant.folds.script_is (request_inside _ _ c.args.b c.args.c c.self.view_is c.requires.call)
 
 pub invariant_of-self-2 : goal.invariant_of-self-2
 invariant_of-self-2 c =

@@ -1,0 +1,91 @@
+ghost use Rattle.std.specs.Prelude.{◌≡◌, ◌≤◌, ◌++◌, ◌∷◌, ◌^◌, [], length, OnOk, OnErr};
+ghost use Rattle.std.specs.List.{flat_map};
+ghost use Rattle.catalog_rows.specs.Store.{after_write};
+ghost use Rattle.event_kinds.specs.declared.entry.Event.TheVariants as events;
+ghost use Rattle.history_model.specs.Held.{granted_by};
+ghost use Rattle.seg_calls.specs.Calls.{entry_of};
+ghost use Rattle.shared_seg.specs.Naming.{clash_with, refuses};
+
+use crate::drawing::Drawn;
+use crate::grants::new_grants;
+use crate::naming::Taken;
+use crate::places::Places;
+use base_types::{Listed, NoMemory};
+use catalog_rows::RowStore;
+use event_kinds::{Entry, Event};
+use lock_modes::LockTable;
+use row_visibility::Clash;
+use seg_calls::WriteRefusal;
+use std::alloc::Global;
+
+// Makes the changes of a write, grants the relations that it adds, and enters it. Out of memory, all
+// three are as before.
+pub(crate) fn enter_write(
+    alloc: Global,
+    store: &mut RowStore,
+    locks: &mut LockTable,
+    places: &mut Places,
+    b: u32,
+    c: u32,
+    drawn: Drawn,
+) -> Result<(), NoMemory>
+    ensures rows { OnOk result (store.new ≡ after_write store.old drawn.xid c drawn.changes.items) }
+    ensures held { OnOk result (locks.new.held ≡ locks.old.held ++ flat_map (granted_by b c) drawn.items.items) }
+    ensures entries { OnOk result (places.new.entries ≡ places.old.entries ++ entry_of b c (events.Write drawn.xid drawn.items.items) ∷ []) }
+    ensures promised { places.new.promised ≡ places.old.promised }
+    ensures same_rows { OnErr result (store.new ≡ store.old) }
+    ensures same_held { OnErr result (locks.new.held ≡ locks.old.held) }
+    ensures same_entries { OnErr result (places.new.entries ≡ places.old.entries) }
+    ensures short { OnOk result (length places.new.entries ≤ 2 ^ 56) }
+{
+    let Drawn {
+        xid,
+        next_oid: _,
+        changes,
+        items,
+    } = drawn;
+    let grants = new_grants(alloc, b, c, &items)?;
+    locks.prepare(grants)?;
+    places.make_room()?;
+    store.apply(xid, c, &changes)?;
+    locks.grant_prepared();
+    places.push(Entry {
+        backend: b,
+        command: c,
+        event: Event::Write {
+            xid,
+            items: Listed::from_vec(items),
+        },
+    });
+    Ok(())
+}
+
+// The entry of a clash.
+pub(crate) fn clash_entry(b: u32, c: u32, taken: &Taken) -> Entry
+    ensures { result ≡ entry_of b c (clash_with taken.now) }
+{
+    Entry {
+        backend: b,
+        command: c,
+        event: clash_event(taken),
+    }
+}
+
+// The event of a clash.
+fn clash_event(taken: &Taken) -> Event
+    ensures { result ≡ clash_with taken.now }
+{
+    let Taken { name, clash } = *taken;
+    match clash {
+        Clash::Row(rel) => Event::ClashRow { name, rel },
+        Clash::Running(xid) => Event::ClashRunning { name, xid },
+    }
+}
+
+// The refusal of a clash.
+pub(crate) fn refusal_of(taken: &Taken) -> WriteRefusal
+    ensures { result ≡ refuses taken.now }
+{
+    let Taken { name, clash } = *taken;
+    WriteRefusal::Clash(name, clash)
+}
