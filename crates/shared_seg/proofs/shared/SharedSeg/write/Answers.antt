@@ -1,4 +1,4 @@
-use Rattle.std.proofs.Common.{◌≡◌, ◌+◌, ◌∙◌, ◌++◌, ◌∷◌, [], max, refl, ap, subst, rules}
+use Rattle.std.proofs.Common.{◌≡◌, ◌∙◌, ◌++◌, ◌∷◌, [], max, refl, ap, subst, rules}
 use Rattle.std.specs.List.{flat_map}
 use Rattle.row_visibility.specs.declared.version.Reader.{Reader}
 use Rattle.seg_calls.specs.Calls.{entry_of}
