@@ -31,7 +31,7 @@ use Rattle.shared_seg.specs.Places.{promised_in}
 use Rattle.shared_seg.proofs.Asked.{request_inside, asked_appends}
 use Rattle.shared_seg.specs.declared.transaction.Transaction.{Transaction}
 use Rattle.shared_seg.specs.KeepsFolds.{KeepsFolds}
-use Rattle.shared_seg.specs.Transactions.{xid_at}
+use Rattle.shared_seg.specs.Transactions.{own_reader, xid_at}
 use Rattle.shared_seg.proofs.Rows.{runs_own}
 
 -- two tests that agree on each element keep the same
@@ -55,7 +55,7 @@ early history script b c s row ordered request touch runs =
 
 -- a stamp counts for the reader where it counts for the backend
 stamp_same : (script : Scenario) (history : List Entry) (promised : List ℕ) (store : Store) (locks : List Grant) (transactions : List (Option Transaction)) (next last b c : ℕ) → KeepsFolds script history promised store locks transactions next last → MayRequest script history b c
-    → (s : Stamp) (row : Row) → Touch history s row → sees_stamp (has_committed store.committed) (record { xid = xid_at transactions b; command = c + 1 }) s ≡ counts history b s
+    → (s : Stamp) (row : Row) → Touch history s row → sees_stamp (has_committed store.committed) (own_reader transactions b c) s ≡ counts history b s
 stamp_same script history promised store locks transactions next last b c k request s row touch =
     ap (λ t. t || (is_own (xid_at transactions b) s && nat_lt s.command (c + 1))) (k.committed s.xid.0) ∙ ap (λ t. is_committed history s.xid.0 || t) (by_own (runs_as history b s.xid.0) refl)
   where
@@ -78,19 +78,19 @@ version_same p q v same = λ i. same.0 i && not (ended v.ended same.1 i)
 
 -- the reader sees what the backend sees
 pub reads_same : (script : Scenario) (history : List Entry) (promised : List ℕ) (store : Store) (locks : List Grant) (transactions : List (Option Transaction)) (next last b c : ℕ) → KeepsFolds script history promised store locks transactions next last → MayRequest script history b c
-    → AllByRecursion (λ v. sees_version (has_committed store.committed) (record { xid = xid_at transactions b; command = c + 1 }) v ≡ sees history b v) (versions_of history)
+    → AllByRecursion (λ v. sees_version (has_committed store.committed) (own_reader transactions b c) v ≡ sees history b v) (versions_of history)
 reads_same script history promised store locks transactions next last b c k request =
-    every-weaker (OfStamps (Touch history)) (λ v. sees_version (has_committed store.committed) (record { xid = xid_at transactions b; command = c + 1 }) v ≡ sees history b v)
-    (λ v touched. version_same (sees_stamp (has_committed store.committed) (record { xid = xid_at transactions b; command = c + 1 })) (counts history b) v
-    (stamps-weaker (Touch history) (λ s row. sees_stamp (has_committed store.committed) (record { xid = xid_at transactions b; command = c + 1 }) s ≡ counts history b s) (stamp_same script history promised store locks transactions next last b c k request) v touched))
+    every-weaker (OfStamps (Touch history)) (λ v. sees_version (has_committed store.committed) (own_reader transactions b c) v ≡ sees history b v)
+    (λ v touched. version_same (sees_stamp (has_committed store.committed) (own_reader transactions b c)) (counts history b) v
+    (stamps-weaker (Touch history) (λ s row. sees_stamp (has_committed store.committed) (own_reader transactions b c) s ≡ counts history b s) (stamp_same script history promised store locks transactions next last b c k request) v touched))
     (versions_of history) (sound_ordered history k.sound).touched
 
 -- so a scan gives the answer
 pub scan_is_answer : (script : Scenario) (history : List Entry) (promised : List ℕ) (store : Store) (locks : List Grant) (transactions : List (Option Transaction)) (next last b c : ℕ) (purpose : Purpose) → KeepsFolds script history promised store locks transactions next last → MayRequest script history b c
-    → rows_of_scan store purpose (record { xid = xid_at transactions b; command = c + 1 }) ≡ answer_of history b purpose
+    → rows_of_scan store purpose (own_reader transactions b c) ≡ answer_of history b purpose
 scan_is_answer script history promised store locks transactions next last b c purpose k request =
-    ap (λ vs. scan_of purpose (map (λ v. v.row) (filter (sees_version (has_committed store.committed) (record { xid = xid_at transactions b; command = c + 1 })) vs))) k.versions
-    ∙ ap (λ vs. scan_of purpose (map (λ v. v.row) vs)) (filter_each (sees_version (has_committed store.committed) (record { xid = xid_at transactions b; command = c + 1 })) (sees history b) (versions_of history) (reads_same script history promised store locks transactions next last b c k request))
+    ap (λ vs. scan_of purpose (map (λ v. v.row) (filter (sees_version (has_committed store.committed) (own_reader transactions b c)) vs))) k.versions
+    ∙ ap (λ vs. scan_of purpose (map (λ v. v.row) vs)) (filter_each (sees_version (has_committed store.committed) (own_reader transactions b c)) (sees history b) (versions_of history) (reads_same script history promised store locks transactions next last b c k request))
 
 -- a scan whose entry counts what it gives
 pub gives_rows : (k now : Kept) (after : List Entry) (has : List ℕ) (b c : ℕ) (purpose : Purpose) (scanned : Scanned) (count : ℕ) → k ≡ now → MayRequest now.script now.history b c

@@ -1,10 +1,11 @@
 -- What is kept of the running transactions: their first commands and their Xids.
-use Rattle.std.specs.Prelude.{ℕ, Option, Some, None, List, ◌==◌, if◌then◌else◌, slice_index_or}
+use Rattle.std.specs.Prelude.{ℕ, Option, Some, None, List, ◌==◌, ◌+◌, if◌then◌else◌, slice_index_or}
 use Rattle.std.specs.Option.{option_map}
 use Rattle.base_types.specs.declared.ids.Xid.{Xid}
 use Rattle.event_kinds.specs.declared.entry.Entry.{Entry}
 use Rattle.event_kinds.specs.declared.entry.Event.{Event}
 use Rattle.event_kinds.specs.declared.entry.Event.TheVariants.{Start, Write, Release, Stop}
+use Rattle.row_visibility.specs.declared.version.Reader.{Reader}
 use Rattle.history_model.specs.Transactions.{Running, running_transaction_of}
 use Rattle.shared_seg.specs.declared.transaction.Transaction.{Transaction}
 
@@ -32,6 +33,10 @@ own_xid_in (Some t) = t.xid
 -- the Xid that is kept for a backend
 abbrev pub xid_at : List (Option Transaction) → ℕ → Option Xid
 xid_at transactions b = own_xid_in (transaction_at transactions b)
+
+-- a backend as a reader of rows in a command: it sees what it wrote in the commands up to this one
+abbrev pub own_reader : List (Option Transaction) → ℕ → ℕ → Reader
+own_reader transactions b command = record { xid = xid_at transactions b; command = command + 1 }
 
 -- the transaction of an entry: the running one, or else one that begins with this command
 abbrev pub begun_own : ℕ → Option Transaction → Transaction

@@ -1,5 +1,5 @@
 ghost use Rattle.std.specs.Prelude.{◌≡◌, ◌<◌, ◌+◌, ◌^◌, None, Some, length, slice_set, vec_len};
-ghost use Rattle.shared_seg.specs.Transactions.{begun_own, after_own_release, transaction_at, with_own_xid, xid_at};
+ghost use Rattle.shared_seg.specs.Transactions.{begun_own, after_own_release, own_reader, transaction_at, with_own_xid, xid_at};
 
 use base_types::Xid;
 use row_visibility::Reader;
@@ -83,11 +83,11 @@ pub(crate) fn own_xid(transactions: &[Option<Transaction>], b: u32) -> Option<Xi
     }
 }
 
-// The backend as a reader of rows in this command: it sees what it wrote up to this command.
+// The backend as a reader of rows in this command: it sees what it wrote in the commands up to this one.
 pub(crate) fn reader_in(transactions: &[Option<Transaction>], b: u32, command: u32) -> Reader
     requires within { b < length transactions.now }
     requires number { command + 1 < 2 ^ 32 }
-    ensures { result ≡ record { xid = xid_at transactions.now b; command = command + 1 } }
+    ensures { result ≡ own_reader transactions.now b command }
 {
     Reader {
         xid: own_xid(transactions, b),
