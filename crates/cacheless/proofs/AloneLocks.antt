@@ -1,5 +1,5 @@
 -- By a clear lock that no two backends may hold a backend keeps out all who change the relation's rows, and so what it has read of them by a usable scan is the scan's answer.
-use Rattle.std.proofs.Common.{◌≡◌, ◌∙◌, ℕ, Bool, true, false, Some, List, [], ◌∷◌, ◌==◌, ◌||◌, ◌&&◌, refl, sym, ap, subst, map, filter, cond}
+use Rattle.std.proofs.Common.{◌≡◌, ◌∙◌, ℕ, Bool, true, false, Some, List, [], ◌∷◌, ◌==◌, ◌||◌, ◌&&◌, refl, sym, ap, map, filter, cond}
 use Rattle.std.specs.List.{AllByRecursion, list_any, list_all}
 use Rattle.std.specs.Option.{option_map_or}
 use Rattle.std.proofs.Math.Bool.{or-true}

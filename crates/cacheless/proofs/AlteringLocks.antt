@@ -1,13 +1,12 @@
 -- The lock under which a command alters its table is that of its lookup; so what it writes may be written.
-use Rattle.std.proofs.Common.{◌≡◌, ◌∙◌, ℕ, true, List, [], ◌∷◌, ◌++◌, refl, sym, ap, subst, map}
+use Rattle.std.proofs.Common.{◌≡◌, ◌∙◌, ℕ, List, [], ◌∷◌, refl, sym, ap, subst, map}
 use Rattle.std.specs.Prelude.{⊤}
 use Rattle.std.specs.List.{AllByRecursion}
-use Rattle.std.proofs.lemmas.List.{map-append}
 use Rattle.base_types.specs.declared.command.Command.TheVariants as commands
 use Rattle.base_types.specs.declared.mode.Mode.TheVariants.{ShareUpdateExclusive}
 use Rattle.base_types.specs.declared.row.Row.TheVariants as rows
 use Rattle.lock_modes.specs.Grants.{holds}
-use Rattle.ddl_effect.specs.Plans.{Plan, Done, Fails, Absent, NotBuilt, Do, Lookup, Open, Column, Read, Lock, Write}
+use Rattle.ddl_effect.specs.Plans.{Plan, Absent, Do, Write}
 use Rattle.ddl_effect.specs.Commands.{plan_of, looking_up, altering, add_column, drop_column, rename_column, set_statistics, set_fillfactor}
 use Rattle.history_model.specs.Prefixes.{EachEntry}
 use Rattle.history_model.specs.Held.{held_of}

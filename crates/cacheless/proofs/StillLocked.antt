@@ -1,5 +1,5 @@
 -- What a command's acts gave is so still after one more entry, under the locks of the relations that it found.
-use Rattle.std.proofs.Common.{◌≡◌, ◌∙◌, inl, inr, ℕ, Bool, true, false, List, [], ◌∷◌, ◌++◌, ◌==◌, All, sym, ap, subst, refl}
+use Rattle.std.proofs.Common.{◌≡◌, ◌∙◌, inl, inr, ℕ, Bool, true, false, List, [], ◌∷◌, ◌++◌, ◌==◌, sym, ap, subst, refl}
 use Rattle.std.specs.List.{AllByRecursion, list_all}
 use Rattle.std.proofs.lemmas.List.Elements.{All-contains, All-from_recursion}
 use Rattle.base_types.specs.Modes.{conflicts}
@@ -18,7 +18,7 @@ use Rattle.history_model.proofs.Locked.{changing_modes, held_bars_all, held_bars
 use Rattle.history_model.proofs.Reading.{held_of-more as held-more}
 use Rattle.history_model.proofs.WeakChanges.{AsksOf, asks_of}
 use Rattle.cacheless.specs.Types.{Oid, Mode, Kind, Row, Purpose, Entry}
-use Rattle.cacheless.specs.ActsDone.{LockedRelation, locked_relation_by, made_in, BeginWith, IsHeld, WayHolds}
+use Rattle.cacheless.specs.ActsDone.{LockedRelation, locked_relation_by, made_in, IsHeld, WayHolds}
 use Rattle.cacheless.proofs.ActOrder.{FollowsOrder}
 use Rattle.cacheless.proofs.StillAfter.{IsOf, RowsStay, still_after}
 

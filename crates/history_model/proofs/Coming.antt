@@ -6,20 +6,18 @@ use Rattle.std.specs.Option.{option_map_or}
 use Rattle.std.proofs.lemmas.List.{take-append-le, drop-append-le, drop-drop, take-append-drop, length-append}
 use Rattle.std.proofs.lemmas.Bool.{eqb-true, eq-eqb, both_ways, ltb-true}
 use Rattle.base_types.specs.declared.ids.Xid.{Xid}
-use Rattle.base_types.specs.declared.row.Row.{Row}
 use Rattle.base_types.specs.declared.scan.Purpose.{Purpose}
 use Rattle.event_kinds.specs.declared.entry.Entry.{Entry}
 use Rattle.event_kinds.specs.declared.entry.Event.{Event}
 use Rattle.event_kinds.specs.declared.entry.Event.TheVariants as events
 use Rattle.inval_messages.specs.declared.message.Message.{Message}
 use Rattle.inval_messages.specs.Messages.{covers}
-use Rattle.inval_messages.specs.Lists.{Written, cats_in, rels_in, rest_of_parts}
+use Rattle.inval_messages.specs.Lists.{cats_in, rels_in, rest_of_parts}
 use Rattle.history_model.specs.Transactions.{Running, running_transaction_of, running_by, begun, is_visible}
-use Rattle.history_model.specs.Versions.{answer_of}
 use Rattle.history_model.specs.Sent.{lists_of, lists_by, sent_of, left_in, unsent_of, unsent_in}
 use Rattle.history_model.specs.Log.{log_of, log_by, position_of, position_by, fetched_by}
 use Rattle.history_model.specs.Covered.{is_covered}
-use Rattle.history_model.specs.Coming.{unpublished_in, unpublished_of, all_unpublished, coming_to, IsComing}
+use Rattle.history_model.specs.Coming.{unpublished_in, unpublished_of, all_unpublished, IsComing}
 use Rattle.history_model.specs.Legal.{MayRelease, AllowsEvent}
 use Rattle.history_model.proofs.Reading.{running_transaction_of-own as running-own, running_transaction_of-other as running-other, lists_of-own as lists-own, lists_of-other as lists-other, log_of-more as log-more, position_of-own as position-own, position_of-other as position-other}
 use Rattle.history_model.proofs.Every.{any-left, any-right, any-sides}

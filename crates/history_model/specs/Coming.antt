@@ -1,5 +1,5 @@
 -- What is still on its way to a backend, and what a scan that it has made is worth.
-use Rattle.std.specs.Prelude.{◌≡◌, ◌≤◌, ◌⊎◌, ℕ, Bool, true, false, Option, List, [], ◌++◌, length, take, drop}
+use Rattle.std.specs.Prelude.{◌≡◌, ◌≤◌, ◌⊎◌, ℕ, true, false, Option, List, [], ◌++◌, length, take, drop}
 use Rattle.std.specs.List.{flat_map}
 use Rattle.inval_messages.specs.Lists.{Written}
 use Rattle.history_model.specs.Types.{Row, Purpose, Message, Entry}
