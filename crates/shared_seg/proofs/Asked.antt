@@ -1,4 +1,4 @@
--- What is shared after an entry that takes no promised place, and where none is made.
+-- What is shared after an entry that takes no promised place.
 use Rattle.std.proofs.Common.{◌≡◌, ◌==◌, ◌≤◌, ◌<◌, ◌+◌, ◌∙◌, ◌^◌, ℕ, false, not, Option, List, slice_set, [], ◌∷◌, ◌++◌, length, filter, arith, refl, sym, ap, subst}
 use Rattle.std.proofs.lemmas.List.{length-map, length-set}
 use Rattle.std.proofs.lemmas.List.Filters.{length-filter_both}
@@ -16,7 +16,7 @@ use Rattle.history_model.specs.Transactions.{last_xid_by, makes_visible}
 use Rattle.history_model.specs.Versions.{versions_by}
 use Rattle.history_model.proofs.Runs.{writes_as}
 use Rattle.history_model.specs.Orderly.{MayComeNext, IsOrderlyEvent}
-use Rattle.seg_calls.specs.Calls.{entry_of, MayRequest, Appends, IsUnchanged}
+use Rattle.seg_calls.specs.Calls.{entry_of, MayRequest, Appends}
 use Rattle.seg_calls.proofs.Allowed.{is_start, request_follows}
 use Rattle.shared_seg.specs.declared.transaction.Transaction.{Transaction}
 use Rattle.shared_seg.specs.Kept.{Kept, places_in}
@@ -60,10 +60,6 @@ asked_keeps k now after has b c event store stored locks locked transactions own
     subst (λ h. KeepsFolds k.script h has stored locked own oid xid) (sym entries)
     (keeps_more k.script k.history (entry_of b c event) k.promised has store stored locks locked transactions own next oid last xid keeps
     (asked_comes k.script k.history b c event (request_inside k now b c is request) asked allows orderly) (ap length same) steps)
-
--- where nothing is entered
-pub same_unchanged : (k now : Kept) (after : List Entry) (has : List ℕ) → k ≡ now → after ≡ k.history → has ≡ k.promised → IsUnchanged now.history after (places_in now) (promised_in has)
-same_unchanged k now after has is entries same = record { entries = entries ∙ ap (λ (x : Kept). x.history) is; places = λ b. ap (λ l. promised_in l b) (same ∙ ap (λ (x : Kept). x.promised) is) }
 
 -- the same of an entry that begins a transaction, if none runs, and changes no row, no oid and no Xid
 pub asked_quiet : (k now : Kept) (after : List Entry) (has : List ℕ) (b c : ℕ) (event : Event) (store : Store) (locks locked : List Grant) (transactions own : List (Option Transaction)) (next last : ℕ)

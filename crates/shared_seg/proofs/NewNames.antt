@@ -1,25 +1,19 @@
--- The new names of the first changes.
-use Rattle.std.proofs.Common.{◌≡◌, ◌<◌, ◌+◌, ◌∙◌, ◌||◌, ℕ, true, false, List, [], ◌∷◌, ◌++◌, length, take, drop, get_or, ap, sym, subst}
+-- A new name that is taken.
+use Rattle.std.proofs.Common.{◌≡◌, ◌<◌, ◌+◌, ◌∙◌, ◌||◌, ℕ, true, false, List, ◌∷◌, ◌++◌, length, take, drop, get_or, ap, sym, subst}
 use Rattle.std.specs.List.{flat_map, list_any}
 use Rattle.std.specs.Str.{bytes_eq}
 use Rattle.std.proofs.lemmas.Cmp.{nat_list_eq_equiv}
-use Rattle.std.proofs.lemmas.List.{take_more, drop_more, take-append-drop}
+use Rattle.std.proofs.lemmas.List.{drop_more, take-append-drop}
 use Rattle.std.proofs.lemmas.Grind.{flat_map-append}
 use Rattle.base_types.specs.declared.change.Change.{Change}
 use Rattle.row_visibility.specs.declared.version.Reader.{Reader}
 use Rattle.catalog_rows.specs.Store.{Store}
-use Rattle.history_model.proofs.Every.{every-append, any-left, any-right}
+use Rattle.history_model.proofs.Every.{any-left, any-right}
 use Rattle.shared_seg.specs.declared.naming.Taken.{Taken}
-use Rattle.shared_seg.specs.Naming.{new_name_of, NameFree, NamesFree, IsTaken, IsTakenBy}
+use Rattle.shared_seg.specs.Naming.{new_name_of, IsTaken, IsTakenBy}
 
 pub bytes_eq-same : (xs : List ℕ) → bytes_eq xs xs ≡ true
 bytes_eq-same xs = nat_list_eq_equiv.refl xs
-
--- one more change whose new name is free
-pub free_more : (store : Store) (reader : Reader) (changes : List Change) (i : ℕ) (change : Change) → i < length changes → change ≡ get_or changes i change → NamesFree store reader (take i changes) → NameFree store reader change
-    → NamesFree store reader (take (i + 1) changes)
-free_more store reader changes i change within is free here =
-    subst (NamesFree store reader) (sym (take_more changes i change within ∙ ap (λ x. take i changes ++ x ∷ []) (sym is))) (every-append (NameFree store reader) (take i changes) (change ∷ []) free (here, tt))
 
 -- a change whose new name is taken
 pub taken_at : (store : Store) (reader : Reader) (changes : List Change) (i : ℕ) (change : Change) (taken : Taken) → i < length changes → change ≡ get_or changes i change → IsTakenBy store reader change taken → IsTaken store reader changes taken

@@ -18,8 +18,8 @@ use row_visibility::Clash;
 use seg_calls::WriteRefusal;
 use std::alloc::Global;
 
-// Makes the changes of a write, grants the relations that it adds, and enters it. Out of memory, all
-// three are as before.
+// Makes the changes of a write, grants the relations that it adds, and enters it. Out of memory, the
+// rows, the grants and the entries are as before.
 pub(crate) fn enter_write(
     alloc: Global,
     store: &mut RowStore,
