@@ -16,9 +16,8 @@ use Rattle.ddl_effect.specs.Blocks.{Block, Outside, Inside, Failed, no_block, is
 use Rattle.ddl_effect.specs.Stages.{plan_at}
 use Rattle.history_model.specs.Lives.{Life, Unstarted, Alive, Stopped, life_of}
 use Rattle.history_model.specs.Orderly.{IsSound}
-use Rattle.history_model.specs.Lapped.{FollowsQueue}
 use Rattle.history_model.specs.Prefixes.{EachEntry}
-use Rattle.history_model.specs.Read.{IsEconomical, place_read}
+use Rattle.history_model.specs.Read.{is_usable, rows_read, place_read}
 use Rattle.history_model.specs.Writes.{has_written, is_empty}
 use Rattle.seg_calls.specs.Calls.{took_back}
 use Rattle.cacheless.specs.Facts.{Facts, facts_of}
@@ -32,7 +31,6 @@ use Rattle.cacheless.specs.Settled.{opened_by, settled, finished_as}
 use Rattle.cacheless.specs.Sessions.{session_of}
 use Rattle.cacheless.specs.Plays.{Plays}
 use Rattle.cacheless.specs.TableWrites.{WritesTables}
-use Rattle.cacheless.specs.Schedule.{AreLooksTrue}
 use Rattle.cacheless.specs.Lines.{answer_judged, lines_from}
 use Rattle.backend_core.specs.Types.{Row, Purpose, Command, CommandError, Scenario, Entry, OwnLock, Opening, KeptScan, Phase, Backend}
 use Rattle.backend_core.specs.declared.phase.Life.TheVariants as lives
@@ -41,14 +39,11 @@ use Rattle.backend_core.specs.Passing.{is_silent}
 use Rattle.backend_core.specs.Way.{SeesRelation, Way}
 use Rattle.backend_core.specs.State.{owed_at, is_absent, published_at, is_accepting, looks_due, is_taken_back, is_ended, one_if, running_at, lists_at, is_kept, builds_missing, is_out, begins_in, owed_first, end_at, is_inside, blocks_next, has_write_since, end_of_running, Rest, session_at, HasCommand, is_in_accept}
 
--- a history that the script's commands played so far, with each fetch of a queue of the script's size
+-- a history on which a backend goes on: it is sound, the script's commands played it, and its writes keep tables
 pub record IsPlayed (scenario : Scenario) (history : List Entry) : Type 0 where
   pub sound : IsSound history
   pub plays : Plays scenario history
-  pub economical : IsEconomical history
-  pub looks : AreLooksTrue history
   pub tables : EachEntry WritesTables history
-  pub queue : FollowsQueue scenario.size history
 
 -- what the scan of a name gave is what the backend holds of it, and it serves: it is usable, or the relation that a lookup's gave is locked
 abbrev pub RowsFit : Facts → List OwnLock → Plan → List Row → Type 0
@@ -285,9 +280,12 @@ pub record HasNotJoined (scenario : Scenario) (seen : List Entry) (s : Backend) 
   pub life : life_of seen s.id ≡ Unstarted
   pub unwritten : (c : ℕ) → has_written seen s.id c ≡ false
 
--- a backend that has left has answered all its commands
+-- a backend that has left has answered all its commands, and what it has read it keeps
 pub record HasLeft (scenario : Scenario) (seen : List Entry) (s : Backend) : Type 0 where
   pub number : IsBackend scenario.backends s.id
+  pub usable : (scan : Purpose) → is_build_scan scan ≡ true → is_usable seen s.id scan ≡ is_kept s.kept scan
+  pub right : All (ReadRight (rows_read seen s.id)) s.kept
+  pub kept : All (KeptAt seen s.id) s.kept
   pub life : life_of seen s.id ≡ Stopped
   pub finished : List Finished
   pub are : option_map_or (λ now. now.finished) (session_of scenario seen s.id) [] ≡ finished

@@ -9,6 +9,7 @@ pub mod Settled
 pub mod ActsDone
 pub mod Sessions
 pub mod Plays
+pub mod MayEnter
 pub mod TableWrites
 pub mod Protected
 pub mod Lines
