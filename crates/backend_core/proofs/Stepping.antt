@@ -178,7 +178,7 @@ own_next scenario old was event agrees waits plays = (
 )
 
 -- of the places that are promised an entry takes at most one
-one_place : (event : Event) → places_for event ≤ 1
+pub one_place : (event : Event) → places_for event ≤ 1
 one_place (events.Scan purpose rows) = omega arith
 one_place (events.LockOk rel mode) = omega arith
 one_place (events.LockHeld rel mode holder held) = omega arith
