@@ -22,8 +22,6 @@ pub mod TakingBack
 pub mod Releasing
 pub mod Leaving
 pub mod Beginning
-pub mod NewTable
-pub mod WriteFits
 pub mod Registering
 pub mod WriteMessages
 pub mod Writing

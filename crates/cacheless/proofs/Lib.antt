@@ -43,3 +43,11 @@ pub mod FitToWrite
 pub mod AlterationsFit
 pub mod NewTableItems
 pub mod AlteringLocks
+pub mod NewTable
+pub mod WriteFits
+pub mod AfterActs
+pub mod StaysOnCourse
+pub mod SilentActs
+pub mod OwnEntries
+pub mod PlayedMore
+pub mod Economical

@@ -14,3 +14,5 @@ pub mod Protected
 pub mod Lines
 pub mod Schedule
 pub mod Output
+pub mod OnCourse
+pub mod Played
