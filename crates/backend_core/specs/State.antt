@@ -1,5 +1,5 @@
 -- What the state of a backend says, by itself.
-use Rattle.std.specs.Prelude.{◌≡◌, ℕ, Bool, true, false, not, Option, Some, None, List, [], ◌∷◌, ◌++◌, ◌+◌, ◌==◌, ◌&&◌, ◌||◌, map, filter, if◌then◌else◌, is_none, unwrap_or, slice_get, nat_lt}
+use Rattle.std.specs.Prelude.{◌≡◌, ℕ, Bool, true, false, not, Option, Some, None, List, [], ◌∷◌, ◌++◌, ◌+◌, ◌==◌, ◌&&◌, ◌||◌, map, filter, if◌then◌else◌, is_none, unwrap_or, slice_get}
 use Rattle.std.specs.Option.{option_map, option_map_or}
 use Rattle.std.specs.List.{list_any, flat_map}
 use Rattle.base_types.specs.Scans.{same_oid, same_scan, build_scans}
@@ -11,7 +11,7 @@ use Rattle.inval_messages.specs.Lists.{Written, has_write_from, unsent_after}
 use Rattle.inval_messages.specs.declared.message.Message.TheVariants.{Cat, Rel}
 use Rattle.inval_messages.specs.Messages.{is_spared}
 use Rattle.command_lists.specs.Lists.{all_lists}
-use Rattle.ddl_effect.specs.Plans.{Plan, Absent, Do, Lookup, Column, rests_on}
+use Rattle.ddl_effect.specs.Plans.{Plan, Do, Lookup, Column, rests_on}
 use Rattle.ddl_effect.specs.Blocks.{Block, Outside, Inside, Failed, Blocks, no_block, ends_block, refused_by, innermost, blocks_well, blocks_badly}
 use Rattle.ddl_effect.specs.Stages.{plan_at}
 use Rattle.history_model.specs.Writes.{is_empty}
