@@ -32,7 +32,6 @@ pub mod Joining
 pub mod Waiting
 pub mod Shown
 pub mod Finishing
-pub mod ReadPlaces
 pub mod Showing
 pub mod Answered
 pub mod Coherent

@@ -51,3 +51,7 @@ pub mod SilentActs
 pub mod OwnEntries
 pub mod PlayedMore
 pub mod Economical
+pub mod ReadPlaces
+pub mod OpenedOne
+pub mod ToldFields
+pub mod ToldAnswers

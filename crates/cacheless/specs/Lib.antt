@@ -16,3 +16,4 @@ pub mod Schedule
 pub mod Output
 pub mod OnCourse
 pub mod Played
+pub mod Told
