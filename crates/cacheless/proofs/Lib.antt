@@ -49,6 +49,7 @@ pub mod AfterActs
 pub mod StaysOnCourse
 pub mod SilentActs
 pub mod OwnEntries
+pub mod Releases
 pub mod PlayedMore
 pub mod Economical
 pub mod ReadPlaces

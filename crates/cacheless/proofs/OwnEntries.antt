@@ -25,12 +25,13 @@ use Rattle.cacheless.specs.Facts.{Facts, facts_of}
 use Rattle.cacheless.specs.OnCourse.{is_absent, OnItsWay, is_over, Begun, Wrote, Over, IsFirstSeen, NamedFits, WasSought, FollowsPlan}
 use Rattle.cacheless.specs.Owed.{unusable, act_next, is_next_scan}
 use Rattle.cacheless.specs.Plays.{IsWrite, MayPlay}
-use Rattle.cacheless.specs.Session.{Session, Outcome, Unsettled, Well, Badly, number_of, outcome_of, is_settled}
+use Rattle.cacheless.specs.Session.{Session, Outcome, Unsettled, Well, Badly, none_open, number_of, outcome_of, is_settled}
 use Rattle.cacheless.specs.Sessions.{refused_with, is_wanted, written, resumed, noted}
 use Rattle.cacheless.specs.Settled.{class_oid}
 use Rattle.cacheless.proofs.ActOrder.{at_write}
 use Rattle.cacheless.proofs.SilentActs.{on_its_way, its_place, unrefused}
 use Rattle.cacheless.proofs.StaysOnCourse.{has_written-quiet, rows_read-unscanned, IsAfter, MayCome, first_seen-more, named_out, way-more, sought-more, follows-more, over_stays}
+use Rattle.ddl_effect.specs.Commands.{plan_of}
 
 -- what a backend's entry is
 pub record OwnEntry (history : List Entry) (b : ℕ) (s : Session) (command : Command) (event : Event) : Type 0 where
@@ -57,12 +58,13 @@ quiet_follows history b s later command event own quiet unwritten unread noted =
     (λ name. rows_read-unscanned history (entry_of b (number_of s) event) b (scans.RelName name) (unread name)) (own_over history b s later command event own quiet noted.ended) noted.after noted.read own.follows
 
 -- an entry that shows an error
-error_follows : (seen : List Entry) (b : ℕ) (s later : Session) (command : Command) (error : CommandError) → IsNoted (refused_with error s) later → FollowsPlan seen b later command
-error_follows seen b s later command error noted = record {
+error_follows : (seen : List Entry) (b : ℕ) (s later : Session) (command : Command) (error : CommandError) → (plan_of none_open command ≡ Done → s.opened ≡ []) → IsNoted (refused_with error s) later → FollowsPlan seen b later command
+error_follows seen b s later command error plain noted = record {
   refused = λ shown is. noted.after.left ∙ (let both : Some error ≡ Some shown = sym noted.after.refused ∙ is in cc both);
   way = λ none. absurd (let both : Some error ≡ None = sym noted.after.refused ∙ none in cc both);
   named = subst (λ p. NamedFits seen b p later.read) (sym noted.after.left) tt;
   sought = λ name is. absurd (let both : Fails error ≡ Absent name = sym noted.after.left ∙ is in cc both);
+  plain = λ none. noted.after.opened ∙ plain none;
 }
 
 -- a command that failed to find a relation makes no scan
@@ -83,6 +85,7 @@ scan_follows history b s later command scan count own noted = record {
   way = λ none. way-more history e b s later command own.may (λ mine. tt) (λ c. has_written-quiet history e b c refl) (own_over history b s later command (events.Scan scan count) own tt noted.ended) after (own.follows.way (sym after.refused ∙ none));
   named = subst (λ p. NamedFits new b p later.read) (sym after.left) (subst (NamedFits new b s.left) (sym noted.read) (by_plan s.left there own.follows.named));
   sought = λ name is. absurd (let both : false ≡ true = sym there ∙ ap is_absent (sym after.left ∙ is) in cc both);
+  plain = λ none. after.opened ∙ own.follows.plain none;
 }
   where
     e : Entry
@@ -134,6 +137,7 @@ brought_back history b s later command name event own unwritten unread at noted 
   named = subst (λ p. NamedFits new b p later.read) (sym (after.left ∙ was.looks)) (subst (NamedFits new b (Do (Lookup name was.mode) was.rest)) (sym noted.read)
       (none_first new b (rows_read new b (scans.RelName name)) (ap class_oid (rows_read-unscanned history e b (scans.RelName name) (unread name)) ∙ subst (λ p. NamedFits history b p s.read) at own.follows.named)));
   sought = λ other is. absurd (let both : Do (Lookup name was.mode) was.rest ≡ Absent other = sym (after.left ∙ was.looks) ∙ is in cc both);
+  plain = λ none. after.opened ∙ was.opened;
 }
   where
     e : Entry
@@ -182,6 +186,7 @@ write_follows history b s later command xid items own noted = by_plan s.left ref
       });
       named = subst (λ p. NamedFits new b p later.read) (sym done) tt;
       sought = λ name absent. absurd (let both : Done ≡ Absent name = sym done ∙ absent in cc both);
+      plain = λ none. is.after.opened;
     }
       where
         way : OnItsWay history b s command
@@ -220,6 +225,7 @@ over_follows history b s later command event own out unwritten unread over after
   way = λ none. Over (record { out = ap (λ p. is_settled (outcome_of p)) after.left ∙ out; over = ap (λ last. is_over last later) (last_event_of-own history e b (eq-eqb b b refl)) ∙ over });
   named = subst (λ p. NamedFits new b p later.read) (sym after.left) (named_out history e b s.left s.read later.read out (λ name. rows_read-unscanned history e b (scans.RelName name) (unread name)) own.follows.named);
   sought = λ name is. sought-more history e b s later command name (λ c. has_written-quiet history e b c unwritten) after (own.follows.sought name (sym after.left ∙ is));
+  plain = λ none. after.opened ∙ own.follows.plain none;
 }
   where
     e : Entry
@@ -235,10 +241,10 @@ own_follows history b s later command (events.Fetch count) own noted = fetch_fol
 own_follows history b s later command events.FetchReset own noted = fetch_follows history b s later command events.FetchReset own tt refl (λ name. refl) noted
 own_follows history b s later command (events.Scan scan count) own noted = scan_follows history b s later command scan count own noted
 own_follows history b s later command (events.LockOk rel mode) own noted = quiet_follows history b s later command (events.LockOk rel mode) own tt refl (λ name. refl) noted
-own_follows history b s later command (events.LockHeld rel mode holder held) own noted = error_follows (with_own history b s (events.LockHeld rel mode holder held)) b s later command (errors.Locked rel holder held) noted
+own_follows history b s later command (events.LockHeld rel mode holder held) own noted = error_follows (with_own history b s (events.LockHeld rel mode holder held)) b s later command (errors.Locked rel holder held) own.follows.plain noted
 own_follows history b s later command (events.Write xid items) own noted = write_follows history b s later command xid items own noted
-own_follows history b s later command (events.ClashRow name rel) own noted = error_follows (with_own history b s (events.ClashRow name rel)) b s later command (errors.RelationExists name) noted
-own_follows history b s later command (events.ClashRunning name xid) own noted = error_follows (with_own history b s (events.ClashRunning name xid)) b s later command (errors.NameInUse name xid) noted
+own_follows history b s later command (events.ClashRow name rel) own noted = error_follows (with_own history b s (events.ClashRow name rel)) b s later command (errors.RelationExists name) own.follows.plain noted
+own_follows history b s later command (events.ClashRunning name xid) own noted = error_follows (with_own history b s (events.ClashRunning name xid)) b s later command (errors.NameInUse name xid) own.follows.plain noted
 own_follows history b s later command (events.Visible xid) own noted = quiet_follows history b s later command (events.Visible xid) own tt refl (λ name. refl) noted
 own_follows history b s later command (events.Publish count) own noted = quiet_follows history b s later command (events.Publish count) own tt refl (λ name. refl) noted
 own_follows history b s later command (events.Gone from) own noted =

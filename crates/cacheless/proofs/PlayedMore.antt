@@ -32,9 +32,10 @@ use Rattle.cacheless.specs.Settled.{class_oid, settled}
 use Rattle.cacheless.specs.TableWrites.{WritesTables, KeepsTables, KeepsTablesBy}
 use Rattle.cacheless.proofs.AfterActs.{no_lock}
 use Rattle.cacheless.proofs.HeldLocks.{settled-locks}
-use Rattle.cacheless.proofs.OwnEntries.{IsNoted, own_follows}
+use Rattle.cacheless.proofs.OwnEntries.{IsNoted, own_follows, OwnEntry}
+use Rattle.cacheless.proofs.Releases.{release_finishes}
 use Rattle.cacheless.proofs.Reading.{facts_of-own, session_of-own, session_of-other}
-use Rattle.cacheless.proofs.SilentActs.{ClearUnlessOwed, both_empty, made_already, its_place, on_its_way, begins_on_course, settled_on_course}
+use Rattle.cacheless.proofs.SilentActs.{ClearUnlessOwed, EntersCourse, both_empty, made_already, its_place, on_its_way, begins_on_course, settled_on_course}
 use Rattle.cacheless.proofs.StaysOnCourse.{has_written-quiet, has_written-other, has_written-earlier, MayCome, follows-more}
 use Rattle.cacheless.proofs.WriteFits.{write_fits}
 
@@ -100,6 +101,7 @@ other_stays scenario history e b None may other none = λ c. has_written-other h
 other_stays scenario history e b (Some s) may other course = record {
   follows = λ command at. follows-more history e b s s command may (λ own. absurd (both_ways _ other own)) (λ c. has_written-other history e b c other) (λ name. rows_read-other history e b (scans.RelName name) other)
       (λ over. ap (λ last. is_over last s) (last_event_of-other history e b other) ∙ over) (record { left = refl; refused = refl; opened = refl; found = refl; sought = refl; finished = refl }) refl (course.follows command at);
+  going = course.going;
   later = λ c after. has_written-other history e b c other ∙ course.later c after;
 }
 
@@ -132,25 +134,30 @@ starts_on_course scenario history b c events.Start played is start none =
     first = at_command no_block [] [] (length history + 1) (first_of commands)
 starts_on_course scenario history b c event played is start none = absurd start
 
--- the session that an own entry leaves is on its course, and so it is once it has gone on
-enters_on_course : (scenario : Scenario) (history : List Entry) (b : ℕ) (event : Event) (s : Session) (facts : Facts) (left : List Command) → left ≡ commands_left scenario b s → MayCome history (entry_of b (number_of s) event)
+-- the session that an own entry leaves, before it goes on
+enters_on_course : (scenario : Scenario) (history : List Entry) (b : ℕ) (event : Event) (s : Session) (left : List Command) → MayCome history (entry_of b (number_of s) event)
     → MayPlayIn (next_oid history) (facts_of history b) (slice_get (commands_of scenario b) (length s.finished)) s event → IsOnCourse scenario history b s
-    → IsOnCourse scenario (with_entry history b (number_of s) event) b (entered facts left (length history + 1) (number_of s) event s)
-enters_on_course scenario history b event s facts left are may plays course = record {
-  follows = λ command here.
-      let at : slice_get (commands_of scenario b) (length s.finished) ≡ Some command = ap (slice_get (commands_of scenario b)) (sym counts) ∙ here in
-      own_follows history b s later command event (record { may = may; plays = subst (λ o. MayPlayIn (next_oid history) (facts_of history b) o s event) at plays; follows = course.follows command at }) noted_is;
+    → EntersCourse scenario (with_entry history b (number_of s) event) b (entered (facts_of (with_entry history b (number_of s) event) b) left (length history + 1) (number_of s) event s)
+enters_on_course scenario history b event s left may plays course = record {
+  follows = λ command here. own_follows history b s later command event (own command (now_at command here)) noted_is;
+  ends = λ command here over. release_finishes history b s command event (own command (now_at command here)) (course.going command (now_at command here)) (facts_of-own history (entry_of b (number_of s) event) b (eq-eqb b b refl)) later noted_is over;
   later = λ n after. has_written-earlier history (entry_of b (number_of s) event) b n (omega (arith, after, counts)) (course.later n (omega (arith, after, counts)));
 }
   where
     later : Session
-    later = entered facts left (length history + 1) (number_of s) event s
+    later = entered (facts_of (with_entry history b (number_of s) event) b) left (length history + 1) (number_of s) event s
 
     noted_is : IsNoted (noted event s) later
-    noted_is = entered_noted facts left (length history + 1) (number_of s) event s
+    noted_is = entered_noted (facts_of (with_entry history b (number_of s) event) b) left (length history + 1) (number_of s) event s
 
     counts : length later.finished ≡ length s.finished
     counts = ap length (noted_is.after.finished ∙ noted_finished event s)
+
+    now_at : (command : Command) → slice_get (commands_of scenario b) (length later.finished) ≡ Some command → slice_get (commands_of scenario b) (length s.finished) ≡ Some command
+    now_at command here = ap (slice_get (commands_of scenario b)) (sym counts) ∙ here
+
+    own : (command : Command) → slice_get (commands_of scenario b) (length s.finished) ≡ Some command → OwnEntry history b s command event
+    own command at = record { may = may; plays = subst (λ o. MayPlayIn (next_oid history) (facts_of history b) o s event) at plays; follows = course.follows command at }
 
 -- no session starts
 no_start : (next : ℕ) (facts : Facts) (command : Option Command) (s : Session) → MayPlayIn next facts command s events.Start → ⊥
@@ -165,7 +172,7 @@ goes_on_course scenario history b event s played may is plays course =
     settled_on_course scenario new b left later (record { played = played; session = settled (facts_of new b) left later; is = is; holds = settled-locks (facts_of new b) left later })
     (accepted_clear (facts_of new b) (first_of left) (counted (facts_of new b) event (placed_at (length history + 1) (number_of s) event s)))
     (ap (λ l. drop (length l) (commands_of scenario b)) (sym (noted_is.after.finished ∙ noted_finished event s)))
-    (enters_on_course scenario history b event s (facts_of new b) left refl may plays course)
+    (enters_on_course scenario history b event s left may plays course)
   where
     new : List Entry
     new = with_entry history b (number_of s) event

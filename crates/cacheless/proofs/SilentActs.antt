@@ -23,15 +23,16 @@ use Rattle.cacheless.specs.OnCourse.{is_absent, OnItsWay, Way, Begun, Wrote, Unb
 use Rattle.cacheless.specs.Owed.{Owes, OwesScan, owed_at_start, owed_after, builds_owed, act_owed, scans_owed, owes_build, owes_accept}
 use Rattle.cacheless.specs.Played.{IsPlayed}
 use Rattle.cacheless.specs.Runs.{runs}
-use Rattle.cacheless.specs.Session.{Session, Finished, Outcome, Unsettled, Well, Badly, first_of, none_open, plan_admitted, at_command, outcome_of, is_settled}
+use Rattle.cacheless.specs.Session.{Session, Finished, Outcome, Unsettled, Well, Badly, first_of, none_open, plan_admitted, at_command, outcome_of, is_settled, number_of}
 use Rattle.cacheless.specs.Sessions.{session_of}
 use Rattle.cacheless.specs.Settled.{class_oid, if_locked, looked_up, gives, opened_by, found_by, act_done, done_here, acted_on, acted, is_finished, blocks_after, finished_as, next_session, settled}
 use Rattle.cacheless.specs.Ends.{end_left}
 use Rattle.cacheless.proofs.ActOrder.{HasCome, ReadsOpen, FollowsOrder, follows_order, runs_built, has_come, at_lookup, at_column, at_read}
 use Rattle.cacheless.proofs.AfterActs.{IsUnfound, order_there, after_opening, after_column, after_reading, after_lookup, lookup_first, no_lock, opening_alike}
 use Rattle.cacheless.proofs.AloneLocks.{late_answers, session_holds}
+use Rattle.cacheless.proofs.Settling.{acted-out}
 use Rattle.cacheless.proofs.StillAfter.{still-push}
-use Rattle.cacheless.proofs.Ways.{reached-push, made_in-push}
+use Rattle.cacheless.proofs.Ways.{acts, none_reached, reached-push, made_in-push}
 
 pub both_empty : {X : Type 0} (xs ys : List X) → xs ++ ys ≡ [] → (xs ≡ []) × (ys ≡ [])
 both_empty [] ys none = (refl, none)
@@ -245,6 +246,7 @@ act_follows scenario seen b s command act rest given holds at done follows = rec
   way = λ none. Begun (way-act seen b s command act rest given at (passes_it (facts_of seen b) s.locks act rest given done.gave) gave way);
   named = by_test (is_absent (rest given)) refl;
   sought = λ name is. was_sought name is (there_or_fails seen b s command act rest given way at done (absent_name name (rest given) is));
+  plain = λ none. absurd (none_reached way.gave (plan_of none_open command) act rest (ap acts none) (sym way.plan ∙ at));
 }
   where
     way : OnItsWay seen b s command
@@ -299,6 +301,7 @@ record HasActed (seen : List Entry) (b : ℕ) (command : Command) (s now : Sessi
   follows : FollowsPlan seen b now command
   finished : now.finished ≡ s.finished
   locks : now.locks ≡ s.locks
+  ended : now.ended ≡ s.ended
   clear : ClearUnlessOwed (facts_of seen b) (Some command) now
 
 -- all acts that are done here keep it on its course
@@ -314,9 +317,9 @@ acts_follow scenario seen b command (Do act rest) s has at free clear follows = 
     by_done : (o : Option (List Row)) → done_here (facts_of seen b) s act (Do act rest) ≡ o
         → ((given : List Row) → done_here (facts_of seen b) s act (Do act rest) ≡ Some given → HasActed seen b command (act_done act given (rest given) s) (acted_on (facts_of seen b) (rest given) (act_done act given (rest given) s)))
         → HasActed seen b command s (elim o as (λ x. Session) [ None ↦ s | Some given ↦ acted_on (facts_of seen b) (rest given) (act_done act given (rest given) s) ])
-    by_done None is more = record { follows = follows; finished = refl; locks = refl; clear = clear }
-    by_done (Some given) is more = let later = more given is in record { follows = later.follows; finished = later.finished; locks = later.locks; clear = later.clear }
-acts_follow scenario seen b command plan s has at free clear follows = record { follows = follows; finished = refl; locks = refl; clear = clear }
+    by_done None is more = record { follows = follows; finished = refl; locks = refl; ended = refl; clear = clear }
+    by_done (Some given) is more = let later = more given is in record { follows = later.follows; finished = later.finished; locks = later.locks; ended = later.ended; clear = later.clear }
+acts_follow scenario seen b command plan s has at free clear follows = record { follows = follows; finished = refl; locks = refl; ended = refl; clear = clear }
 
 acted_follows : (scenario : Scenario) (seen : List Entry) (b : ℕ) (command : Command) (s : Session) → HasSession scenario seen b s.locks → ClearUnlessOwed (facts_of seen b) (Some command) s → FollowsPlan seen b s command
     → HasActed seen b command s (acted (facts_of seen b) command s)
@@ -324,7 +327,7 @@ acted_follows scenario seen b command s has clear follows = by_test (is_empty (o
   where
     by_test : (t : Bool) → is_empty (owed_at_start (facts_of seen b) command s ++ owed_after (facts_of seen b).last) ≡ t → HasActed seen b command s (elim t as (λ x. Session) [ true ↦ acted_on (facts_of seen b) s.left s | false ↦ s ])
     by_test true free = acts_follow scenario seen b command s.left s has refl free clear follows
-    by_test false owed = record { follows = follows; finished = refl; locks = refl; clear = clear }
+    by_test false owed = record { follows = follows; finished = refl; locks = refl; ended = refl; clear = clear }
 
 -- a command that isn't built has no plan
 not_built : (command : Command) → runs command ≡ false → plan_of none_open command ≡ NotBuilt
@@ -359,6 +362,7 @@ begins_plan seen b blocks finished locks last command unwritten = record {
   way = λ none. by_test (ap (λ o. plan_admitted o command) none) (runs command) refl;
   named = named_unread seen b (plan_admitted (refused_by blocks command) command) (admitted_there (refused_by blocks command) command);
   sought = λ name is. absurd (let both : true ≡ false = sym (absent_name name (plan_admitted (refused_by blocks command) command) is) ∙ admitted_there (refused_by blocks command) command in cc both);
+  plain = λ none. refl;
 }
   where
     by_test : plan_admitted (refused_by blocks command) command ≡ plan_of none_open command → (t : Bool) → runs command ≡ t → Way seen b (at_command blocks finished locks last (Some command)) command
@@ -381,16 +385,23 @@ rest_left commands n command rest are = let both : command ∷ rest ≡ command 
     within : n < length commands
     within = slice_get_within commands n command at
 
--- so the session at the beginning of the next command, or after the last one, is on its course
+-- a session before its silent acts: where its running command has made its release, nothing is left of it
+pub record EntersCourse (scenario : Scenario) (seen : List Entry) (b : ℕ) (s : Session) : Type 0 where
+  pub follows : (command : Command) → slice_get (commands_of scenario b) (length s.finished) ≡ Some command → FollowsPlan seen b s command
+  pub ends : (command : Command) → slice_get (commands_of scenario b) (length s.finished) ≡ Some command → s.ended ≡ true → is_finished (facts_of seen b) command s ≡ true
+  pub later : (c : ℕ) → number_of s < c → has_written seen b c ≡ false
+
+-- so is the session at the beginning of the next command, or after the last one
 pub begins_on_course : (scenario : Scenario) (seen : List Entry) (b : ℕ) (blocks : Blocks) (finished : List Finished) (locks : List OwnLock) (last : ℕ) (left : List Command) → left ≡ drop (length finished) (commands_of scenario b)
-    → ((c : ℕ) → length finished < c → has_written seen b c ≡ false) → IsOnCourse scenario seen b (at_command blocks finished locks last (first_of left))
+    → ((c : ℕ) → length finished < c → has_written seen b c ≡ false) → EntersCourse scenario seen b (at_command blocks finished locks last (first_of left))
 begins_on_course scenario seen b blocks finished locks last left are unwritten = by_first (first_of left) (ap first_of are ∙ first_left (commands_of scenario b) (length finished))
   where
-    by_first : (o : Option Command) → o ≡ slice_get (commands_of scenario b) (length finished) → IsOnCourse scenario seen b (at_command blocks finished locks last o)
-    by_first None is = record { follows = λ command at. absurd (let both : None ≡ Some command = is ∙ at in cc both); later = λ c after. unwritten c (omega (arith, after)) }
+    by_first : (o : Option Command) → o ≡ slice_get (commands_of scenario b) (length finished) → EntersCourse scenario seen b (at_command blocks finished locks last o)
+    by_first None is = record { follows = λ command at. absurd (let both : None ≡ Some command = is ∙ at in cc both); ends = λ command at over. absurd (cc); later = λ c after. unwritten c (omega (arith, after)) }
     by_first (Some first) is = record {
       follows = λ command at. subst (FollowsPlan seen b (at_command blocks finished locks last (Some first))) (let both : Some first ≡ Some command = is ∙ at in cc both)
           (begins_plan seen b blocks finished locks last first (unwritten (length finished + 1) (omega arith)));
+      ends = λ command at over. absurd (cc);
       later = λ c after. unwritten c (omega (arith, after));
     }
 
@@ -417,10 +428,22 @@ finished_accepts facts command s finished = by_parts (empty_list _ (and_parts (i
     by_parts : first ++ map OwesScan (scans_owed facts s) ≡ [] → owes_accept facts (Some command) s ≡ false
     by_parts none = let both = both_empty first (map OwesScan (scans_owed facts s)) none in ap (λ l. not (is_empty l) || owes_build facts s) both.0 ∙ by_outcome (outcome_of s.left) both.1
 
--- all that is done without an entry keeps a session on its course
-pub settled_on_course : (scenario : Scenario) (seen : List Entry) (b : ℕ) (left : List Command) (s : Session) → HasSession scenario seen b s.locks → ClearUnlessOwed (facts_of seen b) (first_of left) s → left ≡ drop (length s.finished) (commands_of scenario b) → IsOnCourse scenario seen b s
+-- a command that is finished has no act to do, and stays finished
+finished_stays : (facts : Facts) (command : Command) (s : Session) → is_finished facts command s ≡ true → is_finished facts command (acted facts command s) ≡ true
+finished_stays facts command s finished =
+    ap (is_finished facts command) (acted-out facts command s (and_parts (is_settled (outcome_of s.left)) (is_none (end_left facts command s)) (and_parts (is_settled (outcome_of s.left) && is_none (end_left facts command s)) _ finished).0).0) ∙ finished
+
+-- after its silent acts a session is on its course
+pub settled_on_course : (scenario : Scenario) (seen : List Entry) (b : ℕ) (left : List Command) (s : Session) → HasSession scenario seen b s.locks → ClearUnlessOwed (facts_of seen b) (first_of left) s → left ≡ drop (length s.finished) (commands_of scenario b) → EntersCourse scenario seen b s
     → IsOnCourse scenario seen b (settled (facts_of seen b) left s)
-settled_on_course scenario seen b [] s has clear are course = course
+settled_on_course scenario seen b [] s has clear are course = record {
+  follows = λ command at. absurd (none_left command at);
+  going = λ command at. absurd (none_left command at);
+  later = course.later;
+}
+  where
+    none_left : (command : Command) → slice_get (commands_of scenario b) (length s.finished) ≡ Some command → ⊥
+    none_left command at = let both : None ≡ Some command = ap first_of are ∙ first_left (commands_of scenario b) (length s.finished) ∙ at in cc both
 settled_on_course scenario seen b (command ∷ rest) s has clear are course = by_end (is_finished (facts_of seen b) command now) refl
     (settled_on_course scenario seen b rest (next_session command (first_of rest) now))
   where
@@ -430,22 +453,27 @@ settled_on_course scenario seen b (command ∷ rest) s has clear are course = by
     at : slice_get (commands_of scenario b) (length s.finished) ≡ Some command
     at = sym (first_left (commands_of scenario b) (length s.finished)) ∙ ap first_of (sym are)
 
-    acts : HasActed seen b command s now
-    acts = acted_follows scenario seen b command s has clear (course.follows command at)
+    acts_done : HasActed seen b command s now
+    acts_done = acted_follows scenario seen b command s has clear (course.follows command at)
 
     counts : length now.finished ≡ length s.finished
-    counts = ap length acts.finished
+    counts = ap length acts_done.finished
+
+    goes : (t : Bool) → s.ended ≡ t → is_finished (facts_of seen b) command now ≡ false → s.ended ≡ false
+    goes true over unfinished = absurd (let both : true ≡ false = sym (finished_stays (facts_of seen b) command s (course.ends command at over)) ∙ unfinished in cc both)
+    goes false on unfinished = on
 
     by_end : (t : Bool) → is_finished (facts_of seen b) command now ≡ t
-        → (HasSession scenario seen b now.locks → ClearUnlessOwed (facts_of seen b) (first_of rest) (next_session command (first_of rest) now) → rest ≡ drop (length (now.finished ++ finished_as now ∷ [])) (commands_of scenario b) → IsOnCourse scenario seen b (next_session command (first_of rest) now)
+        → (HasSession scenario seen b now.locks → ClearUnlessOwed (facts_of seen b) (first_of rest) (next_session command (first_of rest) now) → rest ≡ drop (length (now.finished ++ finished_as now ∷ [])) (commands_of scenario b) → EntersCourse scenario seen b (next_session command (first_of rest) now)
         → IsOnCourse scenario seen b (settled (facts_of seen b) rest (next_session command (first_of rest) now)))
         → IsOnCourse scenario seen b (elim t as (λ x. Session) [ true ↦ settled (facts_of seen b) rest (next_session command (first_of rest) now) | false ↦ now ])
-    by_end true finished more = more (record { played = has.played; session = has.session; is = has.is; holds = has.holds ∙ sym acts.locks }) (λ owes. acts.clear (finished_accepts (facts_of seen b) command now finished)) next
+    by_end true finished more = more (record { played = has.played; session = has.session; is = has.is; holds = has.holds ∙ sym acts_done.locks }) (λ owes. acts_done.clear (finished_accepts (facts_of seen b) command now finished)) next
         (begins_on_course scenario seen b (blocks_after command now) (now.finished ++ finished_as now ∷ []) now.locks now.last rest next (λ c after. course.later c (omega (arith, after, counts, length_push now.finished (finished_as now)))))
       where
         next : rest ≡ drop (length (now.finished ++ finished_as now ∷ [])) (commands_of scenario b)
         next = rest_left (commands_of scenario b) (length s.finished) command rest are ∙ ap (λ n. drop n (commands_of scenario b)) (sym (length_push now.finished (finished_as now) ∙ ap (λ n. n + 1) counts))
     by_end false going more = record {
-      follows = λ other here. subst (FollowsPlan seen b now) (let both : Some command ≡ Some other = sym at ∙ ap (slice_get (commands_of scenario b)) (sym counts) ∙ here in cc both) acts.follows;
+      follows = λ other here. subst (FollowsPlan seen b now) (let both : Some command ≡ Some other = sym at ∙ ap (slice_get (commands_of scenario b)) (sym counts) ∙ here in cc both) acts_done.follows;
+      going = λ other here. acts_done.ended ∙ goes s.ended refl going;
       later = λ c after. course.later c (omega (arith, after, counts));
     }

@@ -147,6 +147,7 @@ follows-more history e b s later command may idle writes names over after read f
   named = subst (λ p. NamedFits (history ++ e ∷ []) b p later.read) (sym after.left) (subst (NamedFits (history ++ e ∷ []) b s.left) (sym read)
       (named-more history e b s.left s.read may (λ own. quiet_back e.event (idle own)) names follows.named));
   sought = λ name is. sought-more history e b s later command name writes after (follows.sought name (sym after.left ∙ is));
+  plain = λ none. after.opened ∙ follows.plain none;
 }
 
 -- after a taking back only the release comes

@@ -1,5 +1,5 @@
 -- What a command has to answer by the history is what its backend tells by its last scans and its locks.
-use Rattle.std.proofs.Common.{◌≡◌, ◌≤◌, ◌+◌, ◌∙◌, ◌⊎◌, inl, inr, ℕ, Bool, true, false, Option, Some, None, List, [], ◌∷◌, ◌++◌, refl, sym, ap, subst, length, take, arith}
+use Rattle.std.proofs.Common.{◌≡◌, ◌≤◌, ◌∙◌, ℕ, Bool, true, false, Option, Some, None, List, [], ◌∷◌, refl, sym, ap, subst, length}
 use Rattle.std.specs.List.{AllByRecursion}
 use Rattle.std.proofs.lemmas.List.{append-nil, take_all}
 use Rattle.base_types.specs.Fields.{has_field}
@@ -14,7 +14,7 @@ use Rattle.ddl_effect.specs.Plans.{Plan, Done, Fails, Absent, NotBuilt, Do}
 use Rattle.history_model.specs.Lives.{last_event_of}
 use Rattle.history_model.specs.Read.{place_read, rows_read}
 use Rattle.history_model.specs.Versions.{answer_of}
-use Rattle.cacheless.specs.Types.{Mode, Kind, Field, Row, Purpose, Command, CommandError, Opening, Scenario, Entry, Line}
+use Rattle.cacheless.specs.Types.{Mode, Kind, Field, Command, CommandError, Opening, Scenario, Entry, Line}
 use Rattle.cacheless.specs.ActsDone.{reached, made_in, opening_by, relation_by, BeginWith}
 use Rattle.cacheless.specs.Facts.{facts_of}
 use Rattle.cacheless.specs.Lines.{first_found, shown_fields, shown_row, answer_well, answer_by, effect_judged, answer_judged, line_of}

@@ -101,10 +101,12 @@ pub record FollowsPlan (seen : List Entry) (b : ℕ) (s : Session) (command : Co
   pub way : s.refused ≡ None → Way seen b s command
   pub named : NamedFits seen b s.left s.read
   pub sought : (name : List ℕ) → s.left ≡ Absent name → WasSought seen b s command name
+  pub plain : plan_of none_open command ≡ Done → s.opened ≡ []
 
--- a session is on its course: the running command, if there is one, does what its plan says, and no later one has written
+-- a session is on its course: the running command, if there is one, does what its plan says and hasn't made its release, and no later one has written
 pub record IsOnCourse (scenario : Scenario) (seen : List Entry) (b : ℕ) (s : Session) : Type 0 where
   pub follows : (command : Command) → slice_get (commands_of scenario b) (length s.finished) ≡ Some command → FollowsPlan seen b s command
+  pub going : (command : Command) → slice_get (commands_of scenario b) (length s.finished) ≡ Some command → s.ended ≡ false
   pub later : (c : ℕ) → number_of s < c → has_written seen b c ≡ false
 
 -- before its start a backend has written nothing, and afterwards its session is on its course
