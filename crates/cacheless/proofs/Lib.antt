@@ -56,3 +56,4 @@ pub mod ReadPlaces
 pub mod OpenedOne
 pub mod ToldFields
 pub mod ToldAnswers
+pub mod JudgedLines

@@ -39,11 +39,12 @@ use Rattle.cacheless.proofs.SilentActs.{ClearUnlessOwed, EntersCourse, both_empt
 use Rattle.cacheless.proofs.StaysOnCourse.{has_written-quiet, has_written-other, has_written-earlier, MayCome, follows-more}
 use Rattle.cacheless.proofs.WriteFits.{write_fits}
 
--- the session after an own entry, before its silent acts, is that which the entry left
-counted_tally : (facts : Facts) (event : Event) (s : Session) → counted facts event s ≡ record s { tally = (counted facts event s).tally }
+-- a full fetch is counted in the tally alone
+pub counted_tally : (facts : Facts) (event : Event) (s : Session) → counted facts event s ≡ record s { tally = (counted facts event s).tally }
 counted_tally facts (events.Fetch count) s = refl
 counted_tally facts event s = refl
 
+-- the session after an own entry, before its silent acts, is that which the entry left
 entered_noted : (facts : Facts) (left : List Command) (at c : ℕ) (event : Event) (s : Session) → IsNoted (noted event s) (entered facts left at c event s)
 entered_noted facts left at c event s = record {
   after = record {
@@ -89,7 +90,7 @@ resumed_finished (Absent name) s = refl
 resumed_finished plan s = refl
 
 -- an event finishes no command
-noted_finished : (event : Event) (s : Session) → (noted event s).finished ≡ s.finished
+pub noted_finished : (event : Event) (s : Session) → (noted event s).finished ≡ s.finished
 noted_finished (events.Write xid items) s = written_finished s.left s
 noted_finished (events.Fetch count) s = resumed_finished s.left s
 noted_finished events.FetchReset s = resumed_finished s.left s

@@ -17,3 +17,4 @@ pub mod Output
 pub mod OnCourse
 pub mod Played
 pub mod Told
+pub mod Judged
