@@ -47,7 +47,7 @@ use Rattle.backend_core.proofs.Carry.{no_answer, left_command, builds_same, act_
 use Rattle.backend_core.proofs.Nexting.{the_command, builds_push}
 use Rattle.backend_core.proofs.OwnLocks.{own_lock_held}
 use Rattle.backend_core.proofs.Scanning.{builds_of}
-use Rattle.backend_core.proofs.OpenedReads.{reads_after}
+use Rattle.cacheless.proofs.OpenedReads.{reads_after}
 
 -- the backend after a silent act
 abbrev pub silent : Backend → Exec → List Opening → Backend

@@ -27,7 +27,7 @@ use Rattle.backend_core.specs.State.{owed_at, is_accepting, looks_due, is_taken_
 use Rattle.backend_core.specs.Agrees.{IsPlayed, ReadRight, FactsFit, RunsBy, EndFits, Well, KeptAt, IsNew, HasNotJoined, ReadsOpened}
 use Rattle.backend_core.specs.Steps.{AgreesNow, Enters}
 use Rattle.backend_core.proofs.Played.{IsPlayed-more}
-use Rattle.backend_core.proofs.OpenedReads.{reads_first}
+use Rattle.cacheless.proofs.OpenedReads.{reads_first}
 use Rattle.backend_core.proofs.Carry.{has_written-quiet, no_answer}
 use Rattle.backend_core.proofs.Ending.{fits_unless, built_at}
 use Rattle.backend_core.proofs.Beginning.{Begins, past_at, plain_at, starts_at, command_at}

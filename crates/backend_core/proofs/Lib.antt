@@ -1,6 +1,6 @@
 pub mod NextPlaces
 pub mod Stages
-pub mod OpenedReads
+pub mod KeptReads
 pub mod Stepping
 pub mod Carry
 pub mod Sparing

@@ -20,6 +20,8 @@ use Rattle.cacheless.specs.Schedule.{LooksTruly}
 use Rattle.cacheless.specs.TableWrites.{KeepsTablesBy}
 use Rattle.rel_desc.specs.Answers.{answer_text}
 use Rattle.cacheless.specs.Lines.{lines_from, line_of, answer_judged}
+pub use Rattle.cacheless.proofs.JudgedLines.{lines-more}
+use Rattle.cacheless.proofs.PlayedMore.{counted_tally}
 use Rattle.cacheless.proofs.Reading.{facts_of-own, session_of-own}
 use Rattle.backend_core.specs.Types.{Command, Scenario, Entry, Event, Backend}
 use Rattle.backend_core.specs.State.{is_ended, Rest, rest_of, session_at, HasCommand}
@@ -79,21 +81,6 @@ pub record Suits (scenario : Scenario) (old : List Entry) (was : Backend) (event
   pub truly : LooksTruly old was.id event
   pub tables : KeepsTablesBy old was.id event
   pub queue : FetchesFrom scenario.size old was.id event
-
--- the lines of finished commands stay with one more entry
-pub lines-more : (scenario : Scenario) (seen : List Entry) (e : Entry) (b c : ℕ) (finished : List Finished) (commands : List Command) → All (λ f. f.judged ≤ length seen) finished
-    → lines_from scenario (seen ++ e ∷ []) b c finished commands ≡ lines_from scenario seen b c finished commands
-lines-more scenario seen e b c [] commands places = refl
-lines-more scenario seen e b c (f ∷ finished) [] places = refl
-lines-more scenario seen e b c (f ∷ finished) (command ∷ commands) places =
-    ap (λ h. record { backend = b; command = c; text = answer_text (answer_judged scenario h b c f command f.refused) } ∷ lines_from scenario (seen ++ e ∷ []) b (c + 1) finished commands)
-    (take-append-le f.judged seen (e ∷ []) (places 0 f (omega arith)))
-    ∙ ap (λ l. line_of scenario seen b c f command ∷ l) (lines-more scenario seen e b (c + 1) finished commands (λ i d within. places (suc i) d (omega (arith, within))))
-
--- a full fetch is counted in the tally alone
-counted_tally : (facts : Facts) (event : Event) (s : Session) → counted facts event s ≡ record s { tally = (counted facts event s).tally }
-counted_tally facts (events.Fetch count) s = refl
-counted_tally facts event s = refl
 
 -- so it agrees after its own entry
 pub own_agrees : (scenario : Scenario) (old : List Entry) (was now : Backend) (event : Event) (agrees : Agrees scenario old was) → IsPlayed scenario (old ++ entry_of was.id (was.finished + 1) event ∷ []) → Waits agrees → GoesOn event

@@ -53,7 +53,7 @@ use Rattle.backend_core.specs.Way.{OnItsWay}
 use Rattle.backend_core.proofs.Acting.{IsActing, is_acting}
 use Rattle.backend_core.proofs.Stepping.{Waits, facts_after, session_after, rest_after, Keeps, Follows, Suits, GoesOn, own_enters}
 use Rattle.backend_core.proofs.Carry.{may_request, waits_at, missing_at, owed_scans, clear_at, accepted-clear, kept-more, no_answer, out_found, lacks_none}
-use Rattle.backend_core.proofs.OpenedReads.{reads_out}
+use Rattle.cacheless.proofs.OpenedReads.{reads_out}
 use Rattle.backend_core.proofs.Nexting.{the_command}
 use Rattle.backend_core.proofs.Sparing.{is_kept-spared, all-spared}
 use Rattle.backend_core.proofs.WriteMessages.{registered_is, spared_alike}

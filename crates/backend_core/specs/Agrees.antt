@@ -34,6 +34,7 @@ use Rattle.cacheless.specs.Plays.{Plays}
 use Rattle.cacheless.specs.TableWrites.{WritesTables}
 use Rattle.cacheless.specs.Schedule.{AreLooksTrue}
 use Rattle.cacheless.specs.Lines.{answer_judged, lines_from}
+pub use Rattle.cacheless.specs.OpenedReads.{is_of_opened, ReadsOpened}
 use Rattle.backend_core.specs.Types.{Row, Purpose, Command, CommandError, Scenario, Entry, OwnLock, Opening, KeptScan, Phase, Backend}
 use Rattle.backend_core.specs.declared.phase.Life.TheVariants as lives
 use Rattle.backend_core.specs.declared.phase.Phase.TheVariants as phases
@@ -161,16 +162,6 @@ pub record HasOpened (s : Backend) : Type 0 where
 -- the opened descriptors of a command, if it has opened one
 abbrev pub OpenedFit : Backend → Type 0
 OpenedFit s = (s.opened ≡ []) ⊎ HasOpened s
-
--- a scan is one of an opened descriptor
-abbrev pub is_of_opened : Purpose → List Opening → Bool
-is_of_opened scan opened = list_any (λ o. list_any (same_scan scan) (build_scans o.kind o.rel)) opened
-
--- what a plan reads is of a descriptor that it has opened before
-abbrev pub ReadsOpened : List Opening → Plan → Type 0
-ReadsOpened opened (Do (Read scan) rest) = (is_of_opened scan opened ≡ true) × ((given : List Row) → ReadsOpened opened (rest given))
-ReadsOpened opened (Do act rest) = (given : List Row) → ReadsOpened (opened ++ opened_by act) (rest given)
-ReadsOpened opened plan = ⊤
 
 -- what the scan of a name gave serves on in an accept of messages: the relation that a lookup's rows name is locked; the rows of a column are used at once
 abbrev pub IsFoundLocked : List OwnLock → Plan → List Row → Type 0

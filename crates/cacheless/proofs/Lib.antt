@@ -57,3 +57,4 @@ pub mod OpenedOne
 pub mod ToldFields
 pub mod ToldAnswers
 pub mod JudgedLines
+pub mod OpenedReads

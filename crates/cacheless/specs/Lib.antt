@@ -18,3 +18,4 @@ pub mod OnCourse
 pub mod Played
 pub mod Told
 pub mod Judged
+pub mod OpenedReads
