@@ -1,5 +1,5 @@
 -- What a command reads of a descriptor that it has opened is kept, where no scan for its descriptors is missing.
-use Rattle.std.proofs.Common.{◌≡◌, ◌∙◌, Bool, true, false, not, ◌||◌, List, [], ◌∷◌, ◌++◌, refl, ap, cond}
+use Rattle.std.proofs.Common.{◌≡◌, ◌∙◌, Bool, true, false, not, ◌||◌, List, [], ◌∷◌, refl, ap, cond}
 use Rattle.std.specs.List.{list_any}
 use Rattle.base_types.specs.Scans.{same_scan, build_scans}
 use Rattle.base_types.proofs.SameScan.{same_scan-true}

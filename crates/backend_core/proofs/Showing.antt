@@ -1,5 +1,5 @@
 -- What a command answers that finds a relation, opens its descriptor and is done, by its way.
-use Rattle.std.proofs.Common.{◌++◌, ◌≡◌, inl, inr, ◌∙◌, ℕ, Bool, true, false, Option, Some, None, List, [], ◌∷◌, refl, sym, ap, subst, drop}
+use Rattle.std.proofs.Common.{◌≡◌, inl, inr, ◌∙◌, ℕ, Bool, true, Option, Some, None, List, [], ◌∷◌, refl, sym, ap, subst, drop}
 use Rattle.std.proofs.lemmas.List.{append-nil}
 use Rattle.std.proofs.lemmas.List.Elements.{recursion_from_All}
 use Rattle.std.specs.List.{AllByRecursion}
@@ -8,12 +8,11 @@ use Rattle.base_types.specs.Scans.{build_scans}
 use Rattle.base_types.specs.Scenario.{Scenario}
 use Rattle.base_types.specs.declared.command.Command.TheVariants as commands
 use Rattle.base_types.specs.declared.mode.Mode.TheVariants.{AccessShare}
-use Rattle.base_types.specs.declared.row.Row.TheVariants as rows
 use Rattle.base_types.specs.declared.scan.Purpose.TheVariants as scans
 use Rattle.rel_desc.specs.declared.answer.Answer.TheVariants as answers
 use Rattle.rel_desc.specs.declared.error.CommandError.TheVariants as errors
-use Rattle.ddl_effect.specs.Plans.{Act, Plan, Done, Fails, Absent, Do, Lookup, Open}
-use Rattle.ddl_effect.specs.Commands.{plan_of, found, looking_up, opening, if_passes}
+use Rattle.ddl_effect.specs.Plans.{Done}
+use Rattle.ddl_effect.specs.Commands.{plan_of, looking_up}
 use Rattle.ddl_effect.specs.Effects.{row_found}
 use Rattle.ddl_effect.specs.Stages.{plan_at}
 use Rattle.history_model.specs.Read.{rows_read}
@@ -26,8 +25,8 @@ use Rattle.cacheless.specs.ActsDone.{reached, made_in, opening_by, relation_by, 
 use Rattle.cacheless.proofs.StillAfter.{IsFoundStill, all_found_still}
 use Rattle.cacheless.proofs.HeldLocks.{settled-locks}
 use Rattle.cacheless.proofs.OpenedOne.{opening_if, OpenedBy, opened_done, opening_never}
-use Rattle.cacheless.proofs.Ways.{NeverWrites, never_reaches, reached-over, made_in-over}
-use Rattle.backend_core.specs.Types.{Oid, Mode, Kind, Field, Row, Command, CommandError, Answer, Entry, Opening, Backend}
+use Rattle.cacheless.proofs.Ways.{never_reaches}
+use Rattle.backend_core.specs.Types.{Oid, Mode, Kind, Field, Command, CommandError, Answer, Entry, Opening, Backend}
 use Rattle.backend_core.specs.State.{missing, builds_missing, Rest, session_at}
 use Rattle.backend_core.specs.Agrees.{IsPlayed, ReadRight, KeptAt, Agrees}
 use Rattle.backend_core.specs.Way.{Way}

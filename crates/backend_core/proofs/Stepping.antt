@@ -1,7 +1,7 @@
 -- A backend's own entry, whichever it is.
-use Rattle.std.proofs.Common.{◌≡◌, ◌≤◌, ◌+◌, ◌∙◌, ℕ, Bool, true, false, Some, List, [], ◌∷◌, ◌++◌, ◌==◌, refl, sym, ap, subst, length, drop, All, is_some, slice_get, arith, if◌then◌else◌, suc}
+use Rattle.std.proofs.Common.{◌≡◌, ◌≤◌, ◌+◌, ◌∙◌, ℕ, Bool, true, false, Some, List, [], ◌∷◌, ◌++◌, ◌==◌, refl, sym, ap, subst, length, drop, All, is_some, slice_get, arith, if◌then◌else◌}
 use Rattle.std.proofs.lemmas.Bool.{eq-eqb}
-use Rattle.std.proofs.lemmas.List.{take-append-le, length_push}
+use Rattle.std.proofs.lemmas.List.{length_push}
 use Rattle.base_types.specs.Scenario.{IsBackend}
 use Rattle.ddl_effect.specs.Commands.{commands_of}
 use Rattle.history_model.specs.Drawn.{next_oid}
@@ -11,19 +11,17 @@ use Rattle.history_model.specs.Read.{ScansOnlyIfNeeded}
 use Rattle.history_model.proofs.Reading.{life_of-own}
 use Rattle.seg_calls.specs.Calls.{entry_of, Appends}
 use Rattle.cacheless.specs.Facts.{Facts, facts_of, facts_by}
-use Rattle.cacheless.specs.Session.{Session, Finished}
+use Rattle.cacheless.specs.Session.{Session}
 use Rattle.cacheless.specs.Settled.{settled}
-use Rattle.event_kinds.specs.declared.entry.Event.TheVariants as events
-use Rattle.cacheless.specs.Sessions.{noted, ends_command, placed_at, counted, entered, commands_left, session_by, session_of}
+use Rattle.cacheless.specs.Sessions.{noted, ends_command, placed_at, entered, commands_left, session_by, session_of}
 use Rattle.cacheless.specs.Plays.{IsNext, MayPlayIn, MayPlayAt}
 use Rattle.cacheless.specs.Schedule.{LooksTruly}
 use Rattle.cacheless.specs.TableWrites.{KeepsTablesBy}
-use Rattle.rel_desc.specs.Answers.{answer_text}
-use Rattle.cacheless.specs.Lines.{lines_from, line_of, answer_judged}
+use Rattle.cacheless.specs.Lines.{lines_from}
 pub use Rattle.cacheless.proofs.JudgedLines.{lines-more}
 use Rattle.cacheless.proofs.PlayedMore.{counted_tally}
 use Rattle.cacheless.proofs.Reading.{facts_of-own, session_of-own}
-use Rattle.backend_core.specs.Types.{Command, Scenario, Entry, Event, Backend}
+use Rattle.backend_core.specs.Types.{Scenario, Entry, Event, Backend}
 use Rattle.backend_core.specs.State.{is_ended, Rest, rest_of, session_at, HasCommand}
 use Rattle.backend_core.specs.Agrees.{IsPlayed, FactsFit, TallyFits, Well, CommandFits, KeptAt, AnswerFits, Agrees}
 use Rattle.backend_core.specs.Steps.{AgreesNow, Enters}
