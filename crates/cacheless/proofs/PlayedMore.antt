@@ -21,7 +21,7 @@ use Rattle.history_model.proofs.Reading.{last_event_of-other, rows_read-other}
 use Rattle.history_model.proofs.Touched.{entry_of}
 use Rattle.cacheless.specs.Types.{Oid, Mode, Row, Purpose, Item, OwnLock, Scenario, Command, Entry, Event}
 use Rattle.cacheless.specs.Facts.{Facts, facts_of}
-use Rattle.cacheless.specs.OnCourse.{is_over, IsFirstSeen, NamedFits, FollowsPlan, IsOnCourse, CourseOf, AllOnCourse}
+use Rattle.cacheless.specs.OnCourse.{is_over, IsFirstSeen, NamedFits, FollowsPlan, IsOnCourse, CourseOf, AllOnCourse, ClearUnlessOwed, EntersCourse}
 use Rattle.cacheless.specs.Owed.{OwesScan, builds_owed, act_owed, scans_owed, owed_of, owes_accept}
 use Rattle.cacheless.specs.Played.{IsPlayed}
 use Rattle.cacheless.specs.Plays.{IsLock, IsWrite, MayPlay, MayPlayLast, MayPlayIn, IsStart, MayPlayAt, IsNext, Plays}
@@ -35,7 +35,7 @@ use Rattle.cacheless.proofs.HeldLocks.{settled-locks}
 use Rattle.cacheless.proofs.OwnEntries.{IsNoted, own_follows, OwnEntry}
 use Rattle.cacheless.proofs.Releases.{release_finishes}
 use Rattle.cacheless.proofs.Reading.{facts_of-own, session_of-own, session_of-other}
-use Rattle.cacheless.proofs.SilentActs.{ClearUnlessOwed, EntersCourse, both_empty, made_already, its_place, on_its_way, begins_on_course, settled_on_course}
+use Rattle.cacheless.proofs.SilentActs.{both_empty, made_already, its_place, on_its_way, first_left, begins_on_course, settled_on_course}
 use Rattle.cacheless.proofs.StaysOnCourse.{has_written-quiet, has_written-other, has_written-earlier, MayCome, follows-more}
 use Rattle.cacheless.proofs.WriteFits.{write_fits}
 
@@ -122,8 +122,8 @@ session_is scenario history b c event = session_of-own scenario history (entry_o
 starts_on_course : (scenario : Scenario) (history : List Entry) (b c : ℕ) (event : Event) → IsPlayed scenario (with_entry history b c event) → session_of scenario (with_entry history b c event) b ≡ session_then scenario history b c event None → IsStart event
     → ((n : ℕ) → has_written history b n ≡ false) → CourseOf scenario (with_entry history b c event) b (session_then scenario history b c event None)
 starts_on_course scenario history b c events.Start played is start none =
-    settled_on_course scenario new b commands first (record { played = played; session = settled (facts_of new b) commands first; is = is; holds = settled-locks (facts_of new b) commands first }) (λ owes. refl) refl
-    (begins_on_course scenario new b no_block [] [] (length history + 1) commands refl (λ n after. has_written-quiet history (entry_of b c events.Start) b n refl ∙ none n))
+    settled_on_course scenario new b commands first (record { played = played; session = settled (facts_of new b) commands first; is = is; holds = settled-locks (facts_of new b) commands first }) refl
+    (begins_on_course scenario new b no_block [] [] (length history + 1) commands refl (λ n after. has_written-quiet history (entry_of b c events.Start) b n refl ∙ none n) refl)
   where
     new : List Entry
     new = with_entry history b c events.Start
@@ -136,15 +136,22 @@ starts_on_course scenario history b c events.Start played is start none =
 starts_on_course scenario history b c event played is start none = absurd start
 
 -- the session that an own entry leaves, before it goes on
-enters_on_course : (scenario : Scenario) (history : List Entry) (b : ℕ) (event : Event) (s : Session) (left : List Command) → MayCome history (entry_of b (number_of s) event)
+enters_on_course : (scenario : Scenario) (history : List Entry) (b : ℕ) (event : Event) (s : Session) → MayCome history (entry_of b (number_of s) event)
     → MayPlayIn (next_oid history) (facts_of history b) (slice_get (commands_of scenario b) (length s.finished)) s event → IsOnCourse scenario history b s
-    → EntersCourse scenario (with_entry history b (number_of s) event) b (entered (facts_of (with_entry history b (number_of s) event) b) left (length history + 1) (number_of s) event s)
-enters_on_course scenario history b event s left may plays course = record {
+    → EntersCourse scenario (with_entry history b (number_of s) event) b (entered (facts_of (with_entry history b (number_of s) event) b) (commands_left scenario b s) (length history + 1) (number_of s) event s)
+enters_on_course scenario history b event s may plays course = record {
   follows = λ command here. own_follows history b s later command event (own command (now_at command here)) noted_is;
   ends = λ command here over. release_finishes history b s command event (own command (now_at command here)) (course.going command (now_at command here)) (facts_of-own history (entry_of b (number_of s) event) b (eq-eqb b b refl)) later noted_is over;
   later = λ n after. has_written-earlier history (entry_of b (number_of s) event) b n (omega (arith, after, counts)) (course.later n (omega (arith, after, counts)));
+  clear = subst (λ o. ClearUnlessOwed new_facts o later) (first_left (commands_of scenario b) (length s.finished) ∙ ap (slice_get (commands_of scenario b)) (sym counts)) (accepted_clear new_facts (first_of left) (counted new_facts event (placed_at (length history + 1) (number_of s) event s)));
 }
   where
+    new_facts : Facts
+    new_facts = facts_of (with_entry history b (number_of s) event) b
+
+    left : List Command
+    left = commands_left scenario b s
+
     later : Session
     later = entered (facts_of (with_entry history b (number_of s) event) b) left (length history + 1) (number_of s) event s
 
@@ -171,9 +178,8 @@ goes_on_course : (scenario : Scenario) (history : List Entry) (b : ℕ) (event :
 goes_on_course scenario history b events.Start s played may is plays course = absurd (no_start (next_oid history) (facts_of history b) _ s plays)
 goes_on_course scenario history b event s played may is plays course =
     settled_on_course scenario new b left later (record { played = played; session = settled (facts_of new b) left later; is = is; holds = settled-locks (facts_of new b) left later })
-    (accepted_clear (facts_of new b) (first_of left) (counted (facts_of new b) event (placed_at (length history + 1) (number_of s) event s)))
     (ap (λ l. drop (length l) (commands_of scenario b)) (sym (noted_is.after.finished ∙ noted_finished event s)))
-    (enters_on_course scenario history b event s left may plays course)
+    (enters_on_course scenario history b event s may plays course)
   where
     new : List Entry
     new = with_entry history b (number_of s) event

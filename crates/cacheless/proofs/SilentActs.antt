@@ -19,11 +19,11 @@ use Rattle.history_model.proofs.Every.{every-append}
 use Rattle.cacheless.specs.Types.{Mode, Row, Purpose, Scenario, Command, CommandError, OwnLock, Entry}
 use Rattle.cacheless.specs.ActsDone.{after_given, reached, made_in, made_first, opening_by, relation_by, locked_relation_by, IsHeld, IsFirstStill}
 use Rattle.cacheless.specs.Facts.{Facts, facts_of}
-use Rattle.cacheless.specs.OnCourse.{is_absent, OnItsWay, Way, Begun, Wrote, Unbuilt, Over, GaveNow, IsFirstSeen, NamedFits, WasSought, FollowsPlan, IsOnCourse}
+use Rattle.cacheless.specs.OnCourse.{is_absent, OnItsWay, Way, Begun, Wrote, Unbuilt, Over, GaveNow, IsFirstSeen, NamedFits, WasSought, FollowsPlan, IsOnCourse, ClearUnlessOwed, EntersCourse}
 use Rattle.cacheless.specs.Owed.{Owes, OwesScan, owed_at_start, owed_after, builds_owed, act_owed, scans_owed, owes_build, owes_accept}
 use Rattle.cacheless.specs.Played.{IsPlayed}
 use Rattle.cacheless.specs.Runs.{runs}
-use Rattle.cacheless.specs.Session.{Session, Finished, Outcome, Unsettled, Well, Badly, first_of, none_open, plan_admitted, at_command, outcome_of, is_settled, number_of}
+use Rattle.cacheless.specs.Session.{Session, Finished, Outcome, Unsettled, Well, Badly, first_of, none_open, plan_admitted, at_command, outcome_of, is_settled}
 use Rattle.cacheless.specs.Sessions.{session_of}
 use Rattle.cacheless.specs.Settled.{class_oid, if_locked, looked_up, gives, opened_by, found_by, act_done, done_here, acted_on, acted, is_finished, blocks_after, finished_as, next_session, settled}
 use Rattle.cacheless.specs.Ends.{end_left}
@@ -285,10 +285,6 @@ builds_done facts command s builds free =
     by_outcome Well = refl
     by_outcome Badly = refl
 
--- the locks of a session are clear, unless its accept of messages isn't over
-abbrev pub ClearUnlessOwed : Facts → Option Command → Session → Type 0
-ClearUnlessOwed facts command s = owes_accept facts command s ≡ false → map cleared s.locks ≡ s.locks
-
 -- a played history with the session of a backend, which has these locks
 pub record HasSession (scenario : Scenario) (seen : List Entry) (b : ℕ) (locks : List OwnLock) : Type 0 where
   pub played : IsPlayed scenario seen
@@ -369,7 +365,7 @@ begins_plan seen b blocks finished locks last command unwritten = record {
     by_test plan true is = Begun (record { gave = []; plan = plan; found = refl; opened = refl; runs = is; holds = record { locked = tt; still = tt }; unwritten = unwritten })
     by_test plan false is = Unbuilt (record { plan = plan ∙ not_built command is })
 
-first_left : (commands : List Command) (n : ℕ) → first_of (drop n commands) ≡ slice_get commands n
+pub first_left : (commands : List Command) (n : ℕ) → first_of (drop n commands) ≡ slice_get commands n
 first_left commands n = by_place (slice_get_cases commands n).1
   where
     by_place : ((x : Command) × (n < length commands) × (slice_get commands n ≡ Some x) × (get_or commands n x ≡ x)) ⊎ ((length commands ≤ n) × (slice_get commands n ≡ None)) → first_of (drop n commands) ≡ slice_get commands n
@@ -385,24 +381,19 @@ rest_left commands n command rest are = let both : command ∷ rest ≡ command 
     within : n < length commands
     within = slice_get_within commands n command at
 
--- a session before its silent acts: where its running command has made its release, nothing is left of it
-pub record EntersCourse (scenario : Scenario) (seen : List Entry) (b : ℕ) (s : Session) : Type 0 where
-  pub follows : (command : Command) → slice_get (commands_of scenario b) (length s.finished) ≡ Some command → FollowsPlan seen b s command
-  pub ends : (command : Command) → slice_get (commands_of scenario b) (length s.finished) ≡ Some command → s.ended ≡ true → is_finished (facts_of seen b) command s ≡ true
-  pub later : (c : ℕ) → number_of s < c → has_written seen b c ≡ false
-
--- so is the session at the beginning of the next command, or after the last one
+-- so the session at the beginning of the next command, or after the last one, is on its course
 pub begins_on_course : (scenario : Scenario) (seen : List Entry) (b : ℕ) (blocks : Blocks) (finished : List Finished) (locks : List OwnLock) (last : ℕ) (left : List Command) → left ≡ drop (length finished) (commands_of scenario b)
-    → ((c : ℕ) → length finished < c → has_written seen b c ≡ false) → EntersCourse scenario seen b (at_command blocks finished locks last (first_of left))
-begins_on_course scenario seen b blocks finished locks last left are unwritten = by_first (first_of left) (ap first_of are ∙ first_left (commands_of scenario b) (length finished))
+    → ((c : ℕ) → length finished < c → has_written seen b c ≡ false) → map cleared locks ≡ locks → EntersCourse scenario seen b (at_command blocks finished locks last (first_of left))
+begins_on_course scenario seen b blocks finished locks last left are unwritten clear = by_first (first_of left) (ap first_of are ∙ first_left (commands_of scenario b) (length finished))
   where
     by_first : (o : Option Command) → o ≡ slice_get (commands_of scenario b) (length finished) → EntersCourse scenario seen b (at_command blocks finished locks last o)
-    by_first None is = record { follows = λ command at. absurd (let both : None ≡ Some command = is ∙ at in cc both); ends = λ command at over. absurd (cc); later = λ c after. unwritten c (omega (arith, after)) }
+    by_first None is = record { follows = λ command at. absurd (let both : None ≡ Some command = is ∙ at in cc both); ends = λ command at over. absurd (cc); later = λ c after. unwritten c (omega (arith, after)); clear = λ owes. clear }
     by_first (Some first) is = record {
       follows = λ command at. subst (FollowsPlan seen b (at_command blocks finished locks last (Some first))) (let both : Some first ≡ Some command = is ∙ at in cc both)
           (begins_plan seen b blocks finished locks last first (unwritten (length finished + 1) (omega arith)));
       ends = λ command at over. absurd (cc);
       later = λ c after. unwritten c (omega (arith, after));
+      clear = λ owes. clear;
     }
 
 -- a command that is finished owes nothing in an accept of messages
@@ -434,9 +425,9 @@ finished_stays facts command s finished =
     ap (is_finished facts command) (acted-out facts command s (and_parts (is_settled (outcome_of s.left)) (is_none (end_left facts command s)) (and_parts (is_settled (outcome_of s.left) && is_none (end_left facts command s)) _ finished).0).0) ∙ finished
 
 -- after its silent acts a session is on its course
-pub settled_on_course : (scenario : Scenario) (seen : List Entry) (b : ℕ) (left : List Command) (s : Session) → HasSession scenario seen b s.locks → ClearUnlessOwed (facts_of seen b) (first_of left) s → left ≡ drop (length s.finished) (commands_of scenario b) → EntersCourse scenario seen b s
+pub settled_on_course : (scenario : Scenario) (seen : List Entry) (b : ℕ) (left : List Command) (s : Session) → HasSession scenario seen b s.locks → left ≡ drop (length s.finished) (commands_of scenario b) → EntersCourse scenario seen b s
     → IsOnCourse scenario seen b (settled (facts_of seen b) left s)
-settled_on_course scenario seen b [] s has clear are course = record {
+settled_on_course scenario seen b [] s has are course = record {
   follows = λ command at. absurd (none_left command at);
   going = λ command at. absurd (none_left command at);
   later = course.later;
@@ -444,7 +435,7 @@ settled_on_course scenario seen b [] s has clear are course = record {
   where
     none_left : (command : Command) → slice_get (commands_of scenario b) (length s.finished) ≡ Some command → ⊥
     none_left command at = let both : None ≡ Some command = ap first_of are ∙ first_left (commands_of scenario b) (length s.finished) ∙ at in cc both
-settled_on_course scenario seen b (command ∷ rest) s has clear are course = by_end (is_finished (facts_of seen b) command now) refl
+settled_on_course scenario seen b (command ∷ rest) s has are course = by_end (is_finished (facts_of seen b) command now) refl
     (settled_on_course scenario seen b rest (next_session command (first_of rest) now))
   where
     now : Session
@@ -454,7 +445,7 @@ settled_on_course scenario seen b (command ∷ rest) s has clear are course = by
     at = sym (first_left (commands_of scenario b) (length s.finished)) ∙ ap first_of (sym are)
 
     acts_done : HasActed seen b command s now
-    acts_done = acted_follows scenario seen b command s has clear (course.follows command at)
+    acts_done = acted_follows scenario seen b command s has (subst (λ o. ClearUnlessOwed (facts_of seen b) o s) at course.clear) (course.follows command at)
 
     counts : length now.finished ≡ length s.finished
     counts = ap length acts_done.finished
@@ -464,11 +455,11 @@ settled_on_course scenario seen b (command ∷ rest) s has clear are course = by
     goes false on unfinished = on
 
     by_end : (t : Bool) → is_finished (facts_of seen b) command now ≡ t
-        → (HasSession scenario seen b now.locks → ClearUnlessOwed (facts_of seen b) (first_of rest) (next_session command (first_of rest) now) → rest ≡ drop (length (now.finished ++ finished_as now ∷ [])) (commands_of scenario b) → EntersCourse scenario seen b (next_session command (first_of rest) now)
+        → (HasSession scenario seen b now.locks → rest ≡ drop (length (now.finished ++ finished_as now ∷ [])) (commands_of scenario b) → EntersCourse scenario seen b (next_session command (first_of rest) now)
         → IsOnCourse scenario seen b (settled (facts_of seen b) rest (next_session command (first_of rest) now)))
         → IsOnCourse scenario seen b (elim t as (λ x. Session) [ true ↦ settled (facts_of seen b) rest (next_session command (first_of rest) now) | false ↦ now ])
-    by_end true finished more = more (record { played = has.played; session = has.session; is = has.is; holds = has.holds ∙ sym acts_done.locks }) (λ owes. acts_done.clear (finished_accepts (facts_of seen b) command now finished)) next
-        (begins_on_course scenario seen b (blocks_after command now) (now.finished ++ finished_as now ∷ []) now.locks now.last rest next (λ c after. course.later c (omega (arith, after, counts, length_push now.finished (finished_as now)))))
+    by_end true finished more = more (record { played = has.played; session = has.session; is = has.is; holds = has.holds ∙ sym acts_done.locks }) next
+        (begins_on_course scenario seen b (blocks_after command now) (now.finished ++ finished_as now ∷ []) now.locks now.last rest next (λ c after. course.later c (omega (arith, after, counts, length_push now.finished (finished_as now)))) (acts_done.clear (finished_accepts (facts_of seen b) command now finished)))
       where
         next : rest ≡ drop (length (now.finished ++ finished_as now ∷ [])) (commands_of scenario b)
         next = rest_left (commands_of scenario b) (length s.finished) command rest are ∙ ap (λ n. drop n (commands_of scenario b)) (sym (length_push now.finished (finished_as now) ∙ ap (λ n. n + 1) counts))
@@ -477,3 +468,32 @@ settled_on_course scenario seen b (command ∷ rest) s has clear are course = by
       going = λ other here. acts_done.ended ∙ goes s.ended refl going;
       later = λ c after. course.later c (omega (arith, after, counts));
     }
+
+-- one act that is done here keeps it so
+pub act_enters : (scenario : Scenario) (seen : List Entry) (b : ℕ) (s : Session) (command : Command) (act : Act) (rest : List Row → Plan) (given : List Row) → HasSession scenario seen b s.locks → slice_get (commands_of scenario b) (length s.finished) ≡ Some command
+    → is_empty (owed_at_start (facts_of seen b) command s ++ owed_after (facts_of seen b).last) ≡ true → s.left ≡ Do act rest → done_here (facts_of seen b) s act (Do act rest) ≡ Some given → EntersCourse scenario seen b s → EntersCourse scenario seen b (act_done act given (rest given) s)
+act_enters scenario seen b s command act rest given has at free left done course = record {
+  follows = λ other here. subst (FollowsPlan seen b (act_done act given (rest given) s)) (let both : Some command ≡ Some other = sym at ∙ here in cc both)
+      (act_follows scenario seen b s command act rest given (record { played = has.played; session = has.session; is = has.is; holds = has.holds; clear = clear }) left here_done (course.follows command at));
+  ends = λ other here over. absurd (let both : true ≡ false = sym (settled_if (course.ends command at over)) ∙ ap (λ p. is_settled (outcome_of p)) left in cc both);
+  later = course.later;
+  clear = λ owes. clear;
+}
+  where
+    here_done : IsDoneHere (facts_of seen b) s act rest given
+    here_done = is_done_here (facts_of seen b) s act rest given done
+
+    clear : map cleared s.locks ≡ s.locks
+    clear = subst (λ o. ClearUnlessOwed (facts_of seen b) o s) at course.clear (builds_done (facts_of seen b) command s here_done.builds free)
+
+    settled_if : is_finished (facts_of seen b) command s ≡ true → is_settled (outcome_of s.left) ≡ true
+    settled_if finished = (and_parts (is_settled (outcome_of s.left)) (is_none (end_left (facts_of seen b) command s)) (and_parts (is_settled (outcome_of s.left) && is_none (end_left (facts_of seen b) command s)) _ finished).0).0
+
+-- and so does the passing over a command that is finished
+pub finish_enters : (scenario : Scenario) (seen : List Entry) (b : ℕ) (s : Session) (command : Command) (rest : List Command) → command ∷ rest ≡ drop (length s.finished) (commands_of scenario b) → is_finished (facts_of seen b) command s ≡ true → EntersCourse scenario seen b s
+    → EntersCourse scenario seen b (next_session command (first_of rest) s)
+finish_enters scenario seen b s command rest are finished course =
+    begins_on_course scenario seen b (blocks_after command s) (s.finished ++ finished_as s ∷ []) s.locks s.last rest
+    (rest_left (commands_of scenario b) (length s.finished) command rest are ∙ ap (λ n. drop n (commands_of scenario b)) (sym (length_push s.finished (finished_as s))))
+    (λ c after. course.later c (omega (arith, after, length_push s.finished (finished_as s))))
+    (subst (λ o. ClearUnlessOwed (facts_of seen b) o s) (sym (first_left (commands_of scenario b) (length s.finished)) ∙ ap first_of (sym are)) course.clear (finished_accepts (facts_of seen b) command s finished))

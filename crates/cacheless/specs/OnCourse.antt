@@ -1,9 +1,10 @@
 -- How far a command is in what its plan says, by the session of its backend and the history.
-use Rattle.std.specs.Prelude.{◌≡◌, ◌<◌, ⊤, ℕ, Bool, true, false, Option, Some, None, List, [], ◌∷◌, length, slice_get}
+use Rattle.std.specs.Prelude.{◌≡◌, ◌<◌, ⊤, ℕ, Bool, true, false, Option, Some, None, List, [], ◌∷◌, map, length, slice_get}
 use Rattle.std.specs.List.{AllByRecursion}
 use Rattle.base_types.specs.declared.row.Row.TheVariants as rows
 use Rattle.base_types.specs.declared.scan.Purpose.TheVariants as scans
 use Rattle.event_kinds.specs.declared.entry.Event.TheVariants as events
+use Rattle.lock_modes.specs.Own.{cleared}
 use Rattle.ddl_effect.specs.Plans.{Act, Lookup, Write, Plan, Done, Fails, Absent, Do, NotBuilt}
 use Rattle.ddl_effect.specs.Commands.{plan_of, commands_of}
 use Rattle.history_model.specs.Lives.{last_event_of}
@@ -11,9 +12,11 @@ use Rattle.history_model.specs.Read.{rows_read}
 use Rattle.history_model.specs.Versions.{answer_of}
 use Rattle.history_model.specs.Writes.{has_written}
 use Rattle.cacheless.specs.Types.{Oid, Mode, Kind, Row, Command, CommandError, Draft, Scenario, Entry, Event}
+use Rattle.cacheless.specs.Facts.{Facts, facts_of}
+use Rattle.cacheless.specs.Owed.{owes_accept}
 use Rattle.cacheless.specs.Runs.{runs}
 use Rattle.cacheless.specs.Session.{Session, none_open, number_of, outcome_of, is_settled}
-use Rattle.cacheless.specs.Settled.{class_oid, found_by}
+use Rattle.cacheless.specs.Settled.{class_oid, found_by, is_finished}
 use Rattle.cacheless.specs.Sessions.{session_of}
 use Rattle.cacheless.specs.ActsDone.{reached, made_in, opening_by, locked_relation_by, IsHeld, IsStill, WayHolds}
 
@@ -108,6 +111,17 @@ pub record IsOnCourse (scenario : Scenario) (seen : List Entry) (b : ℕ) (s : S
   pub follows : (command : Command) → slice_get (commands_of scenario b) (length s.finished) ≡ Some command → FollowsPlan seen b s command
   pub going : (command : Command) → slice_get (commands_of scenario b) (length s.finished) ≡ Some command → s.ended ≡ false
   pub later : (c : ℕ) → number_of s < c → has_written seen b c ≡ false
+
+-- the locks of a session are clear, unless its accept of messages isn't over
+abbrev pub ClearUnlessOwed : Facts → Option Command → Session → Type 0
+ClearUnlessOwed facts command s = owes_accept facts command s ≡ false → map cleared s.locks ≡ s.locks
+
+-- the same before it has gone on without entries: where the running command has made its release, it is finished
+pub record EntersCourse (scenario : Scenario) (seen : List Entry) (b : ℕ) (s : Session) : Type 0 where
+  pub follows : (command : Command) → slice_get (commands_of scenario b) (length s.finished) ≡ Some command → FollowsPlan seen b s command
+  pub ends : (command : Command) → slice_get (commands_of scenario b) (length s.finished) ≡ Some command → s.ended ≡ true → is_finished (facts_of seen b) command s ≡ true
+  pub later : (c : ℕ) → number_of s < c → has_written seen b c ≡ false
+  pub clear : ClearUnlessOwed (facts_of seen b) (slice_get (commands_of scenario b) (length s.finished)) s
 
 -- before its start a backend has written nothing, and afterwards its session is on its course
 abbrev pub CourseOf : Scenario → List Entry → ℕ → Option Session → Type 0
