@@ -19,7 +19,7 @@ use Rattle.cacheless.specs.Schedule.{LooksTruly}
 use Rattle.cacheless.specs.TableWrites.{KeepsTablesBy}
 use Rattle.cacheless.specs.Lines.{lines_from}
 pub use Rattle.cacheless.proofs.JudgedLines.{lines-more}
-use Rattle.cacheless.proofs.PlayedMore.{counted_tally}
+use Rattle.cacheless.proofs.NextOnCourse.{counted_tally}
 use Rattle.cacheless.proofs.Reading.{facts_of-own, session_of-own}
 use Rattle.backend_core.specs.Types.{Scenario, Entry, Event, Backend}
 use Rattle.backend_core.specs.State.{is_ended, Rest, rest_of, session_at, HasCommand}

@@ -18,7 +18,7 @@ use Rattle.cacheless.specs.Lines.{answer_judged, line_of, lines_from}
 use Rattle.cacheless.specs.Session.{Session, Finished, first_of, at_command}
 use Rattle.cacheless.specs.Sessions.{ends_command, placed_at, counted, commands_left, entered, session_by, session_of}
 use Rattle.cacheless.specs.Settled.{done_here, act_done, acted_on, acted, is_finished, finished_as, next_session, settled}
-use Rattle.cacheless.proofs.PlayedMore.{counted_tally, noted_finished}
+use Rattle.cacheless.proofs.NextOnCourse.{counted_tally, noted_finished}
 
 -- the line of a command that is judged among the entries stays with one more
 pub line-more : (scenario : Scenario) (seen : List Entry) (e : Entry) (b c : ℕ) (f : Finished) (command : Command) → f.judged ≤ length seen → line_of scenario (seen ++ e ∷ []) b c f command ≡ line_of scenario seen b c f command
@@ -130,3 +130,19 @@ session_placed scenario history b s is = let placed = subst (PlacedAt (length hi
 pub finished_lines-more : (scenario : Scenario) (history : List Entry) (e : Entry) (b : ℕ) (s : Session) → session_of scenario history b ≡ Some s
     → lines_from scenario (history ++ e ∷ []) b 1 s.finished (commands_of scenario b) ≡ lines_from scenario history b 1 s.finished (commands_of scenario b)
 finished_lines-more scenario history e b s is = lines-more scenario history e b 1 s.finished (commands_of scenario b) (session_placed scenario history b s is).finished
+
+-- an entry that isn't of a command's end is where the running command is judged from then on
+pub judged_here : (facts : Facts) (left : List Command) (at c : ℕ) (event : Event) (s : Session) → ends_command event ≡ false → (entered facts left at c event s).judged ≡ at
+judged_here facts left at c event s goes = ap (λ x. x.judged) (counted_tally facts event (placed_at at c event s)) ∙ ap (λ t. if t then s.judged else at) goes
+
+-- one of its end leaves all by which it is judged
+pub judged_still : (facts : Facts) (left : List Command) (at c : ℕ) (event : Event) (s : Session) → ends_command event ≡ true → finished_as (entered facts left at c event s) ≡ finished_as s
+judged_still facts left at c (events.Visible xid) s ends = refl
+judged_still facts left at c (events.Publish count) s ends = refl
+judged_still facts left at c (events.Release from) s ends = refl
+judged_still facts left at c (events.Gone from) s ends = refl
+judged_still facts left at c event s ends = absurd (cc)
+
+-- so its line stays until it is finished
+pub line_stays : (scenario : Scenario) (seen : List Entry) (e : Entry) (b c : ℕ) (s later : Session) (command : Command) → s.judged ≤ length seen → finished_as later ≡ finished_as s → line_of scenario (seen ++ e ∷ []) b c (finished_as later) command ≡ line_of scenario seen b c (finished_as s) command
+line_stays scenario seen e b c s later command place same = ap (λ f. line_of scenario (seen ++ e ∷ []) b c f command) same ∙ line-more scenario seen e b c (finished_as s) command place

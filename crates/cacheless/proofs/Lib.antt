@@ -50,7 +50,9 @@ pub mod StaysOnCourse
 pub mod SilentActs
 pub mod OwnEntries
 pub mod Releases
-pub mod PlayedMore
+pub mod NextOnCourse
+pub mod NextKeeps
+pub mod AllowedHistories
 pub mod Economical
 pub mod ReadPlaces
 pub mod OpenedOne

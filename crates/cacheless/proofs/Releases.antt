@@ -50,8 +50,17 @@ taken_back_ends facts command s from is = absurd (by_block s.blocks.block is)
     by_block Inside end = cc end
     by_block Failed end = cc end
 
--- no scan for an opened descriptor is owed at the end of a command that came out well
-ends_built : (facts : Facts) (command : Command) (s : Session) → (plan_of none_open command ≡ Done → s.opened ≡ []) → outcome_of s.left ≡ Well → owed_at_end facts command s ≡ [] → builds_owed facts s.opened ≡ []
+-- no scan for an opened descriptor is owed of a command that came out well and owes nothing
+pub owes_none_built : (facts : Facts) (command : Command) (s : Session) → outcome_of s.left ≡ Well → owed_of facts command s ≡ [] → builds_owed facts s.opened ≡ []
+owes_none_built facts command s well none = unmapped (builds_owed facts s.opened) (act_owed facts s.locks s.read s.left)
+    (sym (ap (λ o. map OwesScan (elim o as (λ x. List Purpose) [ Badly ↦ [] | other ↦ builds_owed facts s.opened ++ act_owed facts s.locks s.read s.left ])) well) ∙ (both_empty _ (map OwesScan (scans_owed facts s)) none).1)
+  where
+    unmapped : (l more : List Purpose) → map OwesScan (l ++ more) ≡ [] → l ≡ []
+    unmapped [] more is = refl
+    unmapped (x ∷ xs) more is = absurd (cc is)
+
+-- nor at its end
+pub ends_built : (facts : Facts) (command : Command) (s : Session) → (plan_of none_open command ≡ Done → s.opened ≡ []) → outcome_of s.left ≡ Well → owed_at_end facts command s ≡ [] → builds_owed facts s.opened ≡ []
 ends_built facts command s plain well none = by_end (end_well facts command s) refl (sym (ap (λ o. owed_if (end_if o)) well) ∙ none)
   where
     end_if : Outcome → End
@@ -60,17 +69,9 @@ ends_built facts command s plain well none = by_end (end_well facts command s) r
     owed_if : End → List Owes
     owed_if end = elim end as (λ x. List Owes) [ TakesBack from ↦ owed_after facts.last | other ↦ owed_of facts command s ]
 
-    unmapped : (l more : List Purpose) → map OwesScan (l ++ more) ≡ [] → l ≡ []
-    unmapped [] more is = refl
-    unmapped (x ∷ xs) more is = absurd (cc is)
-
-    built : owed_of facts command s ≡ [] → builds_owed facts s.opened ≡ []
-    built nothing = unmapped (builds_owed facts s.opened) (act_owed facts s.locks s.read s.left)
-        (sym (ap (λ o. map OwesScan (elim o as (λ x. List Purpose) [ Badly ↦ [] | other ↦ builds_owed facts s.opened ++ act_owed facts s.locks s.read s.left ])) well) ∙ (both_empty _ (map OwesScan (scans_owed facts s)) nothing).1)
-
     by_end : (end : End) → end_well facts command s ≡ end → owed_if end ≡ [] → builds_owed facts s.opened ≡ []
-    by_end Ends is nothing = built nothing
-    by_end (Commits first) is nothing = built nothing
+    by_end Ends is nothing = owes_none_built facts command s well nothing
+    by_end (Commits first) is nothing = owes_none_built facts command s well nothing
     by_end (TakesBack from) is nothing = ap (builds_owed facts) (plain (taken_back_ends facts command s from is))
 
 -- after its release it is finished

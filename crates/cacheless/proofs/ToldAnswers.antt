@@ -1,5 +1,5 @@
 -- What a command has to answer by the history is what its backend tells by its last scans and its locks.
-use Rattle.std.proofs.Common.{◌≡◌, ◌≤◌, ◌∙◌, ℕ, Bool, true, false, Option, Some, None, List, [], ◌∷◌, refl, sym, ap, subst, length}
+use Rattle.std.proofs.Common.{◌≡◌, ◌≤◌, ◌∙◌, ℕ, Bool, true, false, Option, Some, None, List, [], ◌∷◌, refl, sym, ap, subst, length, ◌⊎◌, inl, inr}
 use Rattle.std.specs.List.{AllByRecursion}
 use Rattle.std.proofs.lemmas.List.{append-nil, take_all}
 use Rattle.base_types.specs.Fields.{has_field}
@@ -19,8 +19,9 @@ use Rattle.cacheless.specs.ActsDone.{reached, made_in, opening_by, relation_by, 
 use Rattle.cacheless.specs.Facts.{facts_of}
 use Rattle.cacheless.specs.Lines.{first_found, shown_fields, shown_row, answer_well, answer_by, effect_judged, answer_judged, line_of}
 use Rattle.cacheless.specs.OnCourse.{OnItsWay, HasWritten, is_over, Way, Begun, Wrote, Unbuilt, Over, FollowsPlan}
-use Rattle.cacheless.specs.Owed.{builds_owed}
-use Rattle.cacheless.specs.Session.{Session, none_open, number_of, outcome_of, is_settled}
+use Rattle.cacheless.specs.Owed.{builds_owed, owed_of}
+use Rattle.cacheless.proofs.Releases.{owes_none_built}
+use Rattle.cacheless.specs.Session.{Session, none_open, number_of, outcome_of, is_settled, Well, Badly}
 use Rattle.cacheless.specs.Settled.{found_by, finished_as}
 use Rattle.cacheless.specs.Told.{told_fields, told_open, told_well, told_left, told}
 use Rattle.cacheless.proofs.ActOrder.{goes_by_relation, runs_built}
@@ -119,3 +120,12 @@ line_told scenario seen b s command come judged = ap (λ h. line_by h) (take_all
   where
     line_by : List Entry → Line
     line_by h = record { backend = b; command = number_of s; text = answer_text (answer_judged scenario h b (number_of s) (finished_as s) command s.refused) }
+
+-- a command that came out of itself and owes nothing, or has failed, has come out so, where its last entry takes nothing back and is no release
+pub has_come_out : (scenario : Scenario) (seen : List Entry) (b : ℕ) (s : Session) (command : Command) → HasSession scenario seen b s.locks → FollowsPlan seen b s command → is_settled (outcome_of s.left) ≡ true → is_over (last_event_of seen b) s ≡ false
+    → (outcome_of s.left ≡ Badly) ⊎ (owed_of (facts_of seen b) command s ≡ []) → HasComeOut scenario seen b s command
+has_come_out scenario seen b s command has follows out stands owes = record { has = has; follows = follows; out = out; stands = stands; builds = λ done. by_side owes done }
+  where
+    by_side : (outcome_of s.left ≡ Badly) ⊎ (owed_of (facts_of seen b) command s ≡ []) → s.left ≡ Done → builds_owed (facts_of seen b) s.opened ≡ []
+    by_side (inl failed) done = absurd (let both : Well ≡ Badly = sym (ap outcome_of done) ∙ failed in cc both)
+    by_side (inr none) done = owes_none_built (facts_of seen b) command s (ap outcome_of done) none
