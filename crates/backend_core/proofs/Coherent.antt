@@ -15,7 +15,7 @@ use Rattle.backend_core.specs.declared.phase.Life.TheVariants as lives
 use Rattle.backend_core.specs.State.{is_kept}
 use Rattle.backend_core.specs.Agrees.{ReadRight, KeptAt, HasNotJoined, AwaitsEntry, HasLeft, Stands}
 use Rattle.backend_core.specs.Coherent.{IsCoherentScan, IsCoherent}
-use Rattle.backend_core.proofs.ReadPlaces.{read_at_place}
+use Rattle.cacheless.proofs.ReadPlaces.{read_at_place}
 
 -- each scan that is kept is among those kept
 each_kept : (kept : List KeptScan) → AllByRecursion (λ k. is_kept kept k.scan ≡ true) kept

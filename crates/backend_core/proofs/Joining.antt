@@ -28,7 +28,7 @@ use Rattle.backend_core.specs.Agrees.{IsPlayed, ReadRight, FactsFit, RunsBy, End
 use Rattle.backend_core.specs.Steps.{AgreesNow, MakesEntry, Enters}
 use Rattle.backend_core.proofs.Played.{IsPlayed-more}
 use Rattle.backend_core.proofs.Stepping.{appended_makes}
-use Rattle.backend_core.proofs.OpenedReads.{reads_first}
+use Rattle.cacheless.proofs.OpenedReads.{reads_first}
 use Rattle.backend_core.proofs.Carry.{has_written-quiet, no_answer}
 use Rattle.backend_core.proofs.Ending.{fits_unless, built_at}
 use Rattle.backend_core.proofs.Beginning.{Begins, past_at, plain_at, starts_at, command_at}

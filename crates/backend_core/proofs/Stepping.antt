@@ -1,7 +1,7 @@
 -- A backend's own entry, whichever it is.
-use Rattle.std.proofs.Common.{◌≡◌, ◌≤◌, ◌+◌, ◌∙◌, ℕ, Bool, true, false, Some, List, [], ◌∷◌, ◌++◌, ◌==◌, refl, sym, ap, subst, length, drop, All, is_some, slice_get, arith, if◌then◌else◌, suc}
+use Rattle.std.proofs.Common.{◌≡◌, ◌≤◌, ◌+◌, ◌∙◌, ℕ, Bool, true, false, Some, List, [], ◌∷◌, ◌++◌, ◌==◌, refl, sym, ap, subst, length, drop, All, is_some, slice_get, arith, if◌then◌else◌}
 use Rattle.std.proofs.lemmas.Bool.{eq-eqb}
-use Rattle.std.proofs.lemmas.List.{take-append-le, length_push}
+use Rattle.std.proofs.lemmas.List.{length_push}
 use Rattle.base_types.specs.Scenario.{IsBackend}
 use Rattle.ddl_effect.specs.Commands.{commands_of}
 use Rattle.history_model.specs.Drawn.{next_oid}
@@ -9,16 +9,17 @@ use Rattle.history_model.specs.Lives.{Alive, life_by, life_of}
 use Rattle.history_model.proofs.Reading.{life_of-own}
 use Rattle.seg_calls.specs.Calls.{entry_of, places_for, Appends}
 use Rattle.cacheless.specs.Facts.{Facts, facts_of, facts_by}
-use Rattle.cacheless.specs.Session.{Session, Finished}
+use Rattle.cacheless.specs.Session.{Session}
 use Rattle.cacheless.specs.Settled.{settled}
 use Rattle.event_kinds.specs.declared.entry.Event.TheVariants as events
-use Rattle.cacheless.specs.Sessions.{noted, ends_command, placed_at, counted, entered, commands_left, session_by, session_of}
+use Rattle.cacheless.specs.Sessions.{noted, ends_command, placed_at, entered, commands_left, session_by, session_of}
 use Rattle.cacheless.specs.Plays.{IsNext, MayPlayIn, MayPlayAt}
 use Rattle.cacheless.specs.MayEnter.{SuitsHistory}
-use Rattle.rel_desc.specs.Answers.{answer_text}
-use Rattle.cacheless.specs.Lines.{lines_from, line_of, answer_judged}
+use Rattle.cacheless.specs.Lines.{lines_from}
+pub use Rattle.cacheless.proofs.JudgedLines.{lines-more}
+use Rattle.cacheless.proofs.NextOnCourse.{counted_tally}
 use Rattle.cacheless.proofs.Reading.{facts_of-own, session_of-own}
-use Rattle.backend_core.specs.Types.{Command, Scenario, Entry, Event, Backend}
+use Rattle.backend_core.specs.Types.{Scenario, Entry, Event, Backend}
 use Rattle.backend_core.specs.State.{is_ended, Rest, rest_of, session_at, HasCommand}
 use Rattle.backend_core.specs.Agrees.{IsPlayed, FactsFit, TallyFits, Well, CommandFits, KeptAt, AnswerFits, Agrees}
 use Rattle.backend_core.specs.Steps.{AgreesNow, MakesEntry, Enters}
@@ -73,21 +74,6 @@ pub record Follows (scenario : Scenario) (old : List Entry) (was now : Backend) 
 pub record Suits (scenario : Scenario) (old : List Entry) (was : Backend) (event : Event) (rest : Rest) : Type 0 where
   pub plays : MayPlayIn (next_oid old) (facts_of old was.id) (slice_get was.commands was.finished) (session_at was rest) event
   pub suits : SuitsHistory scenario old was.id event
-
--- the lines of finished commands stay with one more entry
-pub lines-more : (scenario : Scenario) (seen : List Entry) (e : Entry) (b c : ℕ) (finished : List Finished) (commands : List Command) → All (λ f. f.judged ≤ length seen) finished
-    → lines_from scenario (seen ++ e ∷ []) b c finished commands ≡ lines_from scenario seen b c finished commands
-lines-more scenario seen e b c [] commands places = refl
-lines-more scenario seen e b c (f ∷ finished) [] places = refl
-lines-more scenario seen e b c (f ∷ finished) (command ∷ commands) places =
-    ap (λ h. record { backend = b; command = c; text = answer_text (answer_judged scenario h b c f command f.refused) } ∷ lines_from scenario (seen ++ e ∷ []) b (c + 1) finished commands)
-    (take-append-le f.judged seen (e ∷ []) (places 0 f (omega arith)))
-    ∙ ap (λ l. line_of scenario seen b c f command ∷ l) (lines-more scenario seen e b (c + 1) finished commands (λ i d within. places (suc i) d (omega (arith, within))))
-
--- a full fetch is counted in the tally alone
-counted_tally : (facts : Facts) (event : Event) (s : Session) → counted facts event s ≡ record s { tally = (counted facts event s).tally }
-counted_tally facts (events.Fetch count) s = refl
-counted_tally facts event s = refl
 
 -- so it agrees after its own entry
 pub own_agrees : (scenario : Scenario) (old : List Entry) (was now : Backend) (event : Event) (agrees : Agrees scenario old was) → IsPlayed scenario (old ++ entry_of was.id (was.finished + 1) event ∷ []) → Waits agrees → GoesOn event

@@ -43,6 +43,7 @@ use Rattle.cacheless.specs.ActsDone.{reached}
 use Rattle.cacheless.proofs.HeldLocks.{Follows as Follows', grant_of, locks_of, locks_are_held, lock_is_held}
 use Rattle.cacheless.proofs.Settling.{waits-act}
 use Rattle.cacheless.proofs.Ways.{acts}
+use Rattle.cacheless.proofs.WriteFits.{WriteFits, write_fits}
 use Rattle.backend_core.specs.Types.{Oid, Xid, Row, Command, Scenario, Entry, Event, Item, Message, Phase, Draft, Exec, Opening, OwnLock, OwnTransaction, KeptScan, Backend}
 use Rattle.backend_core.specs.declared.phase.Phase.TheVariants as phases
 use Rattle.backend_core.specs.State.{is_accepting, published_at, is_visible_at, is_taken_back, is_ended, is_out, begins_in, owed_first, running_in, lists_at, kept_spared, owed_at, one_if, session_at, locks_written, builds_missing, HasCommand}
@@ -52,8 +53,7 @@ use Rattle.backend_core.specs.Way.{OnItsWay}
 use Rattle.backend_core.proofs.Acting.{IsActing, is_acting}
 use Rattle.backend_core.proofs.Stepping.{Waits, facts_after, session_after, rest_after, Keeps, Follows, Suits, GoesOn, own_makes, own_enters}
 use Rattle.backend_core.proofs.Carry.{may_request, waits_at, missing_at, owed_scans, clear_at, accepted-clear, kept-more, no_answer, out_found, lacks_none}
-use Rattle.backend_core.proofs.WriteFits.{WriteFits, write_fits}
-use Rattle.backend_core.proofs.OpenedReads.{reads_out}
+use Rattle.cacheless.proofs.OpenedReads.{reads_out}
 use Rattle.backend_core.proofs.Nexting.{the_command}
 use Rattle.backend_core.proofs.Sparing.{is_kept-spared, all-spared}
 use Rattle.backend_core.proofs.WriteMessages.{registered_is, spared_alike}
@@ -179,7 +179,7 @@ module _ (scenario : Scenario) (old : List Entry) (was : Backend) (agrees : Agre
 
   -- what it is about to write fits
   pub fits : IsPlayed scenario old → WriteFits old was.id (was.finished + 1) (facts_of old was.id) draft
-  fits played = write_fits old was.id (was.finished + 1) (facts_of old was.id) works.has.command way_here.gave draft (λ given. Done) played.sound played.tables way_here.runs way_here.holds (sym way_here.plan ∙ at) way_here.unwritten
+  fits played = write_fits old was.id (was.finished + 1) (facts_of old was.id) works.has.command way_here.gave draft (λ given. Done) played.sound played.tables way_here.runs way_here.holds (sym way_here.plan ∙ at)
 
   pub locks_clear : map cleared was.locks.items ≡ was.locks.items
   locks_clear = clear_at was agrees.well (ap is_accepting works.phase) (lacks_none was whole)
@@ -189,7 +189,8 @@ module _ (scenario : Scenario) (old : List Entry) (was : Backend) (agrees : Agre
 
   -- so it may write
   pub may_write : IsPlayed scenario old → MayWrite old was.id (was.finished + 1) draft
-  may_write played = (fits played).may
+  may_write played = let fit = (fits played).fit in
+      record { oids = fit.oids; keys = fit.keys; there = fit.there; kinds = fit.kinds; only = way_here.unwritten; guarded = fit.guarded; orderly = fit.orderly }
 
   pub may_ask : MayRequest scenario old was.id (was.finished + 1)
   may_ask = may_request scenario old was agrees (ap is_visible_at works.phase) (ap is_taken_back works.phase)

@@ -15,3 +15,8 @@ pub mod Protected
 pub mod Lines
 pub mod Schedule
 pub mod Output
+pub mod OnCourse
+pub mod Played
+pub mod Told
+pub mod Judged
+pub mod OpenedReads
