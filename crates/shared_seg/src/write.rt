@@ -1,4 +1,4 @@
-ghost use Rattle.std.specs.Prelude.{◌≡◌, ◌≤◌, ◌++◌, ◌∷◌, ◌^◌, [], length, OnOk, OnErr};
+ghost use Rattle.std.specs.Prelude.{◌≡◌, ◌≤◌, ◌+◌, ◌++◌, ◌∷◌, ◌^◌, [], length, sum, OnOk, OnErr};
 ghost use Rattle.std.specs.List.{flat_map};
 ghost use Rattle.catalog_rows.specs.Store.{after_write};
 ghost use Rattle.event_kinds.specs.declared.entry.Event.TheVariants as events;
@@ -36,7 +36,7 @@ pub(crate) fn enter_write(
     ensures same_rows { OnErr result (store.new ≡ store.old) }
     ensures same_held { OnErr result (locks.new.held ≡ locks.old.held) }
     ensures same_entries { OnErr result (places.new.entries ≡ places.old.entries) }
-    ensures short { OnOk result (length places.new.entries ≤ 2 ^ 56) }
+    ensures short { OnOk result (length places.new.entries + sum places.new.promised ≤ 2 ^ 56) }
 {
     let Drawn {
         xid,

@@ -4,9 +4,10 @@ ghost use Rattle.sinval_ring.specs.Readers.{Inactive, is_active, is_behind, is_b
 // The most messages that one fetch gives.
 pub(crate) const MOST_FETCHED: u64 = 32;
 
-// How far a backend is in the queue (`ProcState` in `src/backend/storage/ipc/sinvaladt.c`).
+// How far a backend is in the queue (`ProcState` in `src/backend/storage/ipc/sinvaladt.c`). Contracts have
+// these too, with the number of messages that it is past for the number of its next one.
 #[derive(Clone, Copy)]
-pub(crate) enum Reader {
+pub enum Reader {
     // It takes no part.
     Inactive,
     // Its next message is the one of this number. It was signaled to catch up, or wasn't.
