@@ -41,15 +41,13 @@ promises old new had has b n (Ok done) entries within ok err =
     let own : promised_in has b ≡ max (promised_in had b) n = ap (λ l. promised_in l b) ok ∙ promised-own had b (max (promised_in had b) n) within in
     record {
       entries = entries;
-      ok = omega (arith, own);
-      kept = omega (arith, own);
+      ok = own;
       err = tt;
       others = λ a other. ap (λ l. promised_in l a) ok ∙ promised-other had b (max (promised_in had b) n) a other;
     }
 promises old new had has b n (Err error) entries within ok err = record {
   entries = entries;
   ok = tt;
-  kept = omega (arith, ap (λ l. promised_in l b) err);
   err = ap (λ l. promised_in l b) err;
   others = λ a other. ap (λ l. promised_in l a) err;
 }
