@@ -181,6 +181,7 @@ appended_makes scenario old new had has e next suits appends = record {
   own = refl;
   may = record { comes = appends.comes; next = next; suits = suits };
   place = omega (arith, appends.own, one_place e.event);
+  most = appends.most;
   others = appends.others;
 }
 

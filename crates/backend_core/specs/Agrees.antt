@@ -14,8 +14,6 @@ use Rattle.cacheless.specs.Runs.{runs}
 use Rattle.ddl_effect.specs.Blocks.{Block, Outside, Inside, Failed, no_block, is_open, innermost, ends_block}
 use Rattle.ddl_effect.specs.Stages.{plan_at}
 use Rattle.history_model.specs.Lives.{Life, Unstarted, Alive, Stopped, life_of}
-use Rattle.history_model.specs.Orderly.{IsSound}
-use Rattle.history_model.specs.Prefixes.{EachEntry}
 use Rattle.history_model.specs.Read.{is_usable, rows_read, place_read}
 use Rattle.history_model.specs.Writes.{has_written, is_empty}
 use Rattle.seg_calls.specs.Calls.{took_back}
@@ -28,8 +26,7 @@ use Rattle.cacheless.specs.Owed.{owed_after}
 use Rattle.cacheless.specs.Ends.{Commits, TakesBack}
 use Rattle.cacheless.specs.Settled.{settled, finished_as}
 use Rattle.cacheless.specs.Sessions.{session_of}
-use Rattle.cacheless.specs.Plays.{Plays}
-use Rattle.cacheless.specs.TableWrites.{WritesTables}
+pub use Rattle.cacheless.specs.Played.{IsPlayed}
 use Rattle.cacheless.specs.Lines.{answer_judged, lines_from}
 pub use Rattle.cacheless.specs.OpenedReads.{is_of_opened, ReadsOpened}
 use Rattle.backend_core.specs.Types.{Row, Purpose, Command, CommandError, Scenario, Entry, OwnLock, KeptScan, Phase, Backend}
@@ -38,12 +35,6 @@ use Rattle.backend_core.specs.declared.phase.Phase.TheVariants as phases
 use Rattle.backend_core.specs.Passing.{is_silent}
 use Rattle.backend_core.specs.Way.{SeesRelation, Way}
 use Rattle.backend_core.specs.State.{owed_at, is_absent, published_at, is_accepting, looks_due, is_taken_back, is_ended, one_if, running_at, lists_at, is_kept, builds_missing, is_out, begins_in, owed_first, end_at, is_inside, blocks_next, has_write_since, end_of_running, Rest, session_at, HasCommand, is_in_accept}
-
--- a history on which a backend goes on: it is sound, the script's commands played it, and its writes keep tables
-pub record IsPlayed (scenario : Scenario) (history : List Entry) : Type 0 where
-  pub sound : IsSound history
-  pub plays : Plays scenario history
-  pub tables : EachEntry WritesTables history
 
 -- what the scan of a name gave is what the backend holds of it, and it serves: it is usable, or the relation that a lookup's gave is locked
 abbrev pub RowsFit : Facts → List OwnLock → Plan → List Row → Type 0

@@ -15,13 +15,14 @@ use Rattle.backend_core.specs.State.{owed_first, is_looked_for, missing, is_out,
 use Rattle.backend_core.specs.Agrees.{IsPlayed, Agrees, Stands}
 use Rattle.backend_core.specs.Coherent.{IsCoherent}
 
--- one entry of the backend is appended, which the history and the script allow; of the places that are promised it takes at most one, of its own
+-- one entry of the backend is appended, which the history and the script allow; of the places that are promised it takes at most one, of its own, and none is promised
 pub record MakesEntry (scenario : Scenario) (old new : List Entry) (had has : ℕ → ℕ) (b : ℕ) : Type 0 where
   pub entry : Entry
   pub is : new ≡ old ++ entry ∷ []
   pub own : entry.backend ≡ b
   pub may : MayEnter scenario old entry
   pub place : had b ≤ has b + 1
+  pub most : has b ≤ had b
   pub others : (a : ℕ) → a ≢ b → has a ≡ had a
 
 -- a step: one entry, after which the backend is right, and its caches are coherent with the history

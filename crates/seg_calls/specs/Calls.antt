@@ -90,11 +90,12 @@ places_for (ClashRow name rel) = 0
 places_for (ClashRunning name xid) = 0
 places_for event = 1
 
--- one entry is appended, which the entries before it allow; it takes no promised place of another backend, and of its own at most those that it may
+-- one entry is appended, which the entries before it allow; it changes no promise to another backend, and of its own promised places it takes at most those that it may, and adds none
 pub record Appends (old new : List Entry) (had has : ℕ → ℕ) (e : Entry) : Type 0 where
   pub entries : new ≡ old ++ e ∷ []
   pub comes : MayComeNext old e
   pub own : had e.backend ≤ has e.backend + places_for e.event
+  pub most : has e.backend ≤ had e.backend
   pub others : (b : ℕ) → b ≢ e.backend → has b ≡ had b
 
 -- a scan gives its answer, and its entry says how many rows that is

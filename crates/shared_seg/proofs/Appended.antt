@@ -22,6 +22,7 @@ appends_placed old new had has e one entries comes taken within = record {
   entries = entries;
   comes = comes;
   own = omega (arith, one, ap (λ l. promised_in l e.backend) taken, promised-own had e.backend (promised_in had e.backend - 1) within);
+  most = omega (arith, ap (λ l. promised_in l e.backend) taken, promised-own had e.backend (promised_in had e.backend - 1) within);
   others = λ a other. ap (λ l. promised_in l a) taken ∙ promised-other had e.backend (promised_in had e.backend - 1) a other;
 }
 
@@ -31,6 +32,7 @@ appends_free old new had has e entries comes same = record {
   entries = entries;
   comes = comes;
   own = omega (arith, ap (λ l. promised_in l e.backend) same);
+  most = omega (arith, ap (λ l. promised_in l e.backend) same);
   others = λ a other. ap (λ l. promised_in l a) same;
 }
 

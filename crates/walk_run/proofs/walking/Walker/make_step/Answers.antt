@@ -1,21 +1,17 @@
 use Rattle.std.proofs.Common.{◌<◌, sym, subst, arith}
-use Rattle.history_model.specs.Orderly.{IsSound}
-use Rattle.history_model.specs.Prefixes.{EachEntry}
+use Rattle.history_model.specs.Legal.{IsLegal}
+use Rattle.history_model.proofs.Sound.{sound_is_legal}
 use Rattle.cacheless.specs.Plays.{Plays}
-use Rattle.cacheless.specs.TableWrites.{WritesTables}
 use Rattle.backend_core.proofs.Played.{entered_played}
 use Rattle.walk_run.proofs.ScheduleSteps.{found_at, stands_there, step_makes}
 use Rattle.walk_run.proofs.walking.Walker.make_step.Goals as goal
 
-pub step-requires-clause-sound : goal.step-requires-clause-sound
-step-requires-clause-sound g c = subst IsSound (sym c.promise.ensures.promises.entries) (entered_played _ _ c.requires.stand.entered).sound
+pub step-requires-clause-legal : goal.step-requires-clause-legal
+step-requires-clause-legal g c = subst IsLegal (sym c.promise.ensures.promises.entries) (sound_is_legal _ (entered_played _ _ c.requires.stand.entered).sound)
 
 pub step-requires-clause-plays : goal.step-requires-clause-plays
 step-requires-clause-plays g c =
     subst (λ s. Plays s (g.L.Seg.history c.promise.new.self)) (sym c.promise.ensures.script) (subst (Plays (g.L.Seg.script c.args.seg.now)) (sym c.promise.ensures.promises.entries) (entered_played _ _ c.requires.stand.entered).plays)
-
-pub step-requires-clause-tables : goal.step-requires-clause-tables
-step-requires-clause-tables g c = subst (EachEntry WritesTables) (sym c.promise.ensures.promises.entries) (entered_played _ _ c.requires.stand.entered).tables
 
 pub step-requires-clause-place : goal.step-requires-clause-place
 step-requires-clause-place g c =
