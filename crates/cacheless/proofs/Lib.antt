@@ -60,3 +60,4 @@ pub mod ToldFields
 pub mod ToldAnswers
 pub mod JudgedLines
 pub mod OpenedReads
+pub mod ToldAlike

@@ -45,7 +45,7 @@ pub data Stays (seen : List Entry) (b : ℕ) (s : Session) (command : Command) :
   Unwritten : (way : OnItsWay seen b s command) → Stays seen b s command
   Written : (wrote : HasWritten seen b s command) → Stays seen b s command
 
-stays : (scenario : Scenario) (seen : List Entry) (b : ℕ) (s : Session) (command : Command) → HasComeOut scenario seen b s command → s.refused ≡ None → Stays seen b s command
+pub stays : (scenario : Scenario) (seen : List Entry) (b : ℕ) (s : Session) (command : Command) → HasComeOut scenario seen b s command → s.refused ≡ None → Stays seen b s command
 stays scenario seen b s command come none = by_way (come.follows.way none)
   where
     by_way : Way seen b s command → Stays seen b s command
