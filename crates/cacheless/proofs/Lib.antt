@@ -48,6 +48,7 @@ pub mod WriteFits
 pub mod AfterActs
 pub mod StaysOnCourse
 pub mod SilentActs
+pub mod SettledCourse
 pub mod OwnEntries
 pub mod Releases
 pub mod NextOnCourse

@@ -24,7 +24,7 @@ use Rattle.cacheless.proofs.HeldLocks.{settled-locks}
 use Rattle.cacheless.proofs.OwnEntries.{IsNoted, own_follows, OwnEntry}
 use Rattle.cacheless.proofs.Releases.{release_finishes}
 use Rattle.cacheless.proofs.Reading.{facts_of-own, session_of-own, session_of-other}
-use Rattle.cacheless.proofs.SilentActs.{first_left, begins_on_course, settled_on_course}
+use Rattle.cacheless.proofs.SettledCourse.{first_left, begins_on_course, settled_on_course}
 use Rattle.cacheless.proofs.StaysOnCourse.{has_written-quiet, has_written-other, has_written-earlier, MayCome, follows-more}
 
 -- a full fetch is counted in the tally alone

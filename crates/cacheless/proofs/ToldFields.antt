@@ -19,7 +19,8 @@ use Rattle.cacheless.specs.Session.{Session}
 use Rattle.cacheless.specs.Told.{told_field, told_fields}
 use Rattle.cacheless.proofs.ProtectedFields.{protected_fresh}
 use Rattle.cacheless.proofs.ReadPlaces.{read_at_place}
-use Rattle.cacheless.proofs.SilentActs.{HasSession, both_empty}
+use Rattle.cacheless.proofs.SilentActs.{both_empty}
+use Rattle.cacheless.proofs.SettledCourse.{HasSession}
 
 -- the scan of a field is one of those that build the descriptor
 pub field_among : (P : Purpose → Type 0) (kind : Kind) (rel : Oid) (field : Field) → has_field kind field ≡ true → AllByRecursion P (build_scans kind rel) → P (read_by field rel)
