@@ -48,6 +48,7 @@ pub mod WriteFits
 pub mod AfterActs
 pub mod StaysOnCourse
 pub mod SilentActs
+pub mod SettledCourse
 pub mod OwnEntries
 pub mod Releases
 pub mod NextOnCourse
@@ -60,3 +61,4 @@ pub mod ToldFields
 pub mod ToldAnswers
 pub mod JudgedLines
 pub mod OpenedReads
+pub mod ToldAlike

@@ -44,7 +44,7 @@ seen_drawn history b rel (rows.Class own name kind fill ∷ more) sound seen is 
 seen_drawn history b rel given sound seen is = absurd (cc is)
 
 -- a command asks for a lock on no relation that is still to be drawn
-lock_drawn : (history : List Entry) (b : ℕ) (s : Session) (command : Command) (rel : Oid) (mode : Mode) → IsSound history → FollowsPlan history b s command → owed_of (facts_of history b) command s ≡ [] → IsLock (facts_of history b) s.left rel mode → rel.0 < next_oid history
+pub lock_drawn : (history : List Entry) (b : ℕ) (s : Session) (command : Command) (rel : Oid) (mode : Mode) → IsSound history → FollowsPlan history b s command → owed_of (facts_of history b) command s ≡ [] → IsLock (facts_of history b) s.left rel mode → rel.0 < next_oid history
 lock_drawn history b s command rel mode sound follows none lock = by_plan s.left refl lock
   where
     by_plan : (p : Plan) → s.left ≡ p → IsLock (facts_of history b) p rel mode → rel.0 < next_oid history
@@ -81,26 +81,29 @@ write_orderly history b s command items sound tables follows writes = by_plan s.
     by_plan NotBuilt at are = absurd are
 
 -- an event keeps order and tables
-abbrev KeepsBoth : List Entry → ℕ → Event → Type 0
+abbrev pub KeepsBoth : List Entry → ℕ → Event → Type 0
 KeepsBoth history b event = IsOrderlyEvent history b event × KeepsTablesBy history b event
 
-start_keeps : (history : List Entry) (b : ℕ) (event : Event) → IsStart event → KeepsBoth history b event
+-- so does a start
+pub start_keeps : (history : List Entry) (b : ℕ) (event : Event) → IsStart event → KeepsBoth history b event
 start_keeps history b events.Start start = (tt, tt)
 start_keeps history b event start = absurd start
 
-last_keeps : (history : List Entry) (b : ℕ) (s : Session) (event : Event) → MayPlayLast (facts_of history b) s event → KeepsBoth history b event
+-- and what comes after the last command
+pub last_keeps : (history : List Entry) (b : ℕ) (s : Session) (event : Event) → MayPlayLast (facts_of history b) s event → KeepsBoth history b event
 last_keeps history b s (events.LockOk rel mode) plays = absurd plays
 last_keeps history b s (events.LockHeld rel mode holder held) plays = absurd plays
 last_keeps history b s (events.Write xid items) plays = absurd plays
 last_keeps history b s event plays = (tt, tt)
 
-command_keeps : (scenario : Scenario) (history : List Entry) (b : ℕ) (s : Session) (command : Command) (event : Event) → IsPlayed scenario history → FollowsPlan history b s command → MayPlay (next_oid history) (facts_of history b) command s event → KeepsBoth history b event
+-- and what comes next of a command on its course
+pub command_keeps : (scenario : Scenario) (history : List Entry) (b : ℕ) (s : Session) (command : Command) (event : Event) → IsPlayed scenario history → FollowsPlan history b s command → MayPlay (next_oid history) (facts_of history b) command s event → KeepsBoth history b event
 command_keeps scenario history b s command (events.LockOk rel mode) played follows plays = (lock_drawn history b s command rel mode played.sound follows plays.0 plays.1, tt)
 command_keeps scenario history b s command (events.LockHeld rel mode holder held) played follows plays = (lock_drawn history b s command rel mode played.sound follows plays.0 plays.1, tt)
 command_keeps scenario history b s command (events.Write xid items) played follows plays = write_orderly history b s command items played.sound played.tables follows plays.1
 command_keeps scenario history b s command event played follows plays = (tt, tt)
 
--- so does whatever may come next
+-- and so whatever may come next
 pub next_keeps : (scenario : Scenario) (history : List Entry) (e : Entry) → IsPlayed scenario history → AllOnCourse scenario history → IsNext scenario history e → IsOrderly history e × WritesTables history e
 next_keeps scenario history e played courses next = by_session (session_of scenario history e.backend) next.1 (courses e.backend)
   where

@@ -24,7 +24,7 @@ use Rattle.cacheless.proofs.HeldLocks.{settled-locks}
 use Rattle.cacheless.proofs.OwnEntries.{IsNoted, own_follows, OwnEntry}
 use Rattle.cacheless.proofs.Releases.{release_finishes}
 use Rattle.cacheless.proofs.Reading.{facts_of-own, session_of-own, session_of-other}
-use Rattle.cacheless.proofs.SilentActs.{first_left, begins_on_course, settled_on_course}
+use Rattle.cacheless.proofs.SettledCourse.{first_left, begins_on_course, settled_on_course}
 use Rattle.cacheless.proofs.StaysOnCourse.{has_written-quiet, has_written-other, has_written-earlier, MayCome, follows-more}
 
 -- a full fetch is counted in the tally alone
@@ -33,7 +33,7 @@ counted_tally facts (events.Fetch count) s = refl
 counted_tally facts event s = refl
 
 -- the session after an own entry, before its silent acts, is that which the entry left
-entered_noted : (facts : Facts) (left : List Command) (at c : ℕ) (event : Event) (s : Session) → IsNoted (noted event s) (entered facts left at c event s)
+pub entered_noted : (facts : Facts) (left : List Command) (at c : ℕ) (event : Event) (s : Session) → IsNoted (noted event s) (entered facts left at c event s)
 entered_noted facts left at c event s = record {
   after = record {
     left = ap (λ x. x.left) same;
@@ -55,7 +55,7 @@ cleared_twice [] = refl
 cleared_twice (lock ∷ locks) = ap (λ l. cleared lock ∷ l) (cleared_twice locks)
 
 -- where its accept of messages is over its locks are clear
-accepted_clear : (facts : Facts) (command : Option Command) (s : Session) → ClearUnlessOwed facts command (accepted facts command s)
+pub accepted_clear : (facts : Facts) (command : Option Command) (s : Session) → ClearUnlessOwed facts command (accepted facts command s)
 accepted_clear facts command s = λ owes. by_test (owes_accept facts command s) (same command ∙ owes)
   where
     same : (o : Option Command) → owes_accept facts o s ≡ owes_accept facts o (accepted facts command s)
@@ -85,7 +85,7 @@ noted_finished events.FetchReset s = resumed_finished s.left s
 noted_finished event s = refl
 
 -- another's entry leaves a backend on its course
-other_stays : (scenario : Scenario) (history : List Entry) (e : Entry) (b : ℕ) (o : Option Session) → MayCome history e → (e.backend == b) ≡ false → CourseOf scenario history b o → CourseOf scenario (history ++ e ∷ []) b o
+pub other_stays : (scenario : Scenario) (history : List Entry) (e : Entry) (b : ℕ) (o : Option Session) → MayCome history e → (e.backend == b) ≡ false → CourseOf scenario history b o → CourseOf scenario (history ++ e ∷ []) b o
 other_stays scenario history e b None may other none = λ c. has_written-other history e b c other ∙ none c
 other_stays scenario history e b (Some s) may other course = record {
   follows = λ command at. follows-more history e b s s command may (λ own. absurd (both_ways _ other own)) (λ c. has_written-other history e b c other) (λ name. rows_read-other history e b (scans.RelName name) other)
@@ -95,19 +95,20 @@ other_stays scenario history e b (Some s) may other course = record {
 }
 
 -- the entry of a backend and a command after a history
-abbrev with_entry : List Entry → ℕ → ℕ → Event → List Entry
+abbrev pub with_entry : List Entry → ℕ → ℕ → Event → List Entry
 with_entry history b c event = history ++ entry_of b c event ∷ []
 
 -- the session after an own entry, by the facts then
-abbrev session_then : Scenario → List Entry → ℕ → ℕ → Event → Option Session → Option Session
+abbrev pub session_then : Scenario → List Entry → ℕ → ℕ → Event → Option Session → Option Session
 session_then scenario history b c event old = session_by scenario (facts_of (with_entry history b c event) b) b (length history + 1) c event old
 
-session_is : (scenario : Scenario) (history : List Entry) (b c : ℕ) (event : Event) → session_of scenario (with_entry history b c event) b ≡ session_then scenario history b c event (session_of scenario history b)
+-- it is the session of the history with the entry
+pub session_is : (scenario : Scenario) (history : List Entry) (b c : ℕ) (event : Event) → session_of scenario (with_entry history b c event) b ≡ session_then scenario history b c event (session_of scenario history b)
 session_is scenario history b c event = session_of-own scenario history (entry_of b c event) b (eq-eqb b b refl)
     ∙ ap (λ facts. session_by scenario facts b (length history + 1) c event (session_of scenario history b)) (sym (facts_of-own history (entry_of b c event) b (eq-eqb b b refl)))
 
 -- a backend starts on its course
-starts_on_course : (scenario : Scenario) (history : List Entry) (b c : ℕ) (event : Event) → IsPlayed scenario (with_entry history b c event) → session_of scenario (with_entry history b c event) b ≡ session_then scenario history b c event None → IsStart event
+pub starts_on_course : (scenario : Scenario) (history : List Entry) (b c : ℕ) (event : Event) → IsPlayed scenario (with_entry history b c event) → session_of scenario (with_entry history b c event) b ≡ session_then scenario history b c event None → IsStart event
     → ((n : ℕ) → has_written history b n ≡ false) → CourseOf scenario (with_entry history b c event) b (session_then scenario history b c event None)
 starts_on_course scenario history b c events.Start played is start none =
     settled_on_course scenario new b commands first (record { played = played; session = settled (facts_of new b) commands first; is = is; holds = settled-locks (facts_of new b) commands first }) refl
@@ -124,7 +125,7 @@ starts_on_course scenario history b c events.Start played is start none =
 starts_on_course scenario history b c event played is start none = absurd start
 
 -- the session that an own entry leaves, before it goes on
-enters_on_course : (scenario : Scenario) (history : List Entry) (b : ℕ) (event : Event) (s : Session) → MayCome history (entry_of b (number_of s) event)
+pub enters_on_course : (scenario : Scenario) (history : List Entry) (b : ℕ) (event : Event) (s : Session) → MayCome history (entry_of b (number_of s) event)
     → MayPlayIn (next_oid history) (facts_of history b) (slice_get (commands_of scenario b) (length s.finished)) s event → IsOnCourse scenario history b s
     → EntersCourse scenario (with_entry history b (number_of s) event) b (entered (facts_of (with_entry history b (number_of s) event) b) (commands_left scenario b s) (length history + 1) (number_of s) event s)
 enters_on_course scenario history b event s may plays course = record {
@@ -160,7 +161,8 @@ no_start : (next : ℕ) (facts : Facts) (command : Option Command) (s : Session)
 no_start next facts None s may = may
 no_start next facts (Some command) s may = may
 
-goes_on_course : (scenario : Scenario) (history : List Entry) (b : ℕ) (event : Event) (s : Session) → IsPlayed scenario (with_entry history b (number_of s) event) → MayCome history (entry_of b (number_of s) event)
+-- a backend that has started goes on so
+pub goes_on_course : (scenario : Scenario) (history : List Entry) (b : ℕ) (event : Event) (s : Session) → IsPlayed scenario (with_entry history b (number_of s) event) → MayCome history (entry_of b (number_of s) event)
     → session_of scenario (with_entry history b (number_of s) event) b ≡ session_then scenario history b (number_of s) event (Some s) → MayPlayIn (next_oid history) (facts_of history b) (slice_get (commands_of scenario b) (length s.finished)) s event
     → IsOnCourse scenario history b s → CourseOf scenario (with_entry history b (number_of s) event) b (session_then scenario history b (number_of s) event (Some s))
 goes_on_course scenario history b events.Start s played may is plays course = absurd (no_start (next_oid history) (facts_of history b) _ s plays)

@@ -33,7 +33,7 @@ use Rattle.cacheless.proofs.SilentActs.{on_its_way, its_place, unrefused}
 use Rattle.cacheless.proofs.StaysOnCourse.{has_written-quiet, rows_read-unscanned, IsAfter, MayCome, first_seen-more, named_out, way-more, sought-more, follows-more, over_stays}
 use Rattle.ddl_effect.specs.Commands.{plan_of}
 
--- what a backend's entry is
+-- an entry that the running command of a backend may make next
 pub record OwnEntry (history : List Entry) (b : ℕ) (s : Session) (command : Command) (event : Event) : Type 0 where
   pub may : MayCome history (entry_of b (number_of s) event)
   pub plays : MayPlay (next_oid history) (facts_of history b) command s event

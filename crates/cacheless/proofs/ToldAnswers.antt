@@ -27,7 +27,7 @@ use Rattle.cacheless.specs.Told.{told_fields, told_open, told_well, told_left, t
 use Rattle.cacheless.proofs.ActOrder.{goes_by_relation, runs_built}
 use Rattle.cacheless.proofs.EffectAlong.{effect_along}
 use Rattle.cacheless.proofs.OpenedOne.{opening_if, OpenedBy, opened_done, opening_never}
-use Rattle.cacheless.proofs.SilentActs.{HasSession}
+use Rattle.cacheless.proofs.SettledCourse.{HasSession}
 use Rattle.cacheless.proofs.StillAfter.{IsFoundStill, all_found_still}
 use Rattle.cacheless.proofs.ToldFields.{CanTell, fields_told, one_told}
 use Rattle.cacheless.proofs.Ways.{never_reaches}
@@ -45,7 +45,7 @@ pub data Stays (seen : List Entry) (b : ℕ) (s : Session) (command : Command) :
   Unwritten : (way : OnItsWay seen b s command) → Stays seen b s command
   Written : (wrote : HasWritten seen b s command) → Stays seen b s command
 
-stays : (scenario : Scenario) (seen : List Entry) (b : ℕ) (s : Session) (command : Command) → HasComeOut scenario seen b s command → s.refused ≡ None → Stays seen b s command
+pub stays : (scenario : Scenario) (seen : List Entry) (b : ℕ) (s : Session) (command : Command) → HasComeOut scenario seen b s command → s.refused ≡ None → Stays seen b s command
 stays scenario seen b s command come none = by_way (come.follows.way none)
   where
     by_way : Way seen b s command → Stays seen b s command

@@ -19,10 +19,11 @@ use Rattle.cacheless.specs.Session.{Session}
 use Rattle.cacheless.specs.Told.{told_field, told_fields}
 use Rattle.cacheless.proofs.ProtectedFields.{protected_fresh}
 use Rattle.cacheless.proofs.ReadPlaces.{read_at_place}
-use Rattle.cacheless.proofs.SilentActs.{HasSession, both_empty}
+use Rattle.cacheless.proofs.SilentActs.{both_empty}
+use Rattle.cacheless.proofs.SettledCourse.{HasSession}
 
 -- the scan of a field is one of those that build the descriptor
-field_among : (P : Purpose → Type 0) (kind : Kind) (rel : Oid) (field : Field) → has_field kind field ≡ true → AllByRecursion P (build_scans kind rel) → P (read_by field rel)
+pub field_among : (P : Purpose → Type 0) (kind : Kind) (rel : Oid) (field : Field) → has_field kind field ≡ true → AllByRecursion P (build_scans kind rel) → P (read_by field rel)
 field_among P Table rel fields.Name has all = all.0
 field_among P Table rel fields.Columns has all = all.1.0
 field_among P Table rel fields.Defaults has all = all.1.1.0
@@ -76,11 +77,11 @@ field_told scenario seen b locks o field can has =
     by_guard true is = λ i. record { field = field; value = now is i; at = None }
     by_guard false is = λ i. record { field = field; value = field_text field o.rel (read_at_place seen b scan i); at = Some (place_read seen b scan) }
 
-each_has : (kind : Kind) → AllByRecursion (λ field. has_field kind field ≡ true) (fields_of kind)
+pub each_has : (kind : Kind) → AllByRecursion (λ field. has_field kind field ≡ true) (fields_of kind)
 each_has Table = (refl, (refl, (refl, (refl, (refl, (refl, (refl, (refl, (refl, tt)))))))))
 each_has Index = (refl, (refl, (refl, tt)))
 
-map_same : {X Y : Type 0} (P : X → Type 0) (f g : X → Y) → ((x : X) → P x → f x ≡ g x) → (xs : List X) → AllByRecursion P xs → map f xs ≡ map g xs
+pub map_same : {X Y : Type 0} (P : X → Type 0) (f g : X → Y) → ((x : X) → P x → f x ≡ g x) → (xs : List X) → AllByRecursion P xs → map f xs ≡ map g xs
 map_same P f g same [] all = refl
 map_same P f g same (x ∷ xs) all = ap (λ y. y ∷ map f xs) (same x all.0) ∙ ap (λ ys. g x ∷ ys) (map_same P f g same xs all.1)
 
