@@ -1,7 +1,4 @@
-mod Added
-mod Found
-mod Given
-mod Listed
-mod Slots
-mod Steps
-mod Touched
+mod Ascending
+mod Exact
+mod Listing
+mod Under
