@@ -96,7 +96,7 @@ removed_each true false true n xs = removed_twice n xs
 removed_each true true false n xs = removed_twice n xs
 removed_each true true true n xs = ap (removed true n) (removed_twice n xs) ∙ removed_twice n xs
 
-pub append_none : (xs : List ℕ) → xs ++ [] ≡ xs
+pub append_none : {X : Type 0} (xs : List X) → xs ++ [] ≡ xs
 append_none [] = refl
 append_none (x ∷ xs) = ap (λ l. x ∷ l) (append_none xs)
 

@@ -36,6 +36,11 @@ pub record AddsOrNot (test : Place → Bool) (number : ℕ) (old new : Index) : 
 pub record RemovesWhere (test : Place → Bool) (number : ℕ) (old new : Index) : Type 0 where
   pub each : (place : Place) → listed_at new place ≡ removed (test place) number (listed_at old place)
 
+-- a version, if there is one, is listed at a place
+abbrev pub is_listed : Option Version → Place → Bool
+is_listed None place = false
+is_listed (Some v) place = is_under place v.row
+
 -- the numbers at each place are ascending
 abbrev pub IsInOrder : Index → Type 0
 IsInOrder index = (place : Place) → IsAscending (listed_at index place)

@@ -80,7 +80,7 @@ fn add_version(
     version: Version,
 ) -> Result<(), NoMemory>
     requires indexed { IsIndexed slots.old.items lists.old }
-    requires open { version.ended ≡ None }
+    requires fresh { version.ended ≡ None }
     ensures indexed { IsIndexed slots.new.items lists.new }
     ensures own { (x n : ℕ) → IsIn n (own_at lists.old.touched.items x) → IsIn n (own_at lists.new.touched.items x) }
     ensures ok { OnOk result (slots.new.items ≡ slots.old.items ++ Some version ∷ []) }
@@ -113,7 +113,7 @@ fn take_last(slots: &mut Vec<Option<Version>>, lists: &mut Lists)
     ensures slots { slots.new.items ≡ take (vec_len slots.old - 1) slots.old.items }
 {
     let number = slots.len() as u64;
-    if let Some(Some(version)) = slots.pop() {
-        lists.index.remove_row(&version.row, number);
+    if let Some(slot) = slots.pop() {
+        lists.index.remove_version(slot, number);
     }
 }
