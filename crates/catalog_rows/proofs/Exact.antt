@@ -8,10 +8,10 @@ use Rattle.catalog_rows.specs.Numbers.{IsAscending, removed}
 use Rattle.catalog_rows.specs.Slots.{IsIn, slot_at, version_numbered, versions_in, numbers_at, numbers_in, slot_changed, slot_back}
 use Rattle.catalog_rows.proofs.Ascending.{all_more, first_out, later_out, removed_above}
 
-yes_at : (test : Version → Bool) (n : ℕ) (v : Version) (slots : List (Option Version)) → test v ≡ true → numbers_at test n (Some v ∷ slots) ≡ n ∷ numbers_at test (n + 1) slots
+pub yes_at : (test : Version → Bool) (n : ℕ) (v : Version) (slots : List (Option Version)) → test v ≡ true → numbers_at test n (Some v ∷ slots) ≡ n ∷ numbers_at test (n + 1) slots
 yes_at test n v slots is = ap (λ t. if t then n ∷ numbers_at test (n + 1) slots else numbers_at test (n + 1) slots) is
 
-no_at : (test : Version → Bool) (n : ℕ) (v : Version) (slots : List (Option Version)) → test v ≡ false → numbers_at test n (Some v ∷ slots) ≡ numbers_at test (n + 1) slots
+pub no_at : (test : Version → Bool) (n : ℕ) (v : Version) (slots : List (Option Version)) → test v ≡ false → numbers_at test n (Some v ∷ slots) ≡ numbers_at test (n + 1) slots
 no_at test n v slots is = ap (λ t. if t then n ∷ numbers_at test (n + 1) slots else numbers_at test (n + 1) slots) is
 
 -- the numbers in two lists of slots
@@ -49,7 +49,7 @@ numbers_below_last test n (Some v ∷ slots) = by (test v) refl (all_more (λ m.
     by true is rest = subst (AllByRecursion (λ m. m < n + suc (length slots))) (sym (yes_at test n v slots is)) (omega arith, rest)
     by false is rest = subst (AllByRecursion (λ m. m < n + suc (length slots))) (sym (no_at test n v slots is)) rest
 
-above_first : (test : Version → Bool) (n : ℕ) (slots : List (Option Version)) → AllByRecursion (λ m. n < m) (numbers_at test (n + 1) slots)
+pub above_first : (test : Version → Bool) (n : ℕ) (slots : List (Option Version)) → AllByRecursion (λ m. n < m) (numbers_at test (n + 1) slots)
 above_first test n slots = all_more (λ m. n + 1 ≤ m) (λ m. n < m) (numbers_at test (n + 1) slots) (λ m le. omega (arith, le)) (numbers_from_first test (n + 1) slots)
 
 pub numbers_ascending : (test : Version → Bool) (n : ℕ) (slots : List (Option Version)) → IsAscending (numbers_at test n slots)

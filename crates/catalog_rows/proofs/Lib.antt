@@ -4,5 +4,6 @@ mod Exact
 mod Grown
 mod Listing
 mod SlotLists
+mod TakenBack
 mod Touched
 mod Under

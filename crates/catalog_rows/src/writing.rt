@@ -1,6 +1,6 @@
 ghost use Rattle.std.specs.Prelude.{◌≡◌, ◌<◌, ◌≤◌, ◌+◌, ◌++◌, ◌∷◌, [], None, false, fold, map, take, length, replicate, vec_len, vec_capacity};
 ghost use Rattle.row_visibility.specs.Seen.{seen_by};
-ghost use Rattle.catalog_rows.specs.Store.{counts, is_ended as does_end, ended_key as key_ended, added_row as row_added, end_if};
+ghost use Rattle.catalog_rows.specs.Store.{counts, is_ended as does_end, ended_key as key_ended, added_row as row_added, end_if, option_items};
 ghost use Rattle.catalog_rows.specs.Index.{IsIndexed, IsCovered, AreNoted};
 ghost use Rattle.catalog_rows.specs.Slots.{Settles, slot_changed, new_slots, after_slots};
 
@@ -51,9 +51,7 @@ pub(crate) fn end_each(
     let mut count = first;
     for change in changes {
         end_versions(&mut slots[..count], &lists.index, committed, stamp, change);
-        if added_row(change).is_some() {
-            count += 1;
-        }
+        count += count_added(change);
     }
 }
 
@@ -149,6 +147,16 @@ pub(crate) fn added_row(change: &Change) -> Option<Row>
     match change {
         Change::Insert(row) | Change::Replace(row) => Some(*row),
         Change::Delete(_) => None,
+    }
+}
+
+// How many rows a change adds.
+fn count_added(change: &Change) -> usize
+    ensures { result ≡ length (option_items (row_added change.now)) }
+{
+    match change {
+        Change::Insert(_) | Change::Replace(_) => 1,
+        Change::Delete(_) => 0,
     }
 }
 

@@ -1,0 +1,3 @@
+use Rattle.std.proofs.Common.{◌≡◌, ◌∙◌}
+use Rattle.catalog_rows.proofs.writing.end_each.Goals as goal
+
