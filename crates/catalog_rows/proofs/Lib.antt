@@ -1,5 +1,6 @@
 mod Ascending
 mod Ended
+mod EndedEach
 mod Exact
 mod Grown
 mod Listing
