@@ -1,5 +1,5 @@
 -- Ascending numbers, of which one is added at the end or taken out.
-use Rattle.std.proofs.Common.{◌≡◌, ◌≢◌, ◌<◌, ◌≤◌, ◌==◌, ◌||◌, ◌&&◌, ◌∙◌, ◌⊎◌, inl, inr, ℕ, Bool, true, false, not, cond, zero, suc, Option, None, Some, List, [], ◌∷◌, ◌++◌, ◌+◌, ◌-◌, length, take, slice_get, filter, eq-eqb, ne_eqb, sym, ap, refl, subst, arith}
+use Rattle.std.proofs.Common.{◌≡◌, ◌≢◌, ◌<◌, ◌==◌, ◌||◌, ◌&&◌, ◌∙◌, inl, inr, ℕ, Bool, true, false, not, cond, zero, suc, None, Some, List, [], ◌∷◌, ◌++◌, ◌+◌, ◌-◌, length, take, slice_get, filter, eq-eqb, ne_eqb, sym, ap, refl, subst, arith}
 use Rattle.std.specs.List.{AllByRecursion}
 use Rattle.catalog_rows.specs.Numbers.{IsAscending, added, removed}
 use Rattle.catalog_rows.specs.Slots.{IsIn}

@@ -1,20 +1,19 @@
 -- What a change ends, and what is noted of it.
-use Rattle.std.proofs.Common.{◌≡◌, ◌<◌, ◌≤◌, ◌+◌, ◌∙◌, ◌&&◌, ◌||◌, ◌==◌, ◌⊎◌, inl, inr, ℕ, zero, suc, Bool, true, false, not, Option, Some, None, IfSome, List, [], ◌∷◌, ◌++◌, length, map, fold, take, drop, get_or, append_assoc, sym, ap, refl, subst, arith}
+use Rattle.std.proofs.Common.{◌≡◌, ◌+◌, ◌∙◌, ◌&&◌, ◌||◌, ◌⊎◌, inl, inr, ℕ, zero, suc, Bool, true, false, not, Option, Some, None, IfSome, List, [], ◌∷◌, ◌++◌, length, map, sym, ap, refl, subst, arith}
 use Rattle.std.specs.Option.{option_map_or}
-use Rattle.std.specs.List.{AllByRecursion, flat_map}
 use Rattle.std.proofs.lemmas.Bool.{eq-eqb, and_parts}
 use Rattle.std.proofs.Math.Bool.{or-true}
 use Rattle.base_types.specs.RowKeys.{key_of, same_key}
 use Rattle.row_visibility.specs.Seen.{seen_by}
-use Rattle.catalog_rows.specs.Types.{RowKey, Row, Insert, Replace, Delete, Change, Xid, Stamp, Version}
-use Rattle.catalog_rows.specs.Store.{has_committed, counts, is_ended, ended_key, added_row, end_if, new_version, option_items, after_change}
+use Rattle.catalog_rows.specs.Types.{RowKey, Change, Stamp, Version}
+use Rattle.catalog_rows.specs.Store.{has_committed, counts, is_ended, ended_key, end_if}
 use Rattle.catalog_rows.specs.declared.place.Place.{Place}
 use Rattle.catalog_rows.specs.declared.index.Index.{Index}
 use Rattle.catalog_rows.specs.declared.lists.Lists.{Lists}
 use Rattle.catalog_rows.specs.Places.{key_place, is_under}
-use Rattle.catalog_rows.specs.Slots.{IsIn, slot_at, version_numbered, versions_in, numbers_at, Settles, slot_changed, new_slots, after_slots}
-use Rattle.catalog_rows.specs.Index.{listed_at, own_at, ends_at, IsNumbered, IsCovered, IsNoted, IsIndexed, AreNoted}
-use Rattle.catalog_rows.proofs.SlotLists.{slot_at-map, settles_none, settled_numbered, numbered_front, numbered_in_parts, some_more, along}
+use Rattle.catalog_rows.specs.Slots.{IsIn, slot_at, version_numbered, numbers_at, Settles, slot_changed}
+use Rattle.catalog_rows.specs.Index.{listed_at, own_at, ends_at, IsNumbered, IsCovered, IsNoted, IsIndexed}
+use Rattle.catalog_rows.proofs.SlotLists.{settles_none, settled_numbered, numbered_front, along}
 use Rattle.catalog_rows.proofs.Exact.{has_number, numbers_at-append, numbers_at-map}
 use Rattle.catalog_rows.proofs.Under.{key_under}
 

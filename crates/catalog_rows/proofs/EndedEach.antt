@@ -1,11 +1,9 @@
 -- All changes of a write end what they end, one after the other.
 use Rattle.std.proofs.Common.{◌≡◌, ◌<◌, ◌+◌, ◌∙◌, ℕ, zero, suc, Bool, true, Option, Some, None, List, [], ◌∷◌, ◌++◌, length, map, fold, take, drop, get_or, append_assoc, length-append, sym, ap, refl, subst, arith}
-use Rattle.std.specs.List.{AllByRecursion}
 use Rattle.std.proofs.lemmas.List.{length-map}
 use Rattle.std.proofs.lemmas.List.Sums.{fold_more}
 use Rattle.catalog_rows.specs.Types.{Change, Insert, Replace, Delete, Stamp, Version}
 use Rattle.catalog_rows.specs.Store.{is_ended, end_if, added_row, option_items, after_change, rows_added, numbers_from, new_version}
-use Rattle.catalog_rows.specs.declared.index.Index.{Index}
 use Rattle.catalog_rows.specs.declared.lists.Lists.{Lists}
 use Rattle.catalog_rows.specs.Slots.{IsIn, versions_in, numbers_at, numbers_in, slot_changed, new_slots, after_slots}
 use Rattle.catalog_rows.specs.Index.{own_at, ends_at, IsCovered, IsIndexed, AreNoted}

@@ -1,12 +1,12 @@
 -- The numbers of the versions that pass a test: which they are, and what changes them.
-use Rattle.std.proofs.Common.{◌≡◌, ◌<◌, ◌≤◌, ◌+◌, ◌==◌, ◌&&◌, ◌∙◌, ◌⊎◌, inl, inr, ℕ, zero, suc, Bool, true, false, not, cond, if◌then◌else◌, Option, Some, None, IfSome, List, [], ◌∷◌, ◌++◌, length, map, filter, find, filter_map, set, append_assoc, sym, ap, refl, subst, arith}
+use Rattle.std.proofs.Common.{◌≡◌, ◌<◌, ◌≤◌, ◌+◌, ◌∙◌, inl, inr, ℕ, zero, suc, Bool, true, false, cond, if◌then◌else◌, Option, Some, None, List, [], ◌∷◌, ◌++◌, length, map, filter, find, filter_map, append_assoc, sym, ap, refl, subst, arith}
 use Rattle.std.specs.List.{AllByRecursion, cons_option}
 use Rattle.std.proofs.lemmas.List.{length_push}
-use Rattle.catalog_rows.specs.Types.{Stamp, Version}
-use Rattle.catalog_rows.specs.Store.{restored, taken_back, numbers_where}
-use Rattle.catalog_rows.specs.Numbers.{IsAscending, removed}
-use Rattle.catalog_rows.specs.Slots.{IsIn, slot_at, version_numbered, versions_in, numbers_at, numbers_in, slot_changed, slot_back}
-use Rattle.catalog_rows.proofs.Ascending.{all_more, first_out, later_out, removed_above}
+use Rattle.catalog_rows.specs.Types.{Version}
+use Rattle.catalog_rows.specs.Store.{numbers_where}
+use Rattle.catalog_rows.specs.Numbers.{IsAscending}
+use Rattle.catalog_rows.specs.Slots.{IsIn, slot_at, version_numbered, versions_in, numbers_at, slot_changed}
+use Rattle.catalog_rows.proofs.Ascending.{all_more}
 
 pub yes_at : (test : Version → Bool) (n : ℕ) (v : Version) (slots : List (Option Version)) → test v ≡ true → numbers_at test n (Some v ∷ slots) ≡ n ∷ numbers_at test (n + 1) slots
 yes_at test n v slots is = ap (λ t. if t then n ∷ numbers_at test (n + 1) slots else numbers_at test (n + 1) slots) is

@@ -1,7 +1,7 @@
 -- The lists and the slots as a write's versions are added, and taken off again where memory is out.
-use Rattle.std.proofs.Common.{◌≡◌, ◌<◌, ◌≤◌, ◌+◌, ◌-◌, ◌∙◌, ◌⊎◌, inl, inr, ℕ, zero, suc, Bool, true, false, if◌then◌else◌, Result, Ok, Err, OnOk, get_or, Option, Some, None, IfSome, List, [], ◌∷◌, ◌++◌, length, map, take, append_assoc, sym, ap, refl, subst, arith}
+use Rattle.std.proofs.Common.{◌≡◌, ◌<◌, ◌≤◌, ◌+◌, ◌∙◌, ◌⊎◌, inl, inr, ℕ, zero, suc, Bool, true, false, if◌then◌else◌, Result, Ok, Err, OnOk, get_or, Option, Some, None, IfSome, List, [], ◌∷◌, ◌++◌, length, map, take, append_assoc, sym, ap, refl, subst, arith}
 use Rattle.std.specs.Option.{option_map_or, option_map}
-use Rattle.std.specs.List.{AllByRecursion, flat_map}
+use Rattle.std.specs.List.{AllByRecursion}
 use Rattle.std.proofs.lemmas.List.{take_more}
 use Rattle.base_types.specs.declared.memory.NoMemory.{NoMemory}
 use Rattle.catalog_rows.specs.Types.{Row, Change, Insert, Replace, Delete, Stamp, Version}
@@ -12,7 +12,7 @@ use Rattle.catalog_rows.specs.declared.lists.Lists.{Lists}
 use Rattle.catalog_rows.specs.Numbers.{IsAscending, added, removed}
 use Rattle.catalog_rows.specs.Places.{is_under}
 use Rattle.catalog_rows.specs.Slots.{IsIn, slot_at, version_numbered, numbers_at, new_slots}
-use Rattle.catalog_rows.specs.Index.{listed_at, own_at, ends_at, IsSame, AddsWhere, RemovesWhere, is_listed, IsInOrder, IsBelow, IsNumbered, IsNoted, IsIndexed, AreNoted, NotesMore}
+use Rattle.catalog_rows.specs.Index.{listed_at, own_at, ends_at, IsSame, AddsWhere, is_listed, IsInOrder, IsBelow, IsNumbered, IsNoted, IsIndexed, AreNoted, NotesMore}
 use Rattle.catalog_rows.proofs.Ascending.{append_none, added_removed, all_more, all_push}
 use Rattle.catalog_rows.proofs.SlotLists.{numbered_front, numbered_in_parts, some_more, along}
 use Rattle.catalog_rows.proofs.Exact.{numbers_at-append, numbers_ascending, numbers_below_last}

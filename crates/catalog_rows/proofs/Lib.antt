@@ -2,6 +2,8 @@ mod Ascending
 mod Ended
 mod EndedEach
 mod Exact
+mod Found
+mod Given
 mod Grown
 mod Listing
 mod SlotLists

@@ -1,7 +1,6 @@
 -- The lists of an index after a number is added to one of them or taken out.
-use Rattle.std.proofs.Common.{◌≡◌, ◌∙◌, ◌⊎◌, inl, inr, ◌||◌, ◌<◌, Result, Ok, Err, OnOk, OnErr, ℕ, Bool, true, false, cond, Some, None, List, [], ◌∷◌, ◌++◌, sym, ap, refl, subst}
+use Rattle.std.proofs.Common.{◌≡◌, ◌∙◌, ◌⊎◌, inl, inr, ◌||◌, Result, Ok, Err, OnOk, OnErr, ℕ, Bool, true, false, cond, Some, List, [], ◌∷◌, ◌++◌, sym, ap, refl, subst}
 use Rattle.std.specs.Option.{option_map_or}
-use Rattle.std.specs.List.{AllByRecursion}
 use Rattle.std.specs.HashMap.{get, get_by, UpdatesBy}
 use Rattle.base_types.specs.declared.memory.NoMemory.{NoMemory}
 use Rattle.base_types.specs.RowKeys.{key_of}
@@ -64,15 +63,19 @@ order_removed test number old new removes order place = subst IsAscending (sym (
 -- a number added at each of a row's places
 pub each_added : (row : Row) (number : ℕ) (a b d e : Index) → AddsWhere (is_place (Some (key_place (key_of row)))) number a b → AddsWhere (is_place (owner_place row)) number b d → AddsWhere (is_place (other_place row)) number d e
     → AddsWhere (λ place. is_under place row) number a e
-each_added row number a b d e key owner other = record { each = λ place.
-    other.each place ∙ ap (added (is_place (other_place row) place) number) (owner.each place ∙ ap (added (is_place (owner_place row) place) number) (key.each place))
-    ∙ added_each (same_place (key_place (key_of row)) place) (is_place (owner_place row) place) (is_place (other_place row) place) number (listed_at a place) (owner_apart row place) (other_apart row place) (owner_other row place) }
+each_added row number a b d e key owner other = record {
+  each = λ place.
+      other.each place ∙ ap (added (is_place (other_place row) place) number) (owner.each place ∙ ap (added (is_place (owner_place row) place) number) (key.each place))
+      ∙ added_each (same_place (key_place (key_of row)) place) (is_place (owner_place row) place) (is_place (other_place row) place) number (listed_at a place) (owner_apart row place) (other_apart row place) (owner_other row place);
+}
 
 pub each_removed : (row : Row) (number : ℕ) (a b d e : Index) → RemovesWhere (is_place (Some (key_place (key_of row)))) number a b → RemovesWhere (is_place (owner_place row)) number b d → RemovesWhere (is_place (other_place row)) number d e
     → RemovesWhere (λ place. is_under place row) number a e
-each_removed row number a b d e key owner other = record { each = λ place.
-    other.each place ∙ ap (removed (is_place (other_place row) place) number) (owner.each place ∙ ap (removed (is_place (owner_place row) place) number) (key.each place))
-    ∙ removed_each (same_place (key_place (key_of row)) place) (is_place (owner_place row) place) (is_place (other_place row) place) number (listed_at a place) }
+each_removed row number a b d e key owner other = record {
+  each = λ place.
+      other.each place ∙ ap (removed (is_place (other_place row) place) number) (owner.each place ∙ ap (removed (is_place (owner_place row) place) number) (key.each place))
+      ∙ removed_each (same_place (key_place (key_of row)) place) (is_place (owner_place row) place) (is_place (other_place row) place) number (listed_at a place);
+}
 
 -- added at some of the places, and taken out at all of them
 pub some_added : (test : Place → Bool) (under : Place → Bool) (number : ℕ) (old new : Index) → ((place : Place) → test place ≡ true → under place ≡ true) → AddsWhere test number old new → AddsOrNot under number old new

@@ -1,10 +1,10 @@
 -- Slots of versions: parts of them, and steps at them.
-use Rattle.std.proofs.Common.{◌≡◌, ◌≢◌, ◌≤◌, ◌<◌, ◌+◌, ◌-◌, ◌∙◌, ◌⊎◌, inl, inr, ℕ, zero, suc, Bool, true, false, not, cond, if◌then◌else◌, Option, Some, None, IfSome, List, [], ◌∷◌, ◌++◌, length, map, filter, set, take, drop, get_or, sym, ap, refl, subst, get_or-set_same, get_or-set_other, arith}
+use Rattle.std.proofs.Common.{◌≡◌, ◌≢◌, ◌<◌, ◌+◌, ◌∙◌, ◌⊎◌, inl, inr, ℕ, zero, suc, Bool, true, false, not, cond, if◌then◌else◌, Option, Some, None, IfSome, List, [], ◌∷◌, ◌++◌, length, map, filter, set, take, drop, get_or, sym, ap, refl, subst, get_or-set_same, get_or-set_other, arith}
 use Rattle.std.proofs.Math.Seq.{map-set_same}
 use Rattle.std.proofs.lemmas.Bool.{cases_eq}
 use Rattle.std.proofs.lemmas.List.{take_more}
 use Rattle.catalog_rows.specs.Types.{Stamp, Version}
-use Rattle.catalog_rows.specs.Store.{restored, taken_back, option_items}
+use Rattle.catalog_rows.specs.Store.{restored, taken_back}
 use Rattle.catalog_rows.specs.Slots.{IsIn, slot_at, version_numbered, versions_in, Settles, slot_changed, slot_back}
 
 -- an element of two lists

@@ -2,6 +2,7 @@
 use Rattle.std.proofs.Common.{◌≡◌, ◌<◌, ◌+◌, ◌∙◌, ◌&&◌, ◌==◌, ◌⊎◌, inl, inr, ℕ, zero, suc, Bool, true, false, not, cond, if◌then◌else◌, Option, Some, None, IfSome, List, [], ◌∷◌, nat_le, length, map, filter, set, sym, ap, refl, subst, arith}
 use Rattle.std.specs.Option.{option_map_or}
 use Rattle.std.proofs.lemmas.Bool.{eqb-true, and_parts}
+use Rattle.std.proofs.lemmas.List.{length-map}
 use Rattle.catalog_rows.specs.Types.{Xid, Stamp, Version}
 use Rattle.catalog_rows.specs.Store.{is_back, restored, taken_back, numbers_where}
 use Rattle.catalog_rows.specs.Given.{is_back_under}
@@ -11,8 +12,8 @@ use Rattle.catalog_rows.specs.declared.lists.Lists.{Lists}
 use Rattle.catalog_rows.specs.Numbers.{removed}
 use Rattle.catalog_rows.specs.Places.{is_under}
 use Rattle.catalog_rows.specs.Slots.{IsIn, slot_at, version_numbered, versions_in, numbers_at, numbers_in, Settles, slot_back}
-use Rattle.catalog_rows.specs.Index.{listed_at, own_at, RemovesWhere, IsNumbered, IsNoted, IsIndexed}
-use Rattle.catalog_rows.proofs.Ascending.{first_out, later_out, removed_above}
+use Rattle.catalog_rows.specs.Index.{own_at, RemovesWhere, IsNumbered, IsNoted, IsIndexed}
+use Rattle.catalog_rows.proofs.Ascending.{first_out, later_out}
 use Rattle.catalog_rows.proofs.Exact.{yes_at, no_at, above_first, numbers_where_at}
 use Rattle.catalog_rows.proofs.SlotLists.{settled_numbered, slot_at-map, along}
 
@@ -158,3 +159,18 @@ left_numbers back n (Some v ∷ slots) = by (back v.by) refl (left_numbers back 
 
 pub numbers_left : (back : Stamp → Bool) (slots : List (Option Version)) → numbers_in (map (slot_back back) slots) ≡ numbers_where (λ v. not (back v.by)) (versions_in slots) (numbers_in slots)
 numbers_left back slots = left_numbers back 1 slots ∙ sym (numbers_where_at (λ v. not (back v.by)) 1 slots)
+
+-- the versions that are left, in as many slots
+pub versions_left : (back : Stamp → Bool) (slots : List (Option Version)) → versions_in (map (slot_back back) slots) ≡ taken_back back (versions_in slots)
+versions_left back [] = refl
+versions_left back (None ∷ slots) = versions_left back slots
+versions_left back (Some v ∷ slots) = by (back v.by) refl (versions_left back slots)
+  where
+    by : (t : Bool) → back v.by ≡ t → versions_in (map (slot_back back) slots) ≡ taken_back back (versions_in slots) → versions_in (map (slot_back back) (Some v ∷ slots)) ≡ taken_back back (versions_in (Some v ∷ slots))
+    by true is rest = ap (λ t. versions_in ((if t then None else Some (restored back v)) ∷ map (slot_back back) slots)) is ∙ rest
+        ∙ sym (ap (λ t. map (restored back) (cond (not t) (v ∷ filter (λ x. not (back x.by)) (versions_in slots)) (filter (λ x. not (back x.by)) (versions_in slots)))) is)
+    by false is rest = ap (λ t. versions_in ((if t then None else Some (restored back v)) ∷ map (slot_back back) slots)) is ∙ ap (λ vs. restored back v ∷ vs) rest
+        ∙ sym (ap (λ t. map (restored back) (cond (not t) (v ∷ filter (λ x. not (back x.by)) (versions_in slots)) (filter (λ x. not (back x.by)) (versions_in slots)))) is)
+
+pub slots_left : (back : Stamp → Bool) (slots : List (Option Version)) → length (map (slot_back back) slots) ≡ length slots
+slots_left back slots = length-map slots (slot_back back)

@@ -1,12 +1,11 @@
 -- Where a row is listed: at the place of its key, and at those of the scans that ask for it, each once.
-use Rattle.std.proofs.Common.{◌≡◌, ◌==◌, ◌||◌, ◌&&◌, ◌∙◌, ℕ, Bool, if◌then◌else◌, true, false, Option, Some, None, List, [], nat_eq, eqb-true, eq-eqb, sym, ap, refl, subst, rules, arith}
+use Rattle.std.proofs.Common.{◌≡◌, ◌==◌, ◌||◌, ◌&&◌, ◌∙◌, ℕ, Bool, if◌then◌else◌, true, false, Some, None, List, [], nat_eq, eqb-true, eq-eqb, sym, ap, refl, rules, arith}
 use Rattle.std.specs.Cmp.{IsEquivalence}
 use Rattle.std.specs.Cmp.Lexicographic.{pointwise}
 use Rattle.std.specs.Cmp.Rules.{comparing}
 use Rattle.std.specs.Ordering.{on, eq_of_both}
 use Rattle.std.specs.Str.{bytes_eq}
 use Rattle.std.proofs.lemmas.Bool.{and_parts}
-use Rattle.std.proofs.lemmas.Slice.Eq.{bytes_eq-Decides}
 use Rattle.base_types.specs.declared.row.ConKind.{ConKind}
 use Rattle.base_types.specs.declared.row.ConKind.TheVariants as kinds
 use Rattle.base_types.specs.declared.row.Row.TheVariants as rows

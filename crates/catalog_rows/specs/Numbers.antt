@@ -1,5 +1,5 @@
 -- Ascending numbers of versions.
-use Rattle.std.specs.Prelude.{ℕ, Bool, true, false, not, List, [], ◌∷◌, ◌++◌, ◌<◌, ◌+◌, ◌==◌, filter, if◌then◌else◌}
+use Rattle.std.specs.Prelude.{ℕ, Bool, not, List, [], ◌∷◌, ◌++◌, ◌<◌, ◌==◌, filter, if◌then◌else◌}
 use Rattle.std.specs.List.{AllByRecursion}
 
 -- each number is above the one before it

@@ -1,5 +1,5 @@
 -- The slots of versions: each number has one, with its version if that stands.
-use Rattle.std.specs.Prelude.{ℕ, Bool, true, Option, Some, None, List, [], ◌∷◌, ◌++◌, ◌≡◌, ◌+◌, ◌⊎◌, map, fold, length, slice_index_or, if◌then◌else◌}
+use Rattle.std.specs.Prelude.{ℕ, Bool, true, Option, Some, None, List, [], ◌∷◌, ◌++◌, ◌≡◌, ◌+◌, ◌⊎◌, map, slice_index_or, if◌then◌else◌}
 use Rattle.std.specs.List.{flat_map}
 use Rattle.catalog_rows.specs.Types.{Change, Stamp, Version}
 use Rattle.catalog_rows.specs.Store.{option_items, new_version, is_ended, end_if, restored}

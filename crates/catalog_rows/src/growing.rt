@@ -68,7 +68,15 @@ fn grow_by(
 {
     lists.note_ended(slots, committed, stamp, change)?;
     match added_row(change) {
-        Some(row) => add_version(slots, lists, Version { row, by: stamp, ended: None }),
+        Some(row) => add_version(
+            slots,
+            lists,
+            Version {
+                row,
+                by: stamp,
+                ended: None,
+            },
+        ),
         None => Ok(()),
     }
 }

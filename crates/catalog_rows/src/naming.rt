@@ -35,8 +35,9 @@ fn first_claimed(
 ) -> Option<Version>
     ensures { result ≡ find (λ v. has_name name.now v.row && does_claim committed.now own v) (filter_map (version_numbered slots.now) list.now) }
 {
-    list.iter().filter_map(|number| version_at(slots, *number)).find(|version| is_named(version, name)
-        && is_claimed(version, committed, own))
+    list.iter()
+        .filter_map(|number| version_at(slots, *number))
+        .find(|version| is_named(version, name) && is_claimed(version, committed, own))
 }
 
 // The first listed version of a relation of this name that counts for the writer.
@@ -49,8 +50,9 @@ fn first_standing(
 ) -> Option<Version>
     ensures { result ≡ find (λ v. has_name name.now v.row && seen_by (counts committed.now own) v) (filter_map (version_numbered slots.now) list.now) }
 {
-    list.iter().filter_map(|number| version_at(slots, *number)).find(|version| is_named(version, name)
-        && is_standing(version, committed, own))
+    list.iter()
+        .filter_map(|number| version_at(slots, *number))
+        .find(|version| is_named(version, name) && is_standing(version, committed, own))
 }
 
 // The clash with the row of this version.

@@ -1,22 +1,26 @@
-ghost use Rattle.std.specs.Prelude.{◌≡◌, ◌∷◌, [], None};
+ghost use Rattle.std.specs.Prelude.{◌≡◌, ◌∷◌, [], None, map};
 ghost use Rattle.catalog_rows.specs.Store.{is_back as goes_back};
-ghost use Rattle.catalog_rows.specs.Index.{IsNumbered, IsInOrder, RemovesWhere};
+ghost use Rattle.catalog_rows.specs.Index.{IsIndexed, IsNumbered, IsInOrder, RemovesWhere};
 ghost use Rattle.catalog_rows.specs.Slots.{Settles, slot_back};
 ghost use Rattle.catalog_rows.specs.Given.{is_back_under};
 
 use crate::index::Index;
+use crate::lists::{Lists, own};
 use crate::slots::slot_of;
 use base_types::Xid;
 use row_visibility::{Stamp, Version};
 
-// Takes back what the transaction did to these versions in its commands of this number and above, the last first.
-pub(crate) fn take_back(
-    slots: &mut [Option<Version>],
-    index: &mut Index,
-    list: &[u64],
-    xid: Xid,
-    from: u32,
-)
+// Takes back what the transaction did in its commands of this number and above.
+pub(crate) fn undo(slots: &mut [Option<Version>], lists: &mut Lists, xid: Xid, from: u32)
+    requires { IsIndexed slots.old lists.old }
+    ensures indexed { IsIndexed slots.new lists.new }
+    ensures slots { slots.new ≡ map (slot_back (goes_back xid from)) slots.old }
+{
+    take_back(slots, &mut lists.index, own(&lists.touched, xid), xid, from);
+}
+
+// The same for these versions, the last first.
+fn take_back(slots: &mut [Option<Version>], index: &mut Index, list: &[u64], xid: Xid, from: u32)
     requires { IsNumbered slots.old index.old }
     ensures numbered { IsNumbered slots.new index.new }
     ensures settles { Settles (slot_back (goes_back xid from)) list.now (None ∷ slots.old) (None ∷ slots.new) }

@@ -67,7 +67,13 @@ fn end_versions(
     ensures { slots.new ≡ map (slot_changed (end_if (does_end committed.now stamp change.now) stamp)) slots.old }
 {
     if let Some(key) = ended_key(change) {
-        end_listed(slots, index.at(Place::of_key(&key)), committed, stamp, change);
+        end_listed(
+            slots,
+            index.at(Place::of_key(&key)),
+            committed,
+            stamp,
+            change,
+        );
     }
 }
 

@@ -1,4 +1,4 @@
-use Rattle.std.proofs.Common.{◌≡◌, ◌<◌, ◌+◌, ◌-◌, None, ◌∷◌, ℕ, length, get_or, drop, ap, refl, subst, arith}
+use Rattle.std.proofs.Common.{◌≡◌, ◌<◌, ◌+◌, ◌-◌, None, ◌∷◌, ℕ, length, get_or, drop, refl, subst, arith}
 use Rattle.catalog_rows.specs.Store.{is_back}
 use Rattle.catalog_rows.specs.Slots.{Settles, slot_back}
 use Rattle.catalog_rows.proofs.SlotLists.{list_before}

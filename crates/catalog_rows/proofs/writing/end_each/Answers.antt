@@ -1,6 +1,6 @@
 use Rattle.std.proofs.Common.{take, drop, fold}
 use Rattle.catalog_rows.specs.Slots.{new_slots, after_slots}
-use Rattle.catalog_rows.proofs.EndedEach.{first_covered, next_slots, next_count, next_indexed, next_noted, versions_written}
+use Rattle.catalog_rows.proofs.EndedEach.{first_covered, next_slots, next_count, next_indexed, next_noted}
 use Rattle.catalog_rows.proofs.writing.end_each.Goals as goal
 
 pub end_versions-requires : goal.end_versions-requires

@@ -3,7 +3,7 @@ use Rattle.std.proofs.lemmas.List.{get_or_default}
 use Rattle.catalog_rows.specs.Store.{is_ended, end_if}
 use Rattle.catalog_rows.specs.Slots.{slot_changed}
 use Rattle.catalog_rows.proofs.Ended.{ended_twice}
-use Rattle.catalog_rows.proofs.SlotLists.{settles_at, settles_empty}
+use Rattle.catalog_rows.proofs.SlotLists.{settles_at}
 use Rattle.catalog_rows.proofs.writing.end_one.Goals as goal
 
 pub returns-in-Some : goal.returns-in-Some
