@@ -1,40 +1,97 @@
--- The versions of relations with a name, and of the row with a key, are where they are looked for.
-use Rattle.std.proofs.Common.{◌≡◌, ◌∙◌, ◌&&◌, ℕ, Bool, true, false, Option, IfSome, List, find, filter_map, sym, ap, subst}
+-- The versions that are looked for are among the listed ones, and the store is what its slots say.
+use Rattle.std.proofs.Common.{◌≡◌, ◌∙◌, ◌&&◌, ℕ, Bool, Result, Ok, Err, IfOk, Vec, Option, List, ◌++◌, length, fold, take, map, filter, find, filter_map, sym, ap}
 use Rattle.std.specs.Option.{option_map}
+use Rattle.std.specs.Global.{Global}
 use Rattle.std.proofs.lemmas.Bool.{and_parts}
-use Rattle.std.proofs.lemmas.Slice.Eq.{bytes_eq-Decides}
-use Rattle.base_types.specs.declared.row.Row.TheVariants as rows
+use Rattle.base_types.specs.declared.memory.NoMemory.{NoMemory}
 use Rattle.base_types.specs.RowKeys.{key_of, same_key}
-use Rattle.row_visibility.specs.Seen.{sees_version}
-use Rattle.catalog_rows.specs.Types.{Row, RowKey, Version, Reader}
-use Rattle.catalog_rows.specs.Store.{Store, has_committed, row_of_key, is_named}
-use Rattle.catalog_rows.specs.declared.index.Place.{Place}
-use Rattle.catalog_rows.specs.declared.lists.Lists.{Lists}
-use Rattle.catalog_rows.specs.Index.{slot_at, versions_in, slots_at, key_place, name_place, named_place, IsIn, IsIndexed}
-use Rattle.catalog_rows.proofs.Listed.{found_at}
-use Rattle.catalog_rows.proofs.Steps.{same_key_place}
+use Rattle.row_visibility.specs.Seen.{seen_by, sees_version}
+use Rattle.catalog_rows.specs.Types.{Xid, Row, RowKey, Purpose, Change, Stamp, Version, Reader}
+use Rattle.catalog_rows.specs.Store.{Store, has_committed, row_of_key, rows_of_scan, is_named, is_claimed, counts, clash_by, clash_of, after_write, after_undo, with_place, is_back}
+use Rattle.catalog_rows.specs.declared.place.Place.{Place}
+use Rattle.catalog_rows.specs.declared.index.Index.{Index}
+use Rattle.catalog_rows.specs.Places.{key_place, scan_place, relation_place, is_under}
+use Rattle.catalog_rows.specs.Slots.{version_numbered, versions_in, numbers_in, slot_back, new_slots, after_slots}
+use Rattle.catalog_rows.specs.Index.{listed_at, IsNumbered}
+use Rattle.catalog_rows.proofs.Exact.{read_numbered, find_among}
+use Rattle.catalog_rows.proofs.EndedEach.{versions_written, slots_written, numbers_written}
+use Rattle.catalog_rows.proofs.Given.{given, given_under}
+use Rattle.catalog_rows.proofs.Grown.{take_front}
+use Rattle.catalog_rows.proofs.TakenBack.{versions_left, slots_left, numbers_left}
+use Rattle.catalog_rows.proofs.Under.{key_under, name_under}
 
-named_in : (row : Row) (name : List ℕ) (P : Place → Type 0) → is_named name row ≡ true → IfSome (named_place row) P → P (name_place name)
-named_in (rows.Class oid own kind fill) name P is found = subst (λ n. P (name_place n)) ((bytes_eq-Decides own name).0 is) found
-named_in row name P is found = let never : false ≡ true = is in absurd (cc)
+-- a store with these slots
+abbrev pub store_of : List (Option Version) → List Bool → Store
+store_of slots committed = record { versions = versions_in slots; numbers = numbers_in slots; written = length slots; committed = committed }
 
--- the first of the versions with a name that pass a test
-pub named_find : (test : Version → Bool) (name : List ℕ) (place : Place) (slots : List (Option Version)) (lists : Lists) (list : List ℕ) → place ≡ name_place name → list ≡ slots_at lists.index place → IsIndexed slots lists
-    → find (λ v. is_named name v.row && test v) (filter_map (slot_at slots) list) ≡ find (λ v. is_named name v.row && test v) (versions_in slots)
-named_find test name place slots lists list is_place is_list is =
-    found_at (λ v. is_named name v.row && test v) slots lists (name_place name) list (is_list ∙ ap (slots_at lists.index) is_place) is
-    (λ v pass j listed. named_in v.row name (λ p. IsIn j (slots_at lists.index p)) (and_parts (is_named name v.row) (test v) pass).0 listed.name)
+-- the listed versions are those whose rows are listed there
+pub listed_versions : (slots : List (Option Version)) (index : Index) (place at : Place) (list : List ℕ) → list ≡ listed_at index at → at ≡ place → IsNumbered slots index
+    → filter_map (version_numbered slots) list ≡ filter (λ v. is_under place v.row) (versions_in slots)
+listed_versions slots index place at list is_list is_at is =
+    ap (filter_map (version_numbered slots)) (is_list ∙ ap (listed_at index) is_at ∙ is place) ∙ read_numbered (λ v. is_under place v.row) slots
 
--- the first of the versions of a row that pass a test
-pub keyed_find : (test : Version → Bool) (key : RowKey) (place : Place) (slots : List (Option Version)) (lists : Lists) (list : List ℕ) → place ≡ key_place key → list ≡ slots_at lists.index place → IsIndexed slots lists
-    → find (λ v. test v && same_key (key_of v.row) key) (filter_map (slot_at slots) list) ≡ find (λ v. test v && same_key (key_of v.row) key) (versions_in slots)
-keyed_find test key place slots lists list is_place is_list is =
-    found_at (λ v. test v && same_key (key_of v.row) key) slots lists (key_place key) list (is_list ∙ ap (slots_at lists.index) is_place) is
-    (λ v pass j listed. subst (λ p. IsIn j (slots_at lists.index p)) (same_key_place (key_of v.row) key (and_parts (test v) (same_key (key_of v.row) key) pass).1) listed.row)
+-- the rows of a scan
+pub rows_found : (store : Store) (purpose : Purpose) (reader : Reader) (at : Place) (slots : List (Option Version)) (committed : List Bool) (index : Index) (list : List ℕ) → store ≡ store_of slots committed
+    → list ≡ listed_at index at → at ≡ scan_place purpose → IsNumbered slots index
+    → given purpose (sees_version (has_committed committed) reader) (filter_map (version_numbered slots) list) ≡ rows_of_scan store purpose reader
+rows_found store purpose reader at slots committed index list is_store is_list is_at is =
+    ap (given purpose (sees_version (has_committed committed) reader)) (listed_versions slots index (scan_place purpose) at list is_list is_at is)
+    ∙ given_under purpose (sees_version (has_committed committed) reader) (versions_in slots) ∙ sym (ap (λ (s : Store). rows_of_scan s purpose reader) is_store)
 
--- the row that is found
-pub row_found : (store : Store) (key : RowKey) (reader : Reader) (place : Place) (slots : List (Option Version)) (committed : List Bool) (lists : Lists) (list : List ℕ) (found : Option Version)
-    → store ≡ record { versions = versions_in slots; committed = committed } → place ≡ key_place key → list ≡ slots_at lists.index place → IsIndexed slots lists
-    → found ≡ find (λ v. sees_version (has_committed committed) reader v && same_key (key_of v.row) key) (filter_map (slot_at slots) list) → option_map {U = Row} (λ v. v.row) found ≡ row_of_key store key reader
-row_found store key reader place slots committed lists list found is_store is_place is_list is first =
-    ap (option_map {U = Row} (λ v. v.row)) (first ∙ keyed_find (sees_version (has_committed committed) reader) key place slots lists list is_place is_list is) ∙ sym (ap (λ (s : Store). row_of_key s key reader) is_store)
+-- the row of a key
+pub row_found : (store : Store) (key : RowKey) (reader : Reader) (at : Place) (slots : List (Option Version)) (committed : List Bool) (index : Index) (list : List ℕ) (found : Option Version) → store ≡ store_of slots committed
+    → list ≡ listed_at index at → at ≡ key_place key → IsNumbered slots index
+    → found ≡ find (λ v. sees_version (has_committed committed) reader v && same_key (key_of v.row) key) (filter_map (version_numbered slots) list) → option_map {U = Row} (λ v. v.row) found ≡ row_of_key store key reader
+row_found store key reader at slots committed index list found is_store is_list is_at is first =
+    ap (option_map {U = Row} (λ v. v.row))
+    (first ∙ ap (find wanted) (listed_versions slots index (key_place key) at list is_list is_at is)
+    ∙ find_among wanted (λ v. is_under (key_place key) v.row) (λ v yes. key_under key v.row (and_parts (sees_version (has_committed committed) reader v) (same_key (key_of v.row) key) yes).1) (versions_in slots))
+    ∙ sym (ap (λ (s : Store). row_of_key s key reader) is_store)
+  where
+    wanted : Version → Bool
+    wanted = λ v. sees_version (has_committed committed) reader v && same_key (key_of v.row) key
+
+-- the first version of a relation with a name that passes a test
+named_found : (test : Version → Bool) (name : List ℕ) (at : Place) (slots : List (Option Version)) (index : Index) (list : List ℕ) → list ≡ listed_at index at → at ≡ relation_place name → IsNumbered slots index
+    → find (λ v. is_named name v.row && test v) (filter_map (version_numbered slots) list) ≡ find (λ v. is_named name v.row && test v) (versions_in slots)
+named_found test name at slots index list is_list is_at is =
+    ap (find (λ v. is_named name v.row && test v)) (listed_versions slots index (relation_place name) at list is_list is_at is)
+    ∙ find_among (λ v. is_named name v.row && test v) (λ v. is_under (relation_place name) v.row) (λ v wanted. name_under name v.row (and_parts (is_named name v.row) (test v) wanted).0) (versions_in slots)
+
+pub clash_found : (store : Store) (own : Option Xid) (name : List ℕ) (at : Place) (slots : List (Option Version)) (committed : List Bool) (index : Index) (list : List ℕ) → store ≡ store_of slots committed
+    → list ≡ listed_at index at → at ≡ relation_place name → IsNumbered slots index
+    → clash_by committed own (find (λ v. is_named name v.row && is_claimed committed own v) (filter_map (version_numbered slots) list)) (find (λ v. is_named name v.row && seen_by (counts committed own) v) (filter_map (version_numbered slots) list))
+    ≡ clash_of store own name
+clash_found store own name at slots committed index list is_store is_list is_at is =
+    (λ i. clash_by committed own (named_found (is_claimed committed own) name at slots index list is_list is_at is i) (named_found (seen_by (counts committed own)) name at slots index list is_list is_at is i))
+    ∙ sym (ap (λ (s : Store). clash_of s own name) is_store)
+
+-- after a write
+pub write_done : (slots grown after : List (Option Version)) (committed now : List Bool) (xid : Xid) (command : ℕ) (changes : List Change) (first : ℕ) → first ≡ length slots → grown ≡ slots ++ new_slots (record { xid = xid; command = command }) changes
+    → after ≡ fold (after_slots committed (record { xid = xid; command = command })) (take first grown) changes → now ≡ with_place xid.0 committed → store_of after now ≡ after_write (store_of slots committed) xid command changes
+write_done slots grown after committed now xid command changes first is parts made placed = λ i. record {
+  versions = (ap versions_in all ∙ versions_written committed stamp slots changes) i;
+  numbers = (ap numbers_in all ∙ numbers_written committed stamp slots changes) i;
+  written = (ap length all ∙ slots_written committed stamp slots changes) i;
+  committed = placed i;
+}
+  where
+    stamp : Stamp
+    stamp = record { xid = xid; command = command }
+
+    all : after ≡ fold (after_slots committed stamp) slots changes
+    all = made ∙ ap (λ xs. fold (after_slots committed stamp) xs changes) (ap (take first) parts ∙ take_front slots (new_slots stamp changes) first is)
+
+-- after an undo
+pub undo_done : (slots after : List (Option Version)) (committed : List Bool) (xid : Xid) (from : ℕ) → after ≡ map (slot_back (is_back xid from)) slots → store_of after committed ≡ after_undo (store_of slots committed) xid from
+undo_done slots after committed xid from made = λ i. record {
+  versions = (ap versions_in made ∙ versions_left (is_back xid from) slots) i;
+  numbers = (ap numbers_in made ∙ numbers_left (is_back xid from) slots) i;
+  written = (ap length made ∙ slots_left (is_back xid from) slots) i;
+  committed = committed;
+}
+
+-- what is said of a scan's rows
+pub if_ok_then : (result : Result (Vec Row Global) NoMemory) {given wanted : List Row} → IfOk result (λ rows. rows.items ≡ given) → given ≡ wanted → IfOk result (λ rows. rows.items ≡ wanted)
+if_ok_then (Ok rows) is same = is ∙ same
+if_ok_then (Err error) is same = tt

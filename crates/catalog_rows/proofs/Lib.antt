@@ -1,7 +1,12 @@
-mod Added
+mod Ascending
+mod Ended
+mod EndedEach
+mod Exact
 mod Found
 mod Given
-mod Listed
-mod Slots
-mod Steps
+mod Grown
+mod Listing
+mod SlotLists
+mod TakenBack
 mod Touched
+mod Under

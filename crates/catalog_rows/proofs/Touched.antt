@@ -3,8 +3,9 @@ use Rattle.std.proofs.Common.{◌≡◌, ◌≢◌, ◌<◌, ◌+◌, ◌∙◌,
 use Rattle.std.proofs.lemmas.Bool.{cases_eq}
 use Rattle.std.proofs.lemmas.List.{get_or_default, take_more}
 use Rattle.base_types.specs.declared.memory.NoMemory.{NoMemory}
-use Rattle.catalog_rows.specs.Index.{own_at, IsIn}
-use Rattle.catalog_rows.proofs.Slots.{in_append, in_front, in_behind}
+use Rattle.catalog_rows.specs.Index.{own_at}
+use Rattle.catalog_rows.specs.Slots.{IsIn}
+use Rattle.catalog_rows.proofs.SlotLists.{in_append, in_front, in_behind}
 
 -- one more transaction, without slots
 pub own_at-push : (touched : List (List ℕ)) (x : ℕ) → own_at (touched ++ [] ∷ []) x ≡ own_at touched x

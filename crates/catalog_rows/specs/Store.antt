@@ -1,23 +1,36 @@
 -- The versions of the rows of all catalogs: what a scan gives of them, and what a transaction changes.
-use Rattle.std.specs.Prelude.{ℕ, Bool, true, false, not, Option, Some, None, List, [], ◌∷◌, ◌++◌, ◌+◌, ◌-◌, ◌==◌, ◌||◌, ◌&&◌, nat_le, map, filter, fold, length, replicate, slice_get, unwrap_or, if◌then◌else◌}
+use Rattle.std.specs.Prelude.{ℕ, Bool, true, false, not, Option, Some, None, List, [], ◌∷◌, ◌++◌, ◌+◌, ◌-◌, ◌==◌, ◌||◌, ◌&&◌, zero, suc, nat_le, map, filter, fold, length, replicate, slice_get, slice_set, unwrap_or, if◌then◌else◌}
 use Rattle.std.specs.Option.{option_map, option_map_or}
-use Rattle.std.specs.List.{find}
+use Rattle.std.specs.List.{find, flat_map}
 use Rattle.std.specs.Str.{bytes_eq}
 use Rattle.base_types.specs.RowKeys.{key_of, same_key}
-use Rattle.base_types.specs.Scans.{scan_of}
+use Rattle.base_types.specs.Scans.{scan_of, selects}
 use Rattle.base_types.specs.declared.row.Row.TheVariants as rows
 use Rattle.row_visibility.specs.Seen.{is_own, seen_by, sees_version}
 use Rattle.catalog_rows.specs.Types.{Xid, Oid, Row, RowKey, Purpose, Change, Insert, Replace, Delete, Stamp, Version, Reader, Clash}
 use Rattle.row_visibility.specs.declared.clash.Clash.TheVariants as clashes
 
--- all versions in the order in which they were written, and by Xid whether the transaction is committed
+-- the versions that stand, in the order in which they were written, the number of each, how many were ever written, and by
+-- Xid whether the transaction is committed
 pub record Store : Type 0 where
   pub versions : List Version
+  pub numbers : List ℕ
+  pub written : ℕ
   pub committed : List Bool
 
 -- nothing is written
 abbrev pub no_rows : Store
-no_rows = record { versions = []; committed = [] }
+no_rows = record { versions = []; numbers = []; written = 0; committed = [] }
+
+-- the numbers of the versions that pass a test
+abbrev pub numbers_where : (Version → Bool) → List Version → List ℕ → List ℕ
+numbers_where test [] numbers = []
+numbers_where test (v ∷ versions) [] = []
+numbers_where test (v ∷ versions) (n ∷ numbers) = if test v then n ∷ numbers_where test versions numbers else numbers_where test versions numbers
+
+-- the numbers of the versions whose rows a scan asks for
+abbrev pub numbers_under : Store → Purpose → List ℕ
+numbers_under store purpose = numbers_where (λ v. selects purpose v.row) store.versions store.numbers
 
 -- the transaction is committed
 abbrev pub has_committed : List Bool → ℕ → Bool
@@ -76,9 +89,27 @@ after_change committed stamp versions change = map (end_if (is_ended committed s
 abbrev pub with_place : ℕ → List Bool → List Bool
 with_place xid committed = committed ++ replicate (xid + 1 - length committed) false
 
+-- so many numbers, from this one on
+abbrev pub numbers_from : ℕ → ℕ → List ℕ
+numbers_from n zero = []
+numbers_from n (suc count) = n ∷ numbers_from (n + 1) count
+
+-- how many rows changes add
+abbrev pub rows_added : List Change → ℕ
+rows_added changes = length (flat_map (λ change. option_items (added_row change)) changes)
+
 -- the store after all changes of a write
 abbrev pub after_write : Store → Xid → ℕ → List Change → Store
-after_write store xid command changes = record { versions = fold (after_change store.committed (record { xid = xid; command = command })) store.versions changes; committed = with_place xid.0 store.committed }
+after_write store xid command changes = record {
+  versions = fold (after_change store.committed (record { xid = xid; command = command })) store.versions changes;
+  numbers = store.numbers ++ numbers_from (store.written + 1) (rows_added changes);
+  written = store.written + rows_added changes;
+  committed = with_place xid.0 store.committed;
+}
+
+-- the store after a commit
+abbrev pub after_commit : Store → Xid → Store
+after_commit store xid = record { versions = store.versions; numbers = store.numbers; written = store.written; committed = slice_set store.committed xid.0 true }
 
 -- done by the transaction in its commands of this number and above
 abbrev pub is_back : Xid → ℕ → Stamp → Bool
@@ -91,6 +122,15 @@ restored back version = record { row = version.row; by = version.by; ended = eli
 -- the versions after the writes that a test names are taken back
 abbrev pub taken_back : (Stamp → Bool) → List Version → List Version
 taken_back back versions = map (restored back) (filter (λ v. not (back v.by)) versions)
+
+-- the store after a transaction's writes in its commands of this number and above are taken back
+abbrev pub after_undo : Store → Xid → ℕ → Store
+after_undo store xid from = record {
+  versions = taken_back (is_back xid from) store.versions;
+  numbers = numbers_where (λ v. not (is_back xid from v.by)) store.versions store.numbers;
+  written = store.written;
+  committed = store.committed;
+}
 
 -- the row is that of a relation of this name
 abbrev pub is_named : List ℕ → Row → Bool

@@ -1,29 +1,25 @@
 ghost use Rattle.std.specs.Prelude.{◌≡◌, [], OnOk, OnErr};
-ghost use Rattle.catalog_rows.specs.Index.{slots_at, IsAdded};
+ghost use Rattle.catalog_rows.specs.Places.{same_place, is_place, is_under};
+ghost use Rattle.catalog_rows.specs.Index.{listed_at, AddsWhere, AddsOrNot, RemovesWhere, IsBelow, IsInOrder, IsSame, is_listed};
 
-use base_types::{Listed, NoMemory};
+use crate::numbers::Numbers;
+use crate::place::Place;
+use base_types::{NoMemory, Row};
+use row_visibility::Version;
 use std::alloc::Global;
 use std::collections::HashMap;
 
-// Where versions are listed: the key of a row, or the hash of a relation's name.
-#[derive(Clone, Copy, PartialEq, Eq, Hash)]
-pub(crate) struct Place {
-    pub oid: u32,
-    pub column: u32,
-    pub name_hash: u32,
-}
-
-// For each place the slots that may have a version of it, in order.
+// For each place the numbers of the standing versions whose rows are listed there, ascending.
 #[derive(Drop)]
 pub(crate) struct Index {
     alloc: Global,
-    lists: HashMap<Place, Listed<usize>>,
+    lists: HashMap<Place, Numbers>,
 }
 
 impl Index {
-    // No slots.
+    // No numbers, which takes no memory.
     pub(crate) fn new(alloc: Global) -> Index
-        ensures { (place : _) → slots_at result place ≡ [] }
+        ensures { (place : _) → listed_at result place ≡ [] }
     {
         Index {
             alloc,
@@ -31,30 +27,106 @@ impl Index {
         }
     }
 
-    // The slots of a place.
-    pub(crate) fn slots(&self, place: Place) -> &[usize]
-        ensures { result.now ≡ slots_at self.now place }
+    // The numbers at a place.
+    pub(crate) fn at(&self, place: Place) -> &[u64]
+        ensures { result.now ≡ listed_at self.now place }
     {
         match self.lists.get(&place) {
-            Some(slots) => slots.as_slice(),
+            Some(numbers) => numbers.as_slice(),
             None => &[],
         }
     }
 
-    // Adds a slot to a place; out of memory, nothing changes.
-    pub(crate) fn add(&mut self, place: Place, slot: usize) -> Result<(), NoMemory>
-        ensures ok { OnOk result (IsAdded self.old self.new place slot) }
-        ensures err { OnErr result ((other : _) → slots_at self.new other ≡ slots_at self.old other) }
+    // Adds a number, above all others, at each place of a row; out of memory, nothing changes.
+    pub(crate) fn add_row(&mut self, row: &Row, number: u64) -> Result<(), NoMemory>
+        requires { IsBelow number self.old }
+        ensures ok { OnOk result (AddsWhere (λ place. is_under place row.now) number self.old self.new) }
+        ensures err { OnErr result (IsSame self.old self.new) }
     {
-        if let Some(slots) = self.lists.get_mut(&place) {
-            return match slots.push(slot) {
+        match self.add_each(row, number) {
+            Ok(()) => Ok(()),
+            Err(error) => {
+                self.remove_row(row, number);
+                Err(error)
+            }
+        }
+    }
+
+    // Takes a number out at each place of a row.
+    pub(crate) fn remove_row(&mut self, row: &Row, number: u64)
+        requires { IsInOrder self.old }
+        ensures { RemovesWhere (λ place. is_under place row.now) number self.old self.new }
+    {
+        self.remove(Some(Place::of_key(&row.key())), number);
+        self.remove(Place::of_owner(row), number);
+        self.remove(Place::of_other(row), number);
+    }
+
+    // Takes a number out at each place of a version, if there is one.
+    pub(crate) fn remove_version(&mut self, version: Option<Version>, number: u64)
+        requires { IsInOrder self.old }
+        ensures { RemovesWhere (is_listed version) number self.old self.new }
+    {
+        if let Some(version) = version {
+            self.remove_row(&version.row, number);
+        }
+    }
+
+    // Adds a number at each place of a row; out of memory, it may be added at some of them.
+    fn add_each(&mut self, row: &Row, number: u64) -> Result<(), NoMemory>
+        ensures some { AddsOrNot (λ place. is_under place row.now) number self.old self.new }
+        ensures ok { OnOk result (AddsWhere (λ place. is_under place row.now) number self.old self.new) }
+    {
+        self.add(Some(Place::of_key(&row.key())), number)?;
+        self.add(Place::of_owner(row), number)?;
+        self.add(Place::of_other(row), number)
+    }
+
+    // Adds a number at a place, if there is one; out of memory, nothing changes.
+    fn add(&mut self, place: Option<Place>, number: u64) -> Result<(), NoMemory>
+        ensures ok { OnOk result (AddsWhere (is_place place) number self.old self.new) }
+        ensures err { OnErr result (IsSame self.old self.new) }
+    {
+        match place {
+            Some(place) => self.add_at(place, number),
+            None => Ok(()),
+        }
+    }
+
+    // Adds a number at a place; out of memory, nothing changes.
+    fn add_at(&mut self, place: Place, number: u64) -> Result<(), NoMemory>
+        ensures ok { OnOk result (AddsWhere (same_place place) number self.old self.new) }
+        ensures err { OnErr result (IsSame self.old self.new) }
+    {
+        if let Some(numbers) = self.lists.get_mut(&place) {
+            return match numbers.push(number) {
                 Ok(()) => Ok(()),
                 Err(error) => Err(error),
             };
         }
-        let mut slots = Listed::new(self.alloc);
-        slots.push(slot)?;
-        self.lists.insert(place, slots)?;
+        let mut numbers = Numbers::new(self.alloc);
+        numbers.push(number)?;
+        self.lists.insert(place, numbers)?;
         Ok(())
+    }
+
+    // Takes a number out at a place, if there is one.
+    fn remove(&mut self, place: Option<Place>, number: u64)
+        requires { IsInOrder self.old }
+        ensures { RemovesWhere (is_place place) number self.old self.new }
+    {
+        if let Some(place) = place {
+            self.remove_at(place, number);
+        }
+    }
+
+    // Takes a number out at a place.
+    fn remove_at(&mut self, place: Place, number: u64)
+        requires { IsInOrder self.old }
+        ensures { RemovesWhere (same_place place) number self.old self.new }
+    {
+        if let Some(numbers) = self.lists.get_mut(&place) {
+            numbers.remove(number);
+        }
     }
 }

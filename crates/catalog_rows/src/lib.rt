@@ -27,10 +27,15 @@
 //! `src/backend/access/nbtree/nbtinsert.c`).
 #![tactic(auto)]
 
+mod growing;
 mod index;
 mod lists;
 mod naming;
+mod numbers;
+mod place;
+mod slots;
 mod store;
+mod undoing;
 mod writing;
 
 pub use store::RowStore;

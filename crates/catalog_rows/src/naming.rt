@@ -1,27 +1,24 @@
 ghost use Rattle.std.specs.Prelude.{◌≡◌, ◌&&◌};
 ghost use Rattle.std.specs.List.{find, filter_map};
 ghost use Rattle.row_visibility.specs.Seen.{seen_by};
-ghost use Rattle.catalog_rows.specs.Store.{counts, is_named as has_name, is_claimed as does_claim, is_running_other as runs_elsewhere, claimant_of, relation_of as relation_in, row_clash as clash_with, clash_of};
-ghost use Rattle.catalog_rows.specs.Index.{slot_at, versions_in, IsIndexed};
+ghost use Rattle.catalog_rows.specs.Store.{counts, is_named as has_name, is_claimed as does_claim, is_running_other as runs_elsewhere, claimant_of, relation_of as relation_in, row_clash as clash_with, clash_by};
+ghost use Rattle.catalog_rows.specs.Slots.{version_numbered};
 
-use crate::lists::{Lists, name_place};
-use crate::store::version_at;
+use crate::slots::version_at;
 use crate::writing::{does_count, is_standing};
 use base_types::{Name, Oid, Row, Xid};
 use row_visibility::{Clash, Stamp, Version};
 
-// Why a new relation may not have the name, by the versions in these slots.
+// Why a new relation may not have the name, by the listed versions.
 pub(crate) fn clash_among(
     slots: &[Option<Version>],
-    lists: &Lists,
+    list: &[u64],
     committed: &[bool],
     name: &Name,
     own: Option<Xid>,
 ) -> Option<Clash>
-    requires { IsIndexed slots.now lists.now }
-    ensures { result ≡ clash_of (record { versions = versions_in slots.now; committed = committed.now }) own name.now }
+    ensures { result ≡ clash_by committed.now own (find (λ v. has_name name.now v.row && does_claim committed.now own v) (filter_map (version_numbered slots.now) list.now)) (find (λ v. has_name name.now v.row && seen_by (counts committed.now own) v) (filter_map (version_numbered slots.now) list.now)) }
 {
-    let list = lists.slots(name_place(name));
     match first_claimed(slots, list, committed, name, own) {
         Some(version) => Some(Clash::Running(claimant(&version, committed, own))),
         None => row_clash(first_standing(slots, list, committed, name, own)),
@@ -31,29 +28,31 @@ pub(crate) fn clash_among(
 // The first listed version of a relation of this name that a running transaction of another claims.
 fn first_claimed(
     slots: &[Option<Version>],
-    list: &[usize],
+    list: &[u64],
     committed: &[bool],
     name: &Name,
     own: Option<Xid>,
 ) -> Option<Version>
-    ensures { result ≡ find (λ v. has_name name.now v.row && does_claim committed.now own v) (filter_map (slot_at slots.now) list.now) }
+    ensures { result ≡ find (λ v. has_name name.now v.row && does_claim committed.now own v) (filter_map (version_numbered slots.now) list.now) }
 {
-    list.iter().filter_map(|slot| version_at(slots, *slot)).find(|version| is_named(version, name)
-        && is_claimed(version, committed, own))
+    list.iter()
+        .filter_map(|number| version_at(slots, *number))
+        .find(|version| is_named(version, name) && is_claimed(version, committed, own))
 }
 
 // The first listed version of a relation of this name that counts for the writer.
 fn first_standing(
     slots: &[Option<Version>],
-    list: &[usize],
+    list: &[u64],
     committed: &[bool],
     name: &Name,
     own: Option<Xid>,
 ) -> Option<Version>
-    ensures { result ≡ find (λ v. has_name name.now v.row && seen_by (counts committed.now own) v) (filter_map (slot_at slots.now) list.now) }
+    ensures { result ≡ find (λ v. has_name name.now v.row && seen_by (counts committed.now own) v) (filter_map (version_numbered slots.now) list.now) }
 {
-    list.iter().filter_map(|slot| version_at(slots, *slot)).find(|version| is_named(version, name)
-        && is_standing(version, committed, own))
+    list.iter()
+        .filter_map(|number| version_at(slots, *number))
+        .find(|version| is_named(version, name) && is_standing(version, committed, own))
 }
 
 // The clash with the row of this version.

@@ -1,12 +1,15 @@
-ghost use Rattle.std.specs.Prelude.{◌≡◌, ◌<◌, ◌≤◌, ◌+◌, ◌++◌, ◌∷◌, [], false, fold, map, length, replicate, slice_set, vec_len, vec_capacity, OnOk};
-ghost use Rattle.std.specs.List.{AllByRecursion};
+ghost use Rattle.std.specs.Prelude.{◌≡◌, ◌<◌, ◌≤◌, ◌+◌, ◌++◌, ◌∷◌, [], None, false, fold, map, take, length, replicate, vec_len, vec_capacity};
 ghost use Rattle.row_visibility.specs.Seen.{seen_by};
-ghost use Rattle.catalog_rows.specs.Store.{counts, is_ended as does_end, ended_key as key_ended, new_version as version_added, end_if, after_change, is_back as goes_back, taken_back};
-ghost use Rattle.catalog_rows.specs.Index.{versions_in, IsIndexed, IsPrepared, IsReady, Settles, slot_changed, slot_back};
+ghost use Rattle.catalog_rows.specs.Store.{counts, is_ended as does_end, ended_key as key_ended, added_row as row_added, end_if, option_items};
+ghost use Rattle.catalog_rows.specs.Index.{IsIndexed, IsCovered, AreNoted};
+ghost use Rattle.catalog_rows.specs.Slots.{Settles, slot_changed, new_slots, after_slots};
 
-use crate::lists::{Lists, key_place};
+use crate::index::Index;
+use crate::lists::Lists;
+use crate::place::Place;
+use crate::slots::slot_of;
 use crate::store::has_committed;
-use base_types::{Change, NoMemory, RowKey, Xid};
+use base_types::{Change, Row, RowKey, Xid};
 use row_visibility::{Stamp, Version, is_own, visible};
 
 // Whether what has the stamp counts for a writer: it is committed, or its own.
@@ -28,28 +31,9 @@ pub(crate) fn is_standing(version: &Version, committed: &[bool], own: Option<Xid
     visible(by_counts, ended_counts)
 }
 
-// Adds an empty slot for each change, and makes the lists ready for it.
-pub(crate) fn prepare(
-    slots: &mut Vec<Option<Version>>,
-    lists: &mut Lists,
-    committed: &[bool],
-    stamp: Stamp,
-    changes: &[Change],
-) -> Result<(), NoMemory>
-    requires { IsIndexed slots.old.items lists.old }
-    ensures indexed { IsIndexed slots.new.items lists.new }
-    ensures versions { versions_in slots.new.items ≡ versions_in slots.old.items }
-    ensures ok { OnOk result (IsPrepared lists.new committed.now stamp changes.now slots.new.items (vec_len slots.old) (length changes.now)) }
-{
-    for change in changes {
-        slots.push(None)?;
-        lists.note(slots, committed, stamp, change, slots.len() - 1)?;
-    }
-    Ok(())
-}
-
-// Makes all changes of a write in the slots from this one on, which are ready for them.
-pub(crate) fn make_changes(
+// Ends what all changes of a write replace or delete. The versions that they add are in the slots from
+// the first on; a change ends nothing that itself or a later one adds.
+pub(crate) fn end_each(
     slots: &mut [Option<Version>],
     lists: &Lists,
     committed: &[bool],
@@ -58,63 +42,34 @@ pub(crate) fn make_changes(
     first: usize,
 )
     requires indexed { IsIndexed slots.old lists.now }
-    requires prepared { IsPrepared lists.now committed.now stamp changes.now slots.old first (length changes.now) }
+    requires added { slots.old ≡ take first slots.old ++ new_slots stamp changes.now }
+    requires first { first ≤ length slots.old }
+    requires noted { AreNoted committed.now stamp changes.now slots.old lists.now }
     ensures indexed { IsIndexed slots.new lists.now }
-    ensures versions { versions_in slots.new ≡ fold (after_change committed.now stamp) (versions_in slots.old) changes.now }
+    ensures slots { slots.new ≡ fold (after_slots committed.now stamp) (take first slots.old) changes.now }
 {
-    for (i, change) in changes.iter().enumerate() {
-        make_change(slots, lists, committed, stamp, change, first + i);
-    }
-}
-
-// Makes a change in a slot that is ready for it.
-fn make_change(
-    slots: &mut [Option<Version>],
-    lists: &Lists,
-    committed: &[bool],
-    stamp: Stamp,
-    change: &Change,
-    slot: usize,
-)
-    requires indexed { IsIndexed slots.old lists.now }
-    requires ready { IsReady lists.now committed.now stamp slots.old slot change.now }
-    requires within { slot < length slots.old }
-    ensures indexed { IsIndexed slots.new lists.now }
-    ensures slots { slots.new ≡ slice_set (map (slot_changed (end_if (does_end committed.now stamp change.now) stamp)) slots.old) slot (version_added stamp change.now) }
-{
-    end_versions(slots, lists, committed, stamp, change);
-    slots[slot] = new_version(stamp, change);
-}
-
-// The version of the row that a change adds, if it adds one.
-fn new_version(stamp: Stamp, change: &Change) -> Option<Version>
-    ensures { result ≡ version_added stamp change.now }
-{
-    match change {
-        Change::Insert(row) | Change::Replace(row) => Some(Version {
-            row: *row,
-            by: stamp,
-            ended: None,
-        }),
-        Change::Delete(_) => None,
+    let mut count = first;
+    for change in changes {
+        end_versions(&mut slots[..count], &lists.index, committed, stamp, change);
+        count += count_added(change);
     }
 }
 
 // Ends what a change replaces or deletes.
 fn end_versions(
     slots: &mut [Option<Version>],
-    lists: &Lists,
+    index: &Index,
     committed: &[bool],
     stamp: Stamp,
     change: &Change,
 )
-    requires { IsIndexed slots.old lists.now }
+    requires { IsCovered slots.old index.now }
     ensures { slots.new ≡ map (slot_changed (end_if (does_end committed.now stamp change.now) stamp)) slots.old }
 {
     if let Some(key) = ended_key(change) {
         end_listed(
             slots,
-            lists.slots(key_place(&key)),
+            index.at(Place::of_key(&key)),
             committed,
             stamp,
             change,
@@ -122,19 +77,33 @@ fn end_versions(
     }
 }
 
-// The same for the slots of a list.
+// The same for the versions of a list.
 fn end_listed(
     slots: &mut [Option<Version>],
-    list: &[usize],
+    list: &[u64],
     committed: &[bool],
     stamp: Stamp,
     change: &Change,
 )
-    requires { AllByRecursion (λ j. j < length slots.old) list.now }
-    ensures { Settles (slot_changed (end_if (does_end committed.now stamp change.now) stamp)) list.now slots.old slots.new }
+    ensures { Settles (slot_changed (end_if (does_end committed.now stamp change.now) stamp)) list.now (None ∷ slots.old) (None ∷ slots.new) }
 {
-    for slot in list {
-        slots[*slot] = ended(slots[*slot], committed, stamp, change);
+    for number in list {
+        end_one(slots, *number, committed, stamp, change);
+    }
+}
+
+// The same for one version.
+fn end_one(
+    slots: &mut [Option<Version>],
+    number: u64,
+    committed: &[bool],
+    stamp: Stamp,
+    change: &Change,
+)
+    ensures { Settles (slot_changed (end_if (does_end committed.now stamp change.now) stamp)) (number ∷ []) (None ∷ slots.old) (None ∷ slots.new) }
+{
+    if let Some(at) = slot_of(slots, number) {
+        slots[at] = ended(slots[at], committed, stamp, change);
     }
 }
 
@@ -177,6 +146,26 @@ pub(crate) fn ended_key(change: &Change) -> Option<RowKey>
     }
 }
 
+// The row that a change adds.
+pub(crate) fn added_row(change: &Change) -> Option<Row>
+    ensures { result ≡ row_added change.now }
+{
+    match change {
+        Change::Insert(row) | Change::Replace(row) => Some(*row),
+        Change::Delete(_) => None,
+    }
+}
+
+// How many rows a change adds.
+fn count_added(change: &Change) -> usize
+    ensures { result ≡ length (option_items (row_added change.now)) }
+{
+    match change {
+        Change::Insert(_) | Change::Replace(_) => 1,
+        Change::Delete(_) => 0,
+    }
+}
+
 // Adds places of transactions that aren't committed; there is room for them.
 pub(crate) fn add_places(committed: &mut Vec<bool>, count: usize)
     requires { vec_len committed.old + count ≤ vec_capacity committed.old }
@@ -185,48 +174,4 @@ pub(crate) fn add_places(committed: &mut Vec<bool>, count: usize)
     for place in 0..count {
         committed.push_reserved(false);
     }
-}
-
-// Takes back what the transaction did in its commands of this number and above.
-pub(crate) fn take_back(slots: &mut [Option<Version>], lists: &Lists, xid: Xid, from: u32)
-    requires { IsIndexed slots.old lists.now }
-    ensures indexed { IsIndexed slots.new lists.now }
-    ensures versions { versions_in slots.new ≡ taken_back (goes_back xid from) (versions_in slots.old) }
-{
-    for slot in lists.own(xid) {
-        restore(slots, *slot, xid, from);
-    }
-}
-
-// The same for one slot, if there is one of this number.
-fn restore(slots: &mut [Option<Version>], slot: usize, xid: Xid, from: u32)
-    ensures { Settles (slot_back (goes_back xid from)) (slot ∷ []) slots.old slots.new }
-{
-    if slot < slots.len() {
-        slots[slot] = restored(slots[slot], xid, from);
-    }
-}
-
-// Whether the transaction left the stamp in a command of this number or above.
-fn is_back(stamp: Stamp, xid: Xid, from: u32) -> bool
-    ensures { result ≡ goes_back xid from stamp }
-{
-    stamp.xid.0 == xid.0 && from <= stamp.command
-}
-
-// What is left in a slot: no version if the transaction added it in such a command, else one that isn't
-// ended any more if the transaction ended it in such a command.
-fn restored(version: Option<Version>, xid: Xid, from: u32) -> Option<Version>
-    ensures { result ≡ slot_back (goes_back xid from) version }
-{
-    let mut version = version?;
-    if is_back(version.by, xid, from) {
-        return None;
-    }
-    if let Some(ended) = version.ended {
-        if is_back(ended, xid, from) {
-            version.ended = None;
-        }
-    }
-    Some(version)
 }

@@ -15,7 +15,7 @@ use Rattle.row_visibility.specs.declared.version.Stamp.{Stamp}
 use Rattle.row_visibility.specs.declared.version.Version.{Version}
 use Rattle.row_visibility.specs.Seen.{is_own}
 use Rattle.lock_modes.specs.declared.grant.Grant.{Grant}
-use Rattle.catalog_rows.specs.Store.{Store, has_committed, taken_back, restored}
+use Rattle.catalog_rows.specs.Store.{Store, has_committed, after_commit, taken_back, restored}
 use Rattle.history_model.specs.Transactions.{Running, has_xid, runs_as, running_transaction_of}
 use Rattle.seg_calls.specs.Calls.{entry_of}
 use Rattle.shared_seg.specs.declared.transaction.Transaction.{Transaction}
@@ -34,7 +34,7 @@ marked marks xid x within = unwrap_or-slice_get (slice_set marks xid true) x fal
 
 -- a transaction that has drawn its Xid becomes visible
 pub visible_steps : (history : List Entry) (b c : ℕ) (xid : Xid) (store after : Store) (locks : List Grant) (transactions own : List (Option Transaction)) (next last : ℕ)
-    → after ≡ record { versions = store.versions; committed = slice_set store.committed xid.0 true } → xid.0 < length store.committed
+    → after ≡ after_commit store xid → xid.0 < length store.committed
     → b < length transactions → own ≡ slice_set transactions b (transaction_by c (Visible xid) (transaction_at transactions b))
     → Steps history (entry_of b c (Visible xid)) store after locks locks transactions own next next last last
 visible_steps history b c xid store after locks transactions own next last after_is drawn within own_is = subst (λ (s : Store). Steps history (entry_of b c (Visible xid)) store s locks locks transactions own next next last last) (sym after_is) (record {
@@ -88,9 +88,13 @@ eqb-turned m n = by_cases (eqb_tells m n)
     by_cases (inr other) = other.0 ∙ sym (ne_eqb n m (λ e. other.1 (sym e)))
 
 -- what is taken back
-undone_is : (own : Option Xid) (from : ℕ) (store : Store) → undone own from store ≡ record { versions = taken_back (λ s. is_own own s && nat_le from s.command) store.versions; committed = store.committed }
-undone_is None from store = ap (λ vs. record { versions = vs; committed = store.committed }) (sym (taken_back-none store.versions))
-undone_is (Some xid) from store = λ i. record { versions = taken_back (λ s. eqb-turned s.xid.0 xid.0 i && nat_le from s.command) store.versions; committed = store.committed }
+undone_versions : (own : Option Xid) (from : ℕ) (store : Store) → (undone own from store).versions ≡ taken_back (λ s. is_own own s && nat_le from s.command) store.versions
+undone_versions None from store = sym (taken_back-none store.versions)
+undone_versions (Some xid) from store = λ i. taken_back (λ s. eqb-turned s.xid.0 xid.0 i && nat_le from s.command) store.versions
+
+undone_committed : (own : Option Xid) (from : ℕ) (store : Store) → (undone own from store).committed ≡ store.committed
+undone_committed None from store = refl
+undone_committed (Some xid) from store = refl
 
 -- a transaction's writes are taken back
 pub gone_steps : (history : List Entry) (b c from : ℕ) (store after : Store) (locks : List Grant) (transactions own : List (Option Transaction)) (next last : ℕ)
@@ -98,14 +102,16 @@ pub gone_steps : (history : List Entry) (b c from : ℕ) (store after : Store) (
     → b < length transactions → own ≡ slice_set transactions b (transaction_by c (Gone from) (transaction_at transactions b))
     → Steps history (entry_of b c (Gone from)) store after locks locks transactions own next next last last
 gone_steps history b c from store after locks transactions own next last kept after_is within own_is =
-    subst (λ (s : Store). Steps history (entry_of b c (Gone from)) store s locks locks transactions own next next last last) (sym (after_is ∙ undone_is (xid_at transactions b) from store)) (record {
-      versions = sym (ap (λ (test : Stamp → Bool). taken_back (λ s. test s && nat_le from s.command) store.versions) (λ i s. runs_own history b transactions s kept i));
-      committed = λ x. sym (or-false (has_committed store.committed x));
-      grows = omega arith;
+    let same : after.committed ≡ store.committed = ap (λ (s : Store). s.committed) after_is ∙ undone_committed (xid_at transactions b) from store in
+    record {
+      versions = ap (λ (s : Store). s.versions) after_is ∙ undone_versions (xid_at transactions b) from store
+          ∙ sym (ap (λ (test : Stamp → Bool). taken_back (λ s. test s && nat_le from s.command) store.versions) (λ i s. runs_own history b transactions s kept i));
+      committed = λ x. ap (λ committed. has_committed committed x) same ∙ sym (or-false (has_committed store.committed x));
+      grows = omega (arith, ap length same);
       drawn = λ x writes. absurd (cc);
       held_is = refl;
       oid_is = refl;
       xid_is = refl;
       slots = ap length own_is ∙ length-set transactions b _;
       own_is = kept_set (entry_of b c (Gone from)) transactions own within own_is;
-    })
+    }

@@ -1,5 +1,6 @@
 use Rattle.std.proofs.Common.{◌≡◌, ◌+◌, ℕ, vec_len}
-use Rattle.catalog_rows.specs.Index.{own_at, IsIn}
+use Rattle.catalog_rows.specs.Index.{own_at}
+use Rattle.catalog_rows.specs.Slots.{IsIn}
 use Rattle.catalog_rows.proofs.lists.touch.Given as goal
 
 abbrev pub invariant-loop-more : goal.invariant-loop-more

@@ -3,12 +3,12 @@ use Rattle.catalog_rows.specs.Index.{ends_at}
 use Rattle.catalog_rows.proofs.Touched.{noted_next}
 use Rattle.catalog_rows.proofs.lists.touch_ended.Goals as goal
 
-pub loop-slot-preserved : goal.loop-slot-preserved
-loop-slot-preserved c = record {
-  grows = λ x j is. c.touch_if_ended.ensures.grows x j (c.loop-slot.invariant.grows x j is);
-  has = noted_next c.args.list.now c.loop-slot.slot-index (get_or c.args.list.now c.loop-slot.slot-index 0) 0 c.args.stamp.xid.0 (λ i. ends_at c.args.committed.now c.args.stamp c.args.change.now c.args.slots.now i ≡ true)
-      c.loop-slot.touched.items c.touch_if_ended.new.touched.items c.loop-slot-test.true refl c.touch_if_ended.ensures.grows c.in_ok-touch_if_ended.ensures.ok c.loop-slot.invariant.has;
+pub loop-number-preserved : goal.loop-number-preserved
+loop-number-preserved c = record {
+  grows = λ x j is. c.touch_if_ended.ensures.grows x j (c.loop-number.invariant.grows x j is);
+  has = noted_next c.args.list.now c.loop-number.number-index (get_or c.args.list.now c.loop-number.number-index 0) 0 c.args.stamp.xid.0 (λ i. ends_at c.args.committed.now c.args.stamp c.args.change.now c.args.slots.now i ≡ true)
+      c.loop-number.touched.items c.touch_if_ended.new.touched.items c.loop-number-test.true refl c.touch_if_ended.ensures.grows c.in_ok-touch_if_ended.ensures.ok c.loop-number.invariant.has;
 }
 
 pub returns-in_err-touch_if_ended-clause-grows : goal.returns-in_err-touch_if_ended-clause-grows
-returns-in_err-touch_if_ended-clause-grows c = λ x j is. c.touch_if_ended.ensures.grows x j (c.loop-slot.invariant.grows x j is)
+returns-in_err-touch_if_ended-clause-grows c = λ x j is. c.touch_if_ended.ensures.grows x j (c.loop-number.invariant.grows x j is)

@@ -1,0 +1,11 @@
+use Rattle.std.proofs.Common.{◌≡◌, ◌++◌, take}
+use Rattle.catalog_rows.specs.Index.{IsIndexed, AreNoted}
+use Rattle.catalog_rows.specs.Slots.{new_slots}
+use Rattle.catalog_rows.proofs.growing.grow_each.Given as goal
+
+abbrev pub invariant-loop-change : goal.invariant-loop-change
+invariant-loop-change l = record {
+  indexed : IsIndexed l.slots.items l.lists;
+  slots : l.slots.items ≡ l.fn.slots.items ++ new_slots l.stamp (take l.change-index l.changes);
+  noted : AreNoted l.committed l.stamp (take l.change-index l.changes) l.slots.items l.lists;
+}

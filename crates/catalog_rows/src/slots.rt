@@ -1,0 +1,24 @@
+ghost use Rattle.std.specs.Prelude.{◌≡◌, ◌<◌, ◌+◌, None, length, MatchOption};
+ghost use Rattle.catalog_rows.specs.Slots.{version_numbered};
+
+use row_visibility::Version;
+
+// Where the version of this number is kept, if there is a slot for it: the first one has the number 1.
+pub(crate) fn slot_of(slots: &[Option<Version>], number: u64) -> Option<usize>
+    ensures { MatchOption result (version_numbered slots.now number ≡ None) (λ at. (number ≡ at + 1) × (at < length slots.now)) }
+{
+    let before = number.checked_sub(1)?;
+    if before < slots.len() as u64 {
+        Some(before as usize)
+    } else {
+        None
+    }
+}
+
+// The version of this number, where it stands.
+pub(crate) fn version_at(slots: &[Option<Version>], number: u64) -> Option<Version>
+    ensures { result ≡ version_numbered slots.now number }
+{
+    let at = slot_of(slots, number)?;
+    slots[at]
+}
