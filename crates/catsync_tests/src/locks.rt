@@ -1,8 +1,9 @@
-ghost use Rattle.std.specs.Prelude.{◌<◌};
+ghost use Rattle.std.specs.Prelude.{◌≡◌, ◌<◌};
 
-use base_types::{Mode, Oid};
+use base_types::{Mode, NoMemory, Oid};
 use lock_modes::{Grant, Granted, LockRefusal, LockTable, OwnLocks};
 use std::alloc::Global;
+use std::test::Fail;
 
 const REL: Oid = Oid(16384);
 
@@ -19,8 +20,7 @@ enum Call {
     Unlock(u32, Oid, Mode),
     // A backend gives up what it was granted from a command on.
     Release(u32, u32),
-    // The locks of `PREPARED` are prepared, and what was prepared is granted.
-    Prepare,
+    // What is prepared is granted.
     GrantPrepared,
 }
 
@@ -39,7 +39,7 @@ const DONE: Answer = ("done", 0, 0);
 
 const NO_MEMORY: Answer = ("no memory", 0, 0);
 
-fn answer(alloc: Global, table: &mut LockTable, call: Call) -> Answer {
+fn answer(table: &mut LockTable, call: Call) -> Answer {
     match call {
         Call::Ask(backend, command, rel, mode) => asked(table, backend, command, rel, mode),
         Call::Has(backend, rel, mode) if table.holds(backend, rel, mode) => YES,
@@ -49,7 +49,6 @@ fn answer(alloc: Global, table: &mut LockTable, call: Call) -> Answer {
             table.release(backend, from);
             DONE
         }
-        Call::Prepare => prepare(alloc, table),
         Call::GrantPrepared => {
             table.grant_prepared();
             DONE
@@ -75,38 +74,12 @@ fn unlocked(table: &mut LockTable, backend: u32, rel: Oid, mode: Mode) -> Answer
     DONE
 }
 
-const PREPARED: [Grant; 2] = [
-    Grant {
-        backend: 1,
-        command: 4,
-        rel: REL,
-        mode: Mode::AccessExclusive,
-    },
-    Grant {
-        backend: 1,
-        command: 4,
-        rel: OTHER,
-        mode: Mode::AccessExclusive,
-    },
-];
-
-fn prepare(alloc: Global, table: &mut LockTable) -> Answer {
-    let Ok(grants) = PREPARED.to_vec(alloc) else {
-        return NO_MEMORY;
-    };
-    match table.prepare(grants) {
-        Ok(()) => DONE,
-        Err(_) => NO_MEMORY,
-    }
-}
-
 // Calls on an empty table, and what each is answered.
-const CALLS: [(&str, &[(Call, Answer)]); 5] = [
+const CALLS: [(&str, &[(Call, Answer)]); 4] = [
     ("the first holder is named", FIRST_HOLDER),
     ("the first holder is named in the other order", OTHER_ORDER),
     ("own modes are never in the way", OWN_MODES),
     ("releases from a command on", RELEASES),
-    ("prepared locks are granted", GRANTED),
 ];
 
 const FIRST_HOLDER: &[(Call, Answer)] = &[
@@ -162,8 +135,8 @@ const RELEASES: &[(Call, Answer)] = &[
     (Call::Ask(3, 1, OTHER, Mode::AccessExclusive), NEW),
 ];
 
+// Calls where the locks of two new relations are prepared, and what each is answered.
 const GRANTED: &[(Call, Answer)] = &[
-    (Call::Prepare, DONE),
     (Call::Has(1, OTHER, Mode::AccessExclusive), NO),
     (Call::GrantPrepared, DONE),
     (Call::Has(1, REL, Mode::AccessExclusive), YES),
@@ -178,10 +151,41 @@ fn a_table_answers_its_calls(rt: HostRuntime) {
     for (name, calls) in CALLS {
         let mut table = LockTable::new(rt.alloc());
         for (call, wanted) in calls {
-            let is_so = answer(rt.alloc(), &mut table, *call) == *wanted;
+            let is_so = answer(&mut table, *call) == *wanted;
             assert!(rt; is_so, "{name}");
         }
     }
+}
+
+// A table of no locks in which those of two new relations are prepared.
+fn prepared_table(alloc: Global) -> Result<LockTable, NoMemory> {
+    let mut table = LockTable::new(alloc);
+    let mut grants = Vec::new(alloc);
+    grants.push(new_grant(REL))?;
+    grants.push(new_grant(OTHER))?;
+    table.prepare(grants)?;
+    Ok(table)
+}
+
+// The grant of a new relation.
+fn new_grant(rel: Oid) -> Grant
+    ensures { result ≡ record { backend = 1; command = 4; rel = rel; mode = Mode.AccessExclusive } }
+{
+    Grant {
+        backend: 1,
+        command: 4,
+        rel,
+        mode: Mode::AccessExclusive,
+    }
+}
+
+#[test]
+fn prepared_locks_are_granted(rt: HostRuntime) -> Result<(), Fail> {
+    let mut table = prepared_table(rt.alloc())?;
+    for (call, wanted) in GRANTED {
+        assert!(rt; answer(&mut table, *call) == *wanted);
+    }
+    Ok(())
 }
 
 // A call on the locks of one backend.
