@@ -1,6 +1,7 @@
 """The command tools/picture."""
+from .arguments import Arguments
 from .drawing import draw
-from .faults import Arguments, Fault, read_input, write_output
+from .faults import Fault, read_input, write_output
 from .layout import Span
 from .outputs import read_output
 from .page import page
@@ -11,11 +12,12 @@ MOST_ENTRIES = 5000
 
 def arguments_of(words):
     """The command line."""
-    parser = Arguments(prog="picture", description="Draws an output of catsync: tools/picture < OUTPUT > HISTORY.svg")
-    parser.add_argument("--html", action="store_true", help="one page, with a list of the entries beside the picture")
-    parser.add_argument("--from", dest="first", type=int, metavar="N", help="the first entry to draw (1)")
-    parser.add_argument("--to", dest="last", type=int, metavar="N", help="the last entry to draw (the last there is)")
-    return parser.parse_args(words)
+    parser = Arguments("picture", "[OPTION].. < OUTPUT > HISTORY.svg", "Draws what `catsync walk` prints.",
+                       ((0, "the picture is printed"),))
+    parser.option("--html", action="store_true", help="one page, with a list of the entries beside the picture")
+    parser.option("--from", dest="first", type=int, metavar="N", help="the first entry to draw (1)")
+    parser.option("--to", dest="last", type=int, metavar="N", help="the last entry to draw (the last there is)")
+    return parser.parse(words)
 
 
 def span_of(count, first=None, last=None):
