@@ -20,10 +20,12 @@ class Row(NamedTuple):
 
 
 class Message(NamedTuple):
-    """A message: what it is for, in the server's terms and in words, and the relation whose row was changed."""
+    """A message: what it is for; the name of a relation or of a column in its key, if there is one; and the relation whose
+    row was changed, with the name that it has then."""
     target: Target
-    about: str
+    key: str
     rel: int
+    name: str = ""
 
 
 def hash_of(cache, *parts):
@@ -39,17 +41,16 @@ def of_caches(row: Row) -> List[Message]:
     """The messages for the catalog caches that have an entry of a row."""
     if row.catalog == "class":
         oid, name = int(row.columns[0]), row.columns[1]
-        return [Message((NAMES, hash_of(NAMES, name)), "the name " + name, oid),
-                Message((OIDS, hash_of(OIDS, oid)), "the oid %d" % oid, oid)]
+        return [Message((NAMES, hash_of(NAMES, name)), name, oid), Message((OIDS, hash_of(OIDS, oid)), "", oid)]
     if row.catalog == "att":
         rel, name = int(row.columns[0]), row.columns[2]
-        return [Message((COLUMNS, hash_of(COLUMNS, rel, name)), "the column %s" % name, rel)]
+        return [Message((COLUMNS, hash_of(COLUMNS, rel, name)), name, rel)]
     return []
 
 
 def of_descriptor(rel) -> Message:
     """The message for a relation's descriptor."""
-    return Message((DESCRIPTORS, rel), "the descriptor", rel)
+    return Message((DESCRIPTORS, rel), "", rel)
 
 
 def relation_told(row: Row) -> Optional[int]:

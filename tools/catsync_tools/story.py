@@ -47,7 +47,8 @@ class Facts:
         self.batches: List[Batch] = []                  # messages that it takes, finds waiting, or puts into the queue
         self.left = 0                                   # messages that wait for the backend after it
         self.messages: List[Message] = []               # those of its write, or of the writes that it takes back
-        self.receivers: List[int] = []                  # of a publish: for whom its messages wait
+        self.receivers: List[int] = []                  # of a publish: for whom its messages wait,
+        self.published = 0                              # and how many of the commit's were sent with it
         self.rows: list = []                            # that its scan gives
         self.unseen: List[Version] = []                 # versions of a name that its scan doesn't see
         self.kept: Optional[Kept] = None                # what its scan is part of
@@ -101,12 +102,14 @@ class Names:
     def __init__(self):
         self.of_rel: Dict[int, List[Named]] = {}
         self.of_backend: Dict[int, List[Named]] = {}
+        self.latest: Dict[int, str] = {}
         self.rels: Dict[str, set] = {}
 
     def give(self, named):
         """A write gives a relation a name."""
         self.of_rel.setdefault(named.rel, []).append(named)
         self.of_backend.setdefault(named.backend, []).append(named)
+        self.latest[named.rel] = named.name
         self.rels.setdefault(named.name, set()).add(named.rel)
 
     def take_back(self, backend, command):
@@ -210,17 +213,22 @@ class Model:
         """The rows of a command are changed, and its messages processed by its own backend."""
         written = Written(entry.number, entry.command, [], [])
         for change in entry.event.parts["changes"]:
-            for_caches, for_descriptors = self.change(entry, facts.transaction, change)
-            written.for_caches.extend(for_caches)
-            written.for_descriptors.extend(message for message in for_descriptors if message not in written.for_descriptors)
             if change.catalog == "class" and change.sign in "+=":
-                rel, name = int(change.columns[0]), change.columns[1]
-                self.names.give(Named(entry.number, entry.backend, entry.command, rel, name))
-                if change.sign == "+":
-                    self.grant(facts, Lock(entry, rel, "ax", name, entry.number))
+                self.give_name(facts, entry, change)
+            named = [[message._replace(name=self.names.name_of(message.rel)) for message in messages]
+                     for messages in self.change(entry, facts.transaction, change)]
+            written.for_caches.extend(named[0])
+            written.for_descriptors.extend(message for message in named[1] if message not in written.for_descriptors)
         facts.transaction.writes.append(written)
         facts.messages = written.for_caches + written.for_descriptors
         facts.stale = self.caches.process(entry, facts.messages, OWN_WRITE)
+
+    def give_name(self, facts, entry, change):
+        """A relation gets a name; a new one is locked."""
+        rel, name = int(change.columns[0]), change.columns[1]
+        self.names.give(Named(entry.number, entry.backend, entry.command, rel, name))
+        if change.sign == "+":
+            self.grant(facts, Lock(entry, rel, "ax", name, entry.number))
 
     def change(self, entry, transaction, change):
         """One change of a write; the messages that it leaves."""
@@ -248,6 +256,7 @@ class Model:
     def take_publish(self, facts, entry):
         """The next messages of a commit go into the queue."""
         messages = facts.transaction.publish(entry, entry.event.parts["count"])
+        facts.published = facts.transaction.published
         facts.receivers = self.lives.alive()
         self.log.publish(entry, messages, facts.receivers)
         facts.batches = [Batch(entry.number, entry.backend, messages)]
