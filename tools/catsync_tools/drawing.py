@@ -33,7 +33,7 @@ text.command { font-weight: bold }
 .serves { fill: %(ink)s; stroke: #ffffff; stroke-width: 1.4 }
 .open { stroke-dasharray: 3 2 }
 .row { fill-opacity: 0 }
-.row:hover, .row.here { fill: #fff1b8; fill-opacity: 1 }
+.row:hover { fill: #fff1b8; fill-opacity: 1 }
 """ % {"ink": INK, "blue": BLUE, "red": RED, "brown": KEPT_BROWN}
 
 
@@ -57,7 +57,7 @@ def arrows_in(span, story: Story):
 
 def lanes_ground(layout: Layout):
     """The ground of the lanes, every second one grey."""
-    shape = {"y": layout.rows[0].y, "height": layout.bottom - layout.rows[0].y, "fill": "#f6f6f6"}
+    shape = {"y": layout.rows[0].y, "height": layout.bottom - layout.rows[0].y, "fill_opacity": 0.04}
     return "".join(element("rect", x=lane.left, width=lane.right - lane.left, **shape)
                    for lane in list(layout.lanes.values())[::2])
 
@@ -93,16 +93,17 @@ def text_lines(x, y, lines):
 
 
 def entry_text(layout: Layout, row, sentences):
-    """The number, mark and text of a row's entries, and what they do; where the text is cut the title has all of it."""
+    """The number, mark and text of a row's entries, and what they do, if that is given; where the text is cut the title has
+    all of it."""
     step = row.content
     lane, y = layout.lanes[step.main.backend], row.middle + 4
     numbers = str(step.first) if step.first == step.last else "%d\u2013%d" % (step.first, step.last)
-    title = "\n".join(plain(sentences[entry.number - 1]) for entry in step.entries)
+    titles = [plain(sentences[entry.number - 1]) for entry in step.entries] if sentences else []
+    titles += [step.text] if row.cut else []
     drawn = text_at(layout.numbers - 8, y, numbers, "number", text_anchor="end")
     drawn += element("use", href="#" + mark_of_step(step), x=lane.mark, y=row.middle)
     drawn += '<text class="line">%s</text>' % text_lines(layout.text, y, row.lines)
-    return group(drawn, title + ("\n" + step.text if row.cut else ""), class_="entry cut" if row.cut else "entry",
-                 id="entry%d" % step.first)
+    return group(drawn, "\n".join(titles), class_="entry cut" if row.cut else "entry", id="entry%d" % step.first)
 
 
 def answer_text(layout: Layout, row):
@@ -197,7 +198,7 @@ def draw(story: Story, wanted: Wanted):
         arrows_drawn(layout, story, messages, refusals),
         rows_drawn(layout, "header", lambda layout, row: lane_names(layout, row.y, row.height)),
         rows_drawn(layout, "command", command_text), rows_drawn(layout, "answer", answer_text),
-        rows_drawn(layout, "entry", lambda layout, row: entry_text(layout, row, sentences)),
+        rows_drawn(layout, "entry", lambda layout, row: entry_text(layout, row, [] if wanted.in_page else sentences)),
     ]
     return Drawing(title, layout, head_of(story, layout, title, (drawn, right, top)), "\n".join(rows), top + 6, sentences)
 

@@ -42,12 +42,12 @@ class Span(NamedTuple):
 
 class Wanted(NamedTuple):
     """What a picture is to have: which entries, the texts of which commands, whether in brief, how wide it may be, and
-    whether the names of the lanes stand between its rows."""
+    whether it is part of a page, which itself has the names of the lanes and the sentences of entries."""
     span: Span
     commands: Commands = {}
     brief: bool = False
     width: int = WIDTH
-    has_headers: bool = True
+    in_page: bool = False
 
 
 class Command(NamedTuple):
@@ -175,7 +175,7 @@ def rows_of(story: Story, wanted: Wanted, y, chars):
         begun[entry.backend] = entry.command
     steps = steps_of(story.entries[wanted.span.first - 1:wanted.span.last], wanted.brief)
     for at, step in enumerate(steps):
-        if wanted.has_headers and has_header(at, len(steps)):
+        if not wanted.in_page and has_header(at, len(steps)):
             rows.add("header", None, "", 1)
         backend, command = step.main.backend, step.main.command
         if begun.get(backend, 0) < command:

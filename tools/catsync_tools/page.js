@@ -64,10 +64,12 @@ function backendBox([backend, first, last], things, number, active) {
   box.append(make('h2', '', `backend ${backend}${title}`));
   if (isAway) return box;
   const list = make('dl', '');
+  let latest = '';
   function line(word, text) {
     const old = text.match(/^(.*)(, (?:out of date|not clear yet).*)$/);
     const content = old ? [...linked(old[1]), make('span', 'old', ...linked(old[2]))] : linked(text);
-    list.append(make('dt', '', word), make('dd', '', ...content));
+    list.append(make('dt', '', word === latest ? '' : word), make('dd', '', ...content));
+    latest = word;
   }
   things.filter(thing => thing[1] === 0).forEach(thing => line('command', thing[4]));
   for (const sort of [1, 2, 4]) things.filter(thing => thing[1] === sort).forEach(thing => line(words[sort], thing[4]));
@@ -83,11 +85,17 @@ function show(at) {
   const [first, last] = data.rows[at];
   const entry = document.getElementById('entry'), state = document.getElementById('state');
   const shown = [];
+  let looks = 0;
   for (let number = first; number <= last; number++) {
-    const [, , line, sentence] = data.entries[number - data.first];
+    const [, line, sentence, isPlainLook] = data.entries[number - data.first];
+    if (isPlainLook && last > first) {
+      looks += 1;
+      continue;
+    }
     const place = make('span', 'number', String(number));
     shown.push(make('div', '', place, make('code', '', line)), make('p', '', ...linked(sentence)));
   }
+  if (looks) shown.push(make('p', 'few', looks === 1 ? 'Beside it 1 look: no message waits.' : `Beside it ${looks} looks: no message waits.`));
   entry.replaceChildren(...shown);
   const active = data.entries[last - data.first][0];
   const held = new Map(data.lives.map(([backend]) => [backend, []]));
@@ -95,11 +103,9 @@ function show(at) {
     if (thing[2] <= last && (thing[3] === null || last < thing[3])) held.get(thing[0]).push(thing);
   state.replaceChildren(...data.lives.map(life => backendBox(life, held.get(life[0]), last, life[0] === active)));
   document.body.dataset.entry = last;
-  const box = state.querySelector('.here'), panel = document.getElementById('panel');
-  if (data.lives.length > 3 && box) {
-    const below = box.offsetTop + box.offsetHeight - panel.scrollTop - panel.clientHeight;
-    if (below > 0 || box.offsetTop < panel.scrollTop) panel.scrollTop = Math.max(0, box.offsetTop - panel.clientHeight / 2);
-  }
+  const box = state.querySelector('.here');
+  const below = box.offsetTop + box.offsetHeight - state.scrollTop - state.clientHeight;
+  if (below > 0 || box.offsetTop < state.scrollTop) state.scrollTop = Math.max(0, box.offsetTop - state.clientHeight / 3);
 }
 
 // Brings a row and the lane of its backend into view.
@@ -122,12 +128,13 @@ function note(number) {
 function select(at) {
   const to = Math.max(0, Math.min(data.rows.length - 1, at));
   if (to === here) return;
-  if (here >= 0) document.getElementById('row' + data.rows[here][0]).classList.remove('here');
   here = to;
-  document.getElementById('row' + data.rows[here][0]).classList.add('here');
-  show(here);
+  const [, last, y, height] = data.rows[here], stripe = document.getElementById('here');
+  stripe.style.transform = `translateY(${y}px)`;
+  stripe.style.height = `${height}px`;
   reveal(here);
-  note(data.rows[here][1]);
+  show(here);
+  note(last);
 }
 
 // The next row in a direction, of the same backend if wanted.

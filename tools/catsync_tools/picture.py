@@ -54,7 +54,7 @@ def picture_of(output, html, span, commands=None, brief=False, width=None):
     """The picture of these entries of an output, as an SVG or as a page."""
     story = story_of(output)
     width = (PAGE_WIDTH if html else WIDTH) if width is None else width
-    wanted = Wanted(span, commands or {}, brief, width, not html)
+    wanted = Wanted(span, commands or {}, brief, width, html)
     drawing = draw(story, wanted)
     return page(story, wanted, drawing) if html else picture(drawing)
 

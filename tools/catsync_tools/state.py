@@ -7,9 +7,9 @@ import bisect
 from typing import Dict, List, NamedTuple, Optional
 
 from .layout import Layout, Wanted
-from .sentences import MODE_NAMES, counted, listed
+from .sentences import MODE_NAMES, listed
 from .story import Story
-from .why import Why, at, capital
+from .why import Why, at
 
 COMMAND, TRANSACTION, LOCK, KEPT, UNSENT = range(5)
 
@@ -121,11 +121,16 @@ def part_of_log(story: Story, span):
     return {"names": list(names), "log": indexes, "start": start, "lengths": lengths}
 
 
+def is_plain_look(facts):
+    """Whether it is a look that finds no message, and by which nothing ends and nothing is served."""
+    return facts.entry.line.endswith(" look no") and not facts.cleared and not facts.serves
+
+
 def state_of(story: Story, wanted: Wanted, layout: Layout, sentences):
     """All that a page needs beside its picture."""
     span = wanted.span
-    entries = [[entry.backend, entry.command, entry.line, sentences[entry.number - 1]]
-               for entry in story.entries[span.first - 1:span.last]]
+    entries = [[facts.entry.backend, facts.entry.line, sentences[facts.entry.number - 1], int(is_plain_look(facts))]
+               for facts in story.facts[span.first - 1:span.last]]
     rows = [[row.content.first, row.content.last, round(row.y - layout.rows[0].y, 1), row.height]
             for row in layout.rows if row.kind == "entry"]
     return {
