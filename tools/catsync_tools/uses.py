@@ -15,6 +15,7 @@ FIELDS = ("name", "columns", "defaults", "statistics", "fillfactor", "constraint
           "of", "valid")
 ERRORS_INSIDE = ("22023", "0A000", "2BP01", "42701", "42703", "42704", "42710", "54011")
 ABSENT = re.compile(r"error [0-9A-Z]+ .* does not exist as of ([0-9]+)")
+OF_OID = re.compile(r"regclass .* as of ([0-9]+)")
 PASSED = ("start", "look", "fetch", "fetch reset", "unlock")
 
 
@@ -50,10 +51,10 @@ class Uses:
         self.opening |= {(entry.backend, entry.command) for entry in output.entries
                          if entry.event.kind == "write" and changes_known(entry.event)}
         self.shown: Dict[tuple, int] = {}
-        self.absent: Dict[tuple, int] = {}
+        self.scanned: Dict[tuple, int] = {}
         for answer in output.answers:
             place = (answer.backend, answer.command)
-            for pattern, numbers in ((SHOWN, self.shown), (ABSENT, self.absent)):
+            for pattern, numbers in ((SHOWN, self.shown), (ABSENT, self.scanned), (OF_OID, self.scanned)):
                 found = pattern.match(answer.text)
                 if found:
                     numbers[place] = int(found.group(1))
@@ -92,7 +93,7 @@ class Uses:
                 own.rel = self.shown.get(place)
             if place in self.opening and not own.is_over:
                 self.serve(model, own, last)
-            self.serve_absent(model, place, last)
+            self.serve_by_place(model, place, last)
 
     def finish_all(self, model):
         """The history is over."""
@@ -109,9 +110,9 @@ class Uses:
                 kept.serves.append(Served(facts.entry.number, course.command))
                 facts.serves.append(kept)
 
-    def serve_absent(self, model, place, facts):
-        """A name is absent as of a scan of an earlier command."""
-        scanned = self.absent.get(place)
+    def serve_by_place(self, model, place, facts):
+        """A name is absent, or an oid has a name, as of a scan of an earlier command."""
+        scanned = self.scanned.get(place)
         kept = next((kept for kept in model.caches.all if kept.first == scanned), None) if scanned else None
         if kept and kept.command != place[1]:
             kept.serves.append(Served(facts.entry.number, place[1]))

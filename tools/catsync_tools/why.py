@@ -218,7 +218,7 @@ class Why:
         if not kept.is_descriptor:
             return ["scans %s: %s" % (scanned, rows)]
         scans = INDEX_SCANS if parts["purpose"] == "indexrow" else TABLE_SCANS
-        texts = ["scans %s, %d of %d for its descriptor: %s" % (
+        texts = ["scans %s, scan %d of %d for its descriptor: %s" % (
             scanned, scans.index(parts["purpose"]) + 1, len(scans), rows)]
         if kept.built == facts.entry.number:
             texts.append("the descriptor is built, and kept from here on")
@@ -230,9 +230,10 @@ class Why:
                    and (one.backend, one.rel) == (kept.backend, kept.rel)]
         if not earlier:
             return ["it keeps none of this relation yet"]
-        return ["%s of its last one was given up at %s" % ("the build" if not earlier[-1].built else "", at(earlier[-1].last))
-                if not earlier[-1].built else "its last one, built at %s to %s, is stale since %s" % (
-                    at(earlier[-1].first), at(earlier[-1].built), at(earlier[-1].last))]
+        last = earlier[-1]
+        if not last.built:
+            return ["the build that began at %s was given up at %s" % (at(last.first), at(last.last))]
+        return ["the last one, built at %s to %s, is stale since %s" % (at(last.first), at(last.built), at(last.last))]
 
     def scan_of_name(self, facts, parts):
         """The relation that a name means, or why there is none."""
@@ -290,7 +291,7 @@ class Why:
         others = [str(backend) for backend in facts.receivers if backend != facts.entry.backend]
         left = len(facts.transaction.messages) - facts.published
         texts = ["puts %s into the queue, for %s" % (counted(parts["count"], "message"), self.about(facts.batches[0].messages))]
-        whom = "backend %s and itself" % listed(others) if others else "itself alone"
+        whom = "%s %s" % (verb(others, "backend", "backends"), listed(others + ["itself"], 12)) if others else "itself alone"
         texts.append("%s for %s" % (verb([0] * parts["count"], "it waits", "they wait"), whom))
         return texts + (["%s left to be sent" % ("1 is" if left == 1 else "%d are" % left)] if left else [])
 
