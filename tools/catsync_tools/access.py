@@ -114,9 +114,11 @@ class Own:
 
 
 class Accesses:
-    """Tells the accesses of a history's steps, one after the other."""
+    """Tells the accesses of a history's steps, one after the other. The history comes after the steps of a past, whose locks
+    and rows it may still have."""
 
-    def __init__(self, every_order=False):
+    def __init__(self, every_order=False, past=()):
+        self.past = past
         self.own: Dict[int, Own] = {}
         self.shared = [(ALL_STEPS, "step")] if every_order else []
         self.known: Dict[tuple, Access] = {}
@@ -124,6 +126,8 @@ class Accesses:
     def start(self):
         """A history begins."""
         self.own = {}
+        for step in self.past:
+            self.of(step)
 
     def of(self, step):
         """The access of the next step."""

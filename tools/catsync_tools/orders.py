@@ -127,10 +127,10 @@ class Branch:
 class Search:
     """Runs all orders, one after the other."""
 
-    def __init__(self, run, backends, every_order=False):
+    def __init__(self, run, backends, every_order=False, past=()):
         self.run = run              # a function of whose the first steps are, and of who then goes on to the stop
         self.backends = backends
-        self.accesses = Accesses(every_order)
+        self.accesses = Accesses(every_order, past)
         self.branches: List[Branch] = []
         self.history = History(self.accesses)
 
