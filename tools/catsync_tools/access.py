@@ -114,17 +114,17 @@ class Own:
 
 
 class Accesses:
-    """Tells the accesses of a history's steps, one after the other. The history comes after the steps of a past, whose locks
-    and rows it may still have."""
+    """Tells the accesses of a history's steps, one after the other. The past are the steps that were made before all of
+    these; with `every_order` no two steps can be swapped."""
 
     def __init__(self, every_order=False, past=()):
-        self.past = past
         self.own: Dict[int, Own] = {}
+        self.past = past
         self.shared = [(ALL_STEPS, "step")] if every_order else []
         self.known: Dict[tuple, Access] = {}
 
     def start(self):
-        """A history begins."""
+        """A history begins, after the past."""
         self.own = {}
         for step in self.past:
             self.of(step)

@@ -80,10 +80,10 @@ def turns_with(items: List[Item], counts) -> Turns:
     return turns
 
 
-def setup_turns(source: Source, program) -> Turns:
+def setup_turns(source: Source, runs: Runs) -> Turns:
     """The turns of a script's set-up."""
     items = setup_items(source)
-    return turns_with(items, counts_of(items, Runs(program, source.script))) if items else []
+    return turns_with(items, counts_of(items, runs)) if items else []
 
 
 def scheduled(source: Source, backends) -> List[Line]:

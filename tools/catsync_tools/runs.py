@@ -1,8 +1,7 @@
 """Runs of a script that go on until each backend has stopped."""
 from .faults import Fault
 from .items import MOST_STEPS
-from .program import Run
-from .scripts import Turns, steps_line, turns_of
+from .scripts import steps_line
 
 FURTHER = 64            # steps that a backend may make beyond those that were seen
 
@@ -24,25 +23,13 @@ class Runs:
         while self.longest <= MOST_STEPS and known < MOST_STEPS:
             further = min(self.longest + FURTHER, (MOST_STEPS - known) // max(to_stop, 1))
             line = [(backend, count or further) for backend, count in turns] + [(backend, further) for backend in rest]
-            run = self.program.run(self.script.with_steps(steps_line(line)))
+            run = self.with_turns(line)
             self.longest = max(self.longest, len(run.steps))
             if sum(text == "stop" for _, _, text in run.steps) == len(self.backends):
                 return run
             self.longest *= 2
         raise Fault("the script has too many steps: a schedule has at most %d" % MOST_STEPS)
 
-
-class Runner:
-    """Runs a script after its set-up."""
-
-    def __init__(self, program, script, setup: Turns):
-        self.runs, self.setup = Runs(program, script), setup
-        self.past = self.runs.run(setup, self.runs.backends).steps[:sum(count for _, count in setup)]
-        stopped = {backend for backend, _, text in self.past if text == "stop"}
-        self.backends = [backend for backend in self.runs.backends if backend not in stopped]
-
-    def run(self, first, rest):
-        """The run in which these backends make the first steps after the set-up, and these then go on to their stop. Its steps
-        are those after the set-up, its output and answers those of all."""
-        run = self.runs.run(self.setup + turns_of(first), rest)
-        return Run(run.output, run.steps[len(self.past):], run.answers)
+    def with_turns(self, turns):
+        """The run of these turns alone."""
+        return self.program.run(self.script.with_steps(steps_line(turns)))
