@@ -14,6 +14,7 @@ class Runner:
         first = program.run(source.script.without_steps())
         self.backends = sorted({backend for backend, _, _ in first.steps})
         self.past = []
+        self.source = source
         self.longest = len(first.steps)
 
     def run(self, first, rest):
@@ -26,6 +27,10 @@ class Runner:
                 return run
             self.longest *= 2
         raise Fault("the script has too many steps to be explored")
+
+    def own_run(self):
+        """The run of the script's own schedule."""
+        return self.program.run(self.source.text.encode("utf-8", "surrogateescape"))
 
     def with_turns(self, turns):
         """The run of these turns."""
