@@ -2,8 +2,10 @@
 import re
 from typing import Dict, List, NamedTuple, Optional, Tuple
 
+from .counting import counted_script
 from .faults import Fault
 from .findings import PLACE
+from .runner import Runner
 from .sql import FIELDS, Answer, Asked, Shown, statement_of
 
 Command = Tuple[int, int]       # a backend, and the number of a command of it
@@ -16,19 +18,6 @@ class Compared(NamedTuple):
     here: str
     server: Answer
     differences: List[str]
-
-
-def numbered(script) -> Dict[Command, str]:
-    """The commands of a script as the grammar has them."""
-    found: Dict[Command, str] = {}
-    counts: Dict[int, int] = {}
-    for line in script.lines:
-        head, colon, text = line.decode("ascii", "replace").partition(":")
-        if colon and head.strip().isdigit():
-            backend = int(head)
-            counts[backend] = counts.get(backend, 0) + 1
-            found[backend, counts[backend]] = text.strip()
-    return found
 
 
 def order_of(commands, steps) -> List[Command]:
@@ -104,15 +93,18 @@ def is_same(field, here, server, pairs: Pairs):
     return pairs.are_same(here, server) if field == "table" else here == server
 
 
-def compare(source, runner, server, order: Optional[List[Command]] = None) -> List[Compared]:
-    """Runs a script's commands one after the other here and in a server, in the order in which its own schedule ends them."""
-    commands = numbered(source.script)
+def compare(source, program, server, order: Optional[List[Command]] = None) -> List[Compared]:
+    """Runs a script's commands one after the other here and in a server, in this order, or that in which its own schedule
+    ends them."""
+    runner = Runner(source._replace(setup=[]), program)      # the set-up is made with the other commands
+    commands = source.script.commands()
     statements = {command: statement_of(text) for command, text in commands.items()}
     for (backend, number), statement in sorted(statements.items()):
         if statement is None:
             raise Fault("command %d of backend %d isn't compared with a server: %s" % (
                 number, backend, commands[backend, number]))
-    order = order_of(commands, runner.own_run().steps) if order is None else order
+    if order is None:
+        order = order_of(commands, program.run(counted_script(source, lambda: program)).steps)
     run = runner.with_turns(serial_turns(runner, order))
     here = {(int(words[1]), int(words[2])): PLACE.sub("", words[3]) for words in (
         line.split(" ", 3) for line in run.answers)}

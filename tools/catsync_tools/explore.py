@@ -10,8 +10,8 @@ from .picture import picture_of, span_of
 from .program import proved_program
 from .progress import Progress
 from .report import Extent, Serial, found_text, not_found, report, run_again, shown_sets
-from .runner import read_source
 from .search import Exploration, Settings, processors, wanted_of
+from .sources import read_source
 
 NOT_FOUND = 1
 MOST_ORDERS = 5000
@@ -79,7 +79,8 @@ def main(words):
     options = arguments_of(words)
     if options.merge:
         return merge(options)
-    source = read_source(read_input())
+    data = read_input()
+    source = read_source(data)
     settings = Settings(options.places, tuple(wanted_of(text) for text in options.find), options.interleaved, options.seed,
                         options.jobs or (1 if options.part else processors()))
     exploration = Exploration(settings, source, options.program or proved_program(), Progress())
@@ -90,7 +91,7 @@ def main(words):
         status = INTERRUPTED
     exploration.progress.clear()
     if options.part:
-        write_output(part_text(part_found(options, exploration)))
+        write_output(part_text(part_found(options, exploration, data)))
         return status
     return tell_find(options, exploration, status) if options.find else tell_sets(options, exploration, status)
 
@@ -117,11 +118,11 @@ def extent_of(options, exploration):
     return Extent(exploration.schedules, exploration.is_random, options.seed, most, exploration.runs, exploration.is_over, "")
 
 
-def part_found(options, exploration):
+def part_found(options, exploration, data):
     """What a part of a search found."""
     sets = [(shown.answers, shown.found) for shown in shown_sets(exploration)]
     serial = {"\n".join(key): kind for key, kind in exploration.serial.items()} if options.part[0] == 1 else None
-    return Part(exploration.source.text, options.places, options.random, options.seed, options.part[0], options.part[1],
+    return Part(data.decode("utf-8", "surrogateescape"), options.places, options.random, options.seed, options.part[0], options.part[1],
                 exploration.is_over, exploration.schedules, exploration.runs, serial, exploration.is_serial_over, sets)
 
 

@@ -1,54 +1,34 @@
-"""Runs a script under schedules that end with each backend's stop."""
-from .faults import Fault
-from .scripts import read_script, steps_line, turns_of
-
-FURTHER = 64            # steps that a backend may make beyond those that were seen
-MOST_STEPS = 1000000    # of a script
+"""Runs a script after its set-up."""
+from .counting import setup_turns
+from .program import Run
+from .runs import Runs
+from .scripts import turns_of
 
 
 class Runner:
-    """A script and the program that runs it."""
+    """A script whose set-up was run: the steps of that, and the backends that haven't stopped in it."""
 
     def __init__(self, source, program):
-        self.script, self.program = source.script, program
-        first = program.run(source.script.without_steps())
-        self.backends = sorted({backend for backend, _, _ in first.steps})
-        self.past = []
-        self.source = source
-        self.longest = len(first.steps)
+        self.runs = Runs(program, source.script)
+        self.setup = setup_turns(source, self.runs)
+        first = self.runs.run(self.setup, self.runs.backends) if self.setup else self.runs.first
+        self.past = first.steps[:sum(count for _, count in self.setup)]
+        stopped = {backend for backend, _, text in self.past if text == "stop"}
+        self.backends = [backend for backend in self.runs.backends if backend not in stopped]
+
+    @property
+    def longest(self):
+        """How many steps a run after the set-up has at most, by those that were seen."""
+        return self.runs.longest - len(self.past)
 
     def run(self, first, rest):
-        """The run in which these backends make the first steps, and these then go on to their stop."""
-        room = (MOST_STEPS - len(first)) // len(rest)
-        while self.longest <= MOST_STEPS:
-            run = self.with_turns(turns_of(first) + [(backend, min(self.longest + FURTHER, room)) for backend in rest])
-            self.longest = max(self.longest, len(run.steps))
-            if sum(text == "stop" for _, _, text in run.steps) == len(self.backends):
-                return run
-            self.longest *= 2
-        raise Fault("the script has too many steps to be explored")
-
-    def own_run(self):
-        """The run of the script's own schedule."""
-        return self.program.run(self.source.text.encode("utf-8", "surrogateescape"))
+        """The run in which these backends make the first steps after the set-up, and these then go on to their stop."""
+        return self.after_setup(self.runs.run(self.setup + turns_of(first), rest))
 
     def with_turns(self, turns):
-        """The run of these turns."""
-        return self.program.run(self.script.with_steps(steps_line(turns)))
+        """The run of these turns after the set-up, which may end before the backends' stops."""
+        return self.after_setup(self.runs.with_turns(self.setup + turns))
 
-
-class Source:
-    """A script, and its commands."""
-
-    def __init__(self, data):
-        self.script, self.commands, self.text = read_script(data), {}, data.decode("utf-8", "surrogateescape")
-        for line in self.script.lines:
-            backend, colon, command = line.decode("ascii", "replace").partition(":")
-            if colon and backend.strip().isdigit():
-                number = 1 + sum(other == int(backend) for other, _ in self.commands)
-                self.commands[int(backend), number] = command.strip()
-
-
-def read_source(data):
-    """The script of an input."""
-    return Source(data)
+    def after_setup(self, run):
+        """A run whose steps are those after the set-up; its output and its answers are those of all."""
+        return Run(run.output, run.steps[len(self.past):], run.answers)

@@ -97,11 +97,11 @@ class Exploration:
 
     def run_serial(self):
         """Runs the serial orders, first those of transactions."""
-        first = self.runner.run([], self.runner.backends)
-        transactions = transactions_of(first.steps, self.source.commands)
+        commands = self.source.script.commands()
+        transactions = transactions_of(commands)
         self.run_serial_of(TRANSACTIONS, transactions)
-        if self.found is None and transactions != commands_of(first.steps):
-            self.run_serial_of(COMMANDS, commands_of(first.steps))
+        if self.found is None and transactions != commands_of(commands):
+            self.run_serial_of(COMMANDS, commands_of(commands))
         self.findings.start_counting()
 
     def run_serial_of(self, kind, groups):

@@ -12,25 +12,23 @@ from .scripts import Turns, turns_of
 Groups = Dict[int, List[int]]       # for each backend the first command of each group of its commands, in order
 
 
-def commands_of(steps) -> Groups:
-    """Each command of a run by itself."""
+def commands_of(commands) -> Groups:
+    """Each command by itself, of commands by backend and number."""
     found: Groups = {}
-    for backend, command, text in steps:
-        own = found.setdefault(backend, [])
-        if text not in ("start", "stop") and command not in own:
-            own.append(command)
-    return {backend: sorted(own) for backend, own in found.items()}
+    for backend, number in sorted(commands):
+        found.setdefault(backend, []).append(number)
+    return found
 
 
-def transactions_of(steps, commands) -> Groups:
-    """The commands of a run by transactions: a block is one, up to the command that ends it."""
+def transactions_of(commands) -> Groups:
+    """Commands by transactions: a block is one, up to the command that ends it."""
     found: Groups = {}
-    for backend, own in commands_of(steps).items():
+    for backend, own in commands_of(commands).items():
         firsts, in_block = [], False
-        for command in own:
+        for number in own:
             if not in_block:
-                firsts.append(command)
-            words = commands.get((backend, command), "").lower().rstrip(" ;").split()
+                firsts.append(number)
+            words = commands[backend, number].lower().rstrip(" \t;").split()
             in_block = in_block and words not in (["commit"], ["rollback"]) or words == ["begin"]
         found[backend] = firsts
     return found
@@ -38,7 +36,7 @@ def transactions_of(steps, commands) -> Groups:
 
 def group_of(groups: Groups, backend, command):
     """The number of the group that a command is in; what comes before the first is in it, as what comes after the last."""
-    return max(0, sum(first <= command for first in groups[backend]) - 1)
+    return max(0, sum(first <= command for first in groups.get(backend, ())) - 1)
 
 
 class Whole(NamedTuple):

@@ -5,8 +5,8 @@ from .differences import all_differences, profile
 from .faults import read_file, write_output
 from .postgres import Server
 from .program import Program, proved_program
-from .runner import Runner, read_source
 from .sentences import counted
+from .sources import read_source
 
 DIFFERS = 1
 
@@ -26,9 +26,9 @@ def main(words):
     """Compares a script's answers with those of a server."""
     options = arguments_of(words)
     source = read_source(read_file(options.script))
-    runner = Runner(source, Program(options.program or proved_program()))
+    program = Program(options.program or proved_program())
     with Server(options.programs) as server:
-        all_compared = compare(source, runner, server)
+        all_compared = compare(source, program, server)
         version = server.version()
     found = all_differences(all_compared, profile())
     write_output(report(version, all_compared, found))
