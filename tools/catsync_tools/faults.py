@@ -55,6 +55,23 @@ def discard_output():
     os.dup2(os.open(os.devnull, os.O_WRONLY), sys.stdout.fileno())
 
 
+def read_file(path):
+    """All of a file, as bytes."""
+    try:
+        with open(path, "rb") as file:
+            return file.read()
+    except OSError as error:
+        raise Fault("%s: reading failed: %s" % (path, error.strerror))
+
+
+def make_folder(path):
+    """Makes a folder where there is none."""
+    try:
+        os.makedirs(path, exist_ok=True)
+    except OSError as error:
+        raise Fault("%s: the folder can't be made: %s" % (path, error.strerror))
+
+
 def write_file(path, text):
     """Writes a file whole or not at all: beside it first, then in its place."""
     beside = "%s.%d.part" % (path, os.getpid())
