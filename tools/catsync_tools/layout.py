@@ -4,7 +4,6 @@ All lengths are in pixels of the picture.
 """
 from typing import Dict, List, NamedTuple, Tuple
 
-from .scripts import Commands
 from .steps import Step, steps_of
 from .story import Story
 
@@ -24,6 +23,9 @@ MOST_WIDE_LANES = 12    # with more lanes each may be half as wide
 BAND = 18               # the width of a transaction's bar
 KEPT, LOCK = 14, 14     # the distance of two bars of what is kept, and of locks
 WIDEST_BARS = 98        # more bars of a kind than this is wide are drawn narrower
+
+
+Commands = Dict[Tuple[int, int], str]       # the texts of commands, by backend and number
 
 
 class Span(NamedTuple):

@@ -2,10 +2,11 @@
 from .arguments import Arguments
 from .drawing import draw, picture
 from .faults import Fault, read_file, read_input, write_output
-from .layout import WIDTH, Span, Wanted
+from .layout import WIDTH, Commands, Span, Wanted
 from .outputs import read_output
 from .page import PAGE_WIDTH, page
-from .scripts import Commands, commands_of
+from .sources import read_source
+from .spellings import without_comment
 from .story import story_of
 
 MOST_ENTRIES = 5000
@@ -40,8 +41,14 @@ def span_of(count, first=None, last=None):
 
 
 def script_of(path, output) -> Commands:
-    """The commands of the script in a file, of which this is an output."""
-    commands = commands_of(read_file(path))
+    """The commands of the script in a file, of which this is an output; as they are written, but for a comment or a
+    semicolon behind them, and blanks."""
+    data = read_file(path)
+    try:
+        source = read_source(data)
+    except Fault as fault:
+        raise Fault("%s: %s" % (path, fault))
+    commands = {place: " ".join(without_comment(text).rstrip("; \t").split()) for place, text in source.commands.items()}
     for entry in output.entries:
         if entry.command > 0 and entry.event.kind not in ("gone", "release", "stop") and (
                 entry.backend, entry.command) not in commands:

@@ -1,5 +1,4 @@
 """Scripts with other schedules than their own."""
-import re
 from typing import Dict, List, NamedTuple, Tuple
 
 from .faults import Fault
@@ -18,6 +17,16 @@ class Script(NamedTuple):
     def with_steps(self, line):
         """The script with this line of steps."""
         return b"\n".join(self.lines + [line.encode("ascii"), b"end", b""])
+
+    def commands(self):
+        """The texts of its commands, by backend and number."""
+        found: Dict[Tuple[int, int], str] = {}
+        for line in self.lines:
+            backend, colon, text = line.decode("ascii", "replace").partition(":")
+            if colon and backend.strip().isdigit():
+                number = 1 + sum(other == int(backend) for other, _ in found)
+                found[int(backend), number] = text.strip()
+        return found
 
 
 def read_script(data):
@@ -46,23 +55,3 @@ def turns_of(backends):
 def steps_line(turns):
     """The `steps` line of turns."""
     return "steps " + " ".join("%d" % backend if count == 1 else "%d*%d" % (backend, count) for backend, count in turns)
-
-
-Commands = Dict[Tuple[int, int], str]       # the texts of commands, by backend and number
-
-_COMMAND = re.compile(r"[ \t]*(?:setup[ \t]+)?([0-9]{1,9})[ \t]*:(.*)", re.DOTALL | re.IGNORECASE)
-
-
-def commands_of(data) -> Commands:
-    """The commands of a script, as they are written but for a semicolon at the end and blanks between words."""
-    commands: Commands = {}
-    counts: Dict[int, int] = {}
-    for line in data.decode("latin-1").split("\n"):
-        if line.split() and line.lower().split() == ["end"]:
-            return commands
-        found = _COMMAND.fullmatch(line.rstrip("\r"))
-        if found:
-            backend = int(found.group(1))
-            counts[backend] = counts.get(backend, 0) + 1
-            commands[backend, counts[backend]] = " ".join(found.group(2).split()).rstrip("; ")
-    return commands
