@@ -24,7 +24,7 @@ text.label { font: 9px 'DejaVu Sans Mono', Menlo, Consolas, monospace }
 text.waits { font: bold 9px 'DejaVu Sans', Verdana, sans-serif; fill: %(blue)s;
   paint-order: stroke; stroke: #ffffff; stroke-width: 3px }
 text.error { fill: #963800 }
-text.command { font-weight: bold }
+text.bold { font-weight: bold }
 .leader { stroke: #d0d0d0; stroke-dasharray: 1 3 }
 .message { fill: none; stroke: %(blue)s; stroke-width: 1.3; stroke-opacity: 0.75 }
 .refusal { fill: none; stroke: %(red)s; stroke-width: 1.4; stroke-dasharray: 4 2 }
@@ -92,6 +92,11 @@ def text_lines(x, y, lines):
                    for at, line in enumerate(lines))
 
 
+def cut(row):
+    """The class of a row whose text is cut."""
+    return " cut" if row.cut else ""
+
+
 def entry_text(layout: Layout, row, sentences):
     """The number, mark and text of a row's entries, and what they do, if that is given; where the text is cut the title has
     all of it."""
@@ -103,7 +108,7 @@ def entry_text(layout: Layout, row, sentences):
     drawn = text_at(layout.numbers - 8, y, numbers, "number", text_anchor="end")
     drawn += element("use", href="#" + mark_of_step(step), x=lane.mark, y=row.middle)
     drawn += '<text class="line">%s</text>' % text_lines(layout.text, y, row.lines)
-    return group(drawn, "\n".join(titles), class_="entry cut" if row.cut else "entry", id="entry%d" % step.first)
+    return group(drawn, "\n".join(titles), class_="entry" + cut(row), id="entry%d" % step.first)
 
 
 def answer_text(layout: Layout, row):
@@ -117,7 +122,7 @@ def answer_text(layout: Layout, row):
     drawn += element("circle", cx=mark, cy=row.middle, r=2.5, fill=colour)
     drawn += '<text class="%s">%s</text>' % (class_, text_lines(layout.text, row.middle + 4, row.lines))
     title = "the answer of command %d of backend %d" % (answer.command, answer.backend)
-    return group(drawn, title + ("\n" + answer.line if row.cut else ""), class_="answer")
+    return group(drawn, title + ("\n" + answer.line if row.cut else ""), class_="answer" + cut(row))
 
 
 def command_text(layout: Layout, row):
@@ -128,9 +133,9 @@ def command_text(layout: Layout, row):
                     fill="#eef1f8", rx=2)
     drawn += element("path", d=path("M", mark + 4, row.middle, "H", layout.text - 6), stroke=BLUE, stroke_opacity=0.5)
     drawn += element("circle", cx=mark, cy=row.middle, r=2.5, fill="#ffffff", stroke=BLUE, stroke_width=1.4)
-    drawn += '<text class="line command">%s</text>' % text_lines(layout.text, row.middle + 4, row.lines)
+    drawn += '<text class="line bold">%s</text>' % text_lines(layout.text, row.middle + 4, row.lines)
     title = "command %d of backend %d" % (command.number, command.backend)
-    return group(drawn, title + ("\n" + command.text if row.cut else ""), class_="command")
+    return group(drawn, title + ("\n" + command.text if row.cut else ""), class_="command" + cut(row))
 
 
 def rows_drawn(layout: Layout, kind, one_drawn):

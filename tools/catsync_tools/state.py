@@ -45,7 +45,8 @@ def lock_things(story: Story):
     for lock in story.locks:
         text = "%s on %s since %s" % (MODE_NAMES[lock.mode], story.called(lock.rel, lock.name), at(lock.first))
         clear = text + (", clear" if lock.clear == lock.first else ", clear since %s" % at(lock.clear or 0))
-        yield from phases(lock.backend, LOCK, lock.first, lock.last, ((lock.first, text + ", not clear yet"), (lock.clear, clear)))
+        yield from phases(lock.backend, LOCK, lock.first, lock.last, (
+            (lock.first, text + ", not clear yet"), (lock.clear, clear)))
 
 
 def kept_things(story: Story):
@@ -112,8 +113,8 @@ def things_of(story: Story, wanted: Wanted):
 def part_of_log(story: Story, span):
     """The log as far as a state that is drawn needs it: the names of relations, for each message the index of its own, the
     place of the first, and for each publish how long the log is then."""
-    places = story.log.places
-    start = min([place for own in places.values() for place in [value for entry, value in own if entry <= span.first][-1:]] or [0])
+    before = [[place for entry, place in own if entry <= span.first] for own in story.log.places.values()]
+    start = min([places[-1] for places in before if places] or [0])
     lengths = [(entry, length) for entry, length in story.log.lengths if entry <= span.last]
     names: Dict[str, int] = {}
     indexes = [names.setdefault(story.called(logged.message.rel, logged.message.name), len(names))

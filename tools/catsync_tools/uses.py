@@ -58,6 +58,8 @@ class Uses:
                 found = pattern.match(answer.text)
                 if found:
                     numbers[place] = int(found.group(1))
+        self.columns = {(answer.backend, answer.command): answer.text.split(" ") for answer in output.answers
+                        if re.match("columns? ", answer.text)}
         self.last_command: Dict[int, int] = {}
         for answer in output.answers:
             self.last_command[answer.backend] = max(answer.command, self.last_command.get(answer.backend, 0))
@@ -94,6 +96,7 @@ class Uses:
             if place in self.opening and not own.is_over:
                 self.serve(model, own, last)
             self.serve_by_place(model, place, last)
+            self.serve_columns(model, place, last)
 
     def finish_all(self, model):
         """The history is over."""
@@ -109,6 +112,19 @@ class Uses:
             if kept and all(served.command != course.command for served in kept.serves):
                 kept.serves.append(Served(facts.entry.number, course.command))
                 facts.serves.append(kept)
+
+    def serve_columns(self, model, place, facts):
+        """An answer shows columns or a column, and the only list or entry that can have it is of an earlier command."""
+        words = self.columns.get(place)
+        if not words:
+            return
+        purpose, cache = "attlist" if words[0] == "columns" else "attname", model.caches.cache(place[0])
+        found = [scanned.kept for datum, scanned in cache.scans.items() if datum[0] == purpose and (
+            datum[1] not in cache.descriptors if purpose == "attlist"
+            else [(row.columns[1], row.columns[3]) for row in scanned.rows] == [tuple(words[1:])])]
+        if len(found) == 1 and found[0].command != place[1]:
+            found[0].serves.append(Served(facts.entry.number, place[1]))
+            facts.serves.append(found[0])
 
     def serve_by_place(self, model, place, facts):
         """A name is absent, or an oid has a name, as of a scan of an earlier command."""
