@@ -1,6 +1,6 @@
 """What a script expects of its answers."""
 import re
-from typing import List, NamedTuple, Tuple
+from typing import NamedTuple, Tuple
 
 from .faults import Fault
 
@@ -70,17 +70,16 @@ class Answers:
         an answer too."""
         return re.search(r"(?:^|[ ;])%s(?=[ ;]|$)" % re.escape(part.text), folded(self.text(part)) + ";") is not None
 
-    def have(self, parts):
+    def has_all(self, parts):
         """Whether they have all parts."""
         return all(self.has(part) for part in parts)
 
-    def difference(self, part: Part):
-        """What was expected, and what came: of an answer with fields the field that was expected."""
+    def line(self, sign, part: Part):
+        """What came where a part was expected: of an answer with fields the field that was expected."""
         fields = self.text(part).split("; ")
         same = [field for field in fields if field.split(" ")[0] == part.text.split(" ")[0]]
-        return ["- %d.%d %s" % part, "+ %d.%d %s" % (part.backend, part.command, "; ".join(same or fields))]
+        return "%s %d.%d %s" % (sign, part.backend, part.command, "; ".join(same or fields))
 
-
-def failed_parts(expectation, answers: Answers) -> List[str]:
-    """The differences of an expectation of the script's own schedule; none where it is met."""
-    return [line for part in expectation.parts if not answers.has(part) for line in answers.difference(part)]
+    def differences(self, parts):
+        """What was expected and didn't come, each with what came."""
+        return [line for part in parts if not self.has(part) for line in ("- %d.%d %s" % part, self.line("+", part))]
