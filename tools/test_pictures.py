@@ -400,8 +400,9 @@ class Sentences(unittest.TestCase):
         ("columns_protected", 49): "Backend 2 commits transaction 2: from here on all others see what it wrote at 48. Its 2 "
                                    "messages aren't sent yet, so nothing tells backend 1 that the descriptor of t, built at 16 "
                                    "to 26, is out of date.",
-        ("columns_protected", 54): "Backend 1 looks the name t up in pg_class: it is relation 16384. The descriptor of t, built "
-                                   "at 16 to 26, serves command 4 without a scan, out of date as it is since 49.",
+        ("columns_protected", 54): "Backend 1 looks the name t up in pg_class: it is relation 16384. It asks for no lock on "
+                                   "that, as it holds AccessShare since 13, clear. The descriptor of t, built at 16 to 26, "
+                                   "serves command 4 without a scan, out of date as it is since 49.",
         ("columns_protected", 56): "Backend 1 fetches the 2 messages of 50 and 51: the descriptor of t, built at 16 to 26, is "
                                    "stale.",
         ("columns_protected", 59): "Backend 1 scans pg_class for t, scan 1 of 6 for its descriptor: 1 row. The last one, built "

@@ -53,14 +53,13 @@ def kept_things(story: Story):
     """What is kept."""
     why = Why(story)
     for kept in story.kept:
-        built = why.kept(kept, "")[1:] if kept.built else ""
-        outdated = "%s, out of date since %s" % (built or why.named(kept, "")[1:] + ", in the midst of its build",
-                                                 at(kept.outdated or 0))
-        building = "%s, in the midst of its build since %s" % (why.named(kept, "")[1:], at(kept.first))
-        changes = [(kept.first, building if kept.first != kept.built else built), (kept.built, built), (kept.outdated, outdated)]
-        if kept.outdated and kept.built and kept.outdated < kept.built:
-            changes = [changes[0], changes[2]]
-        yield from phases(kept.backend, KEPT, kept.first, kept.last, changes)
+        building, built = why.kept(kept, kept.first, ""), why.kept(kept, None, "")
+        outdated = ", out of date since %s" % at(kept.outdated or 0)
+        changes = [(kept.first, building), (kept.built, built), (kept.outdated, built + outdated)]
+        if kept.outdated and (kept.built is None or kept.outdated < kept.built):
+            changes = [(kept.first, building), (kept.outdated, building + outdated), (kept.built, built + outdated)]
+        for thing in phases(kept.backend, KEPT, kept.first, kept.last, changes):
+            yield thing._replace(text=thing.text.strip())
 
 
 def unsent_things(story: Story):

@@ -58,6 +58,7 @@ class Facts:
         self.granted: List[Lock] = []
         self.released: List[Lock] = []
         self.others: List[Lock] = []                    # locks of other backends on a relation that it locks
+        self.own: List[Lock] = []                       # the backend's locks on a relation that it finds by its name
         self.refusal: Optional[Refusal] = None
         self.serves: List[Kept] = []                    # what serves its backend's command by what was had here
 
@@ -206,6 +207,7 @@ class Model:
         facts.rows = self.rows.answer(entry.backend, datum_of(entry.event))
         if parts["purpose"] == "relname":
             facts.unseen = self.rows.unseen(entry.backend, parts["name"])
+            facts.own = self.locks.of(entry.backend, self.rows.named(entry.backend, parts["name"]))
         name = self.names.name_of(parts["rel"]) if "rel" in parts else parts["name"]
         facts.kept = self.caches.scan(entry, facts.rows, name)
 
