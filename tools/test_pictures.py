@@ -430,14 +430,14 @@ class Sentences(unittest.TestCase):
         """Sentences of examples."""
         for (name, number), wanted in self.SAID.items():
             with self.subTest((name, number)):
-                self.assertEqual(plain(sentences_of(example(name))[number - 1]), wanted)
+                self.assertEqual(plain(sentences_of(example(name))[number]), wanted)
 
     def test_places(self):
         """Each entry has sentences; each number in braces is an entry of the history; a sentence has nothing unfinished."""
         for path in OUTPUTS:
             with self.subTest(path):
                 story = story_of(read_output(content_of(path)))
-                for facts, text in zip(story.facts, sentences_of(story)):
+                for facts, text in zip(story.facts, sentences_of(story).values()):
                     self.assertTrue(text.startswith("Backend %d " % facts.entry.backend) and text.endswith("."), text)
                     self.assertNotRegex(text, r"None|\bnothing to\b|  |\.\.|,\.")
                     for number in re.findall(r"\{([0-9]+)\}", text):

@@ -1,5 +1,5 @@
 """Draws a story as an SVG: bars, arrows, and a mark and a text for each entry."""
-from typing import List, NamedTuple
+from typing import Dict, NamedTuple
 from xml.sax.saxutils import escape
 
 from .arrows import message_arrow, refusal_arrow, waiting_number
@@ -44,7 +44,7 @@ class Drawing(NamedTuple):
     head: str
     rows: str
     top: float
-    sentences: List[str]
+    sentences: Dict[int, str]
 
 
 def arrows_in(span, story: Story):
@@ -103,7 +103,7 @@ def entry_text(layout: Layout, row, sentences):
     step = row.content
     lane, y = layout.lanes[step.main.backend], row.middle + 4
     numbers = str(step.first) if step.first == step.last else "%d\u2013%d" % (step.first, step.last)
-    titles = [plain(sentences[entry.number - 1]) for entry in step.entries] if sentences else []
+    titles = [plain(sentences[entry.number]) for entry in step.entries] if sentences else []
     titles += [step.text] if row.cut else []
     drawn = text_at(layout.numbers - 8, y, numbers, "number", text_anchor="end")
     drawn += element("use", href="#" + mark_of_step(step), x=lane.mark, y=row.middle)
@@ -197,13 +197,13 @@ def draw(story: Story, wanted: Wanted):
     plan = layout_of(story, wanted, 0, 0)
     drawn, right, top = legend(items_of(story, plan, messages, refusals), TITLE_HEIGHT, min(LEGEND_WIDTH, wanted.width))
     layout = layout_of(story, wanted, top + 6, right)
-    sentences, title = sentences_of(story), title_for(story, wanted.span)
+    sentences, title = sentences_of(story, *wanted.span), title_for(story, wanted.span)
     rows = [
         lanes_ground(layout), rows_drawn(layout, "entry", row_ground), bars_drawn(layout, story, refusals),
         arrows_drawn(layout, story, messages, refusals),
         rows_drawn(layout, "header", lambda layout, row: lane_names(layout, row.y, row.height)),
         rows_drawn(layout, "command", command_text), rows_drawn(layout, "answer", answer_text),
-        rows_drawn(layout, "entry", lambda layout, row: entry_text(layout, row, [] if wanted.in_page else sentences)),
+        rows_drawn(layout, "entry", lambda layout, row: entry_text(layout, row, {} if wanted.in_page else sentences)),
     ]
     return Drawing(title, layout, head_of(story, layout, title, (drawn, right, top)), "\n".join(rows), top + 6, sentences)
 

@@ -129,7 +129,7 @@ def is_plain_look(facts):
 def state_of(story: Story, wanted: Wanted, layout: Layout, sentences):
     """All that a page needs beside its picture."""
     span = wanted.span
-    entries = [[facts.entry.backend, facts.entry.line, sentences[facts.entry.number - 1], int(is_plain_look(facts))]
+    entries = [[facts.entry.backend, facts.entry.line, sentences[facts.entry.number], int(is_plain_look(facts))]
                for facts in story.facts[span.first - 1:span.last]]
     rows = [[row.content.first, row.content.last, round(row.y - layout.rows[0].y, 1), row.height]
             for row in layout.rows if row.kind == "entry"]

@@ -8,7 +8,7 @@ and without a write (`lock table`, or one that the history doesn't finish) isn't
 import re
 from typing import Dict, Optional
 
-from .caches import Served, served_by
+from .caches import Kept, Served, served_by
 
 SHOWN = re.compile(r"(?:table|index) ([0-9]+);")
 FIELDS = ("name", "columns", "defaults", "statistics", "fillfactor", "constraints", "referenced", "indexes", "triggers",
@@ -32,6 +32,12 @@ def changes_known(event):
     changes = event.parts["changes"]
     new = {change.columns[0] for change in changes if change.catalog == "class" and change.sign == "+"}
     return any(change.catalog not in ("class", "att", "ind") or change.columns[0] not in new for change in changes)
+
+
+def note(kept: Kept, facts, command):
+    """What is kept serves a command by what its backend had at an entry."""
+    kept.serves.append(Served(facts.entry.number, command))
+    facts.serves = [*facts.serves, kept]
 
 
 class Course:
@@ -110,8 +116,7 @@ class Uses:
         descriptor, name = served_by(model.caches.cache(facts.entry.backend), course.rel, course.command)
         for kept in (name if not course.by_scan else None, None if names else descriptor):
             if kept and all(served.command != course.command for served in kept.serves):
-                kept.serves.append(Served(facts.entry.number, course.command))
-                facts.serves.append(kept)
+                note(kept, facts, course.command)
 
     def serve_columns(self, model, place, facts):
         """An answer shows columns or a column, and the only list or entry that can have it is of an earlier command."""
@@ -123,13 +128,11 @@ class Uses:
             datum[1] not in cache.descriptors if purpose == "attlist"
             else [(row.columns[1], row.columns[3]) for row in scanned.rows] == [tuple(words[1:])])]
         if len(found) == 1 and found[0].command != place[1]:
-            found[0].serves.append(Served(facts.entry.number, place[1]))
-            facts.serves.append(found[0])
+            note(found[0], facts, place[1])
 
     def serve_by_place(self, model, place, facts):
         """A name is absent, or an oid has a name, as of a scan of an earlier command."""
         scanned = self.scanned.get(place)
         kept = next((kept for kept in model.caches.all if kept.first == scanned), None) if scanned else None
         if kept and kept.command != place[1]:
-            kept.serves.append(Served(facts.entry.number, place[1]))
-            facts.serves.append(kept)
+            note(kept, facts, place[1])

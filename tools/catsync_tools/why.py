@@ -49,7 +49,13 @@ class Why:
     def __init__(self, story: Story):
         self.story = story
         self.outdated: Dict[int, List[Kept]] = {}
+        self.latest: Dict[tuple, Kept] = {}
+        self.earlier: Dict[Kept, Kept] = {}
         for kept in story.kept:
+            place = (kept.backend, kept.rel, kept.datum)
+            if place in self.latest:
+                self.earlier[kept] = self.latest[place]
+            self.latest[place] = kept
             if kept.outdated is not None:
                 self.outdated.setdefault(kept.backend, []).append(kept)
 
@@ -228,11 +234,9 @@ class Why:
 
     def reason_to_build(self, kept: Kept):
         """Why a descriptor is built: there was none, or what became of the last one."""
-        earlier = [one for one in self.story.kept if one.is_descriptor and one.first < kept.first
-                   and (one.backend, one.rel) == (kept.backend, kept.rel)]
-        if not earlier:
+        last = self.earlier.get(kept)
+        if last is None:
             return ["it keeps none of this relation yet"]
-        last = earlier[-1]
         if not last.built:
             return ["the build that began at %s was given up at %s" % (at(last.first), at(last.last))]
         return ["the last one, built at %s to %s, is stale since %s" % (at(last.first), at(last.built), at(last.last))]
@@ -332,7 +336,7 @@ class Why:
                                       if facts.left else "")]
 
 
-def sentences_of(story: Story) -> List[str]:
-    """The sentences of all entries, each entry's as one text."""
+def sentences_of(story: Story, first=1, last=None) -> Dict[int, str]:
+    """The sentences of some entries, each entry's as one text."""
     why = Why(story)
-    return [why.of(facts) for facts in story.facts]
+    return {facts.entry.number: why.of(facts) for facts in story.facts[first - 1:last]}
