@@ -33,10 +33,10 @@ function make(name, className, ...content) {
   return made;
 }
 
-// A text with links in place of {numbers}.
+// A text with links in place of {numbers}, as far as these entries are in the page.
 function linked(text) {
   return text.split(/\{(\d+)\}/).map((part, at) => {
-    if (at % 2 === 0) return part;
+    if (at % 2 === 0 || part < data.first || part >= data.first + data.entries.length) return part;
     const link = make('a', '', part);
     link.href = '#' + part;
     return link;
