@@ -51,6 +51,10 @@ class Program:
 
     def __init__(self, path):
         self.path, self.runs = path, 0
+        self.renew()
+
+    def renew(self):
+        """Takes new files for input and standard error, as a process needs that was split off another."""
         self.input, self.said = tempfile.TemporaryFile(), tempfile.TemporaryFile()
 
     def run(self, script):

@@ -1,5 +1,5 @@
 """Scripts with other schedules than their own."""
-from typing import List, NamedTuple, Tuple
+from typing import Dict, List, NamedTuple, Tuple
 
 from .faults import Fault
 
@@ -17,6 +17,16 @@ class Script(NamedTuple):
     def with_steps(self, line):
         """The script with this line of steps."""
         return b"\n".join(self.lines + [line.encode("ascii"), b"end", b""])
+
+    def commands(self):
+        """The texts of its commands, by backend and number."""
+        found: Dict[Tuple[int, int], str] = {}
+        for line in self.lines:
+            backend, colon, text = line.decode("ascii", "replace").partition(":")
+            if colon and backend.strip().isdigit():
+                number = 1 + sum(other == int(backend) for other, _ in found)
+                found[int(backend), number] = text.strip()
+        return found
 
 
 def read_script(data):
