@@ -27,6 +27,8 @@ mod ends;
 #[cfg(test)]
 mod events;
 #[cfg(test)]
+mod faults;
+#[cfg(test)]
 mod locks;
 #[cfg(test)]
 mod messages;
