@@ -28,13 +28,6 @@ impl<S> KeptSource<S> {
             &[]
         }
     }
-
-    // Keeps a piece.
-    fn keep(&mut self, piece: &[u8]) {
-        if self.text.extend_from_slice(piece).is_err() {
-            self.is_whole = false;
-        }
-    }
 }
 
 impl<S: Source> Source for KeptSource<S> {
@@ -44,7 +37,9 @@ impl<S: Source> Source for KeptSource<S> {
 
     fn read(&mut self, into: &mut [u8]) -> Result<usize, Failed> {
         let count = self.source.read(into)?;
-        self.keep(&into[..count]);
+        if self.text.extend_from_slice(&into[..count]).is_err() {
+            self.is_whole = false;
+        }
         Ok(count)
     }
 }

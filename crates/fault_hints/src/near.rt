@@ -8,9 +8,9 @@ pub(crate) fn is_near(found: &[u8], word: &[u8]) -> bool {
 }
 
 fn is_one_slip(found: &[u8], word: &[u8]) -> bool {
-    let front = common(found.iter().zip(word));
+    let front = common_front(found, word);
     let (found, word) = (after(found, front), after(word, front));
-    let back = common(found.iter().rev().zip(word.iter().rev()));
+    let back = common_back(found, word);
     match (before(found, back), before(word, back)) {
         ([], [_]) | ([_], []) | ([_], [_]) => true,
         ([a, b], [c, d]) => a == d && b == c,
@@ -18,9 +18,28 @@ fn is_one_slip(found: &[u8], word: &[u8]) -> bool {
     }
 }
 
-// How many pairs are the same before the first that isn't.
-fn common<'a>(pairs: impl Iterator<Item = (&'a u8, &'a u8)>) -> usize {
-    pairs.take_while(|(a, b)| a == b).count()
+// How many bytes both begin with.
+fn common_front(a: &[u8], b: &[u8]) -> usize {
+    let mut count: usize = 0;
+    for (x, y) in a.iter().zip(b.iter()) {
+        if x != y {
+            return count;
+        }
+        count = count.saturating_add(1);
+    }
+    count
+}
+
+// How many bytes both end with.
+fn common_back(a: &[u8], b: &[u8]) -> usize {
+    let mut count: usize = 0;
+    for (x, y) in a.iter().rev().zip(b.iter().rev()) {
+        if x != y {
+            return count;
+        }
+        count = count.saturating_add(1);
+    }
+    count
 }
 
 fn after(text: &[u8], count: usize) -> &[u8] {
