@@ -1,7 +1,7 @@
 use crate::ends::{Calls, STEADY, source_of};
 use base_types::NoMemory;
 use edge_io::read_all;
-use fault_hints::{KeptSource, hint, unbuilt};
+use fault_hints::{KeptSource, hint, unbuilt_command};
 use script_text::ScriptCause;
 use std::alloc::Global;
 use std::test::Fail;
@@ -71,7 +71,7 @@ const UNBUILT: [(&[u8], &str); 3] = [
 ];
 
 fn is_unbuilt(alloc: Global, script: &[u8], text: &str) -> Result<bool, NoMemory> {
-    Ok(is_said(unbuilt(alloc, script)?, text))
+    Ok(is_said(unbuilt_command(alloc, script)?, text))
 }
 
 #[test]

@@ -29,4 +29,4 @@ mod unbuilt;
 
 pub use hints::hint;
 pub use kept::KeptSource;
-pub use unbuilt::unbuilt;
+pub use unbuilt::unbuilt_command;

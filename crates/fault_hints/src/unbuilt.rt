@@ -13,7 +13,7 @@ const MOST_BYTES: usize = 4_000_000_000;
 
 /// Which command of a script isn't built yet: its line's number, from 1, and its words. `None` where
 /// all are, or where the text is no script.
-pub fn unbuilt(alloc: Global, text: &[u8]) -> Result<Option<String>, NoMemory> {
+pub fn unbuilt_command(alloc: Global, text: &[u8]) -> Result<Option<String>, NoMemory> {
     if text.len() > MOST_BYTES {
         return Ok(None);
     }
