@@ -115,7 +115,7 @@ def explore(options, exploration):
 def extent_of(options, exploration):
     """What was run."""
     most = None if options.random else options.most or MOST_ORDERS
-    return Extent(exploration.schedules, exploration.is_random, options.seed, most, exploration.runs, exploration.is_over, "")
+    return Extent(exploration.schedules, exploration.is_random, options.seed, most, exploration.is_over, "")
 
 
 def part_found(options, exploration, data):
@@ -123,7 +123,7 @@ def part_found(options, exploration, data):
     sets = [(shown.answers, shown.found) for shown in shown_sets(exploration)]
     serial = {"\n".join(key): kind for key, kind in exploration.serial.items()} if options.part[0] == 1 else None
     return Part(data.decode("utf-8", "surrogateescape"), options.places, options.random, options.seed, options.part[0], options.part[1],
-                exploration.is_over, exploration.schedules, exploration.runs, serial, exploration.is_serial_over, sets)
+                exploration.is_over, exploration.schedules, serial, exploration.is_serial_over, sets)
 
 
 def tell_sets(options, exploration, status):
@@ -156,7 +156,7 @@ def draw(options, exploration, name, run):
         make_folder(options.picture)
         output = read_output(run.output)
         write_file(os.path.join(options.picture, name + (".html" if options.html else ".svg")),
-                   picture_of(output, options.html, span_of(len(output.entries))))
+                   picture_of(output, options.html, span_of(len(output.entries)), exploration.source.commands))
 
 
 def merge(options):
