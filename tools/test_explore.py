@@ -621,7 +621,7 @@ class Explorer(unittest.TestCase):
                  (["--picture", "/proc"], TWO_CREATORS, "/proc/set1.svg: writing failed: "),
                  (["--program", "/no/such/program"], TWO_CREATORS, "/no/such/program: "),
                  (["--program", "/bin/echo"], TWO_CREATORS, "/bin/echo: what it prints isn't an output of catsync"),
-                 ([], b"", "catsync: line 1: NoBackends: ")]
+                 ([], b"", "line 1: "), (["--merge"], TWO_CREATORS, "--merge needs FILEs; "), (["x"], b"", "FILEs are for --merge; ")]
         for name in ("bad_line", "not_built_yet"):
             error = os.path.join(examples, name + ".error")
             if os.path.exists(error):
