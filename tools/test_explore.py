@@ -1,0 +1,688 @@
+#!/usr/bin/env python3
+"""Tests of tools/explore: python3 tools/test_explore.py
+
+The searches are tested on made-up steps too, for which no program is needed (testing.py says which one is run).
+"""
+import functools
+import json
+import os
+import pty
+import random
+import re
+import signal
+import subprocess
+import sys
+import tempfile
+import time
+import unittest
+
+from testing import HAS_PROGRAM, NO_PROGRAM, PROGRAM, TOOLS, TOP, call, content_of
+
+from catsync_tools.access import Accesses
+from catsync_tools.chains import Chains
+from catsync_tools.findings import Found, without_places
+from catsync_tools.orders import History, Search
+from catsync_tools.program import Program, Run
+from catsync_tools.progress import Progress
+from catsync_tools.report import led_to
+from catsync_tools.scripts import read_script, steps_line, turns_of
+from catsync_tools.search import Exploration, Settings, wanted_of
+from catsync_tools.serial import SerialRuns, WholeAccesses, commands_of, transactions_of
+from catsync_tools.shares import shares
+from catsync_tools.sources import read_source
+from catsync_tools.turns import Tried, fewest_turns
+
+
+# The search for orders, without the program.
+
+def interleavings(counts):
+    """All orders in which backends can make so many steps each."""
+    if not any(counts.values()):
+        yield []
+    for backend in counts:
+        if counts[backend]:
+            for rest in interleavings({other: count - (other == backend) for other, count in counts.items()}):
+                yield [backend] + rest
+
+
+def order_of(history):
+    """What comes before what in a history."""
+    return tuple(sorted((step.backend, step.turn, tuple(sorted(step.before.items()))) for step in history.steps))
+
+
+class Orders(unittest.TestCase):
+    """The search finds each order once, whatever the steps are."""
+
+    STEPS = ("look no", "publish 2", "fetch 1", "lock 7 as ok", "lock 8 ax ok", "release 1", "scan relname t rows 0",
+             "scan class 7 rows 1", "write 1 +class(7,t,r,-)", "write 1 +att(8,1,a,int4,-1,l)", "visible 1", "gone 1",
+             "clash t row 7")
+
+    def program(self, steps):
+        """A program in which each backend makes its steps, whatever the others do."""
+        def run(first, rest):
+            """Steps in this order."""
+            order = list(first)
+            for backend in rest:
+                order += [backend] * len(steps[backend])
+            left, made = {backend: list(own) for backend, own in steps.items()}, []
+            for backend in order:
+                if left[backend]:
+                    made.append((backend, 1, left[backend].pop(0)))
+            return Run(b"", made, ())
+        return run
+
+    def all_orders(self, steps):
+        """The orders of all interleavings."""
+        orders = set()
+        for order in interleavings({backend: len(own) for backend, own in steps.items()}):
+            history = History(Accesses())
+            for step in self.program(steps)(order, []).steps:
+                history.add(step)
+            orders.add(order_of(history))
+        return orders
+
+    def test_each_order_once(self):
+        """Against all interleavings, for random steps of two and of three backends."""
+        draw = random.Random(12)
+        for _ in range(40):
+            lengths = draw.choice(((3, 3, 2), (2, 2, 2), (5, 5), (6, 3)))
+            steps = {backend: [draw.choice(self.STEPS) for _ in range(length - 1)] + ["stop"]
+                     for backend, length in enumerate(lengths, 1)}
+            with self.subTest(steps):
+                search = Search(self.program(steps), sorted(steps), Accesses())
+                found = [order_of(history) for run, history in search.orders() if run]
+                self.assertEqual(len(found), len(set(found)))
+                self.assertEqual(set(found), self.all_orders(steps))
+
+
+    def test_shares(self):
+        """Shares have each order between them, and none twice."""
+        draw = random.Random(4)
+        for count in (1, 2, 7, 30, 500):
+            for _ in range(8):
+                steps = {backend: [draw.choice(self.STEPS) for _ in range(length - 1)] + ["stop"]
+                         for backend, length in enumerate(draw.choice(((3, 3, 2), (5, 4))), 1)}
+                with self.subTest((count, steps)):
+                    run, backends = self.program(steps), sorted(steps)
+                    found = [order_of(history) for share in shares(run, backends, Accesses(), count)
+                             for made, history in Search(run, backends, Accesses(), share).orders() if made]
+                    self.assertEqual(len(found), len(set(found)))
+                    self.assertEqual(set(found), self.all_orders(steps))
+
+    def test_serial_orders(self):
+        """Each order of whole commands is found once, against all ways to put them one after the other."""
+        draw = random.Random(6)
+        for _ in range(30):
+            commands = {backend: [[draw.choice(self.STEPS) for _ in range(draw.randint(1, 3))] for _ in range(draw.randint(1, 3))]
+                        for backend in (1, 2, 3)}
+            with self.subTest(commands):
+                runner = Made(commands)
+                runs = SerialRuns(runner, {backend: list(range(1, len(own) + 1)) for backend, own in commands.items()})
+                found = []
+                for run, history in Search(runs.run, runner.backends, WholeAccesses(())).orders():
+                    if run is not None:
+                        self.assertEqual(runs.last.steps, runner.whole([step.backend for step in history.steps]).steps)
+                        found.append(order_of(history))
+                self.assertEqual(len(found), len(set(found)))
+                self.assertEqual(set(found), {order_of(self.whole_history(runner.whole(order))) for order in interleavings(
+                    {backend: len(own) for backend, own in commands.items()})})
+
+    def whole_history(self, run):
+        """The history of whole commands of a run in which they are made one after the other."""
+        history, wholes = History(WholeAccesses(())), []
+        for backend, command, text in run.steps:
+            if text != "stop" and (not wholes or wholes[-1][:2] != (backend, command)):
+                wholes.append((backend, command, []))
+            wholes[-1][2].append(text)
+        for backend, command, texts in wholes:
+            history.add((backend, [command] * len(texts), "\n".join(texts)))
+        return history
+
+
+class Made:
+    """Backends with made-up commands, of so many steps whatever the others do; each ends with a stop."""
+
+    def __init__(self, commands):
+        self.backends = sorted(commands)
+        self.commands = commands
+        self.steps = {backend: [(backend, number, text) for number, texts in enumerate(own, 1) for text in texts]
+                      + [(backend, len(own) + 1, "stop")] for backend, own in commands.items()}
+
+    def run(self, first, rest):
+        """Steps in this order."""
+        left, made = {backend: list(own) for backend, own in self.steps.items()}, []
+        for backend in list(first) + [backend for backend in rest for _ in self.steps[backend]]:
+            if left[backend]:
+                made.append(left[backend].pop(0))
+        return Run(b"", made, ())
+
+    def whole(self, order):
+        """Whole commands in this order; the stop belongs to the last of each backend."""
+        left = {backend: [[(backend, number, text) for text in texts] for number, texts in enumerate(own, 1)]
+                for backend, own in self.commands.items()}
+        for backend, own in left.items():
+            own[-1].append((backend, len(own), "stop"))
+        made = [step for backend in order for step in left[backend].pop(0)]
+        return Run(b"", [(backend, command + (text == "stop"), text) for backend, command, text in made], ())
+
+
+def history_of(steps, backends):
+    """The history of backends with these steps, in this order of turns."""
+    left = {backend: list(own) for backend, own in steps.items()}
+    history = History(Accesses())
+    for backend in backends:
+        history.add((backend, 1, left[backend].pop(0)))
+    return history
+
+
+def backends_of(turns):
+    """Whose step is next in turns, one by one."""
+    return [backend for backend, count in turns for _ in range(count)]
+
+
+def least_turns(history):
+    """The fewest turns that keep a history's order, with each step that can come next tried at each place."""
+    befores = {}
+    for step in history.steps:
+        befores.setdefault(step.backend, []).append(step.before)
+
+    @functools.lru_cache(maxsize=None)
+    def after(place, latest):
+        """The fewest turns from a place on, the one that is going on not counted."""
+        made = dict(place)
+        found = []
+        for backend, own in befores.items():
+            if made[backend] < len(own) and all(count <= made[other] for other, count in own[made[backend]].items()
+                                                if other != backend):
+                following = tuple(sorted({**made, backend: made[backend] + 1}.items()))
+                found.append((backend != latest) + after(following, backend))
+        return min(found, default=0)
+    return after(tuple((backend, 0) for backend in sorted(befores)), None)
+
+
+class FewestTurns(unittest.TestCase):
+    """The search for the fewest turns, whatever the steps are."""
+
+    STEPS = Orders.STEPS + tuple("lock %d as ok" % rel for rel in range(20, 26))
+
+    def drawn(self, draw, lengths):
+        """Random steps of backends, so many of each, and their history in a random order."""
+        steps = {backend: [draw.choice(self.STEPS) for _ in range(length)] for backend, length in enumerate(lengths, 1)}
+        order = [backend for backend, own in steps.items() for _ in own]
+        draw.shuffle(order)
+        return steps, history_of(steps, order)
+
+    def check(self, steps, history, least):
+        """The search finds the fewest turns, they keep the order, and it finds none where fewer are wanted."""
+        turns = fewest_turns(history.steps).turns
+        self.assertEqual(len(turns), least)
+        self.assertEqual(order_of(history_of(steps, backends_of(turns))), order_of(history))
+        self.assertEqual(fewest_turns(history.steps, least).turns, turns)
+        self.assertIsNone(fewest_turns(history.steps, least - 1).turns)
+
+    def test_against_all_interleavings(self):
+        """For each order of some steps, against all interleavings that are of this order."""
+        draw = random.Random(5)
+        for lengths in ((4, 4), (5, 3), (3, 3, 2), (2, 3, 3), (3, 3, 3), (2, 2, 2, 1), (2, 2, 2, 2)):
+            steps, _ = self.drawn(draw, lengths)
+            least, histories = {}, {}
+            for order in interleavings({backend: len(own) for backend, own in steps.items()}):
+                history = history_of(steps, order)
+                key = order_of(history)
+                histories[key] = history
+                least[key] = min(least.get(key, len(order)), len(turns_of(order)))
+            for key, history in histories.items():
+                with self.subTest(steps):
+                    self.check(steps, history, least[key])
+
+    def test_against_all_places(self):
+        """For longer histories, against all ways to go on at each place."""
+        draw = random.Random(8)
+        for _ in range(60):
+            steps, history = self.drawn(draw, draw.choice(((12, 12), (8, 8, 8), (10, 9, 8), (5, 5, 5, 5), (6, 6, 5, 4))))
+            with self.subTest(steps):
+                self.check(steps, history, least_turns(history))
+
+    def test_places_that_are_passed_over(self):
+        """A place is passed over for one that has all its steps and no more turns, and for no other."""
+        _, history = self.drawn(random.Random(1), (5, 5))
+        tried = Tried(Chains(history.steps))
+        tried.add((2, 3), 4)
+        tried.add((4, 1), 2)
+        for place, turns, is_passed_over in (((2, 3), 4, True), ((1, 3), 5, True), ((4, 0), 2, True), ((2, 3), 3, False),
+                                             ((3, 2), 9, False), ((4, 1), 1, False), ((2, 4), 9, False)):
+            self.assertEqual(tried.has_better(place, turns), is_passed_over)
+
+    def test_eight_backends(self):
+        """Eight backends with a hundred steps each are no trouble."""
+        draw = random.Random(3)
+        steps, history = self.drawn(draw, [100] * 8)
+        shortest = fewest_turns(history.steps)
+        self.assertEqual(len(shortest.turns), shortest.least)
+        self.assertEqual(order_of(history_of(steps, backends_of(shortest.turns))), order_of(history))
+
+    def test_search_that_is_given_up(self):
+        """It has turns that keep the order, knows how many there are at least, and says that fewer may do."""
+        draw, unsure = random.Random(2), 0
+        for _ in range(40):
+            steps, history = self.drawn(draw, (8, 8, 8))
+            least, given_up, found = least_turns(history), fewest_turns(history.steps, most_tried=0), Found()
+            self.assertEqual(order_of(history_of(steps, backends_of(given_up.turns))), order_of(history))
+            self.assertLessEqual(given_up.least, least)
+            self.assertGreaterEqual(len(given_up.turns), least)
+            found.add(history.steps, 0)
+            self.assertEqual(found.is_shortest, len(given_up.turns) == given_up.least)
+            if not found.is_shortest:
+                unsure += 1
+                self.assertEqual(led_to(found, "9 orders"), "1 of 9 orders (%d turns; the fewest are %d or more)" % (
+                    len(given_up.turns), given_up.least))
+            found.add(history.steps, 10000)
+            self.assertEqual(found.size, (least, len(history.steps)))
+        self.assertGreater(unsure, 0)
+
+
+# The explorer, with the program.
+
+# Two backends create one name. Who writes first is transaction 1 and gets the name. The other is refused: with 55P03 while
+# that transaction runs, with 42P07 once it is visible. Two times two.
+TWO_CREATORS = b"""backends 2
+1: create table t (a int4)
+2: create table t (b text)
+end
+"""
+TWO_CREATORS_ANSWERS = {
+    ("l 1 1 ok", "l 2 1 error 55P03 name t is in use by transaction 1"),
+    ("l 1 1 ok", "l 2 1 error 42P07 relation t already exists"),
+    ("l 1 1 error 55P03 name t is in use by transaction 1", "l 2 1 ok"),
+    ("l 1 1 error 42P07 relation t already exists", "l 2 1 ok"),
+}
+
+# A show beside the create of its table. What counts is where its scan for the name is, before or after `visible`, and
+# where its lock is, before or after the `release`: no relation, refused, or shown. Under AccessShare a name needs no place.
+CREATE_AND_SHOW = b"""backends 2
+1: create table t (a int4)
+2: show t name
+end
+"""
+CREATE_AND_SHOW_ANSWERS = {
+    ("l 1 1 ok", "l 2 1 error 42P01 relation t does not exist as of _"),
+    ("l 1 1 ok", "l 2 1 error 55P03 relation 16384 is locked by backend 1 in ax"),
+    ("l 1 1 ok", "l 2 1 name t"),
+}
+
+# A block that is rolled back, and another backend's create of the same name.
+# - The block writes first. The other create is refused while the write is there, and then its show finds nothing, since the
+#   block's table is never visible; after `gone` it has the name.
+# - The other create writes first. The block is refused, and fails: with 55P03 while that transaction runs, with 42P07 once
+#   it is visible. `rollback` answers ok either way, and the show finds the other's table.
+ROLLED_BACK = b"""backends 2
+1: begin
+1: create table t (a int4)
+1: rollback
+2: create table t (b text)
+2: show t columns
+end
+"""
+ROLLED_BACK_ANSWERS = {
+    ("l 1 1 ok", "l 1 2 ok", "l 1 3 ok", "l 2 1 error 55P03 name t is in use by transaction 1",
+     "l 2 2 error 42P01 relation t does not exist as of _"),
+    ("l 1 1 ok", "l 1 2 ok", "l 1 3 ok", "l 2 1 ok", "l 2 2 columns b:text"),
+    ("l 1 1 ok", "l 1 2 error 55P03 name t is in use by transaction 1", "l 1 3 ok", "l 2 1 ok", "l 2 2 columns b:text"),
+    ("l 1 1 ok", "l 1 2 error 42P07 relation t already exists", "l 1 3 ok", "l 2 1 ok", "l 2 2 columns b:text"),
+}
+
+# Which of these a serial order of transactions has, and which one of commands alone: a create that is refused while another
+# backend's block goes on. All others come only when commands are interleaved.
+SERIAL = {answers for answers in TWO_CREATORS_ANSWERS | CREATE_AND_SHOW_ANSWERS if not any("55P03" in text for text in answers)}
+SERIAL |= {answers for answers in ROLLED_BACK_ANSWERS if answers[3].endswith("l 2 1 ok") and "55P03" not in answers[1]}
+SERIAL_COMMANDS = {answers for answers in ROLLED_BACK_ANSWERS if "55P03" in answers[3]}
+
+# Two backends look twice for a table that a third one makes. Here the turns that each go on longest aren't the fewest.
+TWO_LOOK = b"""backends 3
+1: create table t (a int4)
+2: show t name
+2: show t name
+3: show t name
+3: show t name
+end
+"""
+
+BY_HAND = ((TWO_CREATORS, TWO_CREATORS_ANSWERS), (CREATE_AND_SHOW, CREATE_AND_SHOW_ANSWERS),
+           (ROLLED_BACK, ROLLED_BACK_ANSWERS))
+
+
+class Report:
+    """What the explorer printed."""
+
+    def __init__(self, text):
+        self.head, *sets = text.split("\n\n")
+        self.counts, self.steps, self.answers = [], [], []
+        for lines in (one.strip("\n").split("\n") for one in sets):
+            self.counts.append(lines[0])
+            self.steps.append(lines[1])
+            self.answers.append(tuple(lines[2:]))
+
+
+class Counting(Exploration):
+    """An exploration that finds the fewest turns by trying all."""
+
+    def __init__(self, *words):
+        super().__init__(*words)
+        self.least = {}
+
+    def add(self, piece, run, steps):
+        """One more schedule."""
+        key = without_places(run.answers)
+        history = self.history(run)
+        self.least[key] = min(self.least.get(key, (99, 99)), (least_turns(history), len(steps)))
+        return super().add(piece, run, steps)
+
+
+@unittest.skipUnless(HAS_PROGRAM, NO_PROGRAM)
+class Explorer(unittest.TestCase):
+    """tools/explore on the program."""
+
+    @classmethod
+    def setUpClass(cls):
+        cls.program = Program(PROGRAM)
+
+    @classmethod
+    def tearDownClass(cls):
+        cls.program.close()
+
+    def explore(self, script, *words):
+        """Exit status, standard output and standard error of the explorer."""
+        status, text, said = call("explore", "--program", PROGRAM, *words, given=script)
+        return status, text.decode(), said
+
+    def report(self, script, *words):
+        """What the explorer prints for a script that is explored to the end."""
+        status, text, said = self.explore(script, *words)
+        self.assertEqual((status, said), (0, ""))
+        return Report(text)
+
+    def run_with(self, script, line):
+        """The run of a script with this line of steps."""
+        return self.program.run(read_script(script).with_steps(line))
+
+    def test_answers_by_hand(self):
+        """Each set of answers that was worked out by hand is found, and no other."""
+        for script, answers in BY_HAND:
+            with self.subTest(script):
+                report = self.report(script)
+                self.assertRegex(report.head, "^all [0-9]+ orders: %d sets of answers" % len(answers))
+                self.assertEqual({without_places(found) for found in report.answers}, answers)
+                self.assertEqual(len(report.answers), len(answers))
+                counts = [int(number) for count in report.counts for number in re.findall(": ([0-9]+) of", count)]
+                self.assertIn("all %d orders" % sum(counts), report.head)
+
+    def test_steps_can_be_pasted_back(self):
+        """The line of steps leads to just the answers that are printed with it."""
+        for script, _ in BY_HAND:
+            for words in ((), ("--most", "3"), ("--places", "--most", "20")):
+                with self.subTest((script, words)):
+                    report = self.report(script, *words)
+                    for line, answers in zip(report.steps, report.answers):
+                        self.assertEqual(self.run_with(script, line).answers, answers)
+
+    def test_marks(self):
+        """Each set that no serial order has is marked as such."""
+        for script, answers in BY_HAND:
+            report = self.report(script)
+            for count, found in zip(report.counts, report.answers):
+                with self.subTest(found):
+                    key = without_places(found)
+                    mark = ("" if key in SERIAL else ", only when transactions are interleaved" if key in SERIAL_COMMANDS
+                            else ", only when interleaved")
+                    self.assertTrue(count.endswith("orders" + mark), count)
+            self.assertIn(", %s only when interleaved" % (len(answers - SERIAL - SERIAL_COMMANDS) or "none"), report.head)
+            interleaved = self.report(script, "--interleaved")
+            self.assertEqual({without_places(found) for found in interleaved.answers}, answers - SERIAL - SERIAL_COMMANDS)
+
+    def test_line_of_steps_is_the_shortest(self):
+        """Of all orders that were run with these answers it has the fewest turns, and of those the fewest steps."""
+        for script, most in [(script, 5000) for script, _ in BY_HAND] + [(TWO_LOOK, 40)]:
+            exploration = Counting(Settings(seed="2"), read_source(script), PROGRAM, Progress())
+            exploration.run_serial()
+            if not exploration.run_orders(most):
+                exploration.run_random(most)
+            printed = Report(self.explore(script, "--most", str(most), "--seed", "2", "--jobs", "1")[1])
+            for line, answers in zip(printed.steps, printed.answers):
+                with self.subTest(line):
+                    again = self.run_with(script, line)
+                    self.assertEqual(again.answers, answers)
+                    self.assertEqual((len(line.split()) - 1, len(again.steps)),
+                                     exploration.least.pop(without_places(answers)))
+            self.assertEqual(exploration.least, {})
+            exploration.program.close()
+
+    def test_jobs(self):
+        """However many processors are used, the same is printed."""
+        for words in ((), ("--random", "150"), ("--places", "--most", "300"), ("--find", "55P03", "--find", "l 2 2 *b:text")):
+            with self.subTest(words):
+                shown = [self.explore(ROLLED_BACK, *words, "--jobs", jobs) for jobs in ("1", "2", "5")]
+                self.assertEqual(shown[0], shown[1])
+                self.assertEqual(shown[0], shown[2])
+
+    def test_jobs_of_a_search_that_is_split(self):
+        """The same where there are so many orders that the search is split; and parts of it merged."""
+        with open(os.path.join(TOP, "examples", "second_show.script"), "rb") as file:
+            script = file.read()
+        one, other = (self.explore(script, "--jobs", jobs) for jobs in ("1", "3"))
+        self.assertEqual(one, other)
+        self.assertRegex(one[1], "^all 287 orders: ")
+        self.assertEqual(self.merged(script, 3), one[1])
+
+    def merged(self, script, count, *words):
+        """What the parts of a search are merged to."""
+        with tempfile.TemporaryDirectory() as folder:
+            paths = [os.path.join(folder, "part%d" % part) for part in range(1, count + 1)]
+            for part, path in enumerate(paths, 1):
+                status, text, said = self.explore(script, *words, "--part", "%d/%d" % (part, count))
+                self.assertEqual((status, said), (0, ""))
+                with open(path, "w", encoding="utf-8") as file:
+                    file.write(text)
+            status, text, said = call("explore", "--merge", *paths)
+            self.assertEqual((status, said), (0, ""))
+            some = call("explore", "--merge", *paths[:-1])[1].decode() if count > 1 else ""
+            self.assertEqual(some.split(" ", 1)[0], "stopped" if count > 1 else "")
+        return text.decode()
+
+    def test_parts(self):
+        """Parts are merged to what one search prints."""
+        for script, _ in BY_HAND:
+            for words in ((), ("--random", "90")):
+                with self.subTest((script, words)):
+                    self.assertEqual(self.merged(script, 4, *words), self.explore(script, *words)[1])
+
+    def test_faulty_parts(self):
+        """Files that aren't different parts of one search are refused."""
+        with tempfile.TemporaryDirectory() as folder:
+            paths = {name: os.path.join(folder, name) for name in ("one", "two", "other", "cut", "form")}
+            for name, script, part in (("one", TWO_CREATORS, "1/2"), ("two", TWO_CREATORS, "2/2"),
+                                       ("other", CREATE_AND_SHOW, "2/2")):
+                with open(paths[name], "w", encoding="utf-8") as file:
+                    file.write(self.explore(script, "--part", part)[1])
+            text = content_of(paths["one"]).decode()
+            for name, changed in (("cut", text[:-9]), ("form", text.replace("form 1", "form 9"))):
+                with open(paths[name], "w", encoding="utf-8") as file:
+                    file.write(changed)
+            for names, said in ((["one", "one"], "one: part 1 of 2, as is "), (["one", "other"], "other: of another search than "),
+                                (["cut"], "cut: not what 'explore --part' prints"), (["one", "form"], "form: not what "),
+                                (["no"], "no: reading failed: ")):
+                with self.subTest(names):
+                    status, shown, error = call("explore", "--merge", *[os.path.join(folder, name) for name in names])
+                    self.assertEqual((status, shown, error.count("\n")), (2, b"", 1))
+                    self.assertIn(said, error)
+
+    def test_no_schedule_has_other_answers(self):
+        """Schedules that are drawn at random lead to no other answers than those worked out by hand."""
+        draw = random.Random(3)
+        for script, answers in BY_HAND:
+            for _ in range(25):
+                steps = [draw.randint(1, 2) for _ in range(40)]
+                line = steps_line(turns_of(steps) + [(1, 100), (2, 100)])
+                self.assertIn(without_places(self.run_with(script, line).answers), answers)
+
+    def test_own_steps_are_passed_over(self):
+        """A schedule in the script changes nothing."""
+        script = content_of(os.path.join(TOP, "examples", "two_creators.script"))
+        without = b"\n".join(line for line in script.split(b"\n") if not line.startswith(b"steps"))
+        self.assertNotEqual(script, without)
+        self.assertEqual(self.explore(script), self.explore(without))
+
+    def test_random_schedules(self):
+        """Where there are more orders than are wanted, schedules are drawn, the same ones for the same seed."""
+        report = self.report(TWO_CREATORS, "--most", "3", "--seed", "7")
+        self.assertRegex(report.head, "^3 random schedules from seed 7, as there are more than 3 orders: ")
+        self.assertLessEqual({without_places(found) for found in report.answers}, TWO_CREATORS_ANSWERS)
+        self.assertEqual(self.explore(TWO_CREATORS, "--most", "3"), self.explore(TWO_CREATORS, "--most", "3", "--seed", "1"))
+
+    def test_places(self):
+        """With places, answers that name other entries are other answers."""
+        report = self.report(CREATE_AND_SHOW, "--places", "--most", "30")
+        self.assertEqual(len(set(report.answers)), len(report.answers))
+        self.assertGreater(len(report.answers), len(CREATE_AND_SHOW_ANSWERS))
+
+    def test_find(self):
+        """A text is found in an answer or an entry, with a schedule that leads to it."""
+        for text in ("error 55P03", "lock 16384 as held 1 ax", "l 2 1 *55P03"):
+            status, found, said = self.explore(CREATE_AND_SHOW, "--find", text)
+            self.assertEqual((status, said), (0, ""))
+            _, line, *lines = found.splitlines()
+            output = self.run_with(CREATE_AND_SHOW, line).output.decode()
+            self.assertEqual([shown for shown in output.splitlines() if wanted_of(text).search(shown)], lines)
+            self.assertTrue(lines)
+
+    def test_texts(self):
+        """A star stands for any text, other signs for themselves, and places don't count."""
+        for text, line, is_there in (
+                ("a*c", "xabbcx", True), ("a*c", "xacx", True), ("a*c", "xab", False), ("a.c", "abc", False),
+                ("+class(16384", "write 1 +class(16384,t,r,-)", True), ("x as of 7; y", "x; y", True), ("x; y", "x; y", True)):
+            self.assertEqual(wanted_of(text).search(line) is not None, is_there)
+
+    def test_find_several(self):
+        """Several texts are found in one schedule, and places don't count."""
+        both = ("--find", "l 1 2 *55P03", "--find", "columns b:text")
+        status, found, _ = self.explore(ROLLED_BACK, *both)
+        self.assertEqual(status, 0)
+        self.assertIn("l 1 2 error 55P03 name t is in use by transaction 1\n", found)
+        self.assertIn("l 2 2 columns b:text\n", found)
+        status, found, _ = self.explore(ROLLED_BACK, "--find", "l 1 2 *55P03", "--find", "42P01")
+        self.assertEqual(status, 1)
+        self.assertRegex(found, "^all [0-9]+ orders: none has all of these texts: ")
+
+    def test_find_interleaved(self):
+        """What a serial order leads to is passed over."""
+        self.assertEqual(self.explore(CREATE_AND_SHOW, "--find", "l 2 1 name t")[0], 0)
+        self.assertEqual(self.explore(CREATE_AND_SHOW, "--find", "l 2 1 name t", "--interleaved")[0], 1)
+        self.assertEqual(self.explore(CREATE_AND_SHOW, "--find", "55P03", "--interleaved")[0], 0)
+
+    def test_setup(self):
+        """A set-up is made first, and its steps aren't printed."""
+        script = b"backends 2\nsetup 1: create table t (a int4)\n1: alter table t add b text\n2: show t columns\nend\n"
+        report = self.report(script)
+        self.assertEqual({found[2] for found in report.answers}, {
+            "l 2 1 columns a:int4", "l 2 1 columns a:int4 b:text",
+            "l 2 1 error 55P03 relation 16384 is locked by backend 1 in ax"})
+        for line, answers in zip(report.steps, report.answers):
+            pasted = script.replace(b"end\n", line.encode() + b"\nend\n")
+            counted = call("schedule", "--program", PROGRAM, given=pasted)[1]
+            self.assertEqual(self.program.run(counted).answers, answers)
+
+    def test_find_nothing(self):
+        """Where no schedule has the text the exit status is 1."""
+        status, said, _ = self.explore(TWO_CREATORS, "--find", "42P01")
+        self.assertEqual(status, 1)
+        self.assertRegex(said, "^all [0-9]+ orders: no answer and no entry has the text 42P01\n$")
+
+    def test_pictures(self):
+        """There is a picture of each set's schedule, or of the one that is found, as an SVG or a page."""
+        for words, names in ((["--find", "55P03"], ["found"]), ([], ["set1", "set2", "set3"])):
+            for kind, more in (("svg", []), ("html", ["--html"])):
+                with tempfile.TemporaryDirectory() as folder, self.subTest((words, kind)):
+                    inner = os.path.join(folder, "a", "b")
+                    status, found, _ = self.explore(CREATE_AND_SHOW, "--picture", inner, *words, *more)
+                    self.assertEqual(status, 0)
+                    self.assertEqual(sorted(os.listdir(inner)), ["%s.%s" % (name, kind) for name in names])
+                    lines = [line for line in found.splitlines() if line.startswith("steps ")]
+                    for name, line in zip(names, lines):
+                        drawn = content_of(os.path.join(inner, "%s.%s" % (name, kind))).decode()
+                        for entry in self.run_with(CREATE_AND_SHOW, line).steps:
+                            self.assertIn("h %d %d %s" % entry, drawn)
+
+    def test_faults(self):
+        """A fault is one line on standard error, exit status 2, and nothing is printed or written."""
+        examples = os.path.join(TOP, "examples")
+        cases = [(["--most", "0"], TWO_CREATORS, "not a count: 0"), (["--part", "3/2"], TWO_CREATORS, "not a part, as 3/64: 3/2"),
+                 (["--part", "1/2", "--find", "x"], TWO_CREATORS, "--find doesn't go with --part; explore --help says more"),
+                 (["--find", ""], TWO_CREATORS, "--find needs a text; "), (["--html"], TWO_CREATORS, "--html is for --picture; "),
+                 (["--picture", "/dev/null/a"], TWO_CREATORS, "/dev/null/a: the folder can't be made: "),
+                 (["--picture", "/proc"], TWO_CREATORS, "/proc/set1.svg: writing failed: "),
+                 (["--program", "/no/such/program"], TWO_CREATORS, "/no/such/program: "),
+                 (["--program", "/bin/echo"], TWO_CREATORS, "/bin/echo: what it prints isn't an output of catsync"),
+                 ([], b"", "line 1: "), (["--merge"], TWO_CREATORS, "--merge needs FILEs; "), (["x"], b"", "FILEs are for --merge; ")]
+        for name in ("bad_line", "not_built_yet"):
+            error = os.path.join(examples, name + ".error")
+            if os.path.exists(error):
+                cases.append(([], content_of(os.path.join(examples, name + ".script")), content_of(error).decode()))
+        for words, script, expected in cases:
+            with self.subTest(expected):
+                status, text, said = self.explore(script, *words)
+                self.assertEqual((status, text), (2, ""))
+                self.assertTrue(said.startswith("explore: " + expected), said)
+                self.assertEqual(said.count("\n"), 1)
+
+    def test_closed_streams(self):
+        """Closed standard streams are faults, or don't matter."""
+        command = "exec %s %s --program %s" % (sys.executable, os.path.join(TOOLS, "explore"), PROGRAM)
+        for redirection, expected in (("<&-", "explore: reading failed: standard input is closed\n"),
+                                      (">&-", "explore: writing failed: standard output is closed\n"),
+                                      (">/dev/full", "explore: writing failed: No space left on device\n")):
+            done = subprocess.run(["sh", "-c", command + " " + redirection], input=TWO_CREATORS, stdout=subprocess.PIPE,
+                                  stderr=subprocess.PIPE)
+            self.assertEqual((done.returncode, done.stdout, done.stderr.decode()), (2, b"", expected))
+        done = subprocess.run(["sh", "-c", command + " 2>&-"], input=TWO_CREATORS, stdout=subprocess.PIPE)
+        self.assertEqual(done.returncode, 0)
+
+    def start(self, *words, stderr=subprocess.PIPE):
+        """Starts the explorer on an example with many orders."""
+        with open(os.path.join(TOP, "examples", "three_at_once.script"), "rb") as script:
+            # what runs in a shell's background has Ctrl-C ignored, and so would the explorer
+            return subprocess.Popen([sys.executable, os.path.join(TOOLS, "explore"), "--program", PROGRAM] + list(words),
+                                    stdin=script, stdout=subprocess.PIPE, stderr=stderr,
+                                    preexec_fn=lambda: signal.signal(signal.SIGINT, signal.SIG_DFL))
+
+    def test_interrupt(self):
+        """On Ctrl-C there are the results so far, on a terminal there was a bar, and the exit status is 130."""
+        terminal, other_end = pty.openpty()
+        with self.start("--most", "1000000", "--jobs", "2", stderr=other_end) as explorer:
+            os.close(other_end)
+            shown = b""
+            while not re.search(rb"[1-9][0-9]{2} of at most 1000000 orders", shown):
+                shown += os.read(terminal, 4096)
+            explorer.send_signal(signal.SIGINT)
+            text = explorer.stdout.read().decode()
+        os.close(terminal)
+        self.assertEqual(explorer.returncode, 130)
+        self.assertRegex(shown.decode(), r"\[#*\.*\] [0-9]+ of at most 1000000 orders, [0-9]+ sets? of answers")
+        report = Report(text)
+        self.assertRegex(report.head, "^stopped after [0-9]+ orders?: ")
+        self.assertTrue(report.answers)
+
+    def test_interrupt_of_a_part(self):
+        """On Ctrl-C a part prints what it has found, and the parts are merged as a search that isn't over."""
+        with self.start("--part", "1/1", "--jobs", "2") as explorer, tempfile.TemporaryDirectory() as folder:
+            time.sleep(2)
+            explorer.send_signal(signal.SIGINT)
+            path = os.path.join(folder, "part")
+            with open(path, "wb") as file:
+                file.write(explorer.stdout.read())
+            explorer.wait()
+            self.assertEqual(explorer.returncode, 130)
+            self.assertFalse(json.loads(content_of(path).decode())["is_over"])
+            self.assertRegex(call("explore", "--merge", path)[1].decode(), "^stopped after [0-9]+ orders?: ")
+
+
+if __name__ == "__main__":
+    unittest.main()
