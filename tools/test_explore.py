@@ -25,7 +25,7 @@ from catsync_tools.orders import History, Search
 from catsync_tools.program import Program, Run
 from catsync_tools.progress import Progress
 from catsync_tools.report import led_to
-from catsync_tools.scripts import read_script, steps_line, turns_of
+from catsync_tools.scripts import steps_line, turns_of
 from catsync_tools.search import Exploration, Settings, wanted_of
 from catsync_tools.serial import SerialRuns, WholeAccesses, commands_of, transactions_of
 from catsync_tools.shares import shares
@@ -403,7 +403,7 @@ class Explorer(unittest.TestCase):
 
     def run_with(self, script, line):
         """The run of a script with this line of steps."""
-        return self.program.run(read_script(script).with_steps(line))
+        return self.program.run(read_source(script).script.with_steps(line))
 
     def test_answers_by_hand(self):
         """Each set of answers that was worked out by hand is found, and no other."""
