@@ -157,9 +157,10 @@ class Beside(unittest.TestCase):
             self.assertFalse([each for each in found if each.is_new], (data, compared))
 
     def test_examples(self):
-        """The examples that the program runs."""
-        for path in sorted(glob.glob(os.path.join(TOP, "examples", "*.output"))):
-            with self.subTest(path), open(path[:-len("output")] + "script", "rb") as file:
+        """The examples that the program runs, and the races."""
+        races = glob.glob(os.path.join(TOP, "examples", "races", "*.script"))
+        for path in sorted(glob.glob(os.path.join(TOP, "examples", "*.output"))) + sorted(races):
+            with self.subTest(path), open(os.path.splitext(path)[0] + ".script", "rb") as file:
                 self.check(file.read())
 
     def test_random_scripts(self):
