@@ -114,16 +114,20 @@ class Own:
 
 
 class Accesses:
-    """Tells the accesses of a history's steps, one after the other."""
+    """Tells the accesses of a history's steps, one after the other. The past are the steps that were made before all of
+    these; with `every_order` no two steps can be swapped."""
 
-    def __init__(self, every_order=False):
+    def __init__(self, every_order=False, past=()):
         self.own: Dict[int, Own] = {}
+        self.past = past
         self.shared = [(ALL_STEPS, "step")] if every_order else []
         self.known: Dict[tuple, Access] = {}
 
     def start(self):
-        """A history begins."""
+        """A history begins, after the past."""
         self.own = {}
+        for step in self.past:
+            self.of(step)
 
     def of(self, step):
         """The access of the next step."""

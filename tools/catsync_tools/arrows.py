@@ -52,7 +52,8 @@ def bar_path(layout: Layout, refusal):
         x = holder.mark - side * BAND / 2
     else:
         assert isinstance(refusal.bar, Lock)
-        x = lock_left(layout, refusal.bar) + holder.lock_width / 2 - 1
+        left = lock_left(layout, refusal.bar)
+        x = left if side < 0 else left + holder.lock_width - 2
     return path("M", mark + side * REACH, layout.middle(refusal.entry), "H", x)
 
 

@@ -1,18 +1,27 @@
-"""Bars for what lasts: transactions, locks, builds."""
-from . import story as stories
-from .layout import BAND, BUILD, ROW, Layout
-from .marks import DARK_MODES, GREEN, GREY, INK, MODE_COLOURS, ORANGE, PURPLE, RED
+"""Bars for what lasts: transactions, locks, and what is kept of scans."""
+from . import caches, transactions
+from .caches import Kept
+from .layout import BAND, ROW, Layout
+from .marks import DARK_MODES, GREEN, GREY, INK, KEPT_BROWN, MODE_COLOURS, PURPLE, RED
 from .sentences import MODE_NAMES
-from .svg import element, number, path, text_at
+from .svg import element, group, number, path, text_at
+from .why import Why, plain
 
 LABEL_CHAR = 5.5        # the width of a character of a bar's label
 LABEL_EVERY = 480       # long bars have their label again after so much
+CAP = 0.62              # the size of the mark at the end of what is kept, of one in the lane
+RING = 5                # half the height of a ring at a bar
 
 BAND_FILLS = {
-    stories.COMMITTED: ("#d6e7f4", "#7ba9cc"), stories.TAKEN_BACK: ("url(#taken-back)", PURPLE),
-    stories.WROTE_NOTHING: ("#eeeeee", "#c4c4c4"), stories.RUNNING: ("#ffffff", GREY),
+    transactions.COMMITTED: ("#d6e7f4", "#7ba9cc"), transactions.TAKEN_BACK: ("url(#taken-back)", PURPLE),
+    transactions.WROTE_NOTHING: ("#eeeeee", "#c4c4c4"), transactions.RUNNING: ("#ffffff", GREY),
 }
 VISIBLE_FILL = ("#8fc0e2", "#4b87b5")
+KEPT_FILLS = {"build": "url(#scanning)", "current": "#fbdd9d", "outdated": "url(#outdated)"}
+
+# By what it ends that something is kept, and the mark that its bar has there.
+CAPS = {caches.FETCHED: "fetch", caches.RESET: "fetch-reset", caches.OWN_WRITE: "write", caches.TAKEN_BACK: "gone",
+        caches.FAILED: "fail"}
 
 
 def extent(layout: Layout, bar):
@@ -56,24 +65,33 @@ def transaction_bar(layout: Layout, transaction):
     return bar + element("rect", title, y=visible, height=bottom - visible, fill=fill, stroke=stroke, **shape)
 
 
-def label(layout: Layout, x, top, bottom, texts, colour):
-    """The longest of some texts that fits along a bar, downwards; again and again along a long one, but never below a
-    header."""
-    room = min(bottom - top, LABEL_EVERY) - 6
-    text = next((text for text in texts if len(text) * LABEL_CHAR <= room), None)
-    if text is None:
-        return ""
-    length, written, y = len(text) * LABEL_CHAR, [], top + 4
-    while y + length <= bottom:
-        header = next((row for row in layout.headers if row.y < y + length and y < row.y + row.height), None)
-        if header:
-            y = header.y + header.height + 4
-            continue
-        turn = "rotate(90 %s %s)" % (number(x), number(y))
-        written.append(text_at(x, y, text, "label", style="fill:" + colour, transform=turn))
-        y += LABEL_EVERY
-    return "".join(written)
+# Labels.
 
+def taken_heights(layout: Layout, middles):
+    """What a label must keep clear of: the headers, and marks at these heights."""
+    return sorted([(row.y, row.y + row.height) for row in layout.headers] +
+                  [(middle - RING, middle + RING) for middle in middles])
+
+
+def label(layout: Layout, x, top, bottom, texts, colour, taken):
+    """The longest of some texts that fits along a bar, downwards; again and again along a long one, but never over what is
+    taken."""
+    for text in texts:
+        length, written, y = len(text) * LABEL_CHAR, [], top + 4
+        while y + length <= bottom - 2:
+            met = next((end for begin, end in taken if begin < y + length and y < end), None)
+            if met is not None:
+                y = met + 4
+                continue
+            turn = "rotate(90 %s %s)" % (number(x), number(y))
+            written.append(text_at(x, y, text, "label", style="fill:" + colour, transform=turn))
+            y += LABEL_EVERY
+        if written:
+            return "".join(written)
+    return ""
+
+
+# Locks.
 
 def clear_from(layout: Layout, lock, top, bottom):
     """The height from which on a lock's bar is clear."""
@@ -82,8 +100,8 @@ def clear_from(layout: Layout, lock, top, bottom):
     return bottom if lock.clear is None else min(max(top, layout.middle(lock.clear)), bottom)
 
 
-def lock_bar(layout: Layout, lock):
-    """The bar of a lock: hatched until it is clear, then in its mode's colour."""
+def lock_bar(layout: Layout, lock, rings=()):
+    """The bar of a lock: hatched until it is clear, then in its mode's colour. At some entries there are rings on it."""
     lane = layout.lanes[lock.backend]
     top, bottom = extent(layout, lock)
     clear = clear_from(layout, lock, top, bottom)
@@ -95,7 +113,8 @@ def lock_bar(layout: Layout, lock):
                   class_="lock " + ending(lock), **shape)
     if clear > top:
         bar += element("rect", title, y=top, height=clear - top, fill="url(#not-clear)", class_="part", **shape)
-    return bar + lock_label(layout, lock, clear if bottom - clear > 14 else top, bottom)
+    taken = taken_heights(layout, [layout.middle(number) for number in rings])
+    return bar + lock_label(layout, lock, clear if bottom - clear > 14 else top, bottom, taken)
 
 
 def lock_left(layout: Layout, lock):
@@ -104,38 +123,94 @@ def lock_left(layout: Layout, lock):
     return lane.locks + layout.columns[lock] * lane.lock_width
 
 
-def lock_label(layout: Layout, lock, top, bottom):
+def lock_label(layout: Layout, lock, top, bottom, taken):
     """Mode, relation and name along a lock's bar, as far as there is room."""
     width = layout.lanes[lock.backend].lock_width - 2
     if width < 10:
         return ""
     texts = ("%s %d %s" % (lock.mode, lock.rel, lock.name), "%s %s" % (lock.mode, lock.name or lock.rel), lock.mode)
     colour = "#ffffff" if lock.mode in DARK_MODES else INK
-    return label(layout, lock_left(layout, lock) + width / 2 - 3, top, bottom, texts, colour)
+    return label(layout, lock_left(layout, lock) + width / 2 - 3, top, bottom, texts, colour, taken)
 
 
-def build_bar(layout: Layout, build):
-    """The bar of a build. Its end tells what became of it: a line, a zigzag where it started over, a cross if cut off."""
-    x = layout.lanes[build.backend].builds + layout.columns[build] * BUILD
-    top, bottom = extent(layout, build)
-    title = "build of the descriptor of %s by backend %d, %s: %s" % (
-        known(build.rel, build.name), build.backend, how_long(build), build.outcome)
-    bar = element("rect", title, x=x, y=top, width=BUILD - 2, height=bottom - top, fill="url(#scanning)", stroke=ORANGE,
-                  class_="build " + ending(build))
-    texts = ("build %d %s" % (build.rel, build.name), "build %s" % (build.name or build.rel), "build")
-    bar += label(layout, x + 2, top, bottom - 4, texts, "#6b4a00")
-    if build.last is None or build.last > layout.span.last:
-        return bar
-    return bar + build_end(build.outcome, x, bottom)
+# What is kept.
+
+def kept_title(why: Why, kept: Kept):
+    """What is kept, by whom, from when to when, and by what it ends."""
+    parts = ["%s, kept by backend %d: read at %s" % (
+        why.named(kept), kept.backend, "entry %d" % kept.first if kept.first == kept.built
+        else "entries %d to %s" % (kept.first, kept.built or kept.last or "the end"))]
+    if kept.built is None:
+        parts.append("the build is %s" % kept.outcome)
+    if kept.outdated:
+        parts.append("out of date from entry %d on" % kept.outdated)
+    if kept.last:
+        parts.append("its end at entry %d: %s" % (kept.last, kept.cause))
+    return "; ".join(parts)
 
 
-def build_end(outcome, x, y):
-    """The mark at a build's end."""
-    width = BUILD - 2
-    ends = {
-        stories.FINISHED: path("M", x, y, "h", width),
-        stories.STARTED_OVER: path("M", x - 1, y - 1, "l 2.5 -3 l 3 6 l 3 -6 l 2.5 3"),
-        stories.CUT_OFF: path("M", x, y - 4, "l", width, 8, "m 0 -8 l", -width, 8),
-    }
-    colour = INK if outcome == stories.FINISHED else RED
-    return element("path", d=ends[outcome], fill="none", stroke=colour, stroke_width=2, class_="end")
+def kept_parts(layout: Layout, kept: Kept, top, bottom):
+    """The parts of a bar: its build, where it is as the catalogs are, and where it is out of date."""
+    def height(entry):
+        """The height of an entry on the bar."""
+        return bottom if entry is None else min(max(top, layout.middle(entry)), bottom)
+    built = height(kept.built) if kept.is_descriptor else top
+    outdated = height(kept.outdated)
+    parts = [("build", top, min(built, outdated)), ("current", built, outdated), ("outdated", outdated, bottom)]
+    return [(kind, first, last) for kind, first, last in parts if first < last]
+
+
+def kept_bar(layout: Layout, kept: Kept, why: Why):
+    """The bar of what is kept: dotted while it is built, then filled, hatched once it is out of date; with a mark where it
+    serves a command without a scan, and at its end the mark of the entry that makes it stale."""
+    lane = layout.lanes[kept.backend]
+    width, x = lane.kept_width - 3, lane.kept + layout.columns[kept] * lane.kept_width
+    top, bottom = extent(layout, kept)
+    parts = kept_parts(layout, kept, top, bottom)
+    drawn = [element("rect", x=x, y=first, width=width, height=last - first, fill=KEPT_FILLS[kind],
+                     class_="kept-" + kind + (" open" if kept.last is None and kind != "build" else ""))
+             for kind, first, last in parts]
+    served = [layout.middle(served.entry) for served in kept.serves if layout.span.holds(served.entry)]
+    drawn += [serve_mark(x + width / 2, middle) for middle in served]
+    if width >= 9:
+        drawn += [kept_label(layout, kept, x + width / 2 - 3, first, min(last, bottom - 6), served)
+                  for kind, first, last in parts if kind == "current"]
+    if kept.last is not None and kept.last <= layout.span.last:
+        drawn.append(kept_end(kept, x, width, bottom))
+    return group("".join(drawn), plain(kept_title(why, kept)), class_="kept build" if kept.is_descriptor else "kept")
+
+
+def kept_label(layout: Layout, kept: Kept, x, top, bottom, served):
+    """What is kept along its bar, as far as there is room."""
+    if kept.is_descriptor:
+        texts = ["descriptor %d %s" % (kept.rel, kept.name), "descriptor %s" % (kept.name or kept.rel),
+                 kept.name or str(kept.rel)]
+    else:
+        word = {"relname": "name", "reloid": "oid", "attname": "column", "attlist": "columns"}[kept.datum[0]]
+        texts = [("no " if kept.is_absent else "") + "%s %s" % (word, kept.datum[-1])]
+    return label(layout, x, top, bottom, [text.strip() for text in texts], KEPT_BROWN, taken_heights(layout, served))
+
+
+def serve_mark(x, y):
+    """The mark where something serves a command without a scan."""
+    return element("circle", cx=x, cy=y, r=3.6, class_="serves")
+
+
+def kept_end(kept: Kept, x, width, y):
+    """The end of a bar: the mark of the entry that makes it stale; of a build that isn't finished a zigzag or a cross."""
+    if kept.built is None:
+        return build_end(kept.outcome, x, width, y)
+    if kept.cause in CAPS:
+        return element("use", href="#" + CAPS[kept.cause], transform="translate(%s %s) scale(%s)" % (
+            number(x + width / 2), number(y - 2), CAP), class_="cap")
+    return element("path", d=path("M", x, y, "h", width), stroke=INK, stroke_width=2, class_="cap")
+
+
+def build_end(outcome, x, width, y):
+    """The end of a build that isn't finished."""
+    if outcome == caches.STARTED_OVER:
+        shape = path("M", x - 1, y - 1, "l", (width + 2) / 4, -3, "l", (width + 2) / 4, 6, "l", (width + 2) / 4, -6, "l",
+                     (width + 2) / 4, 3)
+    else:
+        shape = path("M", x, y - 4, "l", width, 8, "m 0 -8 l", -width, 8)
+    return element("path", d=shape, fill="none", stroke=RED, stroke_width=2, class_="cap")

@@ -1,14 +1,16 @@
 """Draws a story as an SVG: bars, arrows, and a mark and a text for each entry."""
+from typing import Dict, NamedTuple
 from xml.sax.saxutils import escape
 
 from .arrows import message_arrow, refusal_arrow, waiting_number
-from .bars import build_bar, lock_bar, transaction_bar
-from .layout import LINE, MOST_WIDE_LANES, Layout, Span, layout_of
+from .bars import CAPS, kept_bar, lock_bar, transaction_bar
+from .layout import LINE, MOST_WIDE_LANES, Layout, Wanted, layout_of
 from .legend import items_of, legend
-from .marks import BLUE, GREEN, INK, RED, definitions, mark_of
-from .sentences import counted, sentence_of
+from .marks import BLUE, GREEN, INK, KEPT_BROWN, RED, definitions, mark_of_step
+from .sentences import counted
 from .story import Story
 from .svg import element, group, number, opened, path, text_at, title_of
+from .why import Why, plain, sentences_of
 
 TITLE_HEIGHT = 24
 LEGEND_WIDTH = 900
@@ -22,19 +24,32 @@ text.label { font: 9px 'DejaVu Sans Mono', Menlo, Consolas, monospace }
 text.waits { font: bold 9px 'DejaVu Sans', Verdana, sans-serif; fill: %(blue)s;
   paint-order: stroke; stroke: #ffffff; stroke-width: 3px }
 text.error { fill: #963800 }
+text.bold { font-weight: bold }
 .leader { stroke: #d0d0d0; stroke-dasharray: 1 3 }
 .message { fill: none; stroke: %(blue)s; stroke-width: 1.3; stroke-opacity: 0.75 }
 .refusal { fill: none; stroke: %(red)s; stroke-width: 1.4; stroke-dasharray: 4 2 }
 .message:hover, .refusal:hover { stroke-width: 3.5; stroke-opacity: 1 }
+.kept-build, .kept-current, .kept-outdated { stroke: %(brown)s }
+.serves { fill: %(ink)s; stroke: #ffffff; stroke-width: 1.4 }
 .open { stroke-dasharray: 3 2 }
 .row { fill-opacity: 0 }
-.row:hover, .row.here { fill: #fff1b8; fill-opacity: 1 }
-""" % {"ink": INK, "blue": BLUE, "red": RED}
+.row:hover { fill: #fff1b8; fill-opacity: 1 }
+""" % {"ink": INK, "blue": BLUE, "red": RED, "brown": KEPT_BROWN}
+
+
+class Drawing(NamedTuple):
+    """A picture in two parts, one below the other: its title and legend, and its rows; and its story's sentences."""
+    title: str
+    layout: Layout
+    head: str
+    rows: str
+    top: float
+    sentences: Dict[int, str]
 
 
 def arrows_in(span, story: Story):
     """The messages and refusals with an end among the entries that are drawn."""
-    messages = [message for message in story.messages if span.holds(message.publish) or span.holds(message.fetch)]
+    messages = [taken for taken in story.log.taken if span.holds(taken.publish) or span.holds(taken.fetch)]
     return messages, [refusal for refusal in story.refusals if span.holds(refusal.entry)]
 
 
@@ -42,7 +57,7 @@ def arrows_in(span, story: Story):
 
 def lanes_ground(layout: Layout):
     """The ground of the lanes, every second one grey."""
-    shape = {"y": layout.rows[0].y, "height": layout.bottom - layout.rows[0].y, "fill": "#f6f6f6"}
+    shape = {"y": layout.rows[0].y, "height": layout.bottom - layout.rows[0].y, "fill_opacity": 0.04}
     return "".join(element("rect", x=lane.left, width=lane.right - lane.left, **shape)
                    for lane in list(layout.lanes.values())[::2])
 
@@ -54,21 +69,20 @@ def life_line(layout: Layout, life):
     return element("path", d=drawn, stroke="#b8b8b8")
 
 
-def header_row(layout: Layout, row):
+def lane_names(layout: Layout, y, height):
     """The names of the lanes; where they are narrow, the numbers of the backends."""
-    drawn = [element("rect", x=0, y=row.y, width=layout.width, height=row.height, fill="#e4e4e4")]
+    drawn = [element("rect", x=0, y=y, width=layout.width, height=height, fill="#e4e4e4")]
     word = "backend %d" if len(layout.lanes) <= MOST_WIDE_LANES else "%d"
     for lane in layout.lanes.values():
-        drawn.append(text_at(lane.left + 6, row.y + 15, word % lane.backend, "head"))
+        drawn.append(text_at(lane.left + 6, y + 15, word % lane.backend, "head"))
     return "".join(drawn)
 
 
 def row_ground(layout: Layout, row):
     """What lies below an entry's row: a stripe that shows on hover, and a line from its lane to its text."""
-    entry = row.content
-    stripe = element("rect", sentence_of(entry), x=0, y=row.y, width=layout.width, height=row.height, class_="row",
-                     id="row%d" % entry.number)
-    lane = layout.lanes[entry.backend]
+    step = row.content
+    stripe = element("rect", x=0, y=row.y, width=layout.width, height=row.height, class_="row", id="row%d" % step.first)
+    lane = layout.lanes[step.main.backend]
     return stripe + element("path", d=path("M", lane.mark, row.middle, "H", layout.text - 5), class_="leader")
 
 
@@ -78,15 +92,23 @@ def text_lines(x, y, lines):
                    for at, line in enumerate(lines))
 
 
-def entry_text(layout: Layout, row):
-    """An entry's number, mark and text; where the text is cut its title has all of it."""
-    entry = row.content
-    lane, y = layout.lanes[entry.backend], row.middle + 4
-    title = sentence_of(entry) + (":\n" + entry.line if row.cut else "")
-    drawn = text_at(38, y, str(entry.number), "number", text_anchor="end")
-    drawn += element("use", href="#" + mark_of(entry.event), x=lane.mark, y=row.middle)
+def cut(row):
+    """The class of a row whose text is cut."""
+    return " cut" if row.cut else ""
+
+
+def entry_text(layout: Layout, row, sentences):
+    """The number, mark and text of a row's entries, and what they do, if that is given; where the text is cut the title has
+    all of it."""
+    step = row.content
+    lane, y = layout.lanes[step.main.backend], row.middle + 4
+    numbers = str(step.first) if step.first == step.last else "%d\u2013%d" % (step.first, step.last)
+    titles = [plain(sentences[entry.number]) for entry in step.entries] if sentences else []
+    titles += [step.text] if row.cut else []
+    drawn = text_at(layout.numbers - 8, y, numbers, "number", text_anchor="end")
+    drawn += element("use", href="#" + mark_of_step(step), x=lane.mark, y=row.middle)
     drawn += '<text class="line">%s</text>' % text_lines(layout.text, y, row.lines)
-    return group(drawn, title, class_="entry cut" if row.cut else "entry", id="entry%d" % entry.number)
+    return group(drawn, "\n".join(titles), class_="entry" + cut(row), id="entry%d" % step.first)
 
 
 def answer_text(layout: Layout, row):
@@ -100,7 +122,20 @@ def answer_text(layout: Layout, row):
     drawn += element("circle", cx=mark, cy=row.middle, r=2.5, fill=colour)
     drawn += '<text class="%s">%s</text>' % (class_, text_lines(layout.text, row.middle + 4, row.lines))
     title = "the answer of command %d of backend %d" % (answer.command, answer.backend)
-    return group(drawn, title + (":\n" + answer.line if row.cut else ""), class_="answer")
+    return group(drawn, title + ("\n" + answer.line if row.cut else ""), class_="answer" + cut(row))
+
+
+def command_text(layout: Layout, row):
+    """A command of the script, above its first entry."""
+    command = row.content
+    mark = layout.lanes[command.backend].mark
+    drawn = element("rect", x=layout.text - 6, y=row.y + 1, width=layout.width - layout.text - 2, height=row.height - 2,
+                    fill="#eef1f8", rx=2)
+    drawn += element("path", d=path("M", mark + 4, row.middle, "H", layout.text - 6), stroke=BLUE, stroke_opacity=0.5)
+    drawn += element("circle", cx=mark, cy=row.middle, r=2.5, fill="#ffffff", stroke=BLUE, stroke_width=1.4)
+    drawn += '<text class="line bold">%s</text>' % text_lines(layout.text, row.middle + 4, row.lines)
+    title = "command %d of backend %d" % (command.number, command.backend)
+    return group(drawn, title + ("\n" + command.text if row.cut else ""), class_="command" + cut(row))
 
 
 def rows_drawn(layout: Layout, kind, one_drawn):
@@ -110,25 +145,29 @@ def rows_drawn(layout: Layout, kind, one_drawn):
 
 # The whole.
 
-def bars_drawn(layout: Layout, story: Story):
+def bars_drawn(layout: Layout, story: Story, refusals):
     """All bars that the entries which are drawn meet."""
-    drawn = []
-    for bars, one_drawn in ((story.lives, life_line), (story.transactions, transaction_bar), (story.builds, build_bar),
-                            (story.locks, lock_bar)):
+    rings = {}
+    for refusal in refusals:
+        rings.setdefault(refusal.bar, []).append(refusal.entry)
+    why, drawn = Why(story), []
+    for bars, one_drawn in ((story.lives, life_line), (story.transactions, transaction_bar),
+                            (story.kept, lambda layout, kept: kept_bar(layout, kept, why)),
+                            (story.locks, lambda layout, lock: lock_bar(layout, lock, rings.get(lock, ())))):
         drawn += [one_drawn(layout, bar) for bar in bars if layout.span.meets(bar)]
     return "".join(drawn)
 
 
 def arrows_drawn(layout: Layout, story: Story, messages, refusals):
     """The arrows, and the numbers of messages that wait."""
-    waiting = [waiting for waiting in story.waiting if layout.span.holds(waiting.entry) and waiting.count]
+    waiting = [waiting for waiting in story.log.waiting if layout.span.holds(waiting.entry) and waiting.count]
     drawn = [message_arrow(layout, message) for message in messages]
     drawn += [waiting_number(layout, one) for one in waiting]
     drawn += [refusal_arrow(layout, refusal) for refusal in refusals]
     return "".join(drawn)
 
 
-def title_for(story: Story, span: Span):
+def title_for(story: Story, span):
     """What the picture shows, in one line."""
     title = "A history of %s, %s" % (counted(len(story.lives), "backend"), counted(len(story.entries), "entry"))
     if (span.first, span.last) != (1, len(story.entries)):
@@ -136,32 +175,42 @@ def title_for(story: Story, span: Span):
     return title
 
 
-def svg(width, height, content):
-    """A whole SVG."""
+def svg(width, height, content, y=0):
+    """A whole SVG, from a height of its picture on."""
     attributes = {"xmlns": "http://www.w3.org/2000/svg", "width": width, "height": height,
-                  "viewBox": "0 0 %s %s" % (number(width), number(height))}
+                  "viewBox": "0 %s %s %s" % (number(y), number(width), number(height))}
     return opened("svg", attributes) + ">" + content + "</svg>\n"
 
 
-def draw(story: Story, span: Span):
-    """Where everything of these entries is, and their picture."""
-    messages, refusals = arrows_in(span, story)
-    key, top = legend(items_of(story, span, messages, refusals), TITLE_HEIGHT, LEGEND_WIDTH)
-    layout = layout_of(story, span, top + 6)
-    title = title_for(story, span)
-    marks = {mark_of(entry.event) for entry in story.entries[span.first - 1:span.last]}
-    parts = [
-        title_of(title), "<style>%s</style>" % STYLE, "<defs>%s</defs>" % definitions(marks),
-        element("rect", width=layout.width, height=layout.height, fill="#ffffff"),
-        text_at(12, 17, title, "head"), key,
-        lanes_ground(layout), rows_drawn(layout, "entry", row_ground), bars_drawn(layout, story),
-        arrows_drawn(layout, story, messages, refusals), rows_drawn(layout, "header", header_row),
-        rows_drawn(layout, "answer", answer_text), rows_drawn(layout, "entry", entry_text),
+def head_of(story: Story, layout: Layout, title, groups):
+    """The title, the legend, and what all parts of the picture use; and how wide and high it is."""
+    drawn, right, bottom = groups
+    marks = {mark_of_step(row.content) for row in layout.rows if row.kind == "entry"}
+    marks |= {CAPS[kept.cause] for kept in story.kept if kept.cause in CAPS} | {"fetch"}
+    return "\n".join(["<style>%s</style>" % STYLE, "<defs>%s</defs>" % definitions(marks),
+                      text_at(12, 17, title, "head"), drawn])
+
+
+def draw(story: Story, wanted: Wanted):
+    """The picture of what is wanted."""
+    messages, refusals = arrows_in(wanted.span, story)
+    plan = layout_of(story, wanted, 0, 0)
+    drawn, right, top = legend(items_of(story, plan, messages, refusals), TITLE_HEIGHT, min(LEGEND_WIDTH, wanted.width))
+    layout = layout_of(story, wanted, top + 6, right)
+    sentences, title = sentences_of(story, *wanted.span), title_for(story, wanted.span)
+    rows = [
+        lanes_ground(layout), rows_drawn(layout, "entry", row_ground), bars_drawn(layout, story, refusals),
+        arrows_drawn(layout, story, messages, refusals),
+        rows_drawn(layout, "header", lambda layout, row: lane_names(layout, row.y, row.height)),
+        rows_drawn(layout, "command", command_text), rows_drawn(layout, "answer", answer_text),
+        rows_drawn(layout, "entry", lambda layout, row: entry_text(layout, row, {} if wanted.in_page else sentences)),
     ]
-    return layout, svg(layout.width, layout.height, "\n".join(parts))
+    return Drawing(title, layout, head_of(story, layout, title, (drawn, right, top)), "\n".join(rows), top + 6, sentences)
 
 
-def lane_names(layout: Layout):
-    """The first header alone, as a picture of its own."""
-    header = layout.rows[0]._replace(y=0)
-    return svg(layout.width, header.height, header_row(layout, header))
+def picture(drawing: Drawing):
+    """The picture as one SVG."""
+    layout = drawing.layout
+    ground = element("rect", width=layout.width, height=layout.height, fill="#ffffff")
+    return svg(layout.width, layout.height, "\n".join([title_of(drawing.title), drawing.head.replace(
+        "</defs>", "</defs>" + ground, 1), drawing.rows]))

@@ -1,144 +1,174 @@
 """The command tools/explore."""
-import random
-from typing import List, Optional
+import argparse
+import os
+import re
 
-from .access import Accesses
-from .faults import INTERRUPTED, Arguments, Fault, read_input, write_file, write_output
-from .findings import Findings
-from .orders import History, Placed, Search
+from .arguments import Arguments
+from .faults import INTERRUPTED, Fault, make_folder, read_file, read_input, write_file, write_output
 from .outputs import read_output
+from .parts import Part, check_same, merged, part_text, read_part
 from .picture import picture_of, span_of
-from .program import Program, proved_program
+from .program import proved_program
 from .progress import Progress
-from .report import found, lines_with, not_found, report
-from .schedules import random_schedule
-from .scripts import read_script, steps_line, turns_of
-from .sentences import counted
+from .report import Extent, Serial, found_text, not_found, report, run_again, shown_sets
+from .search import Exploration, Settings, processors, wanted_of
+from .sources import read_source
 
 NOT_FOUND = 1
 MOST_ORDERS = 5000
-FURTHER = 64            # steps that a backend may make beyond those that were seen
-MOST_STEPS = 1000000    # of a script
 
 
 def count_of(text):
     """A count on the command line."""
-    if not text.isdigit() or int(text) == 0:
-        raise Fault("not a count of schedules: %s" % text)
+    if not re.fullmatch("0*[1-9][0-9]{0,8}", text):
+        raise Fault("not a count: %s" % text)
     return int(text)
+
+
+def part_of(text):
+    """A part on the command line: its number, and of how many."""
+    found = re.fullmatch("([0-9]{1,6})/([0-9]{1,6})", text)
+    if not found or not 1 <= int(found.group(1)) <= int(found.group(2)):
+        raise Fault("not a part, as 3/64: %s" % text)
+    return int(found.group(1)), int(found.group(2))
 
 
 def arguments_of(words):
     """The command line."""
-    parser = Arguments(prog="explore", description="Runs a script under many schedules: tools/explore < SCRIPT")
-    parser.add_argument("--most", type=count_of, default=MOST_ORDERS, metavar="N",
-                        help="all orders are run where there are at most N, else N random schedules (%d)" % MOST_ORDERS)
-    parser.add_argument("--seed", default="1", help="of the random schedules (1)")
-    parser.add_argument("--places", action="store_true", help="answers that name other entries (as of N) are other answers; "
-                        "then no two schedules are the same order")
-    parser.add_argument("--find", metavar="TEXT", help="stop at the first schedule with this text in an answer or an entry")
-    parser.add_argument("--picture", metavar="FILE",
-                        help="draw the schedule that --find finds; a page if FILE ends with .html")
-    parser.add_argument("--program", metavar="FILE", help="run FILE in place of the proved executable")
-    options = parser.parse_args(words)
-    if options.picture and options.find is None:
-        parser.error("--picture draws what --find finds, and there is no --find")
+    parser = Arguments("explore", "[OPTION].. < SCRIPT, or explore --merge FILE..", "Runs a script under many schedules, and prints each set of answers "
+                       "with the shortest schedule that leads to it.",
+                       ((0, "the search came to its end, or found the texts"), (1, "no schedule has the texts")))
+    parser.option("--most", type=count_of, metavar="N",
+                  help="all orders are run where there are at most N, else N random schedules (%d)" % MOST_ORDERS)
+    parser.option("--random", type=count_of, metavar="N", help="N random schedules, without a search for all orders")
+    parser.option("--seed", default="1", metavar="S", help="of the random schedules (1)")
+    parser.option("--find", action="append", default=[], metavar="TEXT",
+                  help="stop at the first schedule with this text in an entry or an answer; * stands for any text, places "
+                  "(as of N) don't count; given several times, one schedule has all of them")
+    parser.option("--interleaved", action="store_true", help="pass over what a serial order of commands leads to")
+    parser.option("--places", action="store_true", help="answers that name other entries (as of N) are other answers; then "
+                  "no two schedules are the same order")
+    parser.option("--picture", metavar="DIR", help="draw the schedule of each set, or the one that is found, in DIR")
+    parser.option("--html", action="store_true", help="pictures are pages")
+    parser.option("--jobs", type=count_of, metavar="N", help="use N processors (all; with --part one)")
+    parser.option("--part", type=part_of, metavar="K/N", help="do part K of N parts of the search, and print it for --merge")
+    parser.option("--merge", action="store_true", help="print what the parts in FILEs found; no script is read")
+    parser.option("files", nargs="*", metavar="FILE", help=argparse.SUPPRESS)
+    parser.option("--program", metavar="FILE", help="run FILE in place of the proved executable")
+    options = parser.parse(words)
+    check(parser, options)
     return options
 
 
-class Exploration:
-    """A script, what is asked of it, and what was found so far."""
-
-    def __init__(self, options, data):
-        self.options = options
-        self.program = Program(options.program or proved_program())
-        self.program.run(data)
-        self.script = read_script(data)
-        first = self.program.run(self.script.without_steps())
-        self.backends = sorted({backend for backend, _, _ in first.steps})
-        self.longest = len(first.steps)
-        self.findings = Findings(options.places)
-        self.schedules, self.is_random, self.is_over = 0, False, False
-        self.found: Optional[List[Placed]] = None
-        self.progress = Progress()
-
-    def run(self, first, rest):
-        """The run in which these backends make the first steps, and these then go on to their stop."""
-        room = (MOST_STEPS - len(first)) // len(rest)
-        while self.longest <= MOST_STEPS:
-            turns = turns_of(first) + [(backend, min(self.longest + FURTHER, room)) for backend in rest]
-            run = self.program.run(self.script.with_steps(steps_line(turns)))
-            self.longest = max(self.longest, len(run.steps))
-            if sum(text == "stop" for _, _, text in run.steps) == len(self.backends):
-                return run
-            self.longest *= 2
-        raise Fault("the script has too many steps to be explored")
-
-    def take(self, run, history):
-        """One more schedule; whether it is the one that is looked for."""
-        self.schedules += 1
-        self.findings.add(run, history)
-        most, kind = self.options.most, "random schedules" if self.is_random else "orders"
-        self.progress.show(self.schedules, most, "%d of at most %d %s, %s of answers" % (
-            self.schedules, most, kind, counted(len(self.findings.sets), "set")))
-        if self.options.find is not None and lines_with(self.options.find, run):
-            self.found = history.steps
-        return self.found is not None
-
-    def explore(self):
-        """Runs all orders, or random schedules where there are too many, until the text is found that is looked for."""
-        for run, history in Search(self.run, self.backends, self.options.places).orders():
-            if run is not None and self.schedules == self.options.most:
-                return self.explore_randomly()
-            if run is not None and self.take(run, history):
-                return
-        self.is_over = True
-
-    def explore_randomly(self):
-        """Runs random schedules. What was found before isn't counted any more."""
-        self.findings.start_counting()
-        self.schedules, self.is_random = 0, True
-        draw, accesses = random.Random(self.options.seed), Accesses(self.options.places)
-        while self.schedules < self.options.most:
-            run = self.run(*random_schedule(draw, self.backends, self.longest))
-            history = History(accesses)
-            for step in run.steps:
-                history.add(step)
-            if self.take(run, history):
-                return
-        self.is_over = True
-
-    def again(self, turns):
-        """The line of steps of turns, and their run."""
-        line = steps_line(turns)
-        return line, self.program.run(self.script.with_steps(line))
+def check(parser, options):
+    """Refuses options that don't go together."""
+    for one, other, is_bad in (
+            ("--most", "--random", options.most and options.random), ("--most", "--part", options.most and options.part),
+            ("--find", "--part", options.find and options.part), ("--part", "--merge", options.part and options.merge),
+            ("--picture", "--part", options.picture and options.part), ("--find", "--merge", options.find and options.merge),
+            ("--picture", "--merge", options.picture and options.merge),
+            ("--interleaved", "--part", options.interleaved and options.part)):
+        if is_bad:
+            parser.error("%s doesn't go with %s" % (one, other))
+    if bool(options.merge) != bool(options.files):
+        parser.error("--merge needs FILEs" if options.merge else "FILEs are for --merge")
+    if "" in options.find:
+        parser.error("--find needs a text")
+    if options.html and not options.picture:
+        parser.error("--html is for --picture")
 
 
 def main(words):
-    """Explores the script on standard input."""
+    """Explores the script on standard input, or puts the parts of a search together."""
     options = arguments_of(words)
-    exploration = Exploration(options, read_input())
+    if options.merge:
+        return merge(options)
+    data = read_input()
+    source = read_source(data)
+    settings = Settings(options.places, tuple(wanted_of(text) for text in options.find), options.interleaved, options.seed,
+                        options.jobs or (1 if options.part else processors()))
+    exploration = Exploration(settings, source, options.program or proved_program(), Progress())
     status = 0
     try:
-        exploration.explore()
+        explore(options, exploration)
     except KeyboardInterrupt:
         status = INTERRUPTED
     exploration.progress.clear()
-    if options.find is None:
-        write_output(report(exploration))
+    if options.part:
+        write_output(part_text(part_found(options, exploration, data)))
         return status
-    return tell_find(exploration, status)
+    return tell_find(options, exploration, status) if options.find else tell_sets(options, exploration, status)
 
 
-def tell_find(exploration, status):
+def explore(options, exploration):
+    """Runs all orders, random schedules where there are too many or these are asked for, or a part of either; and before
+    them the serial orders."""
+    part, parts = options.part or (1, 1)
+    if part == 1:
+        exploration.run_serial()
+    if exploration.found is not None:
+        return
+    if options.random:
+        exploration.run_random(options.random, part, parts)
+    elif options.part:
+        exploration.run_part(part, parts)
+    elif not exploration.run_orders(options.most or MOST_ORDERS):
+        exploration.run_random(options.most or MOST_ORDERS)
+
+
+def extent_of(options, exploration):
+    """What was run."""
+    most = None if options.random else options.most or MOST_ORDERS
+    return Extent(exploration.schedules, exploration.is_random, options.seed, most, exploration.is_over, "")
+
+
+def part_found(options, exploration, data):
+    """What a part of a search found."""
+    sets = [(shown.answers, shown.found) for shown in shown_sets(exploration)]
+    serial = {"\n".join(key): kind for key, kind in exploration.serial.items()} if options.part[0] == 1 else None
+    return Part(data.decode("utf-8", "surrogateescape"), options.places, options.random, options.seed, options.part[0], options.part[1],
+                exploration.is_over, exploration.schedules, serial, exploration.is_serial_over, sets)
+
+
+def tell_sets(options, exploration, status):
+    """Tells the sets of answers, and draws them if they are to be drawn; the exit status."""
+    serial = Serial(exploration.serial, exploration.is_serial_over)
+    sets = shown_sets(exploration)
+    if options.interleaved:
+        sets = [shown for shown in sets if serial.is_interleaved(shown.answers)]
+    for number, shown in enumerate(sets, 1):
+        draw(options, exploration, "set%d" % number, shown.run)
+    write_output(report(extent_of(options, exploration), serial, sets))
+    return status
+
+
+def tell_find(options, exploration, status):
     """Tells what was found, and draws it if it is to be drawn; the exit status."""
+    extent = extent_of(options, exploration)
     if exploration.found is None:
-        write_output(not_found(exploration))
+        write_output(not_found(extent, options.find))
         return status or NOT_FOUND
-    text, run = found(exploration)
-    path = exploration.options.picture
-    if path:
+    run = exploration.runner.with_turns(exploration.found)
+    draw(options, exploration, "found", run)
+    write_output(found_text(extent, exploration.settings.wanted, exploration.found, run))
+    return 0
+
+
+def draw(options, exploration, name, run):
+    """Draws a run, if it is to be drawn."""
+    if options.picture:
+        make_folder(options.picture)
         output = read_output(run.output)
-        write_file(path, picture_of(output, path.endswith(".html"), span_of(len(output.entries))))
-    write_output(text)
+        write_file(os.path.join(options.picture, name + (".html" if options.html else ".svg")),
+                   picture_of(output, options.html, span_of(len(output.entries)), exploration.source.commands))
+
+
+def merge(options):
+    """Prints what all parts of a search have found."""
+    parts = [read_part(path, read_file(path)) for path in options.files]
+    check_same(options.files, parts)
+    extent, serial, sets = merged(parts)
+    if options.interleaved:
+        sets = [shown for shown in sets if serial.is_interleaved(shown.answers)]
+    write_output(report(extent, serial, sets))
     return 0

@@ -1,5 +1,4 @@
 """Faults of the input or the command line: one line on standard error, and an exit status other than 0."""
-import argparse
 import os
 import sys
 
@@ -11,31 +10,28 @@ class Fault(Exception):
     """Something that the user gave is wrong; its text says what, and where."""
 
 
-class Arguments(argparse.ArgumentParser):
-    """A command line whose faults are faults as any other, and not several lines."""
-
-    def __init__(self, **settings):
-        super().__init__(allow_abbrev=False, **settings)
-
-    def error(self, message):
-        """Called by argparse for a faulty command line."""
-        raise Fault("%s; %s --help says more" % (message, self.prog))
-
-
 def run(name, main, arguments):
     """Runs a command; its exit status. A fault is said in one line that begins with the command's name."""
     try:
         return main(arguments)
     except Fault as fault:
-        print("%s: %s" % (name, fault), file=sys.stderr)
+        say("%s: %s" % (name, fault))
         return BAD
     except KeyboardInterrupt:
-        print("%s: interrupted" % name, file=sys.stderr)
+        say("%s: interrupted" % name)
         return INTERRUPTED
+
+
+def say(line):
+    """Writes a line to standard error, where that is open."""
+    if sys.stderr is not None:
+        print(line, file=sys.stderr)
 
 
 def read_input():
     """All of standard input, as bytes."""
+    if sys.stdin is None:
+        raise Fault("reading failed: standard input is closed")
     try:
         return sys.stdin.buffer.read()
     except OSError as error:
@@ -44,6 +40,8 @@ def read_input():
 
 def write_output(text):
     """Writes a whole text to standard output."""
+    if sys.stdout is None:
+        raise Fault("writing failed: standard output is closed")
     try:
         sys.stdout.buffer.write(text.encode("utf-8", "surrogateescape"))
         sys.stdout.buffer.flush()
@@ -55,6 +53,23 @@ def write_output(text):
 def discard_output():
     """Makes sure that Python writes nothing more to standard output as it ends."""
     os.dup2(os.open(os.devnull, os.O_WRONLY), sys.stdout.fileno())
+
+
+def read_file(path):
+    """All of a file, as bytes."""
+    try:
+        with open(path, "rb") as file:
+            return file.read()
+    except OSError as error:
+        raise Fault("%s: reading failed: %s" % (path, error.strerror))
+
+
+def make_folder(path):
+    """Makes a folder where there is none."""
+    try:
+        os.makedirs(path, exist_ok=True)
+    except OSError as error:
+        raise Fault("%s: the folder can't be made: %s" % (path, error.strerror))
 
 
 def write_file(path, text):

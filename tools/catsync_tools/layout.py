@@ -4,23 +4,28 @@ All lengths are in pixels of the picture.
 """
 from typing import Dict, List, NamedTuple, Tuple
 
+from .steps import steps_of
 from .story import Story
 
 CHAR = 7.23             # the width of a character of the texts
 ROW, LINE = 18, 15      # the height of a row with one line of text, and of each further line
 HEADER = 22
-HEADER_EVERY = 40       # entries between two headers
+HEADER_EVERY = 40       # rows of entries between two headers
 LEAST_BELOW = 10        # entries below a header
 WIDTH = 1340            # what a laptop shows beside a page's edge
-LEAST_CHARS, MOST_CHARS = 60, 100
+LEAST_CHARS, MOST_CHARS = 48, 100
 MOST_LINES = 3          # of an entry's text, before it is cut
 MOST_ANSWER_LINES = 6
 NUMBERS_WIDTH = 46
+BRIEF_NUMBERS_WIDTH = 84
 LEAST_LANE = 84
 MOST_WIDE_LANES = 12    # with more lanes each may be half as wide
 BAND = 18               # the width of a transaction's bar
-BUILD, LOCK = 11, 14    # the distance of two bars of builds, and of locks
-WIDEST_BARS = 98        # more locks than this is wide are drawn narrower
+KEPT, LOCK = 14, 14     # the distance of two bars of what is kept, and of locks
+WIDEST_BARS = 98        # more bars of a kind than this is wide are drawn narrower
+
+
+Commands = Dict[Tuple[int, int], str]       # the texts of commands, by backend and number
 
 
 class Span(NamedTuple):
@@ -37,8 +42,25 @@ class Span(NamedTuple):
         return bar.first <= self.last and (bar.last is None or bar.last >= self.first)
 
 
+class Wanted(NamedTuple):
+    """What a picture is to have: which entries, the texts of which commands, whether in brief, how wide it may be, and
+    whether it is part of a page, which itself has the names of the lanes and the sentences of entries."""
+    span: Span
+    commands: Commands = {}
+    brief: bool = False
+    width: int = WIDTH
+    in_page: bool = False
+
+
+class Command(NamedTuple):
+    """A command of the script, before its first entry."""
+    backend: int
+    number: int
+    text: str
+
+
 class Row(NamedTuple):
-    """A row: `entry`, `answer` or `header`; the entry or answer, its lines of text, and whether more was cut."""
+    """A row: `entry`, `answer`, `command` or `header`; what it is about, its lines of text, and whether more was cut."""
     kind: str
     content: object
     y: float
@@ -59,7 +81,8 @@ class Lane(NamedTuple):
     right: float
     gutter: float
     mark: float
-    builds: float
+    kept: float
+    kept_width: float
     locks: float
     lock_width: float
 
@@ -72,10 +95,10 @@ class Layout(NamedTuple):
     middles: Dict[int, float]
     lanes: Dict[int, Lane]
     columns: Dict[object, int]
+    numbers: float
     top: float
     bottom: float
     text: float
-    chars: int
     width: float
     height: float
 
@@ -128,42 +151,63 @@ class Rows:
         self.rows.append(Row(kind, content, self.y, height, lines, cut))
         self.y += height
 
+    def add_commands(self, commands: Commands, backend, numbers):
+        """The rows of some commands of a backend, as far as they have a text."""
+        for number in numbers:
+            if (backend, number) in commands:
+                text = "%d: %s" % (backend, commands[backend, number])
+                self.add("command", Command(backend, number, text), text, MOST_LINES)
 
-def has_header(number, span):
-    """Whether a header is above this entry."""
-    if number == span.first:
-        return True
-    return (number - span.first) % HEADER_EVERY == 0 and span.last - number >= LEAST_BELOW
+    @property
+    def longest(self):
+        """How many characters its longest line has."""
+        return max(len(line) for row in self.rows for line in row.lines)
 
 
-def rows_of(story: Story, span: Span, y, chars):
-    """The rows of the entries that are drawn, their answers, and a header from time to time."""
-    rows = Rows(y, chars)
-    for entry in story.entries[span.first - 1:span.last]:
-        if has_header(entry.number, span):
+def has_header(at, count):
+    """Whether a header is above the row of this index."""
+    return at == 0 or (at % HEADER_EVERY == 0 and count - at > LEAST_BELOW)
+
+
+def rows_of(story: Story, wanted: Wanted, y, chars):
+    """The rows of the entries that are drawn, with each command before its first entry, or, where it has none, before its
+    answer; the answers; and a header from time to time."""
+    rows, begun = Rows(y, chars), {}
+    for entry in story.entries[:wanted.span.first - 1]:
+        begun[entry.backend] = entry.command
+    steps = steps_of(story.entries[wanted.span.first - 1:wanted.span.last], wanted.brief)
+    for at, step in enumerate(steps):
+        if not wanted.in_page and has_header(at, len(steps)):
             rows.add("header", None, "", 1)
-        rows.add("entry", entry, entry.line, MOST_LINES)
-        for answer in story.answers.get(entry.number, ()):
+        backend, command = step.main.backend, step.main.command
+        if begun.get(backend, 0) < command:
+            rows.add_commands(wanted.commands, backend, [command])
+            begun[backend] = command
+        rows.add("entry", step, step.text, MOST_LINES)
+        for answer in (answer for entry in step.entries for answer in story.answers.get(entry.number, ())):
+            rows.add_commands(wanted.commands, backend, range(begun.get(backend, 0) + 1, answer.command + 1))
+            begun[backend] = max(begun.get(backend, 0), answer.command)
             rows.add("answer", answer, answer.line, MOST_ANSWER_LINES)
     return rows
 
 
-def lanes_of(story: Story, span: Span) -> Tuple[Dict[int, Lane], Dict[object, int], float]:
-    """The lanes, the columns of bars in them, and where the last lane ends."""
-    lanes, columns, x = {}, {}, NUMBERS_WIDTH
-    gutter = 34 if story.messages or story.waiting else 10
+def lanes_of(story: Story, wanted: Wanted, x) -> Tuple[Dict[int, Lane], Dict[object, int], float]:
+    """The lanes from a place on, the columns of bars in them, and where the last lane ends."""
+    lanes, columns = {}, {}
+    gutter = 34 if story.log.waiting else 10
     least = LEAST_LANE if len(story.lives) <= MOST_WIDE_LANES else LEAST_LANE / 2
     for backend in (life.backend for life in story.lives):
-        builds, build_count = placed_in_columns(_own(story.builds, backend, span))
-        locks, lock_count = placed_in_columns(_own(story.locks, backend, span))
-        columns.update(builds)
+        kept, kept_count = placed_in_columns(_own(story.kept, backend, wanted.span))
+        locks, lock_count = placed_in_columns(_own(story.locks, backend, wanted.span))
+        columns.update(kept)
         columns.update(locks)
-        width = min(LOCK, WIDEST_BARS / max(lock_count, 1))
+        kept_width = min(KEPT, WIDEST_BARS / max(kept_count, 1))
+        lock_width = min(LOCK, WIDEST_BARS / max(lock_count, 1))
         mark = x + gutter + BAND / 2
-        at_builds = mark + BAND / 2 + 4
-        at_locks = at_builds + build_count * BUILD + 2
-        right = max(at_locks + lock_count * width + 8, x + least)
-        lanes[backend] = Lane(backend, x, right, x + gutter - 8, mark, at_builds, at_locks, width)
+        at_kept = mark + BAND / 2 + 5
+        at_locks = at_kept + kept_count * kept_width + 2
+        right = max(at_locks + lock_count * lock_width + 8, x + least)
+        lanes[backend] = Lane(backend, x, right, x + gutter - 8, mark, at_kept, kept_width, at_locks, lock_width)
         x = right
     return lanes, columns, x
 
@@ -173,13 +217,14 @@ def _own(bars, backend, span):
     return [bar for bar in bars if bar.backend == backend and span.meets(bar)]
 
 
-def layout_of(story: Story, span: Span, top):
+def layout_of(story: Story, wanted: Wanted, top, least_width):
     """Where everything of these entries is, below a height that is taken already."""
-    lanes, columns, right = lanes_of(story, span)
+    numbers = BRIEF_NUMBERS_WIDTH if wanted.brief else NUMBERS_WIDTH
+    lanes, columns, right = lanes_of(story, wanted, numbers)
     text = right + 14
-    chars = max(LEAST_CHARS, min(MOST_CHARS, int((WIDTH - text) / CHAR)))
-    rows = rows_of(story, span, top, chars)
-    middles = {row.content.number: row.middle for row in rows.rows if row.kind == "entry"}
+    rows = rows_of(story, wanted, top, max(LEAST_CHARS, min(MOST_CHARS, int((wanted.width - text - 10) / CHAR))))
+    middles = {entry.number: row.middle for row in rows.rows if row.kind == "entry" for entry in row.content.entries}
     headers = [row for row in rows.rows if row.kind == "header"]
-    return Layout(span, rows.rows, headers, middles, lanes, columns, top + HEADER, rows.y, text, chars,
-                  text + chars * CHAR + 10, rows.y + 8)
+    width = max(text + rows.longest * CHAR + 10, least_width)
+    return Layout(wanted.span, rows.rows, headers, middles, lanes, columns, numbers, headers[0].y + HEADER if headers else top,
+                  rows.y, text, width, rows.y + 8)

@@ -1,9 +1,9 @@
 """The legend at the head of a picture: what is drawn in it, and nothing else."""
-from . import story as stories
-from .bars import BAND_FILLS, VISIBLE_FILL, build_end
+from . import caches, transactions
+from .bars import BAND_FILLS, CAPS, KEPT_FILLS, VISIBLE_FILL, build_end, serve_mark
 from .events import MODES
-from .layout import BUILD, Span
-from .marks import GREEN, MARKS, MODE_COLOURS, ORANGE, mark_of
+from .layout import Layout
+from .marks import GREEN, MARKS, MODE_COLOURS, mark_of_step
 from .sentences import MODE_NAMES
 from .story import Story
 from .svg import element, group, text_at
@@ -31,21 +31,21 @@ def box(fill, stroke, **attributes):
     return element("rect", x=-7, y=-6, width=14, height=12, fill=fill, stroke=stroke, **attributes)
 
 
-def mark_items(entries):
-    """The marks of these entries."""
-    used = {mark_of(entry.event) for entry in entries}
+def mark_items(layout: Layout):
+    """The marks of the entries that are drawn."""
+    used = {mark_of_step(row.content) for row in layout.rows if row.kind == "entry"}
     return [Item(element("use", href="#" + name), text) for name, (text, _) in MARKS.items() if name in used]
 
 
-def transaction_items(transactions):
+def transaction_items(bars):
     """The bars of these transactions."""
-    outcomes = {transaction.outcome for transaction in transactions}
+    outcomes = {transaction.outcome for transaction in bars}
     items = []
     for outcome, (fill, stroke) in BAND_FILLS.items():
         if outcome in outcomes:
-            class_ = "open" if outcome == stories.RUNNING else "closed"
+            class_ = "open" if outcome == transactions.RUNNING else "closed"
             items.append(Item(box(fill, stroke, rx=3, class_=class_), "transaction: " + outcome))
-    if any(transaction.visible for transaction in transactions):
+    if any(transaction.visible for transaction in bars):
         items.append(Item(box(*VISIBLE_FILL), "visible, locks still held"))
     return items
 
@@ -59,13 +59,31 @@ def lock_items(locks):
     return items
 
 
-def build_items(builds):
-    """The bars of these builds."""
-    outcomes = {build.outcome for build in builds}
-    left = -(BUILD - 2) / 2
-    bar = element("rect", x=left, y=-8, width=BUILD - 2, height=13, fill="url(#scanning)", stroke=ORANGE)
-    return [Item(bar + build_end(outcome, left, 5), "build of a descriptor: " + outcome)
-            for outcome in (stories.FINISHED, stories.STARTED_OVER, stories.CUT_OFF) if outcome in outcomes]
+def kept_box(kind, more=""):
+    """A sample of a bar of what is kept."""
+    return element("rect", x=-5.5, y=-8, width=11, height=15, fill=KEPT_FILLS[kind], class_="kept-" + kind) + more
+
+
+def kept_items(layout: Layout, all_kept):
+    """The bars of what is kept, and their ends."""
+    def drawn(number):
+        """Whether an entry is drawn."""
+        return number is not None and layout.span.holds(number)
+    descriptors = [kept for kept in all_kept if kept.is_descriptor]
+    found = [
+        (descriptors, kept_box("build"), "a descriptor is built"),
+        ([kept for kept in all_kept if kept.built], kept_box("current"),
+         "a descriptor is kept" if len(descriptors) == len(all_kept) else "kept: a descriptor, a name, an oid, a column or a list"),
+        ([kept for kept in all_kept if kept.outdated], kept_box("outdated"), "out of date, and not told yet"),
+        ([kept for kept in all_kept if any(drawn(served.entry) for served in kept.serves)],
+         kept_box("current", serve_mark(0, 0)), "serves a command without a scan"),
+        ([kept for kept in all_kept if drawn(kept.last) and kept.cause in CAPS and kept.built],
+         kept_box("current", element("use", href="#fetch", transform="translate(0 6) scale(0.62)")), "stale, by this entry"),
+    ]
+    found += [([kept for kept in descriptors if kept.outcome == outcome and drawn(kept.last)],
+               kept_box("build", build_end(outcome, -5.5, 11, 7)), "build: " + outcome)
+              for outcome in (caches.STARTED_OVER, caches.CUT_OFF)]
+    return [Item(sample, text) for some, sample, text in found if some]
 
 
 def arrow_items(messages, refusals, waiting):
@@ -82,20 +100,21 @@ def arrow_items(messages, refusals, waiting):
     return items
 
 
-def items_of(story: Story, span: Span, messages, refusals):
-    """The groups of a legend for the entries that are drawn."""
+def items_of(story: Story, layout: Layout, messages, refusals):
+    """The groups of a legend for what is drawn."""
+    span = layout.span
+
     def drawn(bars):
+        """Those of some bars that are drawn."""
         return [bar for bar in bars if span.meets(bar)]
-    waiting = [waiting for waiting in story.waiting if span.holds(waiting.entry) and waiting.count]
-    return (mark_items(story.entries[span.first - 1:span.last]),
-            transaction_items(drawn(story.transactions)),
-            lock_items(drawn(story.locks)) + build_items(drawn(story.builds)),
-            arrow_items(messages, refusals, waiting))
+    waiting = [waiting for waiting in story.log.waiting if span.holds(waiting.entry) and waiting.count]
+    return (mark_items(layout), transaction_items(drawn(story.transactions)), lock_items(drawn(story.locks)),
+            kept_items(layout, drawn(story.kept)), arrow_items(messages, refusals, waiting))
 
 
 def legend(groups, y, width):
-    """The items, a new row for each group and where a row is full; and the height below them."""
-    drawn = []
+    """The items, a new row for each group and where a row is full; and how wide and high that is."""
+    drawn, right = [], 0
     for items in groups:
         x = LEFT
         for item in items:
@@ -104,5 +123,6 @@ def legend(groups, y, width):
             sample = group(item.sample, transform="translate(%.1f %.1f)" % (x + 10, y + ROW / 2))
             drawn.append(sample + text_at(x + SAMPLE + item.more, y + ROW / 2 + 4, item.text, "small"))
             x += item.width
+            right = max(right, x)
         y += ROW if items else 0
-    return group("".join(drawn), class_="legend"), y
+    return group("".join(drawn), class_="legend"), right, y

@@ -7,6 +7,7 @@ from .events import MODES, Event
 
 INK, GREY, ORANGE, SKY, GREEN, BLUE, RED, PURPLE = (
     "#333333", "#8a8a8a", "#e69f00", "#56b4e9", "#009e73", "#0072b2", "#d55e00", "#b0558a")
+KEPT_BROWN = "#5c3d00"
 
 # From the weakest mode to the strongest: light to dark.
 MODE_COLOURS = dict(zip(MODES, (
@@ -35,6 +36,8 @@ MARKS = {
                '<circle cy="2" r="3.4" fill="#ffffff" stroke="%s" stroke-width="1.6"/>' % GREEN),
     "scan": ("scan", '<circle cx="-1" cy="-1" r="3.4" fill="#ffffff" stroke="%s" stroke-width="1.5"/>'
              '<path d="M1.6 1.6L5.5 5.5" stroke="%s" stroke-width="2"/>' % (INK, INK)),
+    "scans": ("scans of a descriptor", '<circle cx="-2" cy="-2" r="3" fill="#ffffff" stroke="%s" stroke-width="1.4"/>'
+              '<path d="M0.4 0.4L3 3M-6.5 5H6.5M-6.5 7.3H6.5" stroke="%s" stroke-width="1.6"/>' % (INK, INK)),
     "write": ("write", _DIAMOND % (ORANGE, "#8a5f00")),
     "clash": ("clash (refused)", _DIAMOND % ("#ffffff", RED) +
               '<path d="M-3 -3L3 3M3 -3L-3 3" stroke="%s" stroke-width="1.5"/>' % RED),
@@ -57,21 +60,28 @@ def mark_of(event: Event):
     return event.kind.replace(" ", "-")
 
 
+def mark_of_step(step):
+    """The name of the mark of a row."""
+    return "scans" if step.is_build else mark_of(step.main.event)
+
+
 def definitions(names):
-    """The definitions of these marks, and the patterns and arrow heads of bars and arrows."""
+    """The definitions of these marks, and of all patterns and arrow heads of bars and arrows."""
     marks = ['<g id="%s">%s</g>' % (name, drawing) for name, (_, drawing) in MARKS.items() if name in names]
     return "".join(marks) + _PATTERNS
 
 
 _PATTERNS = (
-    '<pattern id="taken-back" width="6" height="6" patternUnits="userSpaceOnUse" patternTransform="rotate(45)">'
-    '<rect width="6" height="6" fill="#ffffff"/><rect width="2.4" height="6" fill="%s"/></pattern>'
+    '<pattern id="taken-back" width="7" height="7" patternUnits="userSpaceOnUse" patternTransform="rotate(45)">'
+    '<rect width="7" height="7" fill="#fbf3f8"/><rect width="1.2" height="7" fill="%s" fill-opacity="0.45"/></pattern>'
     '<pattern id="not-clear" width="4" height="4" patternUnits="userSpaceOnUse" patternTransform="rotate(-45)">'
     '<rect width="4" height="4" fill="#ffffff"/><rect width="1.4" height="4" fill="%s"/></pattern>'
     '<pattern id="scanning" width="4" height="4" patternUnits="userSpaceOnUse">'
     '<rect width="4" height="4" fill="#fff6e0"/><circle cx="2" cy="2" r="0.9" fill="%s"/></pattern>'
+    '<pattern id="outdated" width="5" height="5" patternUnits="userSpaceOnUse" patternTransform="rotate(45)">'
+    '<rect width="5" height="5" fill="#ffffff"/><rect width="2" height="5" fill="%s"/></pattern>'
     '<marker id="takes" viewBox="0 0 8 8" refX="7" refY="4" markerWidth="7" markerHeight="7" orient="auto" '
     'markerUnits="userSpaceOnUse"><path d="M0 0.5L8 4L0 7.5Z" fill="%s"/></marker>'
     '<marker id="holder" viewBox="0 0 8 8" refX="4" refY="4" markerWidth="8" markerHeight="8" '
     'markerUnits="userSpaceOnUse"><circle cx="4" cy="4" r="2.6" fill="#ffffff" stroke="%s" stroke-width="1.4"/></marker>'
-    % (PURPLE, GREEN, ORANGE, BLUE, RED))
+    % (PURPLE, GREEN, ORANGE, ORANGE, BLUE, RED))

@@ -19,7 +19,8 @@ from .faults import Fault
 
 
 class Placed(NamedTuple):
-    """A step in a history: whose it is, its access, and how many steps of each backend come before it, itself included."""
+    """A step in a history: whose it is, its access, how many steps of each backend come before it, itself included, and
+    its text; that of a step made of several (serial.py) has a line for each."""
     backend: int
     access: Access
     before: Dict[int, int]
@@ -102,6 +103,17 @@ def asleep_after(asleep, access):
     return {backend: own for backend, own in asleep.items() if not own.meets_one_of(access)}
 
 
+def awake_after(backends, steps: List[Placed], asleep):
+    """The backends that haven't stopped in these steps, and don't sleep after them."""
+    stopped = {step.backend for step in steps if step.text.split("\n")[-1] == "stop"}
+    return [backend for backend in backends if backend not in stopped and backend not in asleep]
+
+
+def awake_first(backends, asleep):
+    """All backends, those first that are awake."""
+    return [backend for backend in backends if backend not in asleep] + sorted(asleep)
+
+
 class Branch:
     """A place in the history that is being run: whose step was made there, whose are still to be tried, with the steps
     that are to follow it, and who sleeps there."""
@@ -124,19 +136,37 @@ class Branch:
         return self.to_try.pop(min(self.to_try)) if self.to_try else None
 
 
-class Search:
-    """Runs all orders, one after the other."""
+class Share(NamedTuple):
+    """A share of a search: the orders whose schedules begin with these backends' steps, and in which none of the sleepers
+    goes on before a step that meets its own."""
+    first: List[int]
+    asleep: Dict[int, Access]
 
-    def __init__(self, run, backends, every_order=False):
+
+WHOLE = Share([], {})
+
+
+class Search:
+    """Runs all orders of a share, one after the other. Its first steps are made in each run, and their races are left
+    alone."""
+
+    def __init__(self, run, backends, accesses: Accesses, share: Share = WHOLE):
         self.run = run              # a function of whose the first steps are, and of who then goes on to the stop
         self.backends = backends
-        self.accesses = Accesses(every_order)
+        self.accesses = accesses
+        self.first = list(share.first)
+        self.asleep = dict(share.asleep)
         self.branches: List[Branch] = []
         self.history = History(self.accesses)
 
+    @property
+    def place(self):
+        """How many steps are made before the next one is chosen."""
+        return len(self.first) + len(self.branches)
+
     def orders(self):
         """The run of each order with its history; a run that was given up comes as None."""
-        branch, steps = Branch(0, {}), []
+        branch, steps = Branch(0, self.asleep), []
         while branch is not None:
             run = self.run(*self.schedule(branch, steps))
             branch, steps = self.take(run, branch), []
@@ -147,46 +177,52 @@ class Search:
 
     def is_stuck(self, branch):
         """Whether all that haven't stopped sleep at this place."""
-        stopped = {step.backend for step in self.history.steps[:len(self.branches)] if step.text == "stop"}
-        return all(backend in stopped or backend in branch.asleep for backend in self.backends)
+        return not awake_after(self.backends, self.history.steps[:self.place], branch.asleep)
 
     def schedule(self, branch, steps):
         """The steps up to the branch and these; then those to the stop who are awake, and at last the sleepers."""
         asleep = branch.asleep
         for step in steps:
             asleep = asleep_after(asleep, step.access)
-        awake = [backend for backend in self.backends if backend not in asleep]
-        return [known.backend for known in self.branches] + [step.backend for step in steps], awake + sorted(asleep)
+        made = self.first + [known.backend for known in self.branches] + [step.backend for step in steps]
+        return made, awake_first(self.backends, asleep)
 
     def take(self, run, branch):
         """Goes through a run that leaves the one before it at this branch, and puts down what its races ask for. None, or
         where the run goes on with a sleeper the branch at which another has to go on."""
-        known, self.history = self.history.steps[:len(self.branches)], History(self.accesses)
+        place = self.place
+        known, self.history = self.history.steps[:place], History(self.accesses)
         for at, step in enumerate(run.steps):
             self.history.add(step)
-            if at < len(known):
-                self.compare(at, known[at], step)
+            if at < place:
+                self.compare(at, known, step)
                 continue
-            if at > len(known):
+            if at > place:
                 branch = Branch(step[0], asleep_after(branch.asleep, self.history.steps[at - 1].access))
             if step[0] in branch.asleep:
                 return branch
             branch.backend = step[0]
             self.branches.append(branch)
-            for first in self.history.races(at):
-                self.branches[first].want(self.history.reversal(first, at))
+            self.put_down_races(at)
         return None
+
+    def put_down_races(self, second):
+        """Puts down what the races of a step with earlier ones ask for."""
+        for first in self.history.races(second):
+            if first >= len(self.first):
+                self.branches[first - len(self.first)].want(self.history.reversal(first, second))
 
     def compare(self, at, known, step):
         """The program makes the same steps in the same order."""
-        if (known.backend, known.text) != (step[0], step[2]):
+        same = (known[at].backend, known[at].text) if known else (self.first[at], step[2])
+        if same != (step[0], step[2]):
             raise Fault("the program made another step %d in the same order: %s" % (at + 1, step[2]))
 
     def go_back(self):
         """Goes back to the last place at which steps are to be tried: its branch, which is taken off, and the steps."""
         while self.branches:
             branch = self.branches.pop()
-            branch.asleep[branch.backend] = self.history.steps[len(self.branches)].access
+            branch.asleep[branch.backend] = self.history.steps[self.place].access
             steps = branch.next_one()
             if steps is not None:
                 return branch, steps

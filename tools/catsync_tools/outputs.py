@@ -32,6 +32,11 @@ class Output(NamedTuple):
     answers: List[Answer]
 
 
+def fault_at(entry, text, *parts):
+    """A Fault of an entry that can't follow those before it."""
+    return Fault("line %d: %s" % (entry.number, text % parts))
+
+
 def shown(line):
     """A line as a message quotes it."""
     return repr(line if len(line) <= 60 else line[:57] + "...")

@@ -1,21 +1,32 @@
 """The command tools/picture."""
-from .drawing import draw
-from .faults import Arguments, Fault, read_input, write_output
-from .layout import Span
+from .arguments import Arguments
+from .drawing import draw, picture
+from .faults import Fault, read_file, read_input, write_output
+from .layout import WIDTH, Commands, Span, Wanted
 from .outputs import read_output
-from .page import page
+from .page import PAGE_WIDTH, page
+from .sources import read_source
+from .spellings import without_comment
 from .story import story_of
 
 MOST_ENTRIES = 5000
+LEAST_WIDTH = 400
 
 
 def arguments_of(words):
     """The command line."""
-    parser = Arguments(prog="picture", description="Draws an output of catsync: tools/picture < OUTPUT > HISTORY.svg")
-    parser.add_argument("--html", action="store_true", help="one page, with a list of the entries beside the picture")
-    parser.add_argument("--from", dest="first", type=int, metavar="N", help="the first entry to draw (1)")
-    parser.add_argument("--to", dest="last", type=int, metavar="N", help="the last entry to draw (the last there is)")
-    return parser.parse_args(words)
+    parser = Arguments("picture", "[OPTION].. < OUTPUT > HISTORY.svg", "Draws what `catsync walk` prints.",
+                       ((0, "the picture is printed"),))
+    parser.option("--html", action="store_true", help="a page to step through with the arrow keys, with each backend's state")
+    parser.option("--script", metavar="FILE", help="the script, for each command's text above its first entry")
+    parser.option("--brief", action="store_true", help="looks and the scans of a descriptor share a row")
+    parser.option("--width", type=int, metavar="N", help="how many pixels wide it is, if its lanes allow it (%d)" % WIDTH)
+    parser.option("--from", dest="first", type=int, metavar="N", help="the first entry to draw (1)")
+    parser.option("--to", dest="last", type=int, metavar="N", help="the last entry to draw (the last there is)")
+    options = parser.parse(words)
+    if options.width is not None and options.width < LEAST_WIDTH:
+        parser.error("--width: at least %d pixels" % LEAST_WIDTH)
+    return options
 
 
 def span_of(count, first=None, last=None):
@@ -29,16 +40,37 @@ def span_of(count, first=None, last=None):
     return Span(first, last)
 
 
-def picture_of(output, html, span):
+def script_of(path, output) -> Commands:
+    """The commands of the script in a file, of which this is an output; as they are written, but for a comment or a
+    semicolon behind them, and blanks."""
+    data = read_file(path)
+    try:
+        source = read_source(data)
+    except Fault as fault:
+        raise Fault("%s: %s" % (path, fault))
+    commands = {place: " ".join(without_comment(text).rstrip("; \t").split()) for place, text in source.commands.items()}
+    for entry in output.entries:
+        if entry.command > 0 and entry.event.kind not in ("gone", "release", "stop") and (
+                entry.backend, entry.command) not in commands:
+            raise Fault("%s: line %d of the output is of command %d of backend %d, which the script hasn't" % (
+                path, entry.number, entry.command, entry.backend))
+    return commands
+
+
+def picture_of(output, html, span, commands=None, brief=False, width=None):
     """The picture of these entries of an output, as an SVG or as a page."""
     story = story_of(output)
-    layout, drawn = draw(story, span)
-    return page(story, layout, drawn) if html else drawn
+    width = (PAGE_WIDTH if html else WIDTH) if width is None else width
+    wanted = Wanted(span, commands or {}, brief, width, html)
+    drawing = draw(story, wanted)
+    return page(story, wanted, drawing) if html else picture(drawing)
 
 
 def main(words):
     """Draws the output on standard input."""
     options = arguments_of(words)
     output = read_output(read_input())
-    write_output(picture_of(output, options.html, span_of(len(output.entries), options.first, options.last)))
+    span = span_of(len(output.entries), options.first, options.last)
+    commands = script_of(options.script, output) if options.script else None
+    write_output(picture_of(output, options.html, span, commands, options.brief, options.width))
     return 0

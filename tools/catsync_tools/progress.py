@@ -10,7 +10,7 @@ class Progress:
     """The bar."""
 
     def __init__(self):
-        self.is_shown = sys.stderr.isatty()
+        self.is_shown = sys.stderr is not None and sys.stderr.isatty()
         self.drawn_at = 0.0
 
     def show(self, done, most, text):

@@ -1,7 +1,5 @@
 """Scripts with other schedules than their own."""
-from typing import List, NamedTuple, Tuple
-
-from .faults import Fault
+from typing import Dict, List, NamedTuple, Tuple
 
 Turns = List[Tuple[int, int]]       # backends, each with how many steps it makes before the next one's turn
 
@@ -18,17 +16,16 @@ class Script(NamedTuple):
         """The script with this line of steps."""
         return b"\n".join(self.lines + [line.encode("ascii"), b"end", b""])
 
-
-def read_script(data):
-    """The script of an input that the program doesn't refuse."""
-    lines = []
-    for line in data.split(b"\n"):
-        words = line.lower().split()
-        if words == [b"end"]:
-            return Script(lines)
-        if words[:1] != [b"steps"]:
-            lines.append(line)
-    raise Fault("line %d: the input ends without an 'end' line" % (len(lines) + 1))
+    def commands(self):
+        """The texts of its commands, by backend and number."""
+        found: Dict[Tuple[int, int], str] = {}
+        counts: Dict[int, int] = {}
+        for line in self.lines:
+            backend, colon, text = line.decode("ascii", "replace").partition(":")
+            if colon and backend.strip().isdigit():
+                counts[int(backend)] = counts.get(int(backend), 0) + 1
+                found[int(backend), counts[int(backend)]] = text.strip()
+        return found
 
 
 def turns_of(backends):

@@ -1,79 +1,21 @@
-"""What a history comes to: what lasts (transactions, locks, builds) and what travels (messages), as folds over its entries.
+"""What a history comes to, as one fold over its entries: who runs which transaction, which locks are held and clear, how
+far each backend is in the queue of messages, what it keeps of its scans; and what each entry did.
 
-A fold takes the entries one by one. Where an entry can't follow those before it, so that it couldn't be drawn, it is a
-Fault; the full rules of what may follow are the definitions' and aren't tested here.
+Where an entry can't follow those before it, so that this couldn't be said, it is a Fault; the full rules of what may follow
+are the definitions' and aren't tested here.
 """
 import bisect
-from typing import Dict, List, NamedTuple, Optional
+from typing import Dict, List, NamedTuple, Optional, Sequence
 
+from .caches import FAILED, FETCHED, LEFT, OWN_WRITE, RESET, TAKEN_BACK, Caches, Kept, datum_of
 from .faults import Fault
-from .outputs import Answer, Entry
-
-COMMITTED, TAKEN_BACK, WROTE_NOTHING, RUNNING = "committed", "taken back", "wrote nothing", "still running"
-FINISHED, STARTED_OVER, CUT_OFF = "finished", "started over", "cut off"
-FULL_FETCH = 32
-BUILD_SCANS = ("class", "attribute", "attrdef", "constraint", "index", "trigger", "indexrow")
-LAST_SCANS = ("trigger", "indexrow")
-
-
-class Transaction:
-    """A transaction of a backend, from its first entry to the release that ends it."""
-
-    def __init__(self, entry):
-        self.backend, self.command, self.first = entry.backend, entry.command, entry.number
-        self.xid: Optional[int] = None
-        self.wrote: Optional[int] = None
-        self.visible: Optional[int] = None
-        self.last: Optional[int] = None
-
-    @property
-    def outcome(self):
-        """What became of it."""
-        if self.last is None:
-            return RUNNING
-        if self.visible is not None:
-            return COMMITTED
-        return TAKEN_BACK if self.wrote else WROTE_NOTHING
-
-
-class Lock:
-    """A lock, from its grant to its release. It is clear once the accept after its grant has ended."""
-
-    def __init__(self, entry, rel, mode, name, clear=None):
-        self.backend, self.command, self.first = entry.backend, entry.command, entry.number
-        self.rel, self.mode, self.name = rel, mode, name
-        self.clear: Optional[int] = clear
-        self.last: Optional[int] = None
-
-
-class Build:
-    """The scans for one descriptor, from the first to the last."""
-
-    def __init__(self, entry, rel, name):
-        self.backend, self.command, self.first = entry.backend, entry.command, entry.number
-        self.rel, self.name = rel, name
-        self.last: Optional[int] = None
-        self.outcome = RUNNING
-
-    def end(self, number, outcome):
-        """It ends at this entry."""
-        self.last, self.outcome = number, outcome
-
-
-class Message(NamedTuple):
-    """So many messages of a publish of the sender that a fetch of a backend took."""
-    publish: int
-    sender: int
-    fetch: int
-    backend: int
-    count: int
-
-
-class Waiting(NamedTuple):
-    """After an entry so many messages wait for a backend."""
-    entry: int
-    backend: int
-    count: int
+from .locks import Lock, Locks, ends_accept
+from .log import Batch, Log
+from .messages import Message, Row, messages_of, of_descriptor
+from .outputs import Answer, Entry, fault_at
+from .rows import Rows, Version
+from .transactions import Transaction, Transactions, Written
+from .uses import Uses
 
 
 class Refusal(NamedTuple):
@@ -95,9 +37,30 @@ class Named(NamedTuple):
     name: str
 
 
-def fault_at(entry, text, *parts):
-    """A Fault of an entry that can't follow those before it."""
-    return Fault("line %d: %s" % (entry.number, text % parts))
+class Facts:
+    """What an entry did, beside what its line says. Of what an event of its kind doesn't do there is nothing."""
+    following: Optional[Entry] = None                   # the backend's entry after it
+    transaction: Optional[Transaction] = None           # the one that runs, or that it ends
+    batches: Sequence[Batch] = ()                       # messages that it takes, finds waiting, or puts into the queue
+    left = 0                                            # messages that wait for the backend after it
+    messages: Sequence[Message] = ()                    # those of its write, or of the writes that it takes back
+    receivers: Sequence[int] = ()                       # of a publish: for whom its messages wait,
+    published = 0                                       # and how many of the commit's were sent with it
+    rows: Sequence[Row] = ()                            # that its scan gives
+    unseen: Sequence[Version] = ()                      # versions of a name that its scan doesn't see
+    kept: Optional[Kept] = None                         # what its scan is part of
+    stale: Sequence[Kept] = ()                          # what the backend keeps no more
+    outdated: Sequence[Kept] = ()                       # what others keep that is out of date from here on
+    cleared: Sequence[Lock] = ()
+    granted: Sequence[Lock] = ()
+    released: Sequence[Lock] = ()
+    others: Sequence[Lock] = ()                         # locks of other backends on a relation that it locks
+    own: Sequence[Lock] = ()                            # the backend's locks on a relation that it finds by its name
+    refusal: Optional[Refusal] = None
+    serves: Sequence[Kept] = ()                         # what serves its backend's command by what was had here
+
+    def __init__(self, entry: Entry, before: Optional[Entry]):
+        self.entry, self.before = entry, before         # and the backend's entry before it
 
 
 class Life:
@@ -140,11 +103,15 @@ class Names:
     def __init__(self):
         self.of_rel: Dict[int, List[Named]] = {}
         self.of_backend: Dict[int, List[Named]] = {}
+        self.latest: Dict[int, str] = {}
+        self.rels: Dict[str, set] = {}
 
     def give(self, named):
         """A write gives a relation a name."""
         self.of_rel.setdefault(named.rel, []).append(named)
         self.of_backend.setdefault(named.backend, []).append(named)
+        self.latest[named.rel] = named.name
+        self.rels.setdefault(named.name, set()).add(named.rel)
 
     def take_back(self, backend, command):
         """What the backend wrote in commands of this number and above is rolled back."""
@@ -152,16 +119,6 @@ class Names:
         while own and own[-1].command >= command:
             named = own.pop()
             self.of_rel[named.rel].remove(named)
-
-    def take(self, entry):
-        """One more entry."""
-        if entry.event.kind == "write":
-            for change in entry.event.parts["changes"]:
-                if change.catalog == "class" and change.sign in "+=":
-                    rel, name = int(change.columns[0]), change.columns[1]
-                    self.give(Named(entry.number, entry.backend, entry.command, rel, name))
-        elif entry.event.kind == "gone":
-            self.take_back(entry.backend, entry.event.parts["from"])
 
     def name_of(self, rel):
         """The name of a relation, the latest; or nothing where none is known."""
@@ -173,224 +130,195 @@ class Names:
         return next((named for named in reversed(self.of_rel.get(rel, ())) if named.name == name), None)
 
 
-class Transactions:
-    """The transactions of all backends."""
+class Model:
+    """All that a history has come to so far."""
 
-    def __init__(self):
-        self.all: List[Transaction] = []
-        self.running: Dict[int, Transaction] = {}
+    def __init__(self, output):
+        self.lives, self.names, self.transactions, self.locks = Lives(), Names(), Transactions(), Locks()
+        self.log, self.rows, self.caches, self.uses = Log(), Rows(), Caches(), Uses(output)
+        self.facts: List[Facts] = []
+        self.last: Dict[int, Facts] = {}
 
     def take(self, entry):
         """One more entry."""
-        kind, parts = entry.event
-        if kind in ("start", "stop"):
-            return
-        if entry.backend not in self.running:
-            self.running[entry.backend] = Transaction(entry)
-            self.all.append(self.running[entry.backend])
-        transaction = self.running[entry.backend]
-        if kind == "write":
-            transaction.xid = parts["xid"]
-            transaction.wrote = transaction.wrote or entry.number
-        elif kind == "visible":
-            if transaction.xid != parts["xid"]:
-                raise fault_at(entry, "transaction %d isn't backend %d's running one", parts["xid"], entry.backend)
-            transaction.visible = entry.number
-        elif kind == "release" and parts["from"] == transaction.command:
-            transaction.last = entry.number
-            del self.running[entry.backend]
+        self.lives.take(entry)
+        before = self.last.get(entry.backend)
+        facts = Facts(entry, before.entry if before else None)
+        if before:
+            before.following = entry
+        facts.refusal = self.refusal_of(entry)
+        self.uses.take(self, facts, before)
+        facts.transaction = self.transactions.take(entry)
+        self.caches.cut(entry)
+        getattr(self, "take_" + entry.event.kind.replace(" ", "_"))(facts, entry)
+        if ends_accept(entry.event):
+            facts.cleared = self.locks.clear(entry)
+        facts.left = self.log.left(entry.backend)
+        self.facts.append(facts)
+        self.last[entry.backend] = facts
 
-    def of_xid(self, xid):
-        """The running transaction with this Xid, or None."""
-        return next((transaction for transaction in self.running.values() if transaction.xid == xid), None)
+    def take_start(self, facts, entry):
+        """A backend joins."""
+        self.log.start(entry)
 
+    def take_stop(self, facts, entry):
+        """A backend leaves, and with it what it keeps."""
+        self.caches.clear(entry, LEFT)
 
-class Locks:
-    """The locks of all backends."""
+    def take_look(self, facts, entry):
+        """A look whether messages wait."""
+        facts.batches = self.log.batches(entry.backend)
 
-    def __init__(self):
-        self.all: List[Lock] = []
-        self.held: List[Lock] = []
+    def take_fetch(self, facts, entry):
+        """A fetch of messages."""
+        facts.batches = self.log.fetch(entry, entry.event.parts["count"])
+        messages = [message for batch in facts.batches for message in batch.messages]
+        facts.stale = self.caches.process(entry, messages, FETCHED)
 
-    def grant(self, lock):
+    def take_fetch_reset(self, facts, entry):
+        """A reset, in place of all messages that wait."""
+        facts.batches = self.log.reset(entry)
+        facts.stale = self.caches.clear(entry, RESET)
+
+    def take_lock_ok(self, facts, entry):
         """A lock is granted."""
-        self.all.append(lock)
-        self.held.append(lock)
+        rel, mode = entry.event.parts["rel"], entry.event.parts["mode"]
+        facts.others = self.locks.of_others(entry.backend, rel)
+        self.grant(facts, Lock(entry, rel, mode, self.names.name_of(rel)))
 
-    def end(self, entry, ends):
-        """The backend's locks of which `ends` is true are released."""
-        for lock in self.held:
-            if lock.backend == entry.backend and ends(lock):
-                lock.last = entry.number
-        self.held = [lock for lock in self.held if lock.last is None]
+    def grant(self, facts, lock):
+        """A lock is granted, by itself or with a new relation."""
+        self.locks.grant(lock)
+        facts.granted = [*facts.granted, lock]
 
-    def clear(self, entry):
-        """An accept of the backend has ended."""
-        for lock in self.held:
-            if lock.backend == entry.backend and lock.clear is None:
-                lock.clear = entry.number
+    def take_lock_held(self, facts, entry):
+        """A lock is refused."""
 
-    def find(self, backend, rel, mode):
-        """The lock that a backend holds, or None."""
-        wanted = (backend, rel, mode)
-        return next((lock for lock in self.held if (lock.backend, lock.rel, lock.mode) == wanted), None)
+    def take_unlock(self, facts, entry):
+        """One lock is released."""
+        rel, mode = entry.event.parts["rel"], entry.event.parts["mode"]
+        if not self.locks.find(entry.backend, rel, mode):
+            raise fault_at(entry, "backend %d doesn't hold %s on %d", entry.backend, mode, rel)
+        facts.released = self.locks.end(entry, lambda lock: (lock.rel, lock.mode) == (rel, mode))
 
-    def take(self, entry, names):
-        """One more entry."""
+    def take_scan(self, facts, entry):
+        """A scan, and what it is part of."""
+        parts = entry.event.parts
+        facts.rows = self.rows.answer(entry.backend, datum_of(entry.event))
+        if parts["purpose"] == "relname":
+            facts.unseen = self.rows.unseen(entry.backend, parts["name"])
+            facts.own = self.locks.of(entry.backend, self.rows.named(entry.backend, parts["name"]))
+        name = self.names.name_of(parts["rel"]) if "rel" in parts else parts["name"]
+        facts.kept = self.caches.scan(entry, facts.rows, name)
+
+    def take_write(self, facts, entry):
+        """The rows of a command are changed, and its messages processed by its own backend."""
+        written = Written(entry.number, entry.command, [], [])
+        for change in entry.event.parts["changes"]:
+            if change.catalog == "class" and change.sign in "+=":
+                self.give_name(facts, entry, change)
+            named = [[message._replace(name=self.names.name_of(message.rel)) for message in messages]
+                     for messages in self.change(entry, facts.transaction, change)]
+            written.for_caches.extend(named[0])
+            written.for_descriptors.extend(message for message in named[1] if message not in written.for_descriptors)
+        facts.transaction.writes.append(written)
+        facts.messages = written.for_caches + written.for_descriptors
+        facts.stale = self.caches.process(entry, facts.messages, OWN_WRITE)
+
+    def give_name(self, facts, entry, change):
+        """A relation gets a name; a new one is locked."""
+        rel, name = int(change.columns[0]), change.columns[1]
+        self.names.give(Named(entry.number, entry.backend, entry.command, rel, name))
+        if change.sign == "+":
+            self.grant(facts, Lock(entry, rel, "ax", name, entry.number))
+
+    def change(self, entry, transaction, change):
+        """One change of a write; the messages that it leaves."""
+        if change.sign == "!":
+            return [], [of_descriptor(int(change.columns[0]))]
+        old, new = self.rows.change(entry, transaction, change)
+        if old is None and change.sign != "+":
+            raise fault_at(entry, "backend %d sees no row of %s to change", entry.backend, change.catalog)
+        return messages_of(old, new)
+
+    def take_clash_row(self, facts, entry):
+        """A write is refused, by a relation's name."""
+
+    def take_clash_running(self, facts, entry):
+        """A write is refused, by what a running transaction wrote."""
+
+    def take_visible(self, facts, entry):
+        """A transaction is committed."""
+        touched = self.rows.touched(facts.transaction)
+        self.rows.commit(facts.transaction)
+        facts.outdated = self.caches.outdate(entry, touched, self.rows)
+        for kept in facts.outdated:
+            kept.outdated_by = facts.transaction
+
+    def take_publish(self, facts, entry):
+        """The next messages of a commit go into the queue."""
+        messages = facts.transaction.publish(entry, entry.event.parts["count"])
+        facts.published = facts.transaction.published
+        facts.receivers = self.lives.alive()
+        self.log.publish(entry, messages, facts.receivers)
+        facts.batches = [Batch(entry.number, entry.backend, messages)]
+
+    def take_release(self, facts, entry):
+        """Locks are released."""
+        first = entry.event.parts["from"]
+        facts.released = self.locks.end(entry, lambda lock: lock.command >= first)
+
+    def take_gone(self, facts, entry):
+        """Writes are taken back, and their messages processed by their own backend."""
+        first = entry.event.parts["from"]
+        self.names.take_back(entry.backend, first)
+        facts.messages = facts.transaction.take_back(first)
+        self.rows.take_back(facts.transaction, first)
+        facts.stale = self.caches.process(entry, facts.messages, TAKEN_BACK)
+
+    def take_fail(self, facts, entry):
+        """Memory is refused."""
+        facts.stale = self.caches.clear(entry, FAILED)
+
+    def refusal_of(self, entry):
+        """What refuses an entry, or None where it isn't refused."""
         kind, parts = entry.event
-        if kind == "lock ok":
-            self.grant(Lock(entry, parts["rel"], parts["mode"], names.name_of(parts["rel"])))
-        elif kind == "write":
-            for change in parts["changes"]:
-                if change.catalog == "class" and change.sign == "+":
-                    self.grant(Lock(entry, int(change.columns[0]), "ax", change.columns[1], entry.number))
-        elif kind == "unlock":
-            if not self.find(entry.backend, parts["rel"], parts["mode"]):
-                raise fault_at(entry, "backend %d doesn't hold %s on %d", entry.backend, parts["mode"], parts["rel"])
-            self.end(entry, lambda lock: (lock.rel, lock.mode) == (parts["rel"], parts["mode"]))
-        elif kind == "release":
-            self.end(entry, lambda lock: lock.command >= parts["from"])
-        elif ends_accept(entry.event):
-            self.clear(entry)
-
-
-def ends_accept(event):
-    """An accept ends with a look that says no, with a fetch of fewer than 32 messages, and with a reset."""
-    if event.kind == "look":
-        return event.parts["answer"] == "no"
-    return event.kind == "fetch reset" or (event.kind == "fetch" and event.parts["count"] < FULL_FETCH)
-
-
-class Builds:
-    """The builds of descriptors."""
-
-    def __init__(self):
-        self.all: List[Build] = []
-        self.running: Dict[tuple, Build] = {}
-        self.fetched: Dict[int, int] = {}
-
-    def cut(self, entry):
-        """Builds that the backend's earlier commands left, or that it gives up with this entry."""
-        over = entry.event.kind in ("fail", "gone", "release", "stop")
-        for key, build in list(self.running.items()):
-            if build.backend == entry.backend and (over or build.command != entry.command):
-                build.end(entry.number, CUT_OFF)
-                del self.running[key]
-
-    def start(self, entry, rel, names):
-        """A build of the backend makes its first scan."""
-        build = Build(entry, rel, names.name_of(rel))
-        self.all.append(build)
-        self.running[entry.backend, rel] = build
-
-    def scan(self, entry, names):
-        """A scan for a descriptor."""
-        purpose, rel = entry.event.parts["purpose"], entry.event.parts["rel"]
-        key = (entry.backend, rel)
-        if key in self.running and purpose == "class":
-            build = self.running.pop(key)
-            build.end(max(build.first, self.fetched.get(entry.backend, 0)), STARTED_OVER)
-        if key not in self.running:
-            self.start(entry, rel, names)
-        if purpose in LAST_SCANS:
-            self.running.pop(key).end(entry.number, FINISHED)
-
-    def take(self, entry, names):
-        """One more entry."""
-        self.cut(entry)
-        if entry.event.kind in ("fetch", "fetch reset"):
-            self.fetched[entry.backend] = entry.number
-        elif entry.event.kind == "scan" and entry.event.parts["purpose"] in BUILD_SCANS:
-            self.scan(entry, names)
-
-
-class Queue:
-    """The queue of invalidation messages, as the log of all that were published."""
-
-    def __init__(self):
-        self.messages: List[Message] = []
-        self.waiting: List[Waiting] = []
-        self.resets: List[int] = []
-        self.ends: List[int] = []
-        self.publishes: List[Entry] = []
-        self.position: Dict[int, int] = {}
-
-    def length(self):
-        """How many messages were published."""
-        return self.ends[-1] if self.ends else 0
-
-    def publish(self, entry, alive):
-        """More messages wait for all."""
-        self.ends.append(self.length() + entry.event.parts["count"])
-        self.publishes.append(entry)
-        for backend in alive:
-            self.waiting.append(Waiting(entry.number, backend, self.length() - self.position[backend]))
-
-    def fetch(self, entry):
-        """The backend takes the next messages, each of one publish."""
-        first = self.position[entry.backend]
-        last = first + entry.event.parts["count"]
-        if last > self.length():
-            raise fault_at(entry, "a fetch of %d messages, but %d wait for backend %d",
-                           last - first, self.length() - first, entry.backend)
-        at = bisect.bisect_right(self.ends, first)
-        while first < last:
-            count = min(self.ends[at], last) - first
-            publish = self.publishes[at]
-            self.messages.append(Message(publish.number, publish.backend, entry.number, entry.backend, count))
-            first, at = first + count, at + 1
-        self.move(entry, last)
-
-    def move(self, entry, position):
-        """The backend is past so many messages."""
-        self.position[entry.backend] = position
-        self.waiting.append(Waiting(entry.number, entry.backend, self.length() - position))
-
-    def take(self, entry, alive):
-        """One more entry."""
-        if entry.event.kind == "start":
-            self.position[entry.backend] = self.length()
-        elif entry.event.kind == "publish":
-            self.publish(entry, alive)
-        elif entry.event.kind == "fetch":
-            self.fetch(entry)
-        elif entry.event.kind == "fetch reset":
-            self.resets.append(entry.number)
-            self.move(entry, self.length())
-
-
-def refusal_of(entry, names, transactions, locks):
-    """What refused an entry, or None where it wasn't refused."""
-    kind, parts = entry.event
-    if kind == "lock held":
-        lock = locks.find(parts["holder"], parts["rel"], parts["held"])
-        if lock is None or lock.backend == entry.backend:
-            raise fault_at(entry, "backend %d doesn't hold %s on %d", parts["holder"], parts["held"], parts["rel"])
-        return Refusal(entry.number, entry.backend, lock.backend, lock.first, lock)
-    if kind == "clash running":
-        transaction = transactions.of_xid(parts["xid"])
-        if transaction is None or transaction.backend == entry.backend:
-            raise fault_at(entry, "transaction %d isn't one that another backend runs", parts["xid"])
-        return Refusal(entry.number, entry.backend, transaction.backend, transaction.wrote, transaction)
-    if kind == "clash row":
-        named = names.giver(parts["rel"], parts["name"])
-        if named is None:
-            raise fault_at(entry, "no write gave relation %d the name %s", parts["rel"], parts["name"])
-        return Refusal(entry.number, entry.backend, named.backend, named.entry, None)
-    return None
+        if kind == "lock held":
+            lock = self.locks.find(parts["holder"], parts["rel"], parts["held"])
+            if lock is None or lock.backend == entry.backend:
+                raise fault_at(entry, "backend %d doesn't hold %s on %d", parts["holder"], parts["held"], parts["rel"])
+            return Refusal(entry.number, entry.backend, lock.backend, lock.first, lock)
+        if kind == "clash running":
+            transaction = self.transactions.of_xid(parts["xid"])
+            if transaction is None or transaction.backend == entry.backend:
+                raise fault_at(entry, "transaction %d isn't one that another backend runs", parts["xid"])
+            return Refusal(entry.number, entry.backend, transaction.backend, transaction.wrote, transaction)
+        if kind == "clash row":
+            named = self.names.giver(parts["rel"], parts["name"])
+            if named is None:
+                raise fault_at(entry, "no write gave relation %d the name %s", parts["rel"], parts["name"])
+            return Refusal(entry.number, entry.backend, named.backend, named.entry, None)
+        return None
 
 
 class Story(NamedTuple):
     """A history, and what it comes to."""
     entries: List[Entry]
+    facts: List[Facts]
     lives: List[Life]
     answers: Dict[int, List[Answer]]
     transactions: List[Transaction]
     locks: List[Lock]
-    builds: List[Build]
-    messages: List[Message]
-    waiting: List[Waiting]
+    kept: List[Kept]
+    log: Log
     refusals: List[Refusal]
+    names: Names
+
+    def called(self, rel, name):
+        """A relation by its name, and where several have had that, or none is known, by its oid."""
+        if not name:
+            return "relation %d" % rel
+        return "%s (%d)" % (name, rel) if len(self.names.rels.get(name, ())) > 1 else name
 
 
 def placed_answers(output):
@@ -411,18 +339,12 @@ def placed_answers(output):
 
 
 def story_of(output):
-    """The folds of an output."""
-    lives, names, transactions, locks, builds, queue = Lives(), Names(), Transactions(), Locks(), Builds(), Queue()
-    refusals = []
+    """The fold of an output."""
+    answers = placed_answers(output)
+    model = Model(output)
     for entry in output.entries:
-        lives.take(entry)
-        refusal = refusal_of(entry, names, transactions, locks)
-        if refusal:
-            refusals.append(refusal)
-        names.take(entry)
-        transactions.take(entry)
-        locks.take(entry, names)
-        builds.take(entry, names)
-        queue.take(entry, lives.alive())
-    return Story(output.entries, [life for _, life in sorted(lives.all.items())], placed_answers(output), transactions.all,
-                 locks.all, builds.all, queue.messages, queue.waiting, refusals)
+        model.take(entry)
+    model.uses.finish_all(model)
+    refusals = [facts.refusal for facts in model.facts if facts.refusal]
+    return Story(output.entries, model.facts, [life for _, life in sorted(model.lives.all.items())], answers,
+                 model.transactions.all, model.locks.all, model.caches.known(), model.log, refusals, model.names)

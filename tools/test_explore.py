@@ -1,13 +1,10 @@
 #!/usr/bin/env python3
-"""Tests of tools/picture and tools/explore: python3 tools/test_tools.py
+"""Tests of tools/explore: python3 tools/test_explore.py
 
-The pictures are those of all outputs in examples/ and in tools/samples/; the latter have entries that no command of
-today makes. The explorer runs the proved executable, or the one that CATSYNC_PROGRAM names; without one its tests are
-skipped, but where that is set.
+The searches are tested on made-up steps too, for which no program is needed (testing.py says which one is run).
 """
 import functools
-import glob
-import html.parser
+import json
 import os
 import pty
 import random
@@ -16,322 +13,24 @@ import signal
 import subprocess
 import sys
 import tempfile
+import time
 import unittest
-import xml.etree.ElementTree as ElementTree
 
-sys.dont_write_bytecode = True
-TOOLS = os.path.dirname(os.path.abspath(__file__))
-TOP = os.path.dirname(TOOLS)
-sys.path.insert(0, TOOLS)
+from testing import HAS_PROGRAM, NO_PROGRAM, PROGRAM, TOOLS, TOP, call, content_of
 
 from catsync_tools.access import Accesses
 from catsync_tools.chains import Chains
-from catsync_tools.explore import Exploration, arguments_of
 from catsync_tools.findings import Found, without_places
-from catsync_tools.layout import Span
 from catsync_tools.orders import History, Search
-from catsync_tools.outputs import read_output
-from catsync_tools.picture import picture_of
-from catsync_tools.program import PROVED, Program, Run, is_up_to_date
+from catsync_tools.program import Program, Run
+from catsync_tools.progress import Progress
 from catsync_tools.report import led_to
-from catsync_tools.scripts import read_script, steps_line, turns_of
-from catsync_tools.story import story_of
+from catsync_tools.scripts import steps_line, turns_of
+from catsync_tools.search import Exploration, Settings, wanted_of
+from catsync_tools.serial import SerialRuns, WholeAccesses, commands_of, transactions_of
+from catsync_tools.shares import shares
+from catsync_tools.sources import read_source
 from catsync_tools.turns import Tried, fewest_turns
-
-PROGRAM = os.environ.get("CATSYNC_PROGRAM") or PROVED
-HAS_PROGRAM = "CATSYNC_PROGRAM" in os.environ or is_up_to_date(PROVED)
-OUTPUTS = sorted(path for folder in (os.path.join(TOP, "examples"), os.path.join(TOOLS, "samples"))
-                 for path in glob.glob(os.path.join(folder, "*.output")))
-SVG = "{http://www.w3.org/2000/svg}"
-
-
-def content_of(path):
-    """The bytes of a file."""
-    with open(path, "rb") as file:
-        return file.read()
-
-
-def entry_lines(data):
-    """The lines of the entries of an output."""
-    return [line for line in data.decode().split("\n") if line.startswith("h ")]
-
-
-def answer_lines(data):
-    """The lines of the answers of an output."""
-    return [line for line in data.decode().split("\n") if line.startswith("l ")]
-
-
-def call(tool, *words, given=b""):
-    """Exit status, standard output and standard error of a tool."""
-    done = subprocess.run([sys.executable, os.path.join(TOOLS, tool)] + list(words), input=given, stdout=subprocess.PIPE,
-                          stderr=subprocess.PIPE)
-    return done.returncode, done.stdout, done.stderr.decode()
-
-
-# What a picture has to show, worked out from the lines alone.
-
-def message_pairs(lines):
-    """The publishes and fetches with a message in common, by their numbers."""
-    log, position, pairs = [], {}, set()
-    for number, line in enumerate(lines, 1):
-        backend, words = line.split(" ")[1], line.split(" ")[3:]
-        if words[0] == "start" or words == ["fetch", "reset"]:
-            position[backend] = len(log)
-        elif words[0] == "publish":
-            log += [number] * int(words[1])
-        elif words[0] == "fetch":
-            taken = log[position[backend]:position[backend] + int(words[1])]
-            position[backend] += int(words[1])
-            pairs.update((publish, number) for publish in taken)
-    return pairs
-
-
-def refused(lines):
-    """The numbers of the entries that were refused for another's lock or name."""
-    return [number for number, line in enumerate(lines, 1)
-            if line.split(" ")[3] == "clash" or (" lock " in line and " held " in line)]
-
-
-def grants(lines):
-    """How many locks were granted: those asked for, and one for each new relation."""
-    return sum(line.endswith(" ok") + line.count("+class(") for line in lines)
-
-
-def transactions(lines):
-    """How many transactions there were: each begins with a backend's first entry that is neither its start nor its stop,
-    and ends with the release of the command in which it began."""
-    began, count = {}, 0
-    for line in lines:
-        _, backend, command, word = line.split(" ")[:4]
-        if word in ("start", "stop"):
-            continue
-        if backend not in began:
-            began[backend] = command
-            count += 1
-        if word == "release" and line.split(" ")[4] == began[backend]:
-            del began[backend]
-    return count
-
-
-# What a picture shows.
-
-def classes(element):
-    """The classes of an element."""
-    return element.get("class", "").split()
-
-
-class Drawn:
-    """A picture that was parsed, without its legend."""
-
-    def __init__(self, text):
-        self.root = ElementTree.fromstring(text)
-        for legend in [child for child in self.root if "legend" in classes(child)]:
-            self.root.remove(legend)
-
-    def all(self, class_):
-        """The elements of a class."""
-        return [element for element in self.root.iter() if class_ in classes(element)]
-
-    def shown(self, class_):
-        """The texts of the entries or answers: the whole text, and the text as it is shown."""
-        texts = []
-        for group in self.all(class_):
-            shown = "".join(next(text for text in group.iter(SVG + "text") if "line" in classes(text)).itertext())
-            title = group.find(SVG + "title").text
-            texts.append((title.split("\n")[1] if "\n" in title else shown, shown))
-        return texts
-
-    def numbers(self):
-        """The numbers beside the entries."""
-        return [int(text.text) for text in self.root.iter(SVG + "text") if "number" in classes(text)]
-
-
-class Pictures(unittest.TestCase):
-    """Pictures of all outputs."""
-
-    def drawn(self, path, first=1, last=None):
-        """The picture of an output, and its lines."""
-        data = content_of(path)
-        lines = entry_lines(data)
-        return Drawn(picture_of(read_output(data), False, Span(first, last or len(lines)))), lines, answer_lines(data)
-
-    def test_samples_have_all_events(self):
-        """The outputs that are drawn have each kind of event."""
-        kinds = {entry.event.kind for path in OUTPUTS for entry in read_output(content_of(path)).entries}
-        self.assertEqual(sorted(kinds), sorted([
-            "start", "look", "fetch", "fetch reset", "lock ok", "lock held", "unlock", "scan", "write", "clash row",
-            "clash running", "visible", "publish", "release", "gone", "fail", "stop"]))
-
-    def test_entries_and_answers(self):
-        """Each entry has its number, its mark and its text once, in order; so has each answer its text."""
-        for path in OUTPUTS:
-            with self.subTest(path):
-                drawn, lines, answers = self.drawn(path)
-                self.assertEqual(drawn.numbers(), list(range(1, len(lines) + 1)))
-                self.assertEqual([whole for whole, _ in drawn.shown("entry")], lines)
-                self.assertEqual(sorted(whole for whole, _ in drawn.shown("answer")), sorted(answers))
-                for whole, shown in drawn.shown("entry") + drawn.shown("answer"):
-                    self.assertTrue(shown == whole or (shown.endswith(" ...") and whole.startswith(shown[:-4])))
-                marks = {element.get("id") for element in drawn.root.find(SVG + "defs")}
-                used = [use.get("href") for use in drawn.root.iter(SVG + "use")]
-                self.assertEqual(len(used), len(lines))
-                self.assertLessEqual(set(used), {"#" + mark for mark in marks})
-
-    def test_text_is_nowhere_else(self):
-        """No other text or title of a picture has an entry's line."""
-        for path in OUTPUTS:
-            with self.subTest(path):
-                data = content_of(path)
-                text = picture_of(read_output(data), False, Span(1, len(entry_lines(data))))
-                found = [shown for element in ElementTree.fromstring(text).iter(SVG + "text")
-                         for shown in ["".join(element.itertext())] if re.match("h [0-9]+ [0-9]+ ", shown)]
-                self.assertEqual(len(found), len(entry_lines(data)))
-
-    def test_arrows(self):
-        """There is an arrow for each pair of a publish and a fetch, and for each refusal; and no other."""
-        for path in OUTPUTS:
-            with self.subTest(path):
-                drawn, lines, _ = self.drawn(path)
-                self.assertEqual(len(drawn.all("message")), len(message_pairs(lines)))
-                self.assertEqual(len(drawn.all("refusal")), len(refused(lines)))
-                titles = {tuple(int(number) for number in re.findall("entry ([0-9]+)", arrow.find(SVG + "title").text))
-                          for arrow in drawn.all("message")}
-                self.assertEqual(titles, message_pairs(lines))
-
-    def test_bars(self):
-        """There is a bar for each transaction and each lock."""
-        for path in OUTPUTS:
-            with self.subTest(path):
-                drawn, lines, _ = self.drawn(path)
-                self.assertEqual(len(drawn.all("transaction")), transactions(lines))
-                self.assertEqual(len(drawn.all("lock")), grants(lines))
-
-    def test_builds_that_start_over(self):
-        """The builds of a sample: three are given up for a message, and five come to their end."""
-        story = story_of(read_output(content_of(os.path.join(TOOLS, "samples", "started_over.output"))))
-        builds = [(build.backend, build.first, build.last, build.outcome) for build in story.builds]
-        self.assertEqual([build[3] for build in builds].count("started over"), 3)
-        self.assertIn((2, 16, 48, "started over"), builds)
-        self.assertIn((2, 50, 86, "started over"), builds)
-        self.assertIn((2, 88, 98, "finished"), builds)
-
-    def test_part_of_a_history(self):
-        """Of a part the entries of the part are drawn, and the arrows with an end in it."""
-        for path in OUTPUTS:
-            with self.subTest(path):
-                lines = entry_lines(content_of(path))
-                first, last = len(lines) // 3 + 1, 2 * len(lines) // 3 + 1
-                drawn, _, _ = self.drawn(path, first, last)
-                self.assertEqual([whole for whole, _ in drawn.shown("entry")], lines[first - 1:last])
-                pairs = [pair for pair in message_pairs(lines) if any(first <= end <= last for end in pair)]
-                self.assertEqual(len(drawn.all("message")), len(pairs))
-                self.assertEqual(len(drawn.all("refusal")), sum(first <= number <= last for number in refused(lines)))
-
-    def test_page(self):
-        """A page has the picture and a list with each line, and needs nothing else."""
-        for path in OUTPUTS:
-            with self.subTest(path):
-                data = content_of(path)
-                text = picture_of(read_output(data), True, Span(1, len(entry_lines(data))))
-                items = Items()
-                items.feed(text)
-                self.assertEqual([line for line in items.lines if line.startswith("h ")], entry_lines(data))
-                self.assertEqual(sorted(line for line in items.lines if line.startswith("l ")), sorted(answer_lines(data)))
-                self.assertNotRegex(text.replace("http://www.w3.org/2000/svg", ""), r"https?:|<link|src=|@import|url\((?!#)")
-
-    def test_pictures_of_the_readme(self):
-        """The pictures that README shows are those of its first example and of two backends."""
-        for given, shown in (("crates/catsync/stdout", "docs/first_run.svg"),
-                             ("examples/two_backends.output", "docs/two_backends.svg")):
-            with self.subTest(shown):
-                status, drawn, _ = call("picture", given=content_of(os.path.join(TOP, given)))
-                self.assertEqual(status, 0)
-                self.assertEqual(drawn, content_of(os.path.join(TOP, shown)),
-                                 "make it anew: tools/picture < %s > %s" % (given, shown))
-
-
-class Items(html.parser.HTMLParser):
-    """The lines in the list of a page."""
-
-    def __init__(self):
-        super().__init__()
-        self.lines, self.in_code = [], False
-
-    def handle_starttag(self, tag, attrs):
-        """A line begins."""
-        if tag == "code":
-            self.lines.append("")
-        self.in_code = tag == "code"
-
-    def handle_endtag(self, tag):
-        """A line ends."""
-        self.in_code = False
-
-    def handle_data(self, data):
-        """The text of a line."""
-        if self.in_code:
-            self.lines[-1] += data
-
-
-HEAD = "h 1 0 start\nh 1 1 look no\n"
-FAULTY_OUTPUTS = (
-    ("", "line 1: no output of catsync, which begins with an entry: ''"),
-    ("hello\n", "line 1: no output of catsync, which begins with an entry: 'hello'"),
-    ("end\n", "line 1: no output of catsync, which begins with an entry: 'end'"),
-    (HEAD + "h 1 1 lok no\nend\n", "line 3: not an entry: 'h 1 1 lok no'"),
-    (HEAD + "h 1 1 look maybe\nend\n", "line 3: not an entry: 'h 1 1 look maybe'"),
-    (HEAD + "h 1 1 lock 16384 xx ok\nend\n", "line 3: not an entry: 'h 1 1 lock 16384 xx ok'"),
-    (HEAD + "h 1 1 fetch 33\nend\n", "line 3: not an entry: 'h 1 1 fetch 33'"),
-    (HEAD + "h 1 1 write 1 +class(16384,t,x,-)\nend\n", "line 3: not an entry: 'h 1 1 write 1 +class(16384,t,x,-)'"),
-    (HEAD + "h 65 0 start\nend\n", "line 3: not an entry: 'h 65 0 start'"),
-    (HEAD + "h 1 1 caf\u00e9\nend\n", "line 3: not an entry: 'h 1 1 caf??'"),
-    (HEAD + "x\nend\n", "line 3: neither an entry nor an answer: 'x'"),
-    (HEAD + "l 1 1\nend\n", "line 3: neither an entry nor an answer: 'l 1 1'"),
-    (HEAD + "l 2 1 ok\nend\n", "line 3: an answer of backend 2, which made no entry"),
-    (HEAD, "line 3: the output ends without a line 'end'"),
-    (HEAD + "end\nend\n", "line 4: nothing may follow the line 'end': 'end'"),
-    ("h 1 1 look no\nend\n", "line 1: backend 1 hasn't started"),
-    (HEAD + "h 1 0 start\nend\n", "line 3: backend 1 starts twice"),
-    (HEAD + "h 1 2 stop\nh 1 2 look no\nend\n", "line 4: backend 1 has stopped"),
-    (HEAD + "h 1 0 look no\nend\n", "line 3: command 0 of backend 1 is over"),
-    (HEAD + "h 1 1 fetch 2\nend\n", "line 3: a fetch of 2 messages, but 0 wait for backend 1"),
-    (HEAD + "h 1 1 unlock 16384 as\nend\n", "line 3: backend 1 doesn't hold as on 16384"),
-    (HEAD + "h 1 1 lock 16384 as held 2 ax\nend\n", "line 3: backend 2 doesn't hold ax on 16384"),
-    (HEAD + "h 1 1 visible 1\nend\n", "line 3: transaction 1 isn't backend 1's running one"),
-    (HEAD + "h 1 1 clash t running 1\nend\n", "line 3: transaction 1 isn't one that another backend runs"),
-    (HEAD + "h 1 1 clash t row 16384\nend\n", "line 3: no write gave relation 16384 the name t"),
-)
-
-
-class FaultyOutputs(unittest.TestCase):
-    """What isn't an output is refused with one line, and nothing is drawn."""
-
-    def test_faulty_outputs(self):
-        """The line says what is wrong, and where."""
-        for given, said in FAULTY_OUTPUTS:
-            with self.subTest(said):
-                with self.assertRaises(Exception) as raised:
-                    picture_of(read_output(given.encode()), False, Span(1, 1))
-                self.assertEqual(str(raised.exception), said)
-
-    def test_command(self):
-        """A fault is one line on standard error, exit status 2, and nothing on standard output."""
-        example = content_of(OUTPUTS[0])
-        long = (HEAD + "h 1 1 look no\n" * 4999 + "end\n").encode()
-        for words, given, said in (
-                ([], HEAD.encode() + b"h 1 1 lok no\nend\n", "line 3: not an entry: 'h 1 1 lok no'"),
-                ([], b"", FAULTY_OUTPUTS[0][1]),
-                ([], long, "the history has 5001 entries, and a picture at most 5000: give --from and --to"),
-                (["--from", "0"], example, "no entries from 0 to "),
-                (["--from", "7", "--to", "6"], example, "no entries from 7 to 6: the history has "),
-                (["--from", "x"], example, "argument --from: invalid int value: 'x'; picture --help says more"),
-                (["--sideways"], example, "unrecognized arguments: --sideways; picture --help says more")):
-            with self.subTest(said):
-                status, drawn, error = call("picture", *words, given=given)
-                self.assertEqual((status, drawn), (2, b""))
-                self.assertTrue(error.startswith("picture: " + said), error)
-                self.assertEqual(error.count("\n"), 1)
-        self.assertEqual(call("picture", "--to", "5000", given=long)[0], 0)
 
 
 # The search for orders, without the program.
@@ -390,10 +89,81 @@ class Orders(unittest.TestCase):
             steps = {backend: [draw.choice(self.STEPS) for _ in range(length - 1)] + ["stop"]
                      for backend, length in enumerate(lengths, 1)}
             with self.subTest(steps):
-                search = Search(self.program(steps), sorted(steps))
+                search = Search(self.program(steps), sorted(steps), Accesses())
                 found = [order_of(history) for run, history in search.orders() if run]
                 self.assertEqual(len(found), len(set(found)))
                 self.assertEqual(set(found), self.all_orders(steps))
+
+
+    def test_shares(self):
+        """Shares have each order between them, and none twice."""
+        draw = random.Random(4)
+        for count in (1, 2, 7, 30, 500):
+            for _ in range(8):
+                steps = {backend: [draw.choice(self.STEPS) for _ in range(length - 1)] + ["stop"]
+                         for backend, length in enumerate(draw.choice(((3, 3, 2), (5, 4))), 1)}
+                with self.subTest((count, steps)):
+                    run, backends = self.program(steps), sorted(steps)
+                    found = [order_of(history) for share in shares(run, backends, Accesses(), count)
+                             for made, history in Search(run, backends, Accesses(), share).orders() if made]
+                    self.assertEqual(len(found), len(set(found)))
+                    self.assertEqual(set(found), self.all_orders(steps))
+
+    def test_serial_orders(self):
+        """Each order of whole commands is found once, against all ways to put them one after the other."""
+        draw = random.Random(6)
+        for _ in range(30):
+            commands = {backend: [[draw.choice(self.STEPS) for _ in range(draw.randint(1, 3))] for _ in range(draw.randint(1, 3))]
+                        for backend in (1, 2, 3)}
+            with self.subTest(commands):
+                runner = Made(commands)
+                runs = SerialRuns(runner, {backend: list(range(1, len(own) + 1)) for backend, own in commands.items()})
+                found = []
+                for run, history in Search(runs.run, runner.backends, WholeAccesses(())).orders():
+                    if run is not None:
+                        self.assertEqual(runs.last.steps, runner.whole([step.backend for step in history.steps]).steps)
+                        found.append(order_of(history))
+                self.assertEqual(len(found), len(set(found)))
+                self.assertEqual(set(found), {order_of(self.whole_history(runner.whole(order))) for order in interleavings(
+                    {backend: len(own) for backend, own in commands.items()})})
+
+    def whole_history(self, run):
+        """The history of whole commands of a run in which they are made one after the other."""
+        history, wholes = History(WholeAccesses(())), []
+        for backend, command, text in run.steps:
+            if text != "stop" and (not wholes or wholes[-1][:2] != (backend, command)):
+                wholes.append((backend, command, []))
+            wholes[-1][2].append(text)
+        for backend, command, texts in wholes:
+            history.add((backend, [command] * len(texts), "\n".join(texts)))
+        return history
+
+
+class Made:
+    """Backends with made-up commands, of so many steps whatever the others do; each ends with a stop."""
+
+    def __init__(self, commands):
+        self.backends = sorted(commands)
+        self.commands = commands
+        self.steps = {backend: [(backend, number, text) for number, texts in enumerate(own, 1) for text in texts]
+                      + [(backend, len(own) + 1, "stop")] for backend, own in commands.items()}
+
+    def run(self, first, rest):
+        """Steps in this order."""
+        left, made = {backend: list(own) for backend, own in self.steps.items()}, []
+        for backend in list(first) + [backend for backend in rest for _ in self.steps[backend]]:
+            if left[backend]:
+                made.append(left[backend].pop(0))
+        return Run(b"", made, ())
+
+    def whole(self, order):
+        """Whole commands in this order; the stop belongs to the last of each backend."""
+        left = {backend: [[(backend, number, text) for text in texts] for number, texts in enumerate(own, 1)]
+                for backend, own in self.commands.items()}
+        for backend, own in left.items():
+            own[-1].append((backend, len(own), "stop"))
+        made = [step for backend in order for step in left[backend].pop(0)]
+        return Run(b"", [(backend, command + (text == "stop"), text) for backend, command, text in made], ())
 
 
 def history_of(steps, backends):
@@ -561,6 +331,12 @@ ROLLED_BACK_ANSWERS = {
     ("l 1 1 ok", "l 1 2 error 42P07 relation t already exists", "l 1 3 ok", "l 2 1 ok", "l 2 2 columns b:text"),
 }
 
+# Which of these a serial order of transactions has, and which one of commands alone: a create that is refused while another
+# backend's block goes on. All others come only when commands are interleaved.
+SERIAL = {answers for answers in TWO_CREATORS_ANSWERS | CREATE_AND_SHOW_ANSWERS if not any("55P03" in text for text in answers)}
+SERIAL |= {answers for answers in ROLLED_BACK_ANSWERS if answers[3].endswith("l 2 1 ok") and "55P03" not in answers[1]}
+SERIAL_COMMANDS = {answers for answers in ROLLED_BACK_ANSWERS if "55P03" in answers[3]}
+
 # Two backends look twice for a table that a third one makes. Here the turns that each go on longest aren't the fewest.
 TWO_LOOK = b"""backends 3
 1: create table t (a int4)
@@ -587,7 +363,22 @@ class Report:
             self.answers.append(tuple(lines[2:]))
 
 
-@unittest.skipUnless(HAS_PROGRAM, "no proved executable that is up to date")
+class Counting(Exploration):
+    """An exploration that finds the fewest turns by trying all."""
+
+    def __init__(self, *words):
+        super().__init__(*words)
+        self.least = {}
+
+    def add(self, piece, run, steps):
+        """One more schedule."""
+        key = without_places(run.answers)
+        history = self.history(run)
+        self.least[key] = min(self.least.get(key, (99, 99)), (least_turns(history), len(steps)))
+        return super().add(piece, run, steps)
+
+
+@unittest.skipUnless(HAS_PROGRAM, NO_PROGRAM)
 class Explorer(unittest.TestCase):
     """tools/explore on the program."""
 
@@ -612,7 +403,7 @@ class Explorer(unittest.TestCase):
 
     def run_with(self, script, line):
         """The run of a script with this line of steps."""
-        return self.program.run(read_script(script).with_steps(line))
+        return self.program.run(read_source(script).script.with_steps(line))
 
     def test_answers_by_hand(self):
         """Each set of answers that was worked out by hand is found, and no other."""
@@ -634,27 +425,95 @@ class Explorer(unittest.TestCase):
                     for line, answers in zip(report.steps, report.answers):
                         self.assertEqual(self.run_with(script, line).answers, answers)
 
+    def test_marks(self):
+        """Each set that no serial order has is marked as such."""
+        for script, answers in BY_HAND:
+            report = self.report(script)
+            for count, found in zip(report.counts, report.answers):
+                with self.subTest(found):
+                    key = without_places(found)
+                    mark = ("" if key in SERIAL else ", only when transactions are interleaved" if key in SERIAL_COMMANDS
+                            else ", only when interleaved")
+                    self.assertTrue(count.endswith("orders" + mark), count)
+            self.assertIn(", %s only when interleaved" % (len(answers - SERIAL - SERIAL_COMMANDS) or "none"), report.head)
+            interleaved = self.report(script, "--interleaved")
+            self.assertEqual({without_places(found) for found in interleaved.answers}, answers - SERIAL - SERIAL_COMMANDS)
+
     def test_line_of_steps_is_the_shortest(self):
         """Of all orders that were run with these answers it has the fewest turns, and of those the fewest steps."""
-        for script, words in [(script, ()) for script, _ in BY_HAND] + [(TWO_LOOK, ("--most", "40", "--seed", "2"))]:
-            exploration = Exploration(arguments_of(("--program", PROGRAM) + words), script)
-            least, add = {}, exploration.findings.add
-
-            def add_and_count(run, history):
-                """Counts the fewest turns beside."""
-                key = without_places(run.answers)
-                least[key] = min(least.get(key, (99, 99)), (least_turns(history), len(history.steps)))
-                add(run, history)
-            exploration.findings.add = add_and_count
-            exploration.explore()
-            printed = Report(self.explore(script, *words)[1])
+        for script, most in [(script, 5000) for script, _ in BY_HAND] + [(TWO_LOOK, 40)]:
+            exploration = Counting(Settings(seed="2"), read_source(script), PROGRAM, Progress())
+            exploration.run_serial()
+            if not exploration.run_orders(most):
+                exploration.run_random(most)
+            printed = Report(self.explore(script, "--most", str(most), "--seed", "2", "--jobs", "1")[1])
             for line, answers in zip(printed.steps, printed.answers):
                 with self.subTest(line):
                     again = self.run_with(script, line)
                     self.assertEqual(again.answers, answers)
-                    self.assertEqual((len(line.split()) - 1, len(again.steps)), least.pop(without_places(answers)))
-            self.assertEqual(least, {})
+                    self.assertEqual((len(line.split()) - 1, len(again.steps)),
+                                     exploration.least.pop(without_places(answers)))
+            self.assertEqual(exploration.least, {})
             exploration.program.close()
+
+    def test_jobs(self):
+        """However many processors are used, the same is printed."""
+        for words in ((), ("--random", "150"), ("--places", "--most", "300"), ("--find", "55P03", "--find", "l 2 2 *b:text")):
+            with self.subTest(words):
+                shown = [self.explore(ROLLED_BACK, *words, "--jobs", jobs) for jobs in ("1", "2", "5")]
+                self.assertEqual(shown[0], shown[1])
+                self.assertEqual(shown[0], shown[2])
+
+    def test_jobs_of_a_search_that_is_split(self):
+        """The same where there are so many orders that the search is split; and parts of it merged."""
+        with open(os.path.join(TOP, "examples", "second_show.script"), "rb") as file:
+            script = file.read()
+        one, other = (self.explore(script, "--jobs", jobs) for jobs in ("1", "3"))
+        self.assertEqual(one, other)
+        self.assertRegex(one[1], "^all 287 orders: ")
+        self.assertEqual(self.merged(script, 3), one[1])
+
+    def merged(self, script, count, *words):
+        """What the parts of a search are merged to."""
+        with tempfile.TemporaryDirectory() as folder:
+            paths = [os.path.join(folder, "part%d" % part) for part in range(1, count + 1)]
+            for part, path in enumerate(paths, 1):
+                status, text, said = self.explore(script, *words, "--part", "%d/%d" % (part, count))
+                self.assertEqual((status, said), (0, ""))
+                with open(path, "w", encoding="utf-8") as file:
+                    file.write(text)
+            status, text, said = call("explore", "--merge", *paths)
+            self.assertEqual((status, said), (0, ""))
+            some = call("explore", "--merge", *paths[:-1])[1].decode() if count > 1 else ""
+            self.assertEqual(some.split(" ", 1)[0], "stopped" if count > 1 else "")
+        return text.decode()
+
+    def test_parts(self):
+        """Parts are merged to what one search prints."""
+        for script, _ in BY_HAND:
+            for words in ((), ("--random", "90")):
+                with self.subTest((script, words)):
+                    self.assertEqual(self.merged(script, 4, *words), self.explore(script, *words)[1])
+
+    def test_faulty_parts(self):
+        """Files that aren't different parts of one search are refused."""
+        with tempfile.TemporaryDirectory() as folder:
+            paths = {name: os.path.join(folder, name) for name in ("one", "two", "other", "cut", "form")}
+            for name, script, part in (("one", TWO_CREATORS, "1/2"), ("two", TWO_CREATORS, "2/2"),
+                                       ("other", CREATE_AND_SHOW, "2/2")):
+                with open(paths[name], "w", encoding="utf-8") as file:
+                    file.write(self.explore(script, "--part", part)[1])
+            text = content_of(paths["one"]).decode()
+            for name, changed in (("cut", text[:-9]), ("form", text.replace("form 1", "form 9"))):
+                with open(paths[name], "w", encoding="utf-8") as file:
+                    file.write(changed)
+            for names, said in ((["one", "one"], "one: part 1 of 2, as is "), (["one", "other"], "other: of another search than "),
+                                (["cut"], "cut: not what 'explore --part' prints"), (["one", "form"], "form: not what "),
+                                (["no"], "no: reading failed: ")):
+                with self.subTest(names):
+                    status, shown, error = call("explore", "--merge", *[os.path.join(folder, name) for name in names])
+                    self.assertEqual((status, shown, error.count("\n")), (2, b"", 1))
+                    self.assertIn(said, error)
 
     def test_no_schedule_has_other_answers(self):
         """Schedules that are drawn at random lead to no other answers than those worked out by hand."""
@@ -687,13 +546,49 @@ class Explorer(unittest.TestCase):
 
     def test_find(self):
         """A text is found in an answer or an entry, with a schedule that leads to it."""
-        for text in ("error 55P03", "lock 16384 as held 1 ax"):
+        for text in ("error 55P03", "lock 16384 as held 1 ax", "l 2 1 *55P03"):
             status, found, said = self.explore(CREATE_AND_SHOW, "--find", text)
             self.assertEqual((status, said), (0, ""))
             _, line, *lines = found.splitlines()
             output = self.run_with(CREATE_AND_SHOW, line).output.decode()
-            self.assertEqual([shown for shown in output.splitlines() if text in shown], lines)
+            self.assertEqual([shown for shown in output.splitlines() if wanted_of(text).search(shown)], lines)
             self.assertTrue(lines)
+
+    def test_texts(self):
+        """A star stands for any text, other signs for themselves, and places don't count."""
+        for text, line, is_there in (
+                ("a*c", "xabbcx", True), ("a*c", "xacx", True), ("a*c", "xab", False), ("a.c", "abc", False),
+                ("+class(16384", "write 1 +class(16384,t,r,-)", True), ("x as of 7; y", "x; y", True), ("x; y", "x; y", True)):
+            self.assertEqual(wanted_of(text).search(line) is not None, is_there)
+
+    def test_find_several(self):
+        """Several texts are found in one schedule, and places don't count."""
+        both = ("--find", "l 1 2 *55P03", "--find", "columns b:text")
+        status, found, _ = self.explore(ROLLED_BACK, *both)
+        self.assertEqual(status, 0)
+        self.assertIn("l 1 2 error 55P03 name t is in use by transaction 1\n", found)
+        self.assertIn("l 2 2 columns b:text\n", found)
+        status, found, _ = self.explore(ROLLED_BACK, "--find", "l 1 2 *55P03", "--find", "42P01")
+        self.assertEqual(status, 1)
+        self.assertRegex(found, "^all [0-9]+ orders: none has all of these texts: ")
+
+    def test_find_interleaved(self):
+        """What a serial order leads to is passed over."""
+        self.assertEqual(self.explore(CREATE_AND_SHOW, "--find", "l 2 1 name t")[0], 0)
+        self.assertEqual(self.explore(CREATE_AND_SHOW, "--find", "l 2 1 name t", "--interleaved")[0], 1)
+        self.assertEqual(self.explore(CREATE_AND_SHOW, "--find", "55P03", "--interleaved")[0], 0)
+
+    def test_setup(self):
+        """A set-up is made first, and its steps aren't printed."""
+        script = b"backends 2\nsetup 1: create table t (a int4)\n1: alter table t add b text\n2: show t columns\nend\n"
+        report = self.report(script)
+        self.assertEqual({found[2] for found in report.answers}, {
+            "l 2 1 columns a:int4", "l 2 1 columns a:int4 b:text",
+            "l 2 1 error 55P03 relation 16384 is locked by backend 1 in ax"})
+        for line, answers in zip(report.steps, report.answers):
+            pasted = script.replace(b"end\n", line.encode() + b"\nend\n")
+            counted = call("schedule", "--program", PROGRAM, given=pasted)[1]
+            self.assertEqual(self.program.run(counted).answers, answers)
 
     def test_find_nothing(self):
         """Where no schedule has the text the exit status is 1."""
@@ -701,27 +596,32 @@ class Explorer(unittest.TestCase):
         self.assertEqual(status, 1)
         self.assertRegex(said, "^all [0-9]+ orders: no answer and no entry has the text 42P01\n$")
 
-    def test_picture_of_what_is_found(self):
-        """The picture is that of the schedule that is printed, as an SVG or a page."""
-        with tempfile.TemporaryDirectory() as folder:
-            for name in ("found.svg", "found.html"):
-                path = os.path.join(folder, name)
-                status, found, _ = self.explore(CREATE_AND_SHOW, "--find", "55P03", "--picture", path)
-                self.assertEqual(status, 0)
-                output = self.run_with(CREATE_AND_SHOW, found.splitlines()[1]).output
-                words = ["--html"] if name.endswith("html") else []
-                self.assertEqual(call("picture", *words, given=output), (0, content_of(path), ""))
-            self.assertEqual(sorted(os.listdir(folder)), ["found.html", "found.svg"])
+    def test_pictures(self):
+        """There is a picture of each set's schedule, or of the one that is found, as an SVG or a page."""
+        for words, names in ((["--find", "55P03"], ["found"]), ([], ["set1", "set2", "set3"])):
+            for kind, more in (("svg", []), ("html", ["--html"])):
+                with tempfile.TemporaryDirectory() as folder, self.subTest((words, kind)):
+                    inner = os.path.join(folder, "a", "b")
+                    status, found, _ = self.explore(CREATE_AND_SHOW, "--picture", inner, *words, *more)
+                    self.assertEqual(status, 0)
+                    self.assertEqual(sorted(os.listdir(inner)), ["%s.%s" % (name, kind) for name in names])
+                    lines = [line for line in found.splitlines() if line.startswith("steps ")]
+                    for name, line in zip(names, lines):
+                        drawn = content_of(os.path.join(inner, "%s.%s" % (name, kind))).decode()
+                        for entry in self.run_with(CREATE_AND_SHOW, line).steps:
+                            self.assertIn("h %d %d %s" % entry, drawn)
 
     def test_faults(self):
         """A fault is one line on standard error, exit status 2, and nothing is printed or written."""
         examples = os.path.join(TOP, "examples")
-        cases = [(["--most", "0"], TWO_CREATORS, "not a count of schedules: 0"),
-                 (["--picture", "x.svg"], TWO_CREATORS, "--picture draws what --find finds, and there is no --find"),
-                 (["--find", "ok", "--picture", "/no/such/a.svg"], TWO_CREATORS, "/no/such/a.svg: writing failed: "),
+        cases = [(["--most", "0"], TWO_CREATORS, "not a count: 0"), (["--part", "3/2"], TWO_CREATORS, "not a part, as 3/64: 3/2"),
+                 (["--part", "1/2", "--find", "x"], TWO_CREATORS, "--find doesn't go with --part; explore --help says more"),
+                 (["--find", ""], TWO_CREATORS, "--find needs a text; "), (["--html"], TWO_CREATORS, "--html is for --picture; "),
+                 (["--picture", "/dev/null/a"], TWO_CREATORS, "/dev/null/a: the folder can't be made: "),
+                 (["--picture", "/proc"], TWO_CREATORS, "/proc/set1.svg: writing failed: "),
                  (["--program", "/no/such/program"], TWO_CREATORS, "/no/such/program: "),
                  (["--program", "/bin/echo"], TWO_CREATORS, "/bin/echo: what it prints isn't an output of catsync"),
-                 ([], b"", "catsync: line 1: NoBackends: ")]
+                 ([], b"", "line 1: "), (["--merge"], TWO_CREATORS, "--merge needs FILEs; "), (["x"], b"", "FILEs are for --merge; ")]
         for name in ("bad_line", "not_built_yet"):
             error = os.path.join(examples, name + ".error")
             if os.path.exists(error):
@@ -732,6 +632,18 @@ class Explorer(unittest.TestCase):
                 self.assertEqual((status, text), (2, ""))
                 self.assertTrue(said.startswith("explore: " + expected), said)
                 self.assertEqual(said.count("\n"), 1)
+
+    def test_closed_streams(self):
+        """Closed standard streams are faults, or don't matter."""
+        command = "exec %s %s --program %s" % (sys.executable, os.path.join(TOOLS, "explore"), PROGRAM)
+        for redirection, expected in (("<&-", "explore: reading failed: standard input is closed\n"),
+                                      (">&-", "explore: writing failed: standard output is closed\n"),
+                                      (">/dev/full", "explore: writing failed: No space left on device\n")):
+            done = subprocess.run(["sh", "-c", command + " " + redirection], input=TWO_CREATORS, stdout=subprocess.PIPE,
+                                  stderr=subprocess.PIPE)
+            self.assertEqual((done.returncode, done.stdout, done.stderr.decode()), (2, b"", expected))
+        done = subprocess.run(["sh", "-c", command + " 2>&-"], input=TWO_CREATORS, stdout=subprocess.PIPE)
+        self.assertEqual(done.returncode, 0)
 
     def start(self, *words, stderr=subprocess.PIPE):
         """Starts the explorer on an example with many orders."""
@@ -744,10 +656,10 @@ class Explorer(unittest.TestCase):
     def test_interrupt(self):
         """On Ctrl-C there are the results so far, on a terminal there was a bar, and the exit status is 130."""
         terminal, other_end = pty.openpty()
-        with self.start("--most", "1000000", stderr=other_end) as explorer:
+        with self.start("--most", "1000000", "--jobs", "2", stderr=other_end) as explorer:
             os.close(other_end)
             shown = b""
-            while b"orders" not in shown:
+            while not re.search(rb"[1-9][0-9]{2} of at most 1000000 orders", shown):
                 shown += os.read(terminal, 4096)
             explorer.send_signal(signal.SIGINT)
             text = explorer.stdout.read().decode()
@@ -757,6 +669,19 @@ class Explorer(unittest.TestCase):
         report = Report(text)
         self.assertRegex(report.head, "^stopped after [0-9]+ orders?: ")
         self.assertTrue(report.answers)
+
+    def test_interrupt_of_a_part(self):
+        """On Ctrl-C a part prints what it has found, and the parts are merged as a search that isn't over."""
+        with self.start("--part", "1/1", "--jobs", "2") as explorer, tempfile.TemporaryDirectory() as folder:
+            time.sleep(2)
+            explorer.send_signal(signal.SIGINT)
+            path = os.path.join(folder, "part")
+            with open(path, "wb") as file:
+                file.write(explorer.stdout.read())
+            explorer.wait()
+            self.assertEqual(explorer.returncode, 130)
+            self.assertFalse(json.loads(content_of(path).decode())["is_over"])
+            self.assertRegex(call("explore", "--merge", path)[1].decode(), "^stopped after [0-9]+ orders?: ")
 
 
 if __name__ == "__main__":

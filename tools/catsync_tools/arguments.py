@@ -1,0 +1,43 @@
+"""The command line of a tool, and its --help, which has one form in all tools."""
+import argparse
+import textwrap
+
+from .faults import Fault, write_output
+
+WIDTH = 100
+FAULTY = (2, "a fault of the input or the command line: one line on standard error, and nothing is printed")
+STOPPED = (130, "after Ctrl-C")
+
+
+def _form(prog):
+    """How --help is set: lines of at most 100 characters, options in a column."""
+    return argparse.RawDescriptionHelpFormatter(prog, max_help_position=22, width=WIDTH)
+
+
+class Arguments(argparse.ArgumentParser):
+    """A command line: `usage` is what follows the tool's name, `purpose` one sentence, and `statuses` pairs of an exit
+    status and when it comes, without those for faults and Ctrl-C, which all tools have. A fault of the command line is a
+    fault as any other, and not several lines."""
+
+    def __init__(self, prog, usage, purpose, statuses):
+        rows = ["  %-5d%s" % status for status in sorted(statuses + (FAULTY, STOPPED))]
+        super().__init__(prog=prog, usage="%s %s" % (prog, usage), description=textwrap.fill(purpose, WIDTH),
+                         allow_abbrev=False, add_help=False, epilog="\n".join(["exit status:"] + rows), formatter_class=_form)
+        self.options = self.add_argument_group("options")
+
+    def option(self, name, **settings):
+        """One more option; options are shown in this order."""
+        self.options.add_argument(name, **settings)
+
+    def parse(self, words):
+        """What the command line says, after one more option: --help."""
+        self.options.add_argument("-h", "--help", action="help", help="prints this text")
+        return self.parse_args(words)
+
+    def error(self, message):
+        """Called by argparse for a faulty command line."""
+        raise Fault("%s; %s --help says more" % (message, self.prog))
+
+    def print_help(self, file=None):
+        """Called by argparse for --help."""
+        write_output(self.format_help())

@@ -1,0 +1,85 @@
+"""What a script expects of its answers."""
+import re
+from typing import NamedTuple, Tuple
+
+from .faults import Fault
+
+OWN, SOME, NEVER = "own", "some", "never"
+NONE = "no answer"                  # what is said of a command that isn't finished
+
+_PLACE = re.compile(r" as of [0-9]+")
+_PART = re.compile(r"([0-9]{1,9})[ \t]*\.[ \t]*([0-9]{1,9})[ \t]+(\S.*)")
+_AND = re.compile(r"[ \t]+and[ \t]+(?=[0-9]+[ \t]*\.)")
+_FORM = "'expect B.C TEXT', 'expect some B.C TEXT' or 'expect never B.C TEXT', with 'and B.C TEXT' for more of one run"
+
+
+class Part(NamedTuple):
+    """A text that the answer of a command has."""
+    backend: int
+    command: int
+    text: str
+
+
+class Expectation(NamedTuple):
+    """Texts that the answers of one run have together: of the run by the script's own schedule, of some run, or of none."""
+    line: int
+    text: str
+    runs: str
+    parts: Tuple[Part, ...]
+
+
+def folded(text):
+    """A text in small letters, without places and with single blanks."""
+    return " ".join(_PLACE.sub("", text.lower()).split())
+
+
+def read_expectation(line, text):
+    """The expectation of a line that begins with `expect`."""
+    words = text.lower().split(None, 2)
+    runs = words[1] if words[1:2] in (["some"], ["never"]) else OWN
+    rest = text.split(None, 1 if runs == OWN else 2)
+    found = [_PART.fullmatch(part.strip()) for part in _AND.split(rest[-1])] if text.isascii() and len(rest) > 1 else [None]
+    if None in found:
+        raise Fault("line %d: an expectation must read %s" % (line, _FORM))
+    parts = tuple(Part(int(part.group(1)), int(part.group(2)), folded(part.group(3))) for part in found)
+    return Expectation(line, " ".join(text.split()), runs, parts)
+
+
+def check_expectation(expectation, commands):
+    """A fault where an expectation names a command that its backend hasn't; `commands` has how many each has."""
+    for part in expectation.parts:
+        if not 1 <= part.command <= commands.get(part.backend, 0):
+            raise Fault("line %d: there is no command %d of backend %d" % (expectation.line, part.command, part.backend))
+
+
+class Answers:
+    """The answers of a run, by backend and command, without places."""
+
+    def __init__(self, lines):
+        self.texts = {}
+        for line in lines:
+            _, backend, command, text = line.split(" ", 3)
+            self.texts[int(backend), int(command)] = _PLACE.sub("", text)
+
+    def text(self, part: Part):
+        """The answer of the command that a part is about."""
+        return self.texts.get((part.backend, part.command), NONE)
+
+    def has(self, part: Part):
+        """Whether the answer has the part's text, from the beginning of a word to the end of one. A `;` ends the last field of
+        an answer too."""
+        return re.search(r"(?:^|[ ;])%s(?=[ ;]|$)" % re.escape(part.text), folded(self.text(part)) + ";") is not None
+
+    def has_all(self, parts):
+        """Whether they have all parts."""
+        return all(self.has(part) for part in parts)
+
+    def line(self, sign, part: Part):
+        """What came where a part was expected: of an answer with fields the field that was expected."""
+        fields = self.text(part).split("; ")
+        same = [field for field in fields if field.split(" ")[0] == part.text.split(" ")[0]]
+        return "%s %d.%d %s" % (sign, part.backend, part.command, "; ".join(same or fields))
+
+    def differences(self, parts):
+        """What was expected and didn't come, each with what came."""
+        return [line for part in parts if not self.has(part) for line in ("- %d.%d %s" % part, self.line("+", part))]

@@ -1,0 +1,246 @@
+"""The schedules under which tools/explore runs a script, and what they lead to."""
+import contextlib
+import os
+import random
+import re
+from typing import Dict, NamedTuple, Optional, Pattern, Tuple
+
+from .access import Accesses
+from .findings import PLACE, Answers, Findings, without_places
+from .jobs import Jobs
+from .orders import WHOLE, History, Search
+from .program import Program
+from .runner import Runner
+from .schedules import random_schedule
+from .scripts import Turns
+from .serial import SerialRuns, WholeAccesses, commands_of, transactions_of
+from .shares import shares
+from .turns import fewest_turns
+
+FIRST = 256             # orders, before a search is split
+SHARES = 64             # of a search; and for each part of one
+SHARES_OF_PART = 16
+CHUNK = 64              # random schedules, of a task
+MOST_SERIAL = 1000      # serial orders of each kind
+
+TRANSACTIONS, COMMANDS = "transactions", "commands"     # what is made one after the other in a serial order
+
+
+class Piece:
+    """What a task has found."""
+
+    def __init__(self, places):
+        self.findings = Findings(places)
+        self.schedules = 0
+        self.found: Optional[Turns] = None      # the schedule that is looked for
+
+
+class Settings(NamedTuple):
+    """What is asked of a search."""
+    places: bool = False                # answers that name other entries are other answers
+    wanted: Tuple[Pattern, ...] = ()    # the texts that are looked for
+    only_interleaved: bool = False      # answers of serial orders are passed over
+    seed: str = "1"                     # of random schedules
+    jobs: int = 1                       # processes
+
+
+class Exploration:
+    """A script, what is asked of it, and what was found so far."""
+
+    def __init__(self, settings: Settings, source, program, progress):
+        self.settings, self.source, self.progress = settings, source, progress
+        self.program = Program(program)
+        self.runner = Runner(source, self.program)
+        self.longest = self.runner.longest      # steps of a random schedule, before all go on to their stop
+        self.accesses = Accesses(settings.places, self.runner.past)
+        self.findings = Findings(settings.places)
+        self.serial: Dict[Answers, str] = {}    # the answers of serial orders, each with the first kind that has them
+        self.is_serial_over = True
+        self.schedules = 0
+        self.is_random, self.is_over = False, False
+        self.found: Optional[Turns] = None      # the schedule that was looked for
+
+    # What is found
+
+    def add(self, piece: Piece, run, steps):
+        """One more schedule of a task; whether it is the one that is looked for."""
+        piece.schedules += 1
+        piece.findings.add(run.answers, steps)
+        if self.settings.wanted and self.is_wanted(run):
+            piece.found = fewest_turns(steps).turns
+        return piece.found is not None
+
+    def is_wanted(self, run):
+        """Whether each text that is looked for is in an entry or an answer of a run."""
+        if self.settings.only_interleaved and self.is_serial(run.answers):
+            return False
+        lines = lines_of(run)
+        return all(any(wanted.search(line) for line in lines) for wanted in self.settings.wanted)
+
+    def is_serial(self, answers):
+        """Whether a serial order of commands has these answers."""
+        return without_places(answers) in self.serial
+
+    def history(self, run):
+        """The history of a run."""
+        history = History(self.accesses)
+        for step in run.steps:
+            history.add(step)
+        return history
+
+    # Serial orders
+
+    def run_serial(self):
+        """Runs the serial orders, first those of transactions."""
+        commands = self.source.script.commands()
+        transactions = transactions_of(commands)
+        self.run_serial_of(TRANSACTIONS, transactions)
+        if self.found is None and transactions != commands_of(commands):
+            self.run_serial_of(COMMANDS, commands_of(commands))
+        self.findings.start_counting()
+
+    def run_serial_of(self, kind, groups):
+        """Runs the serial orders of transactions or of commands."""
+        runs = SerialRuns(self.runner, groups)
+        piece = Piece(self.settings.places)
+        search = Search(runs.run, self.runner.backends, WholeAccesses(self.runner.past))
+        for run, _ in search.orders():
+            if run is None:
+                continue
+            if piece.schedules == MOST_SERIAL:
+                self.is_serial_over = False
+                break
+            self.serial.setdefault(without_places(run.answers), kind)
+            self.progress.show(piece.schedules, MOST_SERIAL, "%d serial orders of %s" % (piece.schedules, kind))
+            if self.add(piece, runs.last, self.history(runs.last).steps):
+                break
+        self.findings.merge(piece.findings.sets)
+        self.found = piece.found
+
+    # All orders
+
+    def orders_of(self, share):
+        """A task: all orders of a share."""
+        def task():
+            """What is found, after each order."""
+            piece = Piece(self.settings.places)
+            yield piece
+            search = Search(self.runner.run, self.runner.backends, Accesses(self.settings.places, self.runner.past), share)
+            for run, history in search.orders():
+                if run is not None:
+                    found = self.add(piece, run, history.steps)
+                    yield piece
+                    if found:
+                        return
+        return task
+
+    def run_orders(self, most):
+        """Runs all orders where there are at most so many; whether that is so."""
+        if not self.do([self.orders_of(WHOLE)], min(most, FIRST), 1, "orders", most):
+            if most <= FIRST:
+                return False
+            return self.do([self.orders_of(share) for share in self.shares(SHARES)], most, self.settings.jobs, "orders")
+        return True
+
+    def shares(self, count):
+        """The shares of the search."""
+        return shares(self.runner.run, self.runner.backends, Accesses(self.settings.places, self.runner.past), count)
+
+    def run_part(self, part, count):
+        """Runs one part of the search, of so many."""
+        mine = self.shares(SHARES_OF_PART * count)[part - 1::count]
+        self.do([self.orders_of(share) for share in mine], None, self.settings.jobs, "orders")
+
+    # Random schedules
+
+    def drawn(self, numbers):
+        """A task: the random schedules of these numbers."""
+        def task():
+            """What is found, after each schedule."""
+            piece = Piece(self.settings.places)
+            yield piece
+            for number in numbers:
+                draw = random.Random("%s/%d" % (self.settings.seed, number))
+                run = self.runner.run(*random_schedule(draw, self.runner.backends, self.longest))
+                found = self.add(piece, run, self.history(run).steps)
+                yield piece
+                if found:
+                    return
+        return task
+
+    def run_random(self, count, part=1, parts=1):
+        """Runs so many random schedules, or a part of them. What was found before isn't counted any more."""
+        self.findings.start_counting()
+        numbers = range(part, count + 1, parts)
+        self.is_random = True
+        self.do([self.drawn(numbers[at:at + CHUNK]) for at in range(0, len(numbers), CHUNK)], None, self.settings.jobs,
+                "random schedules", len(numbers))
+
+    # Tasks
+
+    def do(self, tasks, most, count, kind, shown=None):
+        """Does tasks until one of them finds what is looked for. Whether they came to their end, or found it, before they
+        had more schedules than so many: otherwise nothing is kept of several tasks, since what they had found by then isn't
+        the same each time."""
+        jobs = Jobs(tasks, count, self.program.renew)
+        schedules = [0] * len(tasks)
+        self.is_over, is_within = False, True
+        try:
+            with contextlib.closing(jobs.run()) as going:
+                for number, schedules[number] in going:
+                    self.show(sum(schedules), shown or most, kind)
+                    if self.first_found(jobs) is not None:
+                        break
+                    if most is not None and sum(schedules) > most:
+                        is_within = False
+                        break
+        finally:
+            if is_within or len(tasks) == 1:
+                self.keep(jobs)
+        self.is_over = is_within
+        return is_within
+
+    def first_found(self, jobs):
+        """The first task that has found what is looked for, if all before it have come to their end without it."""
+        for number, is_done in enumerate(jobs.is_done):
+            piece = jobs.pieces.get(number)
+            if piece is not None and piece.found is not None:
+                return piece
+            if not is_done:
+                return None
+        return None
+
+    def keep(self, jobs):
+        """Keeps what the tasks have found."""
+        found = self.first_found(jobs)
+        self.findings.start_counting()
+        self.schedules = 0
+        for number, piece in sorted(jobs.pieces.items()):
+            self.findings.merge(piece.findings.sets)
+            self.schedules += piece.schedules
+            if piece is found:
+                break
+        self.found = found.found if found is not None else None
+
+    def show(self, done, most, kind):
+        """Shows how far the search is."""
+        if most:
+            self.progress.show(done, most, "%d of at most %d %s, %d sets of answers" % (
+                done, most, kind, len(self.findings.sets)))
+        else:
+            self.progress.show(0, 1, "%d %s" % (done, kind))
+
+
+def lines_of(run):
+    """The entries and answers of a run, without places."""
+    return PLACE.sub("", run.output.decode("ascii")).splitlines()
+
+
+def wanted_of(text):
+    """The pattern of a text that is looked for: `*` stands for any text within a line."""
+    return re.compile(".*".join(re.escape(part) for part in PLACE.sub("", text).split("*")))
+
+
+def processors():
+    """How many processors this process may use."""
+    return len(os.sched_getaffinity(0)) if hasattr(os, "sched_getaffinity") else os.cpu_count() or 1

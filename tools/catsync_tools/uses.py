@@ -1,0 +1,138 @@
+"""Which commands open a relation's descriptor, and by which entry they had found the relation: so it can be told where a
+descriptor, or a name, serves a command that makes no scan for it.
+
+An answer tells that its command opened a descriptor: one that shows fields, and an error of a column or of another part of
+the relation. A command that writes has opened the descriptor of the relation that it changes. A command without an answer
+and without a write (`lock table`, or one that the history doesn't finish) isn't said to open any.
+"""
+import re
+from typing import Dict, Optional
+
+from .caches import Kept, Served, served_by
+
+SHOWN = re.compile(r"(?:table|index) ([0-9]+);")
+FIELDS = ("name", "columns", "defaults", "statistics", "fillfactor", "constraints", "referenced", "indexes", "triggers",
+          "of", "valid")
+ERRORS_INSIDE = ("22023", "0A000", "2BP01", "42701", "42703", "42704", "42710", "54011")
+ABSENT = re.compile(r"error [0-9A-Z]+ .* does not exist as of ([0-9]+)")
+OF_OID = re.compile(r"regclass .* as of ([0-9]+)")
+PASSED = ("start", "look", "fetch", "fetch reset", "unlock")
+
+
+def opens(answer):
+    """Whether an answer tells that its command opened a descriptor."""
+    words = answer.text.split(" ")
+    if words[0] == "error":
+        return words[1] in ERRORS_INSIDE and not ABSENT.fullmatch(answer.text)
+    return words[0] in FIELDS or bool(SHOWN.match(answer.text))
+
+
+def changes_known(event):
+    """Whether a write changes a relation that it doesn't make itself."""
+    changes = event.parts["changes"]
+    new = {change.columns[0] for change in changes if change.catalog == "class" and change.sign == "+"}
+    return any(change.catalog not in ("class", "att", "ind") or change.columns[0] not in new for change in changes)
+
+
+def note(kept: Kept, facts, command):
+    """What is kept serves a command by what its backend had at an entry."""
+    kept.serves.append(Served(facts.entry.number, command))
+    facts.serves = [*facts.serves, kept]
+
+
+class Course:
+    """How far a command is: the relation that it has found, whether by a scan for a name, and whether it has gone on."""
+
+    def __init__(self, command):
+        self.command = command
+        self.rel: Optional[int] = None
+        self.by_scan = self.is_over = False
+
+
+class Uses:
+    """Where the running commands are, and what serves them."""
+
+    def __init__(self, output):
+        self.opening = {(answer.backend, answer.command) for answer in output.answers if opens(answer)}
+        self.opening |= {(entry.backend, entry.command) for entry in output.entries
+                         if entry.event.kind == "write" and changes_known(entry.event)}
+        self.shown: Dict[tuple, int] = {}
+        self.scanned: Dict[tuple, int] = {}
+        for answer in output.answers:
+            place = (answer.backend, answer.command)
+            for pattern, numbers in ((SHOWN, self.shown), (ABSENT, self.scanned), (OF_OID, self.scanned)):
+                found = pattern.match(answer.text)
+                if found:
+                    numbers[place] = int(found.group(1))
+        self.columns = {(answer.backend, answer.command): answer.text.split(" ") for answer in output.answers
+                        if re.match("columns? ", answer.text)}
+        self.last_command: Dict[int, int] = {}
+        for answer in output.answers:
+            self.last_command[answer.backend] = max(answer.command, self.last_command.get(answer.backend, 0))
+        self.courses: Dict[int, Course] = {}
+
+    def take(self, model, facts, last):
+        """One more entry, before it counts, with the facts of its backend's last one."""
+        entry = facts.entry
+        course = self.courses.get(entry.backend)
+        if course is None or course.command != entry.command:
+            self.finish(model, entry.backend, last, entry.command)
+            course = self.courses[entry.backend] = Course(entry.command)
+        kind, parts = entry.event
+        if kind == "scan" and parts["purpose"] == "relname":
+            course.rel, course.by_scan = model.rows.named(entry.backend, parts["name"]), True
+            course.is_over = False
+        elif kind in ("lock ok", "lock held"):
+            course.rel = parts["rel"]
+            if not course.by_scan:
+                self.serve(model, course, facts, names=True)
+        elif kind not in PASSED and not course.is_over:
+            course.is_over = True
+            if kind == "clash" or (entry.backend, entry.command) in self.opening:
+                self.serve(model, course, last)
+
+    def finish(self, model, backend, last, command):
+        """The backend's commands below one are finished, with its last entry or without any."""
+        course = self.courses.get(backend)
+        for number in range(course.command if course else command, command):
+            own = course if number == course.command else Course(number)
+            place = (backend, number)
+            if own.rel is None:
+                own.rel = self.shown.get(place)
+            if place in self.opening and not own.is_over:
+                self.serve(model, own, last)
+            self.serve_by_place(model, place, last)
+            self.serve_columns(model, place, last)
+
+    def finish_all(self, model):
+        """The history is over."""
+        for backend, facts in model.last.items():
+            self.finish(model, backend, facts, self.last_command.get(backend, 0) + 1)
+
+    def serve(self, model, course, facts, names=False):
+        """What is kept serves a command by what it had at an entry: a descriptor, or a name alone."""
+        if course.rel is None:
+            return
+        descriptor, name = served_by(model.caches.cache(facts.entry.backend), course.rel, course.command)
+        for kept in (name if not course.by_scan else None, None if names else descriptor):
+            if kept and all(served.command != course.command for served in kept.serves):
+                note(kept, facts, course.command)
+
+    def serve_columns(self, model, place, facts):
+        """An answer shows columns or a column, and the only list or entry that can have it is of an earlier command."""
+        words = self.columns.get(place)
+        if not words:
+            return
+        purpose, cache = "attlist" if words[0] == "columns" else "attname", model.caches.cache(place[0])
+        found = [scanned.kept for datum, scanned in cache.scans.items() if datum[0] == purpose and (
+            datum[1] not in cache.descriptors if purpose == "attlist"
+            else [(row.columns[1], row.columns[3]) for row in scanned.rows] == [tuple(words[1:])])]
+        if len(found) == 1 and found[0].command != place[1]:
+            note(found[0], facts, place[1])
+
+    def serve_by_place(self, model, place, facts):
+        """A name is absent, or an oid has a name, as of a scan of an earlier command."""
+        scanned = self.scanned.get(place)
+        kept = next((kept for kept in model.caches.all if kept.first == scanned), None) if scanned else None
+        if kept and kept.command != place[1]:
+            note(kept, facts, place[1])
