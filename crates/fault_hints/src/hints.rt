@@ -12,7 +12,7 @@ use std::alloc::Global;
 ///   stands there; with the word that is near, or the reason, where one is known.
 /// - `BadByte`: the byte, and its column from 1.
 ///
-/// `text` is the script, and `line` the line's number, from 1.
+/// `text` is the script, and `line` the line's number, from 1. `Err` where out of memory.
 pub fn hint(
     alloc: Global,
     text: &[u8],
