@@ -12,7 +12,8 @@ use Rattle.backend_core.specs.Types.{Row, Command, CommandError, Entry, Backend}
 use Rattle.backend_core.specs.State.{is_out, is_absent, owed_first, Rest, HasCommand}
 use Rattle.backend_core.specs.Agrees.{PlaceFits, GivenSeen, EndsAlone, CommandFits}
 use Rattle.cacheless.proofs.ActOrder.{follows_order, runs_built}
-use Rattle.backend_core.proofs.NextPlaces.{order_there, place_unread}
+use Rattle.cacheless.proofs.AfterActs.{order_there}
+use Rattle.backend_core.proofs.NextPlaces.{place_unread}
 use Rattle.backend_core.proofs.Ending.{built_at}
 
 -- what is left of a command at its beginning, and whether the blocks refuse it

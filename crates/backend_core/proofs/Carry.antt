@@ -1,7 +1,7 @@
 -- What stays with one more entry, and what each entry of a backend needs.
-use Rattle.std.proofs.Common.{cond, not, ◌≡◌, ◌≢◌, ◌≤◌, ◌<◌, ◌+◌, ◌⊎◌, inl, inr, ◌∙◌, ℕ, Bool, true, false, Option, Some, None, List, [], ◌∷◌, ◌++◌, ◌==◌, ◌&&◌, ◌||◌, refl, sym, ap, subst, length, drop, take, map, All, get_or, is_none, is_some, slice_get, unwrap_or, arith, Fits, w32, if◌then◌else◌}
+use Rattle.std.proofs.Common.{cond, not, ◌≡◌, ◌≢◌, ◌≤◌, ◌<◌, ◌+◌, ◌⊎◌, inl, inr, ◌∙◌, ℕ, Bool, true, false, Option, Some, None, List, [], ◌∷◌, ◌++◌, ◌==◌, ◌&&◌, ◌||◌, refl, sym, ap, subst, length, drop, take, map, All, get_or, is_none, is_some, slice_get, arith, Fits, w32, if◌then◌else◌}
 use Rattle.std.specs.Option.{option_map_or}
-use Rattle.std.proofs.Math.Bool.{and-false, or-false}
+use Rattle.std.proofs.Math.Bool.{and-false}
 use Rattle.std.proofs.lemmas.Bool.{both_ways, or_right}
 use Rattle.std.proofs.lemmas.List.{drop_more, take-append-le}
 use Rattle.std.proofs.lemmas.Option.{slice_get_within, get_or_from_slice_get}
@@ -20,10 +20,10 @@ use Rattle.ddl_effect.specs.Stages.{plan_at}
 use Rattle.history_model.specs.Legal.{AllowsEvent}
 use Rattle.history_model.specs.Orderly.{MayComeNext, IsSound}
 use Rattle.history_model.specs.Prefixes.{EachEntry}
-use Rattle.history_model.specs.Read.{is_scan_of, read_at, place_read}
+use Rattle.history_model.specs.Read.{is_scan_of, place_read}
 use Rattle.history_model.specs.Transactions.{begun, is_visible}
 use Rattle.history_model.specs.Writes.{has_written, is_write, is_empty}
-use Rattle.history_model.proofs.Reading.{read_at-own, place_read-other, has_written-more}
+use Rattle.history_model.proofs.Reading.{place_read-other}
 use Rattle.history_model.proofs.Sound.{sound_is_legal}
 use Rattle.history_model.proofs.Waiting.{not_waited}
 use Rattle.history_model.specs.Log.{is_waiting}
@@ -48,6 +48,8 @@ use Rattle.backend_core.specs.Way.{SeesRelation, Way}
 use Rattle.cacheless.proofs.Settling.{waits-scans}
 use Rattle.cacheless.proofs.StillSeen.{IsNoGone, relation_stays}
 use Rattle.cacheless.proofs.StillLocked.{way_stays}
+pub use Rattle.cacheless.proofs.ReadPlaces.{place_read-more, place_read-scan}
+pub use Rattle.cacheless.proofs.StaysOnCourse.{has_written-quiet, has_written-other}
 use Rattle.cacheless.proofs.ActOrder.{FollowsOrder, follows_order, runs_built}
 use Rattle.history_model.proofs.Locked.{IsQuiet, IsIdle}
 use Rattle.backend_core.proofs.Stages.{ReadsBuilds, stage_reads}
@@ -62,26 +64,6 @@ pub record MayCome (history : List Entry) (e : Entry) : Type 0 where
 
 pub may_come : (scenario : Scenario) (seen : List Entry) (e : Entry) → IsPlayed scenario seen → MayComeNext seen e → WritesTables seen e → MayCome seen e
 may_come scenario seen e played comes keeps = record { sound = played.sound; tables = played.tables; comes = comes; keeps = keeps }
-
--- the place of a scan, after an entry that isn't this scan
-pub place_read-more : (history : List Entry) (e : Entry) (b : ℕ) (scan : Purpose) → is_scan_of scan e.event ≡ false → place_read (history ++ e ∷ []) b scan ≡ place_read history b scan
-place_read-more history e b scan others = by_owner (e.backend == b) refl
-  where
-    by_owner : (t : Bool) → (e.backend == b) ≡ t → place_read (history ++ e ∷ []) b scan ≡ place_read history b scan
-    by_owner true own = ap (λ o. unwrap_or o 0) (read_at-own history e b scan own ∙ ap (λ t. elim t [ true ↦ Some (length history + 1) | false ↦ read_at history b scan ]) others)
-    by_owner false other = place_read-other history e b scan other
-
--- and after the scan
-pub place_read-scan : (history : List Entry) (e : Entry) (b : ℕ) (scan : Purpose) → (e.backend == b) ≡ true → is_scan_of scan e.event ≡ true → place_read (history ++ e ∷ []) b scan ≡ length history + 1
-place_read-scan history e b scan own is = ap (λ o. unwrap_or o 0) (read_at-own history e b scan own ∙ ap (λ t. elim t [ true ↦ Some (length history + 1) | false ↦ read_at history b scan ]) is)
-
--- the commands in which a backend has written, after an entry that is no write
-pub has_written-quiet : (history : List Entry) (e : Entry) (b c : ℕ) → is_write e.event ≡ false → has_written (history ++ e ∷ []) b c ≡ has_written history b c
-has_written-quiet history e b c quiet = has_written-more history e b c ∙ ap (λ t. has_written history b c || ((e.backend == b) && (e.command == c) && t)) quiet ∙ ap (λ t. has_written history b c || t) (and-false ((e.backend == b) && (e.command == c))) ∙ or-false (has_written history b c)
-
--- and after another's
-pub has_written-other : (history : List Entry) (e : Entry) (b c : ℕ) → (e.backend == b) ≡ false → has_written (history ++ e ∷ []) b c ≡ has_written history b c
-has_written-other history e b c other = has_written-more history e b c ∙ ap (λ t. has_written history b c || (t && (e.command == c) && is_write e.event)) other ∙ or-false (has_written history b c)
 
 -- the places of the scans that are kept, with one more entry that is none of them
 pub kept-more : (history : List Entry) (e : Entry) (b : ℕ) (kept : List KeptScan) → All (λ k. is_scan_of k.scan e.event ≡ false) kept → All (KeptAt history b) kept → All (KeptAt (history ++ e ∷ []) b) kept

@@ -9,10 +9,9 @@ use Rattle.ddl_effect.specs.declared.exec.Exec.TheVariants as stages
 use Rattle.ddl_effect.specs.Plans.{Fails}
 use Rattle.ddl_effect.specs.Commands.{writing}
 use Rattle.ddl_effect.specs.Stages.{plan_at}
-use Rattle.history_model.specs.Lapped.{FetchesFrom}
 use Rattle.history_model.specs.Drawn.{next_oid}
 use Rattle.history_model.specs.Names.{new_names}
-use Rattle.history_model.specs.Read.{ScansOnlyIfNeeded, is_scan_of}
+use Rattle.history_model.specs.Read.{is_scan_of}
 use Rattle.history_model.specs.Transactions.{Running, begun}
 use Rattle.history_model.specs.Writes.{is_write}
 use Rattle.row_visibility.specs.declared.clash.Clash.{Clash}
@@ -25,8 +24,7 @@ use Rattle.cacheless.specs.Session.{Session, first_of, outcome_of, is_settled}
 use Rattle.cacheless.specs.Owed.{owed_after, owed_of}
 use Rattle.cacheless.specs.Sessions.{placed_at, counted, ends_command, accepted}
 use Rattle.cacheless.specs.Plays.{IsClash, MayPlay, MayPlayIn}
-use Rattle.cacheless.specs.Schedule.{LooksTruly}
-use Rattle.cacheless.specs.TableWrites.{KeepsTablesBy}
+use Rattle.cacheless.specs.MayEnter.{SuitsHistory}
 use Rattle.backend_core.specs.Types.{Purpose, Command, CommandError, Scenario, Entry, Event, Draft, OwnLock, Phase, OwnTransaction, Backend}
 use Rattle.backend_core.specs.declared.phase.Phase.TheVariants as phases
 use Rattle.backend_core.specs.Refusals.{clash_error, error_of}
@@ -60,10 +58,7 @@ pub record FailsWith (old : List Entry) (was : Backend) (rest : Rest) (name : Li
   pub ends : ends_command event ≡ false
   pub unwritten : is_write event ≡ false
   pub unscanned : (scan : Purpose) → is_scan_of scan event ≡ false
-  pub needed : ScansOnlyIfNeeded old was.id event
-  pub truly : LooksTruly old was.id event
-  pub tables : KeepsTablesBy old was.id event
-  pub queue : (size : ℕ) → FetchesFrom size old was.id event
+  pub suits : (scenario : Scenario) → SuitsHistory scenario old was.id event
   pub plays : (facts : Facts) (command : Command) (s : Session) → owed_of facts command s ≡ [] → IsClash facts (next_oid old) s.left name → MayPlay (next_oid old) facts command s event
 
 fails_with : (old : List Entry) (was : Backend) (rest : Rest) (name : List ℕ) (clash : Clash) → FailsWith old was rest name (clash_event name clash) (clash_error name clash)
@@ -76,10 +71,7 @@ fails_with old was rest name (clashes.Row rel) = record {
   ends = refl;
   unwritten = refl;
   unscanned = λ scan. refl;
-  needed = tt;
-  truly = tt;
-  tables = tt;
-  queue = λ size. tt;
+  suits = λ scenario. record { needed = tt; truly = tt; tables = tt; queue = tt };
   plays = λ facts command s owed clash. (owed, clash);
 }
 fails_with old was rest name (clashes.Running xid) = record {
@@ -91,10 +83,7 @@ fails_with old was rest name (clashes.Running xid) = record {
   ends = refl;
   unwritten = refl;
   unscanned = λ scan. refl;
-  needed = tt;
-  truly = tt;
-  tables = tt;
-  queue = λ size. tt;
+  suits = λ scenario. record { needed = tt; truly = tt; tables = tt; queue = tt };
   plays = λ facts command s owed clash. (owed, clash);
 }
 
@@ -154,10 +143,7 @@ module _ (scenario : Scenario) (old : List Entry) (was : Backend) (agrees : Agre
         (with.plays (facts_of old was.id) works.has.command (session_at was agrees.rest) (nothing_owed scenario old was agrees works draft at whole)
         (subst (λ p. IsClash (facts_of old was.id) (next_oid old) p name) (sym at)
         ((fits scenario old was agrees works draft at whole played).names name is_new)));
-    needed = with.needed;
-    truly = with.truly;
-    tables = with.tables;
-    queue = with.queue scenario.size;
+    suits = with.suits scenario;
   }
 
   follows : Follows scenario old was failed event agrees.rest
@@ -174,12 +160,12 @@ module _ (scenario : Scenario) (old : List Entry) (was : Backend) (agrees : Agre
     judged = λ has none. with.ends;
   }
 
-  fails_enters : (new : List Entry) (had has : ℕ → ℕ) → IsPlayed scenario old → Clashes old new had has was.id draft name (entry_of was.id (was.finished + 1) event) → Enters scenario old new was failed
+  fails_enters : (new : List Entry) (had has : ℕ → ℕ) → IsPlayed scenario old → Clashes old new had has was.id draft name (entry_of was.id (was.finished + 1) event) → Enters scenario old new had has was failed
   fails_enters new had has played clashes = own_enters scenario old new had has was failed event agrees played (waits scenario old was agrees works draft at whole) with.on (suits played clashes.is_new) keeps follows clashes.appends
 
 -- the name of a new table is taken
 clash_enters : (scenario : Scenario) (old new : List Entry) (had has : ℕ → ℕ) (was : Backend) (agrees : Agrees scenario old was) (works : IsWorking was) (draft : Draft) (at : plan_at was.exec ≡ writing draft) (whole : builds_missing was.kept was.opened ≡ []) (name : List ℕ) (clash : Clash) (locks : Roomy OwnLock) → locks.items ≡ was.locks.items → IsPlayed scenario old
-    → Clashes old new had has was.id draft name (entry_of was.id (was.finished + 1) (clash_event name clash)) → Enters scenario old new was (record was { exec = stages.Failing (clash_error name clash); locks = locks })
+    → Clashes old new had has was.id draft name (entry_of was.id (was.finished + 1) (clash_event name clash)) → Enters scenario old new had has was (record was { exec = stages.Failing (clash_error name clash); locks = locks })
 clash_enters scenario old new had has was agrees works draft at whole name clash locks locked played clashes =
     fails_enters scenario old was agrees works draft at whole name (clash_event name clash) (clash_error name clash) (fails_with old was agrees.rest name clash) locks locked new had has played clashes
 
@@ -191,8 +177,8 @@ refused_entry old new had has b c draft name (clashes.Running xid) writes = writ
 -- a write that is refused, but not for lack of memory
 pub refusal_enters : (scenario : Scenario) (old new : List Entry) (had has : ℕ → ℕ) (was : Backend) (agrees : Agrees scenario old was) (works : IsWorking was) (draft : Draft) (at : plan_at was.exec ≡ writing draft) (whole : builds_missing was.kept was.opened ≡ []) (refusal : WriteRefusal) (error : CommandError)
     (locks : Roomy OwnLock) → locks.items ≡ was.locks.items → IsPlayed scenario old → error_of refusal ≡ Some error → Writes old new had has was.id (was.finished + 1) draft (Err refusal)
-    → Enters scenario old new was (record was { exec = stages.Failing error; locks = locks })
+    → Enters scenario old new had has was (record was { exec = stages.Failing error; locks = locks })
 refusal_enters scenario old new had has was agrees works draft at whole (refusals.Clash name clash) error locks locked played is refused =
-    subst (λ x. Enters scenario old new was (record was { exec = stages.Failing x; locks = locks })) (let same : clash_error name clash ≡ error = cc is in same)
+    subst (λ x. Enters scenario old new had has was (record was { exec = stages.Failing x; locks = locks })) (let same : clash_error name clash ≡ error = cc is in same)
     (clash_enters scenario old new had has was agrees works draft at whole name clash locks locked played (refused_entry old new had has was.id (was.finished + 1) draft name clash refused))
 refusal_enters scenario old new had has was agrees works draft at whole refusals.NoMemory error locks locked played is refused = absurd (cc)

@@ -1,9 +1,8 @@
 -- A backend that stands in a sound history is coherent with it.
 use Rattle.std.proofs.Common.{◌≡◌, ◌∙◌, ◌||◌, ℕ, Bool, true, false, Some, List, [], ◌∷◌, All, refl, sym, ap, subst, take}
-use Rattle.std.specs.Prelude.{⊤}
 use Rattle.std.specs.List.{AllByRecursion}
-use Rattle.std.proofs.lemmas.List.Elements.{All-from_recursion, recursion_from_All}
-use Rattle.base_types.specs.Scans.{same_scan}
+use Rattle.std.proofs.lemmas.List.Elements.{All-nil, All-from_recursion, recursion_from_All}
+use Rattle.base_types.specs.Scans.{same_scan, is_build_scan}
 use Rattle.base_types.proofs.SameScan.{same_scan-itself}
 use Rattle.history_model.specs.Orderly.{IsSound}
 use Rattle.history_model.specs.Read.{is_usable, rows_read}
@@ -11,12 +10,12 @@ use Rattle.history_model.specs.Coming.{IsAccounted}
 use Rattle.history_model.specs.Versions.{answer_of}
 use Rattle.history_model.proofs.Accounted.{usable_accounted, usable_read}
 use Rattle.history_model.proofs.Every.{every-weaker, every-both}
-use Rattle.backend_core.specs.Types.{Scenario, Entry, KeptScan, Life, Backend}
+use Rattle.backend_core.specs.Types.{Purpose, Scenario, Entry, KeptScan, Life, Backend}
 use Rattle.backend_core.specs.declared.phase.Life.TheVariants as lives
 use Rattle.backend_core.specs.State.{is_kept}
-use Rattle.backend_core.specs.Agrees.{ReadRight, KeptAt, Agrees, HasNotJoined, AwaitsEntry, HasLeft, Stands}
+use Rattle.backend_core.specs.Agrees.{ReadRight, KeptAt, HasNotJoined, AwaitsEntry, HasLeft, Stands}
 use Rattle.backend_core.specs.Coherent.{IsCoherentScan, IsCoherent}
-use Rattle.backend_core.proofs.ReadPlaces.{read_at_place}
+use Rattle.cacheless.proofs.ReadPlaces.{read_at_place}
 
 -- each scan that is kept is among those kept
 each_kept : (kept : List KeptScan) → AllByRecursion (λ k. is_kept kept k.scan ≡ true) kept
@@ -35,22 +34,26 @@ kept_coherent seen b k sound usable fits right = record {
   accounted = subst (λ n. IsAccounted seen b k.scan n k.rows) fits (subst (IsAccounted seen b k.scan _) (sym right.rows_are) (usable_accounted seen b k.scan sound usable));
 }
 
--- all that a backend keeps
-pub agrees_coherent : (scenario : Scenario) (seen : List Entry) (s : Backend) → IsSound seen → Agrees scenario seen s → All (IsCoherentScan seen s.id) s.kept
-agrees_coherent scenario seen s sound agrees = All-from_recursion (IsCoherentScan seen s.id) s.kept (every-weaker Held (IsCoherentScan seen s.id)
-    (λ k held. kept_coherent seen s.id k sound (agrees.facts.usable k.scan held.1.1.build ∙ held.0) held.1.0 held.1.1) s.kept
-    (every-both (λ k. is_kept s.kept k.scan ≡ true) (λ k. KeptAt seen s.id k × ReadRight (rows_read seen s.id) k) s.kept (each_kept s.kept)
-    (every-both (KeptAt seen s.id) (ReadRight (rows_read seen s.id)) s.kept (recursion_from_All (KeptAt seen s.id) s.kept agrees.kept) (recursion_from_All (ReadRight (rows_read seen s.id)) s.kept agrees.facts.kept))))
+-- all that is kept, where just what is usable is
+pub all_coherent : (seen : List Entry) (b : ℕ) (kept : List KeptScan) → IsSound seen → ((scan : Purpose) → is_build_scan scan ≡ true → is_usable seen b scan ≡ is_kept kept scan) → All (ReadRight (rows_read seen b)) kept → All (KeptAt seen b) kept
+    → All (IsCoherentScan seen b) kept
+all_coherent seen b kept sound usable right at = All-from_recursion (IsCoherentScan seen b) kept (every-weaker Held (IsCoherentScan seen b)
+    (λ k held. kept_coherent seen b k sound (usable k.scan held.1.1.build ∙ held.0) held.1.0 held.1.1) kept
+    (every-both (λ k. is_kept kept k.scan ≡ true) (λ k. KeptAt seen b k × ReadRight (rows_read seen b) k) kept (each_kept kept)
+    (every-both (KeptAt seen b) (ReadRight (rows_read seen b)) kept (recursion_from_All (KeptAt seen b) kept at) (recursion_from_All (ReadRight (rows_read seen b)) kept right))))
   where
     Held : KeptScan → Type 0
-    Held k = (is_kept s.kept k.scan ≡ true) × (KeptAt seen s.id k × ReadRight (rows_read seen s.id) k)
+    Held k = (is_kept kept k.scan ≡ true) × (KeptAt seen b k × ReadRight (rows_read seen b) k)
+
+-- that of a backend that has left
+pub left_coherent : (scenario : Scenario) (seen : List Entry) (s : Backend) → IsSound seen → HasLeft scenario seen s → IsCoherent seen s
+left_coherent scenario seen s sound left = all_coherent seen s.id s.kept sound left.usable left.right left.kept
 
 -- where it stands in a sound history, its caches are coherent with it: right after a step of its own, and after any entry of another
 pub stands_coherent : (scenario : Scenario) (seen : List Entry) (s : Backend) → IsSound seen → Stands scenario seen s → IsCoherent seen s
 stands_coherent scenario seen s sound stands = by_life s.life stands
   where
-    by_life : (l : Life) → elim l as (λ x. Type 0) [ lives.Unstarted ↦ HasNotJoined scenario seen s | lives.Alive ↦ AwaitsEntry scenario seen s | lives.Stopped ↦ HasLeft scenario seen s ]
-        → elim l as (λ x. Type 0) [ lives.Alive ↦ All (IsCoherentScan seen s.id) s.kept | life ↦ ⊤ ]
-    by_life lives.Unstarted before = tt
-    by_life lives.Alive awaits = agrees_coherent scenario seen s sound awaits.agrees
-    by_life lives.Stopped left = tt
+    by_life : (l : Life) → elim l as (λ x. Type 0) [ lives.Unstarted ↦ HasNotJoined scenario seen s | lives.Alive ↦ AwaitsEntry scenario seen s | lives.Stopped ↦ HasLeft scenario seen s ] → IsCoherent seen s
+    by_life lives.Unstarted before = subst (λ (l : List KeptScan). All (IsCoherentScan seen s.id) l) (sym before.new.kept) (All-nil (IsCoherentScan seen s.id))
+    by_life lives.Alive awaits = all_coherent seen s.id s.kept sound awaits.agrees.facts.usable awaits.agrees.facts.kept awaits.agrees.kept
+    by_life lives.Stopped left = left_coherent scenario seen s sound left

@@ -77,12 +77,12 @@ some_first (Some t) n first runs is = ap Some is
 
 -- the state after it
 pub commit_enters : (scenario : Scenario) (old new : List Entry) (had has : ℕ → ℕ) (was : Backend) (xid : Xid) (agrees : Agrees scenario old was) → IsPlayed scenario old → NextCommit was xid.0
-    → Appends old new had has (entry_of was.id (was.finished + 1) (events.Visible xid)) → Enters scenario old new was (record was { phase = phases.Visible 0 })
+    → Appends old new had has (entry_of was.id (was.finished + 1) (events.Visible xid)) → Enters scenario old new had has was (record was { phase = phases.Visible 0 })
 commit_enters scenario old new had has was xid agrees played next appends =
     own_enters scenario old new had has was now (events.Visible xid) agrees played
     (waits_to_end scenario old was agrees works (events.Visible xid) out (ends.1))
     (record { session = λ _ _ _ _ _ _. refl; finished = λ _. refl; life = λ _. refl })
-    (record { plays = subst (λ o. MayPlayIn (next_oid old) facts o (session_at was agrees.rest) (events.Visible xid)) (sym works.at) ends; needed = tt; truly = tt; tables = tt; queue = tt })
+    (record { plays = subst (λ o. MayPlayIn (next_oid old) facts o (session_at was agrees.rest) (events.Visible xid)) (sym works.at) ends; suits = record { needed = tt; truly = tt; tables = tt; queue = tt } })
     (record {
       moves = record { id = refl; commands = refl; finished = refl; life = refl; lines = refl };
       session = session_clear old was (events.Visible xid) agrees.rest clear

@@ -15,10 +15,10 @@ use Rattle.lock_modes.specs.Rooms.{Roomy}
 use Rattle.ddl_effect.specs.Plans.{Plan, Absent}
 use Rattle.ddl_effect.specs.Stages.{plan_at}
 use Rattle.history_model.specs.Drawn.{next_oid}
-use Rattle.history_model.specs.Lapped.{is_lapped, FetchesFrom}
+use Rattle.history_model.specs.Lapped.{is_lapped}
 use Rattle.history_model.specs.Lives.{last_event_of}
 use Rattle.history_model.specs.Log.{fetched_by}
-use Rattle.history_model.specs.Read.{ScansOnlyIfNeeded, is_scan_of}
+use Rattle.history_model.specs.Read.{is_scan_of}
 use Rattle.history_model.specs.Sent.{lists_by}
 use Rattle.history_model.specs.Transactions.{Running, begun, running_by}
 use Rattle.history_model.specs.Versions.{answer_of}
@@ -30,8 +30,7 @@ use Rattle.cacheless.specs.Session.{Session, Tally, first_of}
 use Rattle.cacheless.specs.Owed.{Owes, OwesFetch, OwesLook, owed_at_start, owed_after, owes_build, owes_accept}
 use Rattle.cacheless.specs.Sessions.{resumed, tally_by, placed_at, counted, ends_command}
 use Rattle.cacheless.specs.Plays.{MayPlay, MayPlayIn}
-use Rattle.cacheless.specs.Schedule.{LooksTruly}
-use Rattle.cacheless.specs.TableWrites.{KeepsTablesBy}
+use Rattle.cacheless.specs.MayEnter.{SuitsHistory}
 use Rattle.cacheless.proofs.Settling.{waits-owed}
 use Rattle.backend_core.specs.Types.{Command, OwnLock, Row, Purpose, Entry, Event, KeptScan, Phase, Backend}
 use Rattle.backend_core.specs.declared.phase.Phase.TheVariants as phases
@@ -107,10 +106,7 @@ entry_noted s tally at = record s { tally = tally; judged = at; last = at }
 record Brings (scenario : Scenario) (old : List Entry) (was : Backend) (rest : Rest) (event : Event) (phase : Phase) (kept : List KeptScan) (tally : Tally) : Type 0 where
   goes : GoesOn event
   plays : (next : ℕ) (facts : Facts) (command : Command) (s : Session) → MayPlay next facts command s event
-  needed : ScansOnlyIfNeeded old was.id event
-  truly : LooksTruly old was.id event
-  tables : KeepsTablesBy old was.id event
-  queue : FetchesFrom scenario.size old was.id event
+  suits : SuitsHistory scenario old was.id event
   inside : in_command phase ≡ true
   runs : (own : Option Running) → running_by (was.finished + 1) event own ≡ Some (begun (was.finished + 1) own)
   lists : (lists : List Written) → lists_by old was.id (was.finished + 1) event lists ≡ lists
@@ -182,7 +178,7 @@ module _ (scenario : Scenario) (old new : List Entry) (had has : ℕ → ℕ) (w
   part get = ap get brings.noted
 
   may : MayCome old e
-  may = may_come scenario old e played appends.comes brings.tables
+  may = may_come scenario old e played appends.comes brings.suits.tables
 
   carries : Leaves old e was.id
   carries = own_leaves old e was.id may brings.writes (λ name. brings.scans (scans.RelName name)) brings.idle
@@ -193,7 +189,7 @@ module _ (scenario : Scenario) (old new : List Entry) (had has : ℕ → ℕ) (w
     within = omega (arith, fits.within, ap looks_due fetching, brings.due, brings.looks, brings.fetches, brings.made.0, brings.made.1, one_at_most was.looked_to_build, same_first);
   }
 
-  brought : Enters scenario old new was now
+  brought : Enters scenario old new had has was now
   brought =
       own_enters scenario old new had has was now event agrees played
       (waits_at scenario old was agrees this (λ rest. waits-owed (facts_of old was.id) this.command rest (session_at was agrees.rest)
@@ -201,10 +197,7 @@ module _ (scenario : Scenario) (old new : List Entry) (had has : ℕ → ℕ) (w
       brings.goes
       (record {
         plays = subst (λ o. MayPlayIn (next_oid old) (facts_of old was.id) o (session_at was agrees.rest) event) (sym this.at) (brings.plays (next_oid old) (facts_of old was.id) this.command (session_at was agrees.rest));
-        needed = brings.needed;
-        truly = brings.truly;
-        tables = brings.tables;
-        queue = brings.queue;
+        suits = brings.suits;
       })
       (record {
         moves = record { id = refl; commands = refl; finished = refl; life = refl; lines = refl };
@@ -250,10 +243,7 @@ messages_bring : (scenario : Scenario) (old : List Entry) (was : Backend) (agree
 messages_bring scenario old was agrees count served fetching = record {
   goes = record { session = λ _ _ _ _ _ _. refl; finished = λ s. same_finished s.left s; life = λ _. refl };
   plays = λ _ _ _ _. tt;
-  needed = tt;
-  truly = tt;
-  tables = tt;
-  queue = served;
+  suits = record { needed = tt; truly = tt; tables = tt; queue = served };
   inside = fetched_in count;
   runs = λ _. refl;
   lists = λ _. refl;
@@ -308,10 +298,7 @@ reset_brings : (scenario : Scenario) (old : List Entry) (was : Backend) (agrees 
 reset_brings scenario old was agrees lapped fetching = record {
   goes = record { session = λ _ _ _ _ _ _. refl; finished = λ s. same_finished s.left s; life = λ _. refl };
   plays = λ _ _ _ _. tt;
-  needed = tt;
-  truly = tt;
-  tables = tt;
-  queue = lapped;
+  suits = record { needed = tt; truly = tt; tables = tt; queue = lapped };
   inside = refl;
   runs = λ _. refl;
   lists = λ _. refl;
@@ -334,17 +321,17 @@ reset_brings scenario old was agrees lapped fetching = record {
     same = resumed_same (plan_at was.exec) (session_at was agrees.rest) (agrees.well.accepting (ap is_accepting fetching)).unsettled
 
 -- its transaction goes on, so only the place of the acceptance, the looks, the locks and what is kept have changed
-runs_on : (scenario : Scenario) (old new : List Entry) (was : Backend) (phase : Phase) (to_build : Bool) (locks : Roomy OwnLock) (kept : List KeptScan) → Agrees scenario old was → was.phase ≡ phases.Fetching → Enters scenario old new was (accepted_state was phase was.looked to_build locks kept)
-    → Enters scenario old new was (record was { phase = phase; looked_to_build = to_build; locks = locks; kept = kept })
-runs_on scenario old new was phase to_build locks kept agrees fetching enters =
-    subst (λ r. Enters scenario old new was (record was { phase = phase; running = r; looked_to_build = to_build; locks = locks; kept = kept })) (runs_same (was.finished + 1) was.running (agrees.well.accepting (ap is_accepting fetching)).runs) enters
+runs_on : (scenario : Scenario) (old new : List Entry) (had has : ℕ → ℕ) (was : Backend) (phase : Phase) (to_build : Bool) (locks : Roomy OwnLock) (kept : List KeptScan) → Agrees scenario old was → was.phase ≡ phases.Fetching → Enters scenario old new had has was (accepted_state was phase was.looked to_build locks kept)
+    → Enters scenario old new had has was (record was { phase = phase; looked_to_build = to_build; locks = locks; kept = kept })
+runs_on scenario old new had has was phase to_build locks kept agrees fetching enters =
+    subst (λ r. Enters scenario old new had has was (record was { phase = phase; running = r; looked_to_build = to_build; locks = locks; kept = kept })) (runs_same (was.finished + 1) was.running (agrees.well.accepting (ap is_accepting fetching)).runs) enters
 
 -- the fetch, by what the call answered
 pub messages_enter : (scenario : Scenario) (old new : List Entry) (had has : ℕ → ℕ) (was : Backend) (count : ℕ) (given : List Message) (locks : Roomy OwnLock) → Agrees scenario old was → IsPlayed scenario old → was.phase ≡ phases.Fetching
-    → Fetches scenario.size old new had has was.id (was.finished + 1) given (fetches.Messages count) → locks.items ≡ locks_accepted (is_in_accept (after_messages given count was)) was.locks.items → Enters scenario old new was (record (after_messages given count was) { locks = locks })
+    → Fetches scenario.size old new had has was.id (was.finished + 1) given (fetches.Messages count) → locks.items ≡ locks_accepted (is_in_accept (after_messages given count was)) was.locks.items → Enters scenario old new had has was (record (after_messages given count was) { locks = locks })
 messages_enter scenario old new had has was count given locks agrees played fetching gives items =
-    subst (λ m. Enters scenario old new was (record (after_messages m count was) { locks = locks })) (sym gives.messages)
-    (runs_on scenario old new was (phase_fetched count) (was.looked_to_build && not (marks_build was messages)) locks (kept_spared messages was.kept) agrees fetching
+    subst (λ m. Enters scenario old new had has was (record (after_messages m count was) { locks = locks })) (sym gives.messages)
+    (runs_on scenario old new had has was (phase_fetched count) (was.looked_to_build && not (marks_build was messages)) locks (kept_spared messages was.kept) agrees fetching
     (brought scenario old new had has was (events.Fetch count) (phase_fetched count) (was.looked_to_build && not (marks_build was messages)) locks (kept_spared messages was.kept) _ agrees (messages_bring scenario old was agrees count gives.served fetching)
     (λ P holds. all-spared P messages was.kept holds) played fetching (fewer_looked was.looked_to_build (marks_build was messages)) (items ∙ ap (λ m. locks_accepted (is_in_accept (after_messages m count was)) was.locks.items) gives.messages) gives.appends))
   where
@@ -352,8 +339,8 @@ messages_enter scenario old new had has was count given locks agrees played fetc
     messages = fetched_by old was.id count
 
 pub reset_enters : (scenario : Scenario) (old new : List Entry) (had has : ℕ → ℕ) (was : Backend) (given : List Message) (locks : Roomy OwnLock) → Agrees scenario old was → IsPlayed scenario old → was.phase ≡ phases.Fetching
-    → Fetches scenario.size old new had has was.id (was.finished + 1) given fetches.Reset → locks.items ≡ locks_accepted (is_in_accept (after_reset was)) was.locks.items → Enters scenario old new was (record (after_reset was) { locks = locks })
+    → Fetches scenario.size old new had has was.id (was.finished + 1) given fetches.Reset → locks.items ≡ locks_accepted (is_in_accept (after_reset was)) was.locks.items → Enters scenario old new had has was (record (after_reset was) { locks = locks })
 reset_enters scenario old new had has was given locks agrees played fetching gives items =
-    runs_on scenario old new was phases.Working (was.looked_to_build && not (has_begun was)) locks [] agrees fetching
+    runs_on scenario old new had has was phases.Working (was.looked_to_build && not (has_begun was)) locks [] agrees fetching
     (brought scenario old new had has was events.FetchReset phases.Working (was.looked_to_build && not (has_begun was)) locks [] _ agrees (reset_brings scenario old was agrees gives.lapped fetching)
     (λ P holds i d within. absurd (omega (arith, within))) played fetching (fewer_looked was.looked_to_build (has_begun was)) items gives.appends)

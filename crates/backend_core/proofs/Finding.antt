@@ -41,12 +41,13 @@ use Rattle.backend_core.specs.Way.{OnItsWay}
 use Rattle.backend_core.specs.Answering.{kept_for, rows_for}
 use Rattle.backend_core.proofs.Acting.{IsActing, is_acting}
 use Rattle.backend_core.proofs.Beginning.{given_unread}
-use Rattle.backend_core.proofs.NextPlaces.{place_unread, place_found, after_opening, after_column, after_reading}
+use Rattle.cacheless.proofs.AfterActs.{after_opening, after_column, after_reading}
+use Rattle.backend_core.proofs.NextPlaces.{place_unread, place_found}
 use Rattle.backend_core.proofs.Carry.{no_answer, left_command, builds_same, act_same, nothing_first, clear_at, lacks_none}
 use Rattle.backend_core.proofs.Nexting.{the_command, builds_push}
 use Rattle.backend_core.proofs.OwnLocks.{own_lock_held}
 use Rattle.backend_core.proofs.Scanning.{builds_of}
-use Rattle.backend_core.proofs.OpenedReads.{reads_after}
+use Rattle.cacheless.proofs.OpenedReads.{reads_after}
 
 -- the backend after a silent act
 abbrev pub silent : Backend → Exec → List Opening → Backend

@@ -26,7 +26,7 @@ use Rattle.backend_core.specs.State.{owed_at, is_accepting, published_at, is_vis
 use Rattle.backend_core.specs.Agrees.{RunsBy, TransactionFits, IsOver, EndFits, Well, Agrees, ReadsOpened}
 use Rattle.backend_core.specs.Steps.{NextFinish, AgreesNow}
 use Rattle.backend_core.proofs.Stages.{stage_built}
-use Rattle.backend_core.proofs.OpenedReads.{reads_first}
+use Rattle.cacheless.proofs.OpenedReads.{reads_first}
 use Rattle.backend_core.proofs.Carry.{left_command, clear_at, no_answer, lacks_out}
 use Rattle.backend_core.proofs.Ending.{left_same, owed_none, runs_unless, built_at}
 use Rattle.backend_core.proofs.EndEntries.{free_ended}

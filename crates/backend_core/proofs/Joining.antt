@@ -25,9 +25,10 @@ use Rattle.backend_core.specs.Types.{Command, Scenario, Entry, KeptScan, Backend
 use Rattle.backend_core.specs.declared.phase.Life.TheVariants as lives
 use Rattle.backend_core.specs.State.{owed_at, is_accepting, looks_due, is_taken_back, is_ended, one_if, running_in, is_kept, rest_of}
 use Rattle.backend_core.specs.Agrees.{IsPlayed, ReadRight, FactsFit, RunsBy, EndFits, Well, KeptAt, IsNew, HasNotJoined, ReadsOpened}
-use Rattle.backend_core.specs.Steps.{AgreesNow, Enters}
+use Rattle.backend_core.specs.Steps.{AgreesNow, MakesEntry, Enters}
 use Rattle.backend_core.proofs.Played.{IsPlayed-more}
-use Rattle.backend_core.proofs.OpenedReads.{reads_first}
+use Rattle.backend_core.proofs.Stepping.{appended_makes}
+use Rattle.cacheless.proofs.OpenedReads.{reads_first}
 use Rattle.backend_core.proofs.Carry.{has_written-quiet, no_answer}
 use Rattle.backend_core.proofs.Ending.{fits_unless, built_at}
 use Rattle.backend_core.proofs.Beginning.{Begins, past_at, plain_at, starts_at, command_at}
@@ -105,20 +106,12 @@ new_facts old s new = record {
 }
 
 -- the state after it
-pub join_enters : (scenario : Scenario) (old new : List Entry) (had has : ℕ → ℕ) (was : Backend) → HasNotJoined scenario old was → IsPlayed scenario old → Appends old new had has (entry_of was.id 0 events.Start) → Enters scenario old new was (joined was)
+pub join_enters : (scenario : Scenario) (old new : List Entry) (had has : ℕ → ℕ) (was : Backend) → HasNotJoined scenario old was → IsPlayed scenario old → Appends old new had has (entry_of was.id 0 events.Start) → Enters scenario old new had has was (joined was)
 join_enters scenario old new had has was before played appends = record {
-  entry = e;
-  is = appends.entries;
-  own = refl;
+  makes = makes;
   id = refl;
-  comes = appends.comes;
-  next = next;
-  needed = tt;
-  truly = tt;
-  tables = tt;
-  queue = tt;
   agrees = subst (λ h. AgreesNow scenario h now) (sym appends.entries) (record {
-    played = IsPlayed-more scenario old e played appends.comes next tt tt tt tt;
+    played = IsPlayed-more scenario old e played makes.may;
     agrees = record {
       number = before.number;
       commands = before.commands;
@@ -160,8 +153,8 @@ join_enters scenario old new had has was before played appends = record {
     now : Backend
     now = joined was
 
-    next : IsNext scenario old e
-    next = (before.number, subst (λ o. MayPlayAt scenario old was.id o 0 events.Start) (sym before.session) tt)
+    makes : MakesEntry scenario old new had has was.id
+    makes = appended_makes scenario old new had has e (before.number, subst (λ o. MayPlayAt scenario old was.id o 0 events.Start) (sym before.session) tt) (record { needed = tt; truly = tt; tables = tt; queue = tt }) appends
 
     own : (e.backend == was.id) ≡ true
     own = eq-eqb was.id was.id refl

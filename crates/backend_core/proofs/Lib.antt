@@ -1,6 +1,6 @@
 pub mod NextPlaces
 pub mod Stages
-pub mod OpenedReads
+pub mod KeptReads
 pub mod Stepping
 pub mod Carry
 pub mod Sparing
@@ -22,8 +22,6 @@ pub mod TakingBack
 pub mod Releasing
 pub mod Leaving
 pub mod Beginning
-pub mod NewTable
-pub mod WriteFits
 pub mod Registering
 pub mod WriteMessages
 pub mod Writing
@@ -34,7 +32,6 @@ pub mod Joining
 pub mod Waiting
 pub mod Shown
 pub mod Finishing
-pub mod ReadPlaces
 pub mod Showing
 pub mod Answered
 pub mod Coherent

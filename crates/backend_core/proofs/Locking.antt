@@ -130,16 +130,13 @@ found_by_lock now name mode rest p given at held = subst (λ q. IsFoundLocked no
 -- a lock that is granted
 pub granted_enters : (scenario : Scenario) (old new : List Entry) (had has : ℕ → ℕ) (was : Backend) (rel : Oid) (mode : Mode) (held : List OwnLock) (locks : Roomy OwnLock) → Agrees scenario old was → IsPlayed scenario old → IsWorking was → NextLock was rel mode
     → held ≡ was.locks.items → locks.items ≡ held ++ record { rel = rel; mode = mode; command = was.finished + 1; clear = false } ∷ []
-    → Appends old new had has (entry_of was.id (was.finished + 1) (events.LockOk rel mode)) → Enters scenario old new was (record was { phase = phases.Looking; locks = locks })
+    → Appends old new had has (entry_of was.id (was.finished + 1) (events.LockOk rel mode)) → Enters scenario old new had has was (record was { phase = phases.Looking; locks = locks })
 granted_enters scenario old new had has was rel mode held locks agrees played works next same pushes appends =
     own_enters scenario old new had has was now event agrees played (waits_lock scenario old was agrees works.has rel mode next)
     (record { session = λ _ _ _ _ _ _. refl; finished = λ _. refl; life = λ _. refl })
     (record {
       plays = subst (λ o. MayPlayIn (next_oid old) (facts_of old was.id) o (session_at was agrees.rest) event) (sym works.has.at) (may_lock scenario old was agrees works rel mode next);
-      needed = tt;
-      truly = tt;
-      tables = tt;
-      queue = tt;
+      suits = record { needed = tt; truly = tt; tables = tt; queue = tt };
     })
     (record {
       moves = record { id = refl; commands = refl; finished = refl; life = refl; lines = refl };
@@ -225,16 +222,13 @@ granted_enters scenario old new had has was rel mode held locks agrees played wo
 
 -- a lock that is refused ends the command
 pub refused_enters : (scenario : Scenario) (old new : List Entry) (had has : ℕ → ℕ) (was : Backend) (rel : Oid) (mode : Mode) (holder : ℕ) (held : Mode) (locks : Roomy OwnLock) → Agrees scenario old was → IsPlayed scenario old → IsWorking was → NextLock was rel mode → locks.items ≡ was.locks.items
-    → Appends old new had has (entry_of was.id (was.finished + 1) (events.LockHeld rel mode holder held)) → Enters scenario old new was (record was { exec = stages.Failing (errors.Locked rel holder held); locks = locks })
+    → Appends old new had has (entry_of was.id (was.finished + 1) (events.LockHeld rel mode holder held)) → Enters scenario old new had has was (record was { exec = stages.Failing (errors.Locked rel holder held); locks = locks })
 refused_enters scenario old new had has was rel mode holder held locks agrees played works next same appends =
     own_enters scenario old new had has was now event agrees played (waits_lock scenario old was agrees works.has rel mode next)
     (record { session = λ _ _ _ _ _ _. refl; finished = λ _. refl; life = λ _. refl })
     (record {
       plays = subst (λ o. MayPlayIn (next_oid old) (facts_of old was.id) o (session_at was agrees.rest) event) (sym works.has.at) (may_lock scenario old was agrees works rel mode next);
-      needed = tt;
-      truly = tt;
-      tables = tt;
-      queue = tt;
+      suits = record { needed = tt; truly = tt; tables = tt; queue = tt };
     })
     (record {
       moves = record { id = refl; commands = refl; finished = refl; life = refl; lines = refl };
@@ -313,7 +307,7 @@ refused_enters scenario old new had has was rel mode holder held locks agrees pl
 
 -- the same for what the call answered
 pub refusal_enters : (scenario : Scenario) (old new : List Entry) (had has : ℕ → ℕ) (was : Backend) (rel : Oid) (mode : Mode) (refusal : LockRefusal) (holder of : ℕ) (held under : Mode) (own : Roomy OwnLock) → Agrees scenario old was → IsPlayed scenario old → IsWorking was → NextLock was rel mode
-    → own.items ≡ was.locks.items → refusal ≡ Conflict holder held → of ≡ holder → under ≡ held → Locks old new had has was.id (was.finished + 1) rel mode (Err refusal) → Enters scenario old new was (record was { exec = stages.Failing (errors.Locked rel of under); locks = own })
+    → own.items ≡ was.locks.items → refusal ≡ Conflict holder held → of ≡ holder → under ≡ held → Locks old new had has was.id (was.finished + 1) rel mode (Err refusal) → Enters scenario old new had has was (record was { exec = stages.Failing (errors.Locked rel of under); locks = own })
 refusal_enters scenario old new had has was rel mode refusal holder of held under own agrees played works next same is holder_is held_is locks =
-    subst (λ h. Enters scenario old new was (record was { exec = stages.Failing (errors.Locked rel h under); locks = own })) (sym holder_is) (subst (λ m. Enters scenario old new was (record was { exec = stages.Failing (errors.Locked rel holder m); locks = own })) (sym held_is)
+    subst (λ h. Enters scenario old new had has was (record was { exec = stages.Failing (errors.Locked rel h under); locks = own })) (sym holder_is) (subst (λ m. Enters scenario old new had has was (record was { exec = stages.Failing (errors.Locked rel holder m); locks = own })) (sym held_is)
     (refused_enters scenario old new had has was rel mode holder held own agrees played works next same (subst (λ r. Locks old new had has was.id (was.finished + 1) rel mode (Err r)) is locks)))

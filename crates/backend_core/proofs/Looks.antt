@@ -232,16 +232,13 @@ record Looks (scenario : Scenario) (old : List Entry) (was : Backend) (some_wait
   counted : looks_ahead was + 1 ≡ looks_due was.phase + one_if ((begun_own (was.finished + 1) was.running).first == was.finished + 1) + one_if looked + one_if to_build
 
 looks_enter : (scenario : Scenario) (old new : List Entry) (had has : ℕ → ℕ) (was : Backend) (some_wait looked to_build : Bool) (locks : Roomy OwnLock) → (agrees : Agrees scenario old was) → IsPlayed scenario old → is_waiting old was.id ≡ some_wait
-    → Looks scenario old was some_wait agrees looked to_build locks → Appends old new had has (entry_of was.id (was.finished + 1) (events.Look some_wait)) → Enters scenario old new was (accepted_state was (phase_looked some_wait) looked to_build locks was.kept)
+    → Looks scenario old was some_wait agrees looked to_build locks → Appends old new had has (entry_of was.id (was.finished + 1) (events.Look some_wait)) → Enters scenario old new had has was (accepted_state was (phase_looked some_wait) looked to_build locks was.kept)
 looks_enter scenario old new had has was some_wait looked to_build locks agrees played true_is looks appends =
     own_enters scenario old new had has was now (events.Look some_wait) agrees played looks.waits
     (record { session = λ _ _ _ _ _ _. refl; finished = λ _. refl; life = λ _. refl })
     (record {
       plays = subst (λ o. MayPlayIn (next_oid old) (facts_of old was.id) o (session_at was agrees.rest) (events.Look some_wait)) (sym accepts.has.at) (may_look_at (facts_of old was.id) was agrees.rest agrees.facts (agrees.tally before.going) looks.unfetched looks.few);
-      needed = tt;
-      truly = look_true old was.id some_wait true_is;
-      tables = tt;
-      queue = tt;
+      suits = record { needed = tt; truly = look_true old was.id some_wait true_is; tables = tt; queue = tt };
     })
     (record {
       moves = record { id = refl; commands = refl; finished = refl; life = refl; lines = refl };
@@ -317,7 +314,7 @@ none_is (Some x) none = absurd (cc)
 
 first_look : (scenario : Scenario) (old new : List Entry) (had has : ℕ → ℕ) (was : Backend) (some_wait : Bool) (locks : Roomy OwnLock) → (agrees : Agrees scenario old was) → IsPlayed scenario old → is_waiting old was.id ≡ some_wait
     → (at : HasCommand was) → owed_first was at.command ≢ [] → was.phase ≡ phases.Working → is_some was.answer ≡ false → locks.items ≡ locks_accepted (is_accepting (phase_looked some_wait) || lacks_builds was) was.locks.items
-    → Appends old new had has (entry_of was.id (was.finished + 1) (events.Look some_wait)) → Enters scenario old new was (accepted_state was (phase_looked some_wait) was.looked was.looked_to_build locks was.kept)
+    → Appends old new had has (entry_of was.id (was.finished + 1) (events.Look some_wait)) → Enters scenario old new had has was (accepted_state was (phase_looked some_wait) was.looked was.looked_to_build locks was.kept)
 first_look scenario old new had has was some_wait locks agrees played true_is at some phase unanswered items appends = looks_enter scenario old new had has was some_wait was.looked was.looked_to_build locks agrees played true_is (record {
   waits = waits_at scenario old was agrees at (λ rest. waits-owed (facts_of old was.id) at.command rest (session_at was agrees.rest)
       (not_empty _ (owed_after (facts_of old was.id).last) (subst (λ l. l ≢ []) (sym (start_owed (facts_of old was.id) at.command was agrees.rest agrees.facts)) some)));
@@ -388,7 +385,7 @@ accepting_opened s well accepting = by_side well.opened
 
 next_look : (scenario : Scenario) (old new : List Entry) (had has : ℕ → ℕ) (was : Backend) (some_wait : Bool) (locks : Roomy OwnLock) → (agrees : Agrees scenario old was) → IsPlayed scenario old → is_waiting old was.id ≡ some_wait
     → (at : HasCommand was) → was.phase ≡ phases.Looking → locks.items ≡ locks_accepted (is_accepting (phase_looked some_wait) || lacks_builds was) was.locks.items
-    → Appends old new had has (entry_of was.id (was.finished + 1) (events.Look some_wait)) → Enters scenario old new was (accepted_state was (phase_looked some_wait) was.looked was.looked_to_build locks was.kept)
+    → Appends old new had has (entry_of was.id (was.finished + 1) (events.Look some_wait)) → Enters scenario old new had has was (accepted_state was (phase_looked some_wait) was.looked was.looked_to_build locks was.kept)
 next_look scenario old new had has was some_wait locks agrees played true_is at phase items appends = looks_enter scenario old new had has was some_wait was.looked was.looked_to_build locks agrees played true_is (record {
   waits = waits_at scenario old was agrees at (λ rest. waits-owed (facts_of old was.id) at.command rest (session_at was agrees.rest)
       (not_empty-after (owed_at_start (facts_of old was.id) at.command (session_at was agrees.rest)) (owed_after (facts_of old was.id).last) (ap is_empty (agrees.facts.owed ∙ ap owed_at phase))));
@@ -438,16 +435,16 @@ owed_call scenario seen s some_wait agrees played owes is = by_phase owes.1
 -- the look that is owed, at the transaction's start or in an accept
 pub look_enters : (scenario : Scenario) (old new : List Entry) (had has : ℕ → ℕ) (was : Backend) (some_wait : Bool) (own : OwnTransaction) (phase : Phase) (locks : Roomy OwnLock) → Agrees scenario old was → IsPlayed scenario old → OwesLookNow was
     → some_wait ≡ is_waiting old was.id → own ≡ begun_own (was.finished + 1) was.running → phase ≡ phase_looked some_wait → locks.items ≡ locks_accepted (is_accepting phase || lacks_builds was) was.locks.items
-    → Appends old new had has (entry_of was.id (was.finished + 1) (events.Look some_wait)) → Enters scenario old new was (record was { phase = phase; running = Some own; locks = locks })
+    → Appends old new had has (entry_of was.id (was.finished + 1) (events.Look some_wait)) → Enters scenario old new had has was (record was { phase = phase; running = Some own; locks = locks })
 look_enters scenario old new had has was some_wait own phase locks agrees played owes is own_is phase_is items appends =
-    subst (λ t. Enters scenario old new was (record was { phase = phase; running = Some t; locks = locks })) (sym own_is)
-    (subst (λ p. Enters scenario old new was (record was { phase = p; running = Some (begun_own (was.finished + 1) was.running); locks = locks })) (sym phase_is) (by_owed (owed_phase was agrees.well owes) owes.1))
+    subst (λ t. Enters scenario old new had has was (record was { phase = phase; running = Some t; locks = locks })) (sym own_is)
+    (subst (λ p. Enters scenario old new had has was (record was { phase = p; running = Some (begun_own (was.finished + 1) was.running); locks = locks })) (sym phase_is) (by_owed (owed_phase was agrees.well owes) owes.1))
   where
     held : locks.items ≡ locks_accepted (is_accepting (phase_looked some_wait) || lacks_builds was) was.locks.items
     held = items ∙ ap (λ p. locks_accepted (is_accepting p || lacks_builds was) was.locks.items) phase_is
 
     by_owed : ((was.phase ≡ phases.Working) × (is_some was.answer ≡ false)) ⊎ (was.phase ≡ phases.Looking) → ((owed_first was owes.0.command ≢ []) × (was.phase ≡ phases.Working)) ⊎ (was.phase ≡ phases.Looking)
-        → Enters scenario old new was (accepted_state was (phase_looked some_wait) was.looked was.looked_to_build locks was.kept)
+        → Enters scenario old new had has was (accepted_state was (phase_looked some_wait) was.looked was.looked_to_build locks was.kept)
     by_owed (inr looking) how = next_look scenario old new had has was some_wait locks agrees played (sym is) owes.0 looking held appends
     by_owed (inl working) (inl some) = first_look scenario old new had has was some_wait locks agrees played (sym is) owes.0 some.0 working.0 working.1 held appends
     by_owed (inl working) (inr looking) = next_look scenario old new had has was some_wait locks agrees played (sym is) owes.0 looking held appends
@@ -482,10 +479,10 @@ more false true to_build un = absurd (cc)
 -- the look before a scan
 pub scan_look_enters : (scenario : Scenario) (old new : List Entry) (had has : ℕ → ℕ) (was : Backend) (some_wait builds : Bool) (phase : Phase) (looked to_build : Bool) → Agrees scenario old was → IsPlayed scenario old → IsWorking was → scans_missing was ≢ [] → is_looked_for builds was ≡ false
     → some_wait ≡ is_waiting old was.id → phase ≡ phase_looked some_wait → looked ≡ (was.looked || not builds) → to_build ≡ (was.looked_to_build || builds)
-    → Appends old new had has (entry_of was.id (was.finished + 1) (events.Look some_wait)) → Enters scenario old new was (record was { looked = looked; looked_to_build = to_build; phase = phase })
+    → Appends old new had has (entry_of was.id (was.finished + 1) (events.Look some_wait)) → Enters scenario old new had has was (record was { looked = looked; looked_to_build = to_build; phase = phase })
 scan_look_enters scenario old new had has was some_wait builds phase looked to_build agrees played works some unlooked is phase_is looked_is build_is appends =
-    subst (λ p. Enters scenario old new was (record was { looked = looked; looked_to_build = to_build; phase = p })) (sym phase_is)
-    (subst (λ r. Enters scenario old new was (record was { phase = phase_looked some_wait; running = r; looked = looked; looked_to_build = to_build })) (runs_same (was.finished + 1) was.running acting.runs)
+    subst (λ p. Enters scenario old new had has was (record was { looked = looked; looked_to_build = to_build; phase = p })) (sym phase_is)
+    (subst (λ r. Enters scenario old new had has was (record was { phase = phase_looked some_wait; running = r; looked = looked; looked_to_build = to_build })) (runs_same (was.finished + 1) was.running acting.runs)
     (looks_enter scenario old new had has was some_wait looked to_build was.locks agrees played (sym is) (record {
       waits = waits_scan scenario old was agrees works.has some;
       unfetched = λ fetches. absurd (cc (fetches, works.phase));

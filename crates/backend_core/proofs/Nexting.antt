@@ -19,7 +19,7 @@ use Rattle.backend_core.specs.declared.phase.Phase.TheVariants as phases
 use Rattle.backend_core.specs.State.{is_kept, missing, builds_missing, is_out, begins_in, end_at, has_write_since, lists_at, published_at, unlocked_of, HasCommand}
 use Rattle.backend_core.specs.Agrees.{ReadsOpened, Well}
 use Rattle.backend_core.specs.Steps.{OwesLookNow, IsWorking, NextLookUp, NextBuild, ForOpened, ForOpening, NextLock, NextFind, NextOpen, NextCommit, NextRelease, AfterCommit, WithoutWrite, NextFinish}
-use Rattle.backend_core.proofs.OpenedReads.{kept_opened}
+use Rattle.backend_core.proofs.KeptReads.{kept_opened}
 
 -- the plan that wants a lookup
 wants_lookup : (p : Plan) (name : List ℕ) (mode : Mode) → want_of p ≡ wants.Lookup name mode → (rest : List Row → Plan) × (p ≡ Do (Lookup name mode) rest)

@@ -13,7 +13,7 @@ use Rattle.cacheless.proofs.Reading.{facts_of-other, session_of-other}
 use Rattle.backend_core.specs.Types.{Entry, Life, Backend}
 use Rattle.backend_core.specs.declared.phase.Life.TheVariants as lives
 use Rattle.backend_core.specs.State.{session_at}
-use Rattle.backend_core.specs.Agrees.{IsPlayed, FactsFit, Agrees, AwaitsEntry, HasNotJoined, HasLeft, Stands}
+use Rattle.backend_core.specs.Agrees.{IsPlayed, ReadRight, FactsFit, Agrees, AwaitsEntry, HasNotJoined, HasLeft, Stands}
 use Rattle.backend_core.proofs.Stepping.{lines-more}
 use Rattle.backend_core.proofs.Carry.{MayCome, may_come, Leaves, other_leaves, has_written-other, kept-other, command-more, answer-more}
 
@@ -68,6 +68,9 @@ not_joined-other scenario seen e s other before = record {
 left-other : (scenario : Scenario) (seen : List Entry) (e : Entry) (s : Backend) → (e.backend == s.id) ≡ false → HasLeft scenario seen s → HasLeft scenario (seen ++ e ∷ []) s
 left-other scenario seen e s other left = record {
   number = left.number;
+  usable = λ scan build. ap (λ f. f.usable scan) (facts_of-other seen e s.id other) ∙ left.usable scan build;
+  right = subst (λ f. All (ReadRight f.rows) s.kept) (sym (facts_of-other seen e s.id other)) left.right;
+  kept = kept-other seen e s.id s.kept other left.kept;
   life = life_of-other seen e s.id other ∙ left.life;
   finished = left.finished;
   are = ap (λ o. option_map_or (λ now. now.finished) o []) (session_of-other scenario seen e s.id other) ∙ left.are;

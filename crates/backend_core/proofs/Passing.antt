@@ -17,6 +17,7 @@ use Rattle.backend_core.specs.Agrees.{Well}
 use Rattle.backend_core.specs.Steps.{OwesLookNow, IsWorking, FindsBy, NextBuild, ForOpened, ForOpening, IsAtHand, NextTakeBack, NextRelease, AfterCommit, AfterTakingBack, WithoutWrite, AtTheEnd, NextFinish, IsNextOf, makes_entry}
 use Rattle.backend_core.specs.Passing.{is_ends, is_done_here, passes_on, passes_in, is_silent}
 use Rattle.backend_core.proofs.Carry.{none_missing_well, not_empty_list}
+use Rattle.backend_core.proofs.Scanning.{look_missing}
 use Rattle.backend_core.proofs.Stages.{stage_built}
 
 -- in a command
@@ -178,7 +179,7 @@ read_lock s mode rel unlocked = ap (λ o. s.read && is_none o) unlocked ∙ and_
 -- what comes next is an entry exactly where it doesn't go on without one
 pub silent_is : (s : Backend) → Well s → (next : Next) → IsNextOf s next → is_silent s ≡ not (makes_entry next)
 silent_is s well nexts.Look is = look_now s is
-silent_is s well (nexts.LookBeforeScan builds) (work, some, unlooked) = look_before_scan s well work some
+silent_is s well (nexts.LookBeforeScan builds) (work, next) = look_before_scan s well work (look_missing builds s next)
 silent_is s well nexts.Fetch is = by_command s (λ command. ap (passes_in s command) is)
 silent_is s well (nexts.LookUp scan) (work, next, looked) = in_act s work false next.act next.rest next.at next.whole (unread_here s scan next.act next.rest next.by next.unread)
 silent_is s well (nexts.Build scan) (work, next, looked) = build_now s scan work next

@@ -123,12 +123,12 @@ more_published p (Some t) command published count first at runs = ap (λ q. Some
 -- the state after it
 pub publish_enters : (scenario : Scenario) (old new : List Entry) (had has : ℕ → ℕ) (was : Backend) (published : ℕ) (messages : List Message) (agrees : Agrees scenario old was) → IsPlayed scenario old → NextPublish was
     → was.phase ≡ phases.Visible published → messages ≡ take 64 (unsent_after published (lists_at was)) → Appends old new had has (entry_of was.id (was.finished + 1) (events.Publish (length messages)))
-    → Enters scenario old new was (record was { phase = phases.Visible (published + length messages) })
+    → Enters scenario old new had has was (record was { phase = phases.Visible (published + length messages) })
 publish_enters scenario old new had has was published messages agrees played next phase is appends =
     own_enters scenario old new had has was now event agrees played
     (waits_to_end scenario old was agrees works event fits.out ends.1)
     (record { session = λ _ _ _ _ _ _. refl; finished = λ _. refl; life = λ _. refl })
-    (record { plays = subst (λ o. MayPlayIn (next_oid old) facts o (session_at was agrees.rest) event) (sym works.at) ends; needed = tt; truly = tt; tables = tt; queue = tt })
+    (record { plays = subst (λ o. MayPlayIn (next_oid old) facts o (session_at was agrees.rest) event) (sym works.at) ends; suits = record { needed = tt; truly = tt; tables = tt; queue = tt } })
     (record {
       moves = record { id = refl; commands = refl; finished = refl; life = refl; lines = refl };
       session = session_clear old was event agrees.rest clear ∙ (λ i. record (placed_at (length old + 1) (was.finished + 1) event (session_at was agrees.rest)) { ended = ap is_ended phase i });

@@ -246,12 +246,12 @@ none_left s from well first = by_own s.running refl first
 -- the state after it
 pub release_enters : (scenario : Scenario) (old new : List Entry) (had has : ℕ → ℕ) (was : Backend) (from : ℕ) (lists : Held) (locks : Roomy OwnLock) (agrees : Agrees scenario old was) → IsPlayed scenario old → NextRelease was from
     → lists.lists ≡ no_lists → locks.items ≡ filter (λ lock. nat_lt lock.command from) was.locks.items → Appends old new had has (entry_of was.id (was.finished + 1) (events.Release from))
-    → Enters scenario old new was (record was { phase = phases.Ended; running = None; lists = lists; locks = locks })
+    → Enters scenario old new had has was (record was { phase = phases.Ended; running = None; lists = lists; locks = locks })
 release_enters scenario old new had has was from lists locks agrees played next none kept appends =
     own_enters scenario old new had has was now (events.Release from) agrees played
     (elim (has_or_none was) [ inl command ↦ waits_to_end scenario old was agrees command (events.Release from) out (ends command).1 | inr past ↦ waits_after_all scenario old was agrees past ])
     (record { session = λ _ _ _ _ _ _. refl; finished = λ _. refl; life = λ _. refl })
-    (record { plays = plays; needed = tt; truly = tt; tables = tt; queue = tt })
+    (record { plays = plays; suits = record { needed = tt; truly = tt; tables = tt; queue = tt } })
     (record {
       moves = record { id = refl; commands = refl; finished = refl; life = refl; lines = refl };
       session = session_clear old was (events.Release from) agrees.rest (filter-cleared from was.locks.items ∙ ap (filter (λ lock. nat_lt lock.command from)) clear)

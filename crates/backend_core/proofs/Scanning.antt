@@ -1,5 +1,5 @@
 -- The scans of a backend.
-use Rattle.std.proofs.Common.{◌≡◌, ◌≢◌, ◌≤◌, ◌<◌, ◌+◌, ◌⊎◌, inl, inr, ◌∙◌, ℕ, Bool, true, false, not, Option, Some, None, List, [], ◌∷◌, ◌++◌, ◌==◌, ◌||◌, refl, sym, ap, subst, length, get_or, cond, filter, map, take, drop, All, is_some, slice_get, lt-ltb, arith}
+use Rattle.std.proofs.Common.{◌≡◌, ◌≢◌, ◌≤◌, ◌<◌, ◌+◌, ◌⊎◌, inl, inr, ◌∙◌, ℕ, Bool, true, false, not, Option, Some, None, List, [], ◌∷◌, ◌++◌, ◌==◌, ◌||◌, refl, sym, ap, subst, length, get_or, cond, filter, map, take, drop, All, is_some, slice_get, lt-ltb, arith, Result, Ok, Err, OnErr}
 use Rattle.std.specs.List.{list_any, flat_map, AllByRecursion}
 use Rattle.std.specs.Option.{option_map_or}
 use Rattle.std.proofs.Math.Bool.{or_comm}
@@ -36,8 +36,8 @@ use Rattle.backend_core.specs.Types.{Oid, Kind, Row, Purpose, Mode, Entry, Event
 use Rattle.backend_core.specs.declared.phase.Phase.TheVariants as phases
 use Rattle.backend_core.specs.State.{owed_at, is_accepting, looks_due, is_taken_back, is_ended, is_out, owed_first, one_if, running_in, is_kept, act_missing, scans_missing, Rest, session_at, missing, builds_missing, lacks_builds, locks_accepted}
 use Rattle.backend_core.specs.Agrees.{IsPlayed, FactsFit, TallyFits, RowsFit, ReadRight, Well, PlaceFits, KeptAt, GivenSeen, Agrees, IsFoundLocked}
-use Rattle.backend_core.specs.Steps.{IsWorking, NextLookUp, NextBuild, Enters, FindsBy, ForOpened, ForOpening}
-use Rattle.backend_core.proofs.Stepping.{facts_after, rest_after, own_enters, session_after}
+use Rattle.backend_core.specs.Steps.{IsWorking, NextLookUp, NextBuild, NextScan, NextLookFor, Enters, IsRefused, After, FindsBy, ForOpened, ForOpening}
+use Rattle.backend_core.proofs.Stepping.{facts_after, rest_after, Suits, own_makes, own_enters, session_after}
 use Rattle.backend_core.proofs.Carry.{transaction-more, end_free, waits_scan, runs_on, MayCome, may_come, Leaves, own_leaves, LeavesWrites, LeavesRelations, leaves_relations, has_written-quiet, place_read-scan, kept-more, SameCommand, way-more, later-more, command-more, no_answer, act_same, missing_at, owed_free, clear_at, accepted-clear, builds_same, lacks_none, opened_inside, is_locked-accepted, rows_fit-more, found_locked-more}
 use Rattle.backend_core.proofs.Acting.{IsActing, is_acting, inside_acts}
 use Rattle.backend_core.proofs.Looks.{in_command, cleared_twice, locks_after, owes_in}
@@ -199,17 +199,14 @@ look_up_missing s scan next none =
 looked_up_to : (scenario : Scenario) (old new : List Entry) (had has : ℕ → ℕ) (was : Backend) (scan : Purpose) (given : Vec Row Global) (at : ℕ) → Agrees scenario old was → IsPlayed scenario old → IsWorking was → NextLookUp was scan → was.looked ≡ true
     → given.items ≡ answer_of old was.id scan → at ≡ length old + 1
     → Appends old new had has (entry_of was.id (was.finished + 1) (events.Scan scan (length (answer_of old was.id scan))))
-    → Enters scenario old new was (record was { looked = false; read = true; given = given; given_at = at })
+    → Enters scenario old new had has was (record was { looked = false; read = true; given = given; given_at = at })
 looked_up_to scenario old new had has was scan given at agrees played works next looked rows_are at_is appends =
     own_enters scenario old new had has was now event agrees played (waits_scan scenario old was agrees works.has (look_up_missing was scan next))
     (record { session = λ _ _ _ _ _ _. refl; finished = λ _. refl; life = λ _. refl })
     (record {
       plays = may_scan scenario old was agrees works scan count (omega (arith, ap one_if looked)) (next_scan (facts_of old was.id) (session_at was agrees.rest) scan inside
           (ap (act_next (facts_of old was.id) was.locks.items was.read) next.at ∙ ap (λ r. act_next (facts_of old was.id) was.locks.items r (Do next.act next.rest)) next.unread ∙ this.next_is));
-      needed = λ build. absurd (let both : true ≡ false = sym build ∙ this.named in cc);
-      truly = tt;
-      tables = tt;
-      queue = tt;
+      suits = record { needed = λ build. absurd (let both : true ≡ false = sym build ∙ this.named in cc); truly = tt; tables = tt; queue = tt };
     })
     (record {
       moves = record { id = refl; commands = refl; finished = refl; life = refl; lines = refl };
@@ -288,7 +285,7 @@ looked_up_to scenario old new had has was scan given at agrees played works next
 
 -- the scan of a name
 pub looked_up_enters : (scenario : Scenario) (old new : List Entry) (had has : ℕ → ℕ) (was : Backend) (scan : Purpose) (scanned : Scanned) → Agrees scenario old was → IsPlayed scenario old → IsWorking was → NextLookUp was scan → was.looked ≡ true
-    → GivesRows old new had has was.id (was.finished + 1) scan scanned → Enters scenario old new was (record was { looked = false; read = true; given = scanned.rows; given_at = scanned.at })
+    → GivesRows old new had has was.id (was.finished + 1) scan scanned → Enters scenario old new had has was (record was { looked = false; read = true; given = scanned.rows; given_at = scanned.at })
 looked_up_enters scenario old new had has was scan scanned agrees played works next looked gives = looked_up_to scenario old new had has was scan scanned.rows scanned.at agrees played works next looked gives.rows gives.at gives.appends
 
 -- the first scan that is missing: it isn't kept, and is one of the descriptor's
@@ -353,6 +350,14 @@ pub build_missing : (s : Backend) (scan : Purpose) → NextBuild s scan → scan
 build_missing s scan (ForOpened more inside first) = opened_missing s scan more inside first
 build_missing s scan (ForOpening rel kind rest more at whole first) = cons_not scan more (scans_missing s) (missing_at s (Do (Open rel kind) rest) whole at ∙ first)
 
+-- where a look is to be made for a scan, one is missing
+pub look_missing : (builds : Bool) (s : Backend) → NextLookFor builds s → scans_missing s ≢ []
+look_missing builds s next = by_kind builds next.next
+  where
+    by_kind : (t : Bool) → NextScan t s next.scan → scans_missing s ≢ []
+    by_kind true is = build_missing s next.scan is
+    by_kind false is = look_up_missing s next.scan is
+
 builds : (scenario : Scenario) (old : List Entry) (s : Backend) (agrees : Agrees scenario old s) (works : IsWorking s) (scan : Purpose) → NextBuild s scan → Builds old s agrees.rest scan
 builds scenario old s agrees works scan (ForOpened more inside first) = record {
   inside = inside;
@@ -378,20 +383,31 @@ unwanted scan (Do (Column rel name) rest) build = other_scan (scans.AttName rel 
 unwanted scan (Do act rest) build = refl
 unwanted scan p build = refl
 
+-- it may come
+built_suits : (scenario : Scenario) (old : List Entry) (was : Backend) (scan : Purpose) (agrees : Agrees scenario old was) → IsWorking was → NextBuild was scan → was.looked_to_build ≡ true → Suits scenario old was (events.Scan scan (length (answer_of old was.id scan))) agrees.rest
+built_suits scenario old was scan agrees works next looked = record {
+  plays = may_scan scenario old was agrees works scan (length (answer_of old was.id scan)) (omega (arith, ap one_if looked)) this.next;
+  suits = record { needed = λ build. agrees.facts.usable scan build ∙ not_true (is_kept was.kept scan) this.of.0; truly = tt; tables = tt; queue = tt };
+}
+  where
+    this : Builds old was agrees.rest scan
+    this = builds scenario old was agrees works scan next
+
+-- one that is made, and after which memory is refused
+pub built_refused : {E : Type 0} (scenario : Scenario) (old new : List Entry) (had has : ℕ → ℕ) (was : Backend) (scan : Purpose) (scanned : Scanned) (result : Result (Unit {0}) E) → Agrees scenario old was → IsWorking was → NextBuild was scan → was.looked_to_build ≡ true
+    → GivesRows old new had has was.id (was.finished + 1) scan scanned → OnErr result (IsRefused scenario old new had has was.id)
+built_refused scenario old new had has was scan scanned (Ok x) agrees works next looked gives = tt
+built_refused scenario old new had has was scan scanned (Err e) agrees works next looked gives =
+    After (own_makes scenario old new had has was (events.Scan scan (length (answer_of old was.id scan))) agrees (waits_scan scenario old was agrees works.has (build_missing was scan next)) (built_suits scenario old was scan agrees works next looked) gives.appends)
+
 built_to : (scenario : Scenario) (old new : List Entry) (had has : ℕ → ℕ) (was : Backend) (scan : Purpose) (given : List Row) (at : ℕ) (locks : Roomy OwnLock) → Agrees scenario old was → IsPlayed scenario old → IsWorking was → NextBuild was scan → was.looked_to_build ≡ true
     → given ≡ answer_of old was.id scan → at ≡ length old + 1 → locks.items ≡ locks_accepted (is_accepting was.phase || lacks_builds (record was { kept = was.kept ++ record { scan = scan; rows = given; at = at } ∷ [] })) was.locks.items
     → Appends old new had has (entry_of was.id (was.finished + 1) (events.Scan scan (length (answer_of old was.id scan))))
-    → Enters scenario old new was (record was { looked_to_build = false; kept = was.kept ++ record { scan = scan; rows = given; at = at } ∷ []; locks = locks })
+    → Enters scenario old new had has was (record was { looked_to_build = false; kept = was.kept ++ record { scan = scan; rows = given; at = at } ∷ []; locks = locks })
 built_to scenario old new had has was scan given at locks agrees played works next looked rows_are at_is items appends =
     own_enters scenario old new had has was now event agrees played (waits_scan scenario old was agrees works.has this.some)
     (record { session = λ _ _ _ _ _ _. refl; finished = λ _. refl; life = λ _. refl })
-    (record {
-      plays = may_scan scenario old was agrees works scan count (omega (arith, ap one_if looked)) this.next;
-      needed = λ build. agrees.facts.usable scan build ∙ unkept;
-      truly = tt;
-      tables = tt;
-      queue = tt;
-    })
+    (built_suits scenario old was scan agrees works next looked)
     (record {
       moves = record { id = refl; commands = refl; finished = refl; life = refl; lines = refl };
       session = λ i. record (session_after old was event agrees.rest) { read = ap (λ t. t || was.read) (unwanted scan (plan_at was.exec) build) i; locks = same_locks_after i };
@@ -488,8 +504,8 @@ built_to scenario old new had has was scan given at locks agrees played works ne
 -- a scan for a descriptor
 pub built_enters : (scenario : Scenario) (old new : List Entry) (had has : ℕ → ℕ) (was : Backend) (scan : Purpose) (scanned : Scanned) (given : List Row) (kept : List KeptScan) (locks : Roomy OwnLock) → Agrees scenario old was → IsPlayed scenario old → IsWorking was → NextBuild was scan → was.looked_to_build ≡ true
     → GivesRows old new had has was.id (was.finished + 1) scan scanned → given ≡ scanned.rows.items → kept ≡ was.kept ++ record { scan = scan; rows = given; at = scanned.at } ∷ []
-    → locks.items ≡ locks_accepted (is_accepting was.phase || lacks_builds (record was { kept = kept })) was.locks.items → Enters scenario old new was (record was { looked_to_build = false; kept = kept; locks = locks })
+    → locks.items ≡ locks_accepted (is_accepting was.phase || lacks_builds (record was { kept = kept })) was.locks.items → Enters scenario old new had has was (record was { looked_to_build = false; kept = kept; locks = locks })
 built_enters scenario old new had has was scan scanned given kept locks agrees played works next looked gives rows_are pushed items =
-    subst (λ k. Enters scenario old new was (record was { looked_to_build = false; kept = k; locks = locks })) (sym pushed)
+    subst (λ k. Enters scenario old new had has was (record was { looked_to_build = false; kept = k; locks = locks })) (sym pushed)
     (built_to scenario old new had has was scan given scanned.at locks agrees played works next looked (rows_are ∙ gives.rows) gives.at
     (items ∙ (λ i. locks_accepted (is_accepting was.phase || lacks_builds (record was { kept = pushed i })) was.locks.items)) gives.appends)

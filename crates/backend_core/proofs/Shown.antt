@@ -22,7 +22,7 @@ use Rattle.backend_core.specs.Types.{Oid, Kind, Field, Purpose, Entry, OwnLock, 
 use Rattle.backend_core.specs.State.{is_kept, missing}
 use Rattle.backend_core.specs.Agrees.{IsPlayed, ReadRight, KeptAt}
 use Rattle.backend_core.specs.Answering.{kept_for, shown_by, shown_kept, shown_all}
-use Rattle.backend_core.proofs.ReadPlaces.{read_at_place}
+use Rattle.cacheless.proofs.ReadPlaces.{read_at_place}
 
 -- the scan that is kept for a purpose, and what holds of it
 pub record IsKeptFor (P Q : KeptScan → Type 0) (kept : List KeptScan) (scan : Purpose) : Type 0 where

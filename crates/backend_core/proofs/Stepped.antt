@@ -1,17 +1,17 @@
 -- A step: an entry, and then what needs none.
-use Rattle.std.proofs.Common.{◌≡◌, ◌∙◌, Bool, true, false, not, List, Result, Ok, Err, OnOk, sym, ap, subst}
+use Rattle.std.proofs.Common.{◌≡◌, ◌∙◌, ℕ, Bool, true, false, not, List, Result, Ok, Err, OnOk, OnErr, sym, ap, subst}
 use Rattle.backend_core.specs.Types.{Scenario, Entry, Next, Backend}
 use Rattle.backend_core.specs.declared.phase.Life.TheVariants as lives
 use Rattle.backend_core.specs.Agrees.{IsPlayed, AwaitsEntry, HasNotJoined, HasLeft, Stands}
-use Rattle.backend_core.specs.Steps.{AgreesNow, Enters, Steps, IsNextOf, makes_entry}
+use Rattle.backend_core.specs.Steps.{AgreesNow, MakesEntry, Enters, Steps, IsRefused, After, IsNextOf, makes_entry}
 use Rattle.backend_core.proofs.Coherent.{stands_coherent}
 use Rattle.backend_core.proofs.Passing.{silent_is}
 use Rattle.backend_core.proofs.Played.{IsPlayed-more}
 use Rattle.backend_core.proofs.Waiting.{waits_next}
 
 -- the history is still played after the entry
-pub enters_played : (scenario : Scenario) (old new : List Entry) (was now : Backend) → IsPlayed scenario old → Enters scenario old new was now → IsPlayed scenario new
-enters_played scenario old new was now played enters = subst (IsPlayed scenario) (sym enters.is) (IsPlayed-more scenario old enters.entry played enters.comes enters.next enters.needed enters.truly enters.tables enters.queue)
+pub makes_played : (scenario : Scenario) (old new : List Entry) (had has : ℕ → ℕ) (b : ℕ) → IsPlayed scenario old → MakesEntry scenario old new had has b → IsPlayed scenario new
+makes_played scenario old new had has b played makes = subst (IsPlayed scenario) (sym makes.is) (IsPlayed-more scenario old makes.entry played makes.may)
 
 -- where an entry comes next, nothing is left to settle
 pub awaits : (scenario : Scenario) (seen : List Entry) (s : Backend) (next : Next) → AgreesNow scenario seen s → IsNextOf s next → makes_entry next ≡ true → AwaitsEntry scenario seen s
@@ -34,24 +34,21 @@ pub awaits_stands : (scenario : Scenario) (seen : List Entry) (s : Backend) → 
 awaits_stands scenario seen s waits = subst (λ life. elim life as (λ x. Type 0) [ lives.Unstarted ↦ HasNotJoined scenario seen s | lives.Alive ↦ AwaitsEntry scenario seen s | lives.Stopped ↦ HasLeft scenario seen s ]) (sym waits.agrees.alive) waits
 
 -- an entry, after which it went on until it waits, is a step
-pub stepped : (scenario : Scenario) (old new : List Entry) (was now done : Backend) → IsPlayed scenario old → Enters scenario old new was now → AwaitsEntry scenario new done → done.id ≡ now.id → Steps scenario old new was done
-stepped scenario old new was now done played enters waits same = record {
-  entry = enters.entry;
-  is = enters.is;
-  own = enters.own;
+pub stepped : (scenario : Scenario) (old new : List Entry) (had has : ℕ → ℕ) (was now done : Backend) → IsPlayed scenario old → Enters scenario old new had has was now → AwaitsEntry scenario new done → done.id ≡ now.id → Steps scenario old new had has was done
+stepped scenario old new had has was now done played enters waits same = record {
+  makes = enters.makes;
   id = same ∙ enters.id;
-  comes = enters.comes;
-  next = enters.next;
-  needed = enters.needed;
-  truly = enters.truly;
-  tables = enters.tables;
-  queue = enters.queue;
   stands = awaits_stands scenario new done waits;
-  coherent = stands_coherent scenario new done (enters_played scenario old new was now played enters).sound (awaits_stands scenario new done waits);
+  coherent = stands_coherent scenario new done (makes_played scenario old new had has was.id played enters.makes).sound (awaits_stands scenario new done waits);
 }
 
 -- the same of a call that may have been refused memory, over a segment whose script is the same
-pub stepped_on : {E : Type 0} (scenario later : Scenario) (old new : List Entry) (was now done : Backend) (result : Result (Unit {0}) E) → later ≡ scenario → IsPlayed scenario old → Enters scenario old new was now → OnOk result (AwaitsEntry later new done) → OnOk result (done.id ≡ now.id)
-    → OnOk result (Steps scenario old new was done)
-stepped_on scenario later old new was now done (Ok x) same played enters waits id = stepped scenario old new was now done played enters (subst (λ k. AwaitsEntry k new done) same waits) id
-stepped_on scenario later old new was now done (Err e) same played enters waits id = tt
+pub stepped_on : {E : Type 0} (scenario later : Scenario) (old new : List Entry) (had has : ℕ → ℕ) (was now done : Backend) (result : Result (Unit {0}) E) → later ≡ scenario → IsPlayed scenario old → Enters scenario old new had has was now → OnOk result (AwaitsEntry later new done) → OnOk result (done.id ≡ now.id)
+    → OnOk result (Steps scenario old new had has was done)
+stepped_on scenario later old new had has was now done (Ok x) same played enters waits id = stepped scenario old new had has was now done played enters (subst (λ k. AwaitsEntry k new done) same waits) id
+stepped_on scenario later old new had has was now done (Err e) same played enters waits id = tt
+
+-- after the entry it was refused memory
+pub refused_after : {E : Type 0} (scenario : Scenario) (old new : List Entry) (had has : ℕ → ℕ) (was now : Backend) (result : Result (Unit {0}) E) → Enters scenario old new had has was now → OnErr result (IsRefused scenario old new had has was.id)
+refused_after scenario old new had has was now (Ok x) enters = tt
+refused_after scenario old new had has was now (Err e) enters = After enters.makes

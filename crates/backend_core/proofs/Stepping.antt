@@ -1,30 +1,28 @@
 -- A backend's own entry, whichever it is.
-use Rattle.std.proofs.Common.{◌≡◌, ◌≤◌, ◌+◌, ◌∙◌, ℕ, Bool, true, false, Some, List, [], ◌∷◌, ◌++◌, ◌==◌, refl, sym, ap, subst, length, drop, All, is_some, slice_get, arith, if◌then◌else◌, suc}
+use Rattle.std.proofs.Common.{◌≡◌, ◌≤◌, ◌+◌, ◌∙◌, ℕ, Bool, true, false, Some, List, [], ◌∷◌, ◌++◌, ◌==◌, refl, sym, ap, subst, length, drop, All, is_some, slice_get, arith, if◌then◌else◌}
 use Rattle.std.proofs.lemmas.Bool.{eq-eqb}
-use Rattle.std.proofs.lemmas.List.{take-append-le, length_push}
+use Rattle.std.proofs.lemmas.List.{length_push}
 use Rattle.base_types.specs.Scenario.{IsBackend}
 use Rattle.ddl_effect.specs.Commands.{commands_of}
 use Rattle.history_model.specs.Drawn.{next_oid}
-use Rattle.history_model.specs.Lapped.{FetchesFrom}
 use Rattle.history_model.specs.Lives.{Alive, life_by, life_of}
-use Rattle.history_model.specs.Read.{ScansOnlyIfNeeded}
 use Rattle.history_model.proofs.Reading.{life_of-own}
-use Rattle.seg_calls.specs.Calls.{entry_of, Appends}
+use Rattle.seg_calls.specs.Calls.{entry_of, places_for, Appends}
 use Rattle.cacheless.specs.Facts.{Facts, facts_of, facts_by}
-use Rattle.cacheless.specs.Session.{Session, Finished}
+use Rattle.cacheless.specs.Session.{Session}
 use Rattle.cacheless.specs.Settled.{settled}
 use Rattle.event_kinds.specs.declared.entry.Event.TheVariants as events
-use Rattle.cacheless.specs.Sessions.{noted, ends_command, placed_at, counted, entered, commands_left, session_by, session_of}
+use Rattle.cacheless.specs.Sessions.{noted, ends_command, placed_at, entered, commands_left, session_by, session_of}
 use Rattle.cacheless.specs.Plays.{IsNext, MayPlayIn, MayPlayAt}
-use Rattle.cacheless.specs.Schedule.{LooksTruly}
-use Rattle.cacheless.specs.TableWrites.{KeepsTablesBy}
-use Rattle.rel_desc.specs.Answers.{answer_text}
-use Rattle.cacheless.specs.Lines.{lines_from, line_of, answer_judged}
+use Rattle.cacheless.specs.MayEnter.{SuitsHistory}
+use Rattle.cacheless.specs.Lines.{lines_from}
+pub use Rattle.cacheless.proofs.JudgedLines.{lines-more}
+use Rattle.cacheless.proofs.NextOnCourse.{counted_tally}
 use Rattle.cacheless.proofs.Reading.{facts_of-own, session_of-own}
-use Rattle.backend_core.specs.Types.{Command, Scenario, Entry, Event, Backend}
+use Rattle.backend_core.specs.Types.{Scenario, Entry, Event, Backend}
 use Rattle.backend_core.specs.State.{is_ended, Rest, rest_of, session_at, HasCommand}
 use Rattle.backend_core.specs.Agrees.{IsPlayed, FactsFit, TallyFits, Well, CommandFits, KeptAt, AnswerFits, Agrees}
-use Rattle.backend_core.specs.Steps.{AgreesNow, Enters}
+use Rattle.backend_core.specs.Steps.{AgreesNow, MakesEntry, Enters}
 use Rattle.backend_core.proofs.Played.{IsPlayed-more}
 
 -- nothing is left to settle
@@ -75,25 +73,7 @@ pub record Follows (scenario : Scenario) (old : List Entry) (was now : Backend) 
 -- what the history and the script ask of the entry
 pub record Suits (scenario : Scenario) (old : List Entry) (was : Backend) (event : Event) (rest : Rest) : Type 0 where
   pub plays : MayPlayIn (next_oid old) (facts_of old was.id) (slice_get was.commands was.finished) (session_at was rest) event
-  pub needed : ScansOnlyIfNeeded old was.id event
-  pub truly : LooksTruly old was.id event
-  pub tables : KeepsTablesBy old was.id event
-  pub queue : FetchesFrom scenario.size old was.id event
-
--- the lines of finished commands stay with one more entry
-pub lines-more : (scenario : Scenario) (seen : List Entry) (e : Entry) (b c : ℕ) (finished : List Finished) (commands : List Command) → All (λ f. f.judged ≤ length seen) finished
-    → lines_from scenario (seen ++ e ∷ []) b c finished commands ≡ lines_from scenario seen b c finished commands
-lines-more scenario seen e b c [] commands places = refl
-lines-more scenario seen e b c (f ∷ finished) [] places = refl
-lines-more scenario seen e b c (f ∷ finished) (command ∷ commands) places =
-    ap (λ h. record { backend = b; command = c; text = answer_text (answer_judged scenario h b c f command f.refused) } ∷ lines_from scenario (seen ++ e ∷ []) b (c + 1) finished commands)
-    (take-append-le f.judged seen (e ∷ []) (places 0 f (omega arith)))
-    ∙ ap (λ l. line_of scenario seen b c f command ∷ l) (lines-more scenario seen e b (c + 1) finished commands (λ i d within. places (suc i) d (omega (arith, within))))
-
--- a full fetch is counted in the tally alone
-counted_tally : (facts : Facts) (event : Event) (s : Session) → counted facts event s ≡ record s { tally = (counted facts event s).tally }
-counted_tally facts (events.Fetch count) s = refl
-counted_tally facts event s = refl
+  pub suits : SuitsHistory scenario old was.id event
 
 -- so it agrees after its own entry
 pub own_agrees : (scenario : Scenario) (old : List Entry) (was now : Backend) (event : Event) (agrees : Agrees scenario old was) → IsPlayed scenario (old ++ entry_of was.id (was.finished + 1) event ∷ []) → Waits agrees → GoesOn event
@@ -183,23 +163,42 @@ own_next scenario old was event agrees waits plays = (
   ),
 )
 
+-- of the places that are promised an entry takes at most one
+pub one_place : (event : Event) → places_for event ≤ 1
+one_place (events.Scan purpose rows) = omega arith
+one_place (events.LockOk rel mode) = omega arith
+one_place (events.LockHeld rel mode holder held) = omega arith
+one_place (events.Write xid items) = omega arith
+one_place (events.ClashRow name rel) = omega arith
+one_place (events.ClashRunning name xid) = omega arith
+one_place event = omega arith
+
+-- an entry that a segment has appended
+abbrev pub appended_makes : (scenario : Scenario) (old new : List Entry) (had has : ℕ → ℕ) (e : Entry) → IsNext scenario old e → SuitsHistory scenario old e.backend e.event → Appends old new had has e → MakesEntry scenario old new had has e.backend
+appended_makes scenario old new had has e next suits appends = record {
+  entry = e;
+  is = appends.entries;
+  own = refl;
+  may = record { comes = appends.comes; next = next; suits = suits };
+  place = omega (arith, appends.own, one_place e.event);
+  most = appends.most;
+  others = appends.others;
+}
+
+-- one of a backend that waits
+abbrev pub own_makes : (scenario : Scenario) (old new : List Entry) (had has : ℕ → ℕ) (was : Backend) (event : Event) (agrees : Agrees scenario old was) → Waits agrees → Suits scenario old was event agrees.rest
+    → Appends old new had has (entry_of was.id (was.finished + 1) event) → MakesEntry scenario old new had has was.id
+own_makes scenario old new had has was event agrees waits suits appends = appended_makes scenario old new had has (entry_of was.id (was.finished + 1) event) (own_next scenario old was event agrees waits suits.plays) suits.suits appends
+
 -- a backend's own entry
 pub own_enters : (scenario : Scenario) (old new : List Entry) (had has : ℕ → ℕ) (was now : Backend) (event : Event) (agrees : Agrees scenario old was) → IsPlayed scenario old → Waits agrees → GoesOn event
     → Suits scenario old was event agrees.rest → Keeps old was now event agrees.rest → Follows scenario old was now event agrees.rest
-    → Appends old new had has (entry_of was.id (was.finished + 1) event) → Enters scenario old new was now
+    → Appends old new had has (entry_of was.id (was.finished + 1) event) → Enters scenario old new had has was now
 own_enters scenario old new had has was now event agrees played waits on suits keeps follows appends = record {
-  entry = entry_of was.id (was.finished + 1) event;
-  is = appends.entries;
-  own = refl;
+  makes = makes;
   id = keeps.moves.id;
-  comes = appends.comes;
-  next = next;
-  needed = suits.needed;
-  truly = suits.truly;
-  tables = suits.tables;
-  queue = suits.queue;
-  agrees = subst (λ h. AgreesNow scenario h now) (sym appends.entries) (own_agrees scenario old was now event agrees (IsPlayed-more scenario old (entry_of was.id (was.finished + 1) event) played appends.comes next suits.needed suits.truly suits.tables suits.queue) waits on keeps follows);
+  agrees = subst (λ h. AgreesNow scenario h now) (sym appends.entries) (own_agrees scenario old was now event agrees (IsPlayed-more scenario old (entry_of was.id (was.finished + 1) event) played makes.may) waits on keeps follows);
 }
   where
-    next : IsNext scenario old (entry_of was.id (was.finished + 1) event)
-    next = own_next scenario old was event agrees waits suits.plays
+    makes : MakesEntry scenario old new had has was.id
+    makes = own_makes scenario old new had has was event agrees waits suits appends

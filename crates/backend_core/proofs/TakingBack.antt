@@ -108,12 +108,12 @@ none_taken s from well next is = elim (has_or_none s) [
 -- the state after it
 pub take_back_enters : (scenario : Scenario) (old new : List Entry) (had has : ℕ → ℕ) (was : Backend) (from : ℕ) (lists : Held) (cats rels : List Message) (kept : List KeptScan) (agrees : Agrees scenario old was) → IsPlayed scenario old → NextTakeBack was from
     → cats ≡ cats_in (lists_from from (lists_at was)) → rels ≡ rels_in (lists_from from (lists_at was)) → kept ≡ kept_spared rels (kept_spared cats was.kept) → lists.lists ≡ aborted from was.lists.lists
-    → Appends old new had has (entry_of was.id (was.finished + 1) (events.Gone from)) → Enters scenario old new was (record was { phase = phases.TakenBack from; lists = lists; kept = kept })
+    → Appends old new had has (entry_of was.id (was.finished + 1) (events.Gone from)) → Enters scenario old new had has was (record was { phase = phases.TakenBack from; lists = lists; kept = kept })
 take_back_enters scenario old new had has was from lists cats rels kept agrees played next cats_are rels_are spared lists_are appends =
     own_enters scenario old new had has was now (events.Gone from) agrees played
     (elim (has_or_none was) [ inl command ↦ waits_to_end scenario old was agrees command (events.Gone from) out (ends command).1 | inr none ↦ waits_after_all scenario old was agrees none ])
     (record { session = λ _ _ _ _ _ _. refl; finished = λ _. refl; life = λ _. refl })
-    (record { plays = plays; needed = tt; truly = tt; tables = tt; queue = tt })
+    (record { plays = plays; suits = record { needed = tt; truly = tt; tables = tt; queue = tt } })
     (record {
       moves = record { id = refl; commands = refl; finished = refl; life = refl; lines = refl };
       session = session_clear old was (events.Gone from) agrees.rest clear ∙ (λ i. record (placed_at (length old + 1) (was.finished + 1) (events.Gone from) (session_at was agrees.rest)) { ended = ap is_ended next.phase i });

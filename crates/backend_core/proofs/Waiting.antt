@@ -19,7 +19,7 @@ use Rattle.backend_core.proofs.Carry.{waits_at, waits_scan, start_owed}
 use Rattle.backend_core.proofs.Ending.{left_same, waits_to_end, waits_after_all, has_or_none}
 use Rattle.backend_core.proofs.Looks.{not_empty, not_empty-after}
 use Rattle.backend_core.proofs.Locking.{waits_lock}
-use Rattle.backend_core.proofs.Scanning.{look_up_missing, build_missing}
+use Rattle.backend_core.proofs.Scanning.{look_up_missing, build_missing, look_missing}
 
 module _ (scenario : Scenario) (seen : List Entry) (s : Backend) (agrees : Agrees scenario seen s) where
   -- a look that is owed
@@ -94,7 +94,7 @@ module _ (scenario : Scenario) (seen : List Entry) (s : Backend) (agrees : Agree
   -- whichever entry comes next
   pub waits_next : (next : Next) → IsNextOf s next → makes_entry next ≡ true → Waits agrees
   waits_next nexts.Look is makes = waits_look is
-  waits_next (nexts.LookBeforeScan builds) (work, some, unlooked) makes = waits_scan scenario seen s agrees work.has some
+  waits_next (nexts.LookBeforeScan builds) (work, next) makes = waits_scan scenario seen s agrees work.has (look_missing builds s next)
   waits_next nexts.Fetch is makes = waits_fetch is
   waits_next (nexts.LookUp scan) (work, next, looked) makes = waits_look_up work scan next
   waits_next (nexts.Build scan) (work, next, looked) makes = waits_build work scan next

@@ -1,5 +1,5 @@
 -- A backend's write of a new table.
-use Rattle.std.proofs.Common.{◌≡◌, ◌≤◌, ◌<◌, ◌+◌, ◌⊎◌, ◌∙◌, inl, inr, ℕ, Bool, true, false, Option, Some, None, List, [], ◌∷◌, ◌++◌, ◌==◌, ◌&&◌, ◌||◌, refl, sym, ap, subst, length, drop, map, is_none, is_some, arith}
+use Rattle.std.proofs.Common.{◌≡◌, ◌≤◌, ◌<◌, ◌+◌, ◌⊎◌, ◌∙◌, inl, inr, ℕ, Bool, true, false, Option, Some, None, List, [], ◌∷◌, ◌++◌, ◌==◌, ◌&&◌, ◌||◌, refl, sym, ap, subst, length, drop, map, is_none, is_some, arith, Result, Ok, Err, OnErr}
 use Rattle.std.specs.Prelude.{nat_lt}
 use Rattle.std.specs.Option.{option_map_or}
 use Rattle.std.specs.List.{AllByRecursion}
@@ -43,17 +43,17 @@ use Rattle.cacheless.specs.ActsDone.{reached}
 use Rattle.cacheless.proofs.HeldLocks.{Follows as Follows', grant_of, locks_of, locks_are_held, lock_is_held}
 use Rattle.cacheless.proofs.Settling.{waits-act}
 use Rattle.cacheless.proofs.Ways.{acts}
+use Rattle.cacheless.proofs.WriteFits.{WriteFits, write_fits}
 use Rattle.backend_core.specs.Types.{Oid, Xid, Row, Command, Scenario, Entry, Event, Item, Message, Phase, Draft, Exec, Opening, OwnLock, OwnTransaction, KeptScan, Backend}
 use Rattle.backend_core.specs.declared.phase.Phase.TheVariants as phases
 use Rattle.backend_core.specs.State.{is_accepting, published_at, is_visible_at, is_taken_back, is_ended, is_out, begins_in, owed_first, running_in, lists_at, kept_spared, owed_at, one_if, session_at, locks_written, builds_missing, HasCommand}
 use Rattle.backend_core.specs.Agrees.{IsPlayed, ReadRight, FactsFit, KeptAt, RunsBy, TransactionFits, EndFits, Well, Agrees, OpenedFit}
-use Rattle.backend_core.specs.Steps.{IsWorking, Enters}
+use Rattle.backend_core.specs.Steps.{IsWorking, Enters, IsRefused, After}
 use Rattle.backend_core.specs.Way.{OnItsWay}
 use Rattle.backend_core.proofs.Acting.{IsActing, is_acting}
-use Rattle.backend_core.proofs.Stepping.{Waits, facts_after, session_after, rest_after, Keeps, Follows, Suits, GoesOn, own_enters}
+use Rattle.backend_core.proofs.Stepping.{Waits, facts_after, session_after, rest_after, Keeps, Follows, Suits, GoesOn, own_makes, own_enters}
 use Rattle.backend_core.proofs.Carry.{may_request, waits_at, missing_at, owed_scans, clear_at, accepted-clear, kept-more, no_answer, out_found, lacks_none}
-use Rattle.backend_core.proofs.WriteFits.{WriteFits, write_fits}
-use Rattle.backend_core.proofs.OpenedReads.{reads_out}
+use Rattle.cacheless.proofs.OpenedReads.{reads_out}
 use Rattle.backend_core.proofs.Nexting.{the_command}
 use Rattle.backend_core.proofs.Sparing.{is_kept-spared, all-spared}
 use Rattle.backend_core.proofs.WriteMessages.{registered_is, spared_alike}
@@ -179,7 +179,7 @@ module _ (scenario : Scenario) (old : List Entry) (was : Backend) (agrees : Agre
 
   -- what it is about to write fits
   pub fits : IsPlayed scenario old → WriteFits old was.id (was.finished + 1) (facts_of old was.id) draft
-  fits played = write_fits old was.id (was.finished + 1) (facts_of old was.id) works.has.command way_here.gave draft (λ given. Done) played.sound played.tables way_here.runs way_here.holds (sym way_here.plan ∙ at) way_here.unwritten
+  fits played = write_fits old was.id (was.finished + 1) (facts_of old was.id) works.has.command way_here.gave draft (λ given. Done) played.sound played.tables way_here.runs way_here.holds (sym way_here.plan ∙ at)
 
   pub locks_clear : map cleared was.locks.items ≡ was.locks.items
   locks_clear = clear_at was agrees.well (ap is_accepting works.phase) (lacks_none was whole)
@@ -189,7 +189,8 @@ module _ (scenario : Scenario) (old : List Entry) (was : Backend) (agrees : Agre
 
   -- so it may write
   pub may_write : IsPlayed scenario old → MayWrite old was.id (was.finished + 1) draft
-  may_write played = (fits played).may
+  may_write played = let fit = (fits played).fit in
+      record { oids = fit.oids; keys = fit.keys; there = fit.there; kinds = fit.kinds; only = way_here.unwritten; guarded = fit.guarded; orderly = fit.orderly }
 
   pub may_ask : MayRequest scenario old was.id (was.finished + 1)
   may_ask = may_request scenario old was agrees (ap is_visible_at works.phase) (ap is_taken_back works.phase)
@@ -205,6 +206,14 @@ module _ (scenario : Scenario) (old : List Entry) (was : Backend) (agrees : Agre
 
   pub nothing_owed : owed_of (facts_of old was.id) works.has.command (session_at was agrees.rest) ≡ []
   nothing_owed = owed_scans scenario old was agrees works ∙ ap (map OwesScan) (missing_at was (writing draft) whole at)
+
+  -- and its write may come
+  pub write_suits : IsPlayed scenario old → (xid : Xid) → Suits scenario old was (events.Write xid (items_drawn old draft)) agrees.rest
+  write_suits played xid = record {
+    plays = subst (λ o. MayPlayIn (next_oid old) (facts_of old was.id) o (session_at was agrees.rest) (events.Write xid (items_drawn old draft))) (sym works.has.at)
+        (nothing_owed, subst (λ p. IsWrite (next_oid old) p (items_drawn old draft)) (sym at) refl);
+    suits = record { needed = tt; truly = tt; tables = (fits played).keeps; queue = tt };
+  }
 
   -- no list is of a later command
   pub lists_early : IsPlayed scenario old → AllByRecursion (λ list. list.command ≤ was.finished + 1) (lists_at was)
@@ -326,16 +335,6 @@ module _ (scenario : Scenario) (old : List Entry) (was : Backend) (agrees : Agre
     well = asked_well was stages.Done [] false (Some own) lists locks now.kept works.phase running_now (is_unblocked scenario old was agrees works draft at whole) (is_unanswered scenario old was agrees works draft at whole) (ap (λ p. is_settled (outcome_of p)) at) works.has settles agrees.well;
   }
 
-  suits : Suits scenario old was event agrees.rest
-  suits = record {
-    plays = subst (λ o. MayPlayIn (next_oid old) (facts_of old was.id) o (session_at was agrees.rest) event) (sym works.has.at)
-        (nothing_owed scenario old was agrees works draft at whole, subst (λ p. IsWrite (next_oid old) p (items_drawn old draft)) (sym at) refl);
-    needed = tt;
-    truly = tt;
-    tables = (fits scenario old was agrees works draft at whole played).keeps;
-    queue = tt;
-  }
-
   follows : Follows scenario old was now event agrees.rest
   follows = record {
     command = record {
@@ -362,16 +361,23 @@ module _ (scenario : Scenario) (old : List Entry) (was : Backend) (agrees : Agre
       way = way_here scenario old was agrees works draft at whole
 
   -- so the write is entered
-  write_enters : (new : List Entry) (had has : ℕ → ℕ) → Appends old new had has (entry_of was.id (was.finished + 1) event) → Enters scenario old new was now
-  write_enters new had has appends = own_enters scenario old new had has was now event agrees played (waits scenario old was agrees works draft at whole) (write_goes_on xid (items_drawn old draft)) suits keeps follows appends
+  write_enters : (new : List Entry) (had has : ℕ → ℕ) → Appends old new had has (entry_of was.id (was.finished + 1) event) → Enters scenario old new had has was now
+  write_enters new had has appends = own_enters scenario old new had has was now event agrees played (waits scenario old was agrees works draft at whole) (write_goes_on xid (items_drawn old draft)) (write_suits scenario old was agrees works draft at whole played xid) keeps follows appends
+
+-- a write that is made, and after which memory is refused
+pub wrote_refused : {E : Type 0} (scenario : Scenario) (old new : List Entry) (had has : ℕ → ℕ) (was : Backend) (agrees : Agrees scenario old was) (works : IsWorking was) (draft : Draft) (at : plan_at was.exec ≡ writing draft) (whole : builds_missing was.kept was.opened ≡ []) (made : Made) (result : Result (Unit {0}) E)
+    → IsPlayed scenario old → MakesWrite old new had has was.id (was.finished + 1) draft made → OnErr result (IsRefused scenario old new had has was.id)
+wrote_refused scenario old new had has was agrees works draft at whole made (Ok x) played makes = tt
+wrote_refused scenario old new had has was agrees works draft at whole made (Err e) played makes =
+    After (own_makes scenario old new had has was (events.Write made.xid (items_drawn old draft)) agrees (waits scenario old was agrees works draft at whole) (write_suits scenario old was agrees works draft at whole played made.xid) makes.appends)
 
 -- the same, for what a segment answers and what the backend keeps of it
 pub wrote_enters : (scenario : Scenario) (old new : List Entry) (had has : ℕ → ℕ) (was : Backend) (agrees : Agrees scenario old was) (works : IsWorking was) (draft : Draft) (at : plan_at was.exec ≡ writing draft) (whole : builds_missing was.kept was.opened ≡ []) (made : Made) (exec : Exec) (opened : List Opening) (transaction : OwnTransaction) (lists : Held) (locks : Roomy OwnLock) (kept : List KeptScan)
     → exec ≡ stages.Done → opened ≡ [] → transaction ≡ with_xid was.running (was.finished + 1) made.xid → all_lists lists.lists ≡ lists_at was ++ with_messages made.messages.items (new_list (was.finished + 1)) ∷ [] → lists.lists.running ≡ None
     → locks.items ≡ locks_written draft.new_oids made.first_oid (was.finished + 1) was.locks.items → kept ≡ kept_spared made.messages.items was.kept
-    → IsPlayed scenario old → MakesWrite old new had has was.id (was.finished + 1) draft made → Enters scenario old new was (after_asking was exec opened false (Some transaction) lists locks kept)
+    → IsPlayed scenario old → MakesWrite old new had has was.id (was.finished + 1) draft made → Enters scenario old new had has was (after_asking was exec opened false (Some transaction) lists locks kept)
 wrote_enters scenario old new had has was agrees works draft at whole made exec opened transaction lists locks kept done closed runs_as wrote ended locked spared played makes =
-    subst (λ s. Enters scenario old new was s) (λ i. after_asking was (sym done i) (sym closed i) false (Some (sym runs_as i)) lists locks (same_kept i))
+    subst (λ s. Enters scenario old new had has was s) (λ i. after_asking was (sym done i) (sym closed i) false (Some (sym runs_as i)) lists locks (same_kept i))
     (write_enters scenario old was agrees works draft at whole played made.xid made.first_oid lists locks makes.first
     (wrote ∙ ap (λ l. lists_at was ++ l ∷ []) (ap (λ l. with_messages l (new_list (was.finished + 1))) makes.messages ∙ registered_is old was.id (was.finished + 1) (items_drawn old draft))) ended locked new had has makes.appends)
   where

@@ -1,24 +1,20 @@
 -- How a backend agrees with a history.
-use Rattle.std.specs.Prelude.{◌≡◌, ◌≢◌, ◌≤◌, ◌<◌, ◌+◌, ◌*◌, ◌⊎◌, ℕ, Bool, true, false, not, Some, None, List, [], ◌∷◌, ◌++◌, ◌==◌, ◌||◌, map, drop, take, length, All, slice_get, is_some, ⊤}
-use Rattle.std.specs.List.{list_any}
+use Rattle.std.specs.Prelude.{◌≡◌, ◌≢◌, ◌≤◌, ◌<◌, ◌+◌, ◌*◌, ◌⊎◌, ℕ, Bool, true, false, not, Some, None, List, [], ◌∷◌, ◌==◌, ◌||◌, map, drop, take, length, All, slice_get, is_some, ⊤}
 use Rattle.std.specs.Option.{option_map_or}
-use Rattle.base_types.specs.Scans.{same_scan, is_build_scan, build_scans}
+use Rattle.base_types.specs.Scans.{is_build_scan}
 use Rattle.base_types.specs.Scenario.{IsBackend}
 use Rattle.base_types.specs.declared.row.Row.TheVariants as rows
 use Rattle.base_types.specs.declared.scan.Purpose.TheVariants as scans
 use Rattle.event_kinds.specs.declared.entry.Event.TheVariants as events
 use Rattle.rel_desc.specs.Answers.{answer_text}
 use Rattle.lock_modes.specs.Own.{cleared}
-use Rattle.ddl_effect.specs.Plans.{Plan, Done, Fails, Absent, Do, Lookup, Column, Read}
+use Rattle.ddl_effect.specs.Plans.{Plan, Done, Fails, Absent, Do, Lookup, Column}
 use Rattle.ddl_effect.specs.Commands.{commands_of}
 use Rattle.cacheless.specs.Runs.{runs}
 use Rattle.ddl_effect.specs.Blocks.{Block, Outside, Inside, Failed, no_block, is_open, innermost, ends_block}
 use Rattle.ddl_effect.specs.Stages.{plan_at}
 use Rattle.history_model.specs.Lives.{Life, Unstarted, Alive, Stopped, life_of}
-use Rattle.history_model.specs.Orderly.{IsSound}
-use Rattle.history_model.specs.Lapped.{FollowsQueue}
-use Rattle.history_model.specs.Prefixes.{EachEntry}
-use Rattle.history_model.specs.Read.{IsEconomical, place_read}
+use Rattle.history_model.specs.Read.{is_usable, rows_read, place_read}
 use Rattle.history_model.specs.Writes.{has_written, is_empty}
 use Rattle.seg_calls.specs.Calls.{took_back}
 use Rattle.cacheless.specs.Facts.{Facts, facts_of}
@@ -28,27 +24,17 @@ use Rattle.inval_messages.specs.Lists.{sent_in}
 use Rattle.command_lists.specs.Lists.{no_lists}
 use Rattle.cacheless.specs.Owed.{owed_after}
 use Rattle.cacheless.specs.Ends.{Commits, TakesBack}
-use Rattle.cacheless.specs.Settled.{opened_by, settled, finished_as}
+use Rattle.cacheless.specs.Settled.{settled, finished_as}
 use Rattle.cacheless.specs.Sessions.{session_of}
-use Rattle.cacheless.specs.Plays.{Plays}
-use Rattle.cacheless.specs.TableWrites.{WritesTables}
-use Rattle.cacheless.specs.Schedule.{AreLooksTrue}
+pub use Rattle.cacheless.specs.Played.{IsPlayed}
 use Rattle.cacheless.specs.Lines.{answer_judged, lines_from}
-use Rattle.backend_core.specs.Types.{Row, Purpose, Command, CommandError, Scenario, Entry, OwnLock, Opening, KeptScan, Phase, Backend}
+pub use Rattle.cacheless.specs.OpenedReads.{is_of_opened, ReadsOpened}
+use Rattle.backend_core.specs.Types.{Row, Purpose, Command, CommandError, Scenario, Entry, OwnLock, KeptScan, Phase, Backend}
 use Rattle.backend_core.specs.declared.phase.Life.TheVariants as lives
 use Rattle.backend_core.specs.declared.phase.Phase.TheVariants as phases
 use Rattle.backend_core.specs.Passing.{is_silent}
 use Rattle.backend_core.specs.Way.{SeesRelation, Way}
 use Rattle.backend_core.specs.State.{owed_at, is_absent, published_at, is_accepting, looks_due, is_taken_back, is_ended, one_if, running_at, lists_at, is_kept, builds_missing, is_out, begins_in, owed_first, end_at, is_inside, blocks_next, has_write_since, end_of_running, Rest, session_at, HasCommand, is_in_accept}
-
--- a history that the script's commands played so far, with each fetch of a queue of the script's size
-pub record IsPlayed (scenario : Scenario) (history : List Entry) : Type 0 where
-  pub sound : IsSound history
-  pub plays : Plays scenario history
-  pub economical : IsEconomical history
-  pub looks : AreLooksTrue history
-  pub tables : EachEntry WritesTables history
-  pub queue : FollowsQueue scenario.size history
 
 -- what the scan of a name gave is what the backend holds of it, and it serves: it is usable, or the relation that a lookup's gave is locked
 abbrev pub RowsFit : Facts → List OwnLock → Plan → List Row → Type 0
@@ -161,16 +147,6 @@ pub record HasOpened (s : Backend) : Type 0 where
 -- the opened descriptors of a command, if it has opened one
 abbrev pub OpenedFit : Backend → Type 0
 OpenedFit s = (s.opened ≡ []) ⊎ HasOpened s
-
--- a scan is one of an opened descriptor
-abbrev pub is_of_opened : Purpose → List Opening → Bool
-is_of_opened scan opened = list_any (λ o. list_any (same_scan scan) (build_scans o.kind o.rel)) opened
-
--- what a plan reads is of a descriptor that it has opened before
-abbrev pub ReadsOpened : List Opening → Plan → Type 0
-ReadsOpened opened (Do (Read scan) rest) = (is_of_opened scan opened ≡ true) × ((given : List Row) → ReadsOpened opened (rest given))
-ReadsOpened opened (Do act rest) = (given : List Row) → ReadsOpened (opened ++ opened_by act) (rest given)
-ReadsOpened opened plan = ⊤
 
 -- what the scan of a name gave serves on in an accept of messages: the relation that a lookup's rows name is locked; the rows of a column are used at once
 abbrev pub IsFoundLocked : List OwnLock → Plan → List Row → Type 0
@@ -285,9 +261,12 @@ pub record HasNotJoined (scenario : Scenario) (seen : List Entry) (s : Backend) 
   pub life : life_of seen s.id ≡ Unstarted
   pub unwritten : (c : ℕ) → has_written seen s.id c ≡ false
 
--- a backend that has left has answered all its commands
+-- a backend that has left has answered all its commands, and what it has read it keeps
 pub record HasLeft (scenario : Scenario) (seen : List Entry) (s : Backend) : Type 0 where
   pub number : IsBackend scenario.backends s.id
+  pub usable : (scan : Purpose) → is_build_scan scan ≡ true → is_usable seen s.id scan ≡ is_kept s.kept scan
+  pub right : All (ReadRight (rows_read seen s.id)) s.kept
+  pub kept : All (KeptAt seen s.id) s.kept
   pub life : life_of seen s.id ≡ Stopped
   pub finished : List Finished
   pub are : option_map_or (λ now. now.finished) (session_of scenario seen s.id) [] ≡ finished

@@ -1,17 +1,17 @@
 -- What the state of a backend says, by itself.
-use Rattle.std.specs.Prelude.{◌≡◌, ℕ, Bool, true, false, not, Option, Some, None, List, [], ◌∷◌, ◌++◌, ◌+◌, ◌==◌, ◌&&◌, ◌||◌, map, filter, if◌then◌else◌, is_none, unwrap_or, slice_get, nat_lt}
+use Rattle.std.specs.Prelude.{◌≡◌, ℕ, Bool, true, false, not, Option, Some, None, List, [], ◌∷◌, ◌++◌, ◌+◌, ◌==◌, ◌&&◌, ◌||◌, map, filter, if◌then◌else◌, is_none, unwrap_or, slice_get}
 use Rattle.std.specs.Option.{option_map, option_map_or}
 use Rattle.std.specs.List.{list_any, flat_map}
 use Rattle.base_types.specs.Scans.{same_oid, same_scan, build_scans}
 use Rattle.base_types.specs.declared.row.Row.TheVariants as rows
 use Rattle.base_types.specs.declared.scan.Purpose.TheVariants as scans
 use Rattle.base_types.specs.declared.command.Command.TheVariants as commands
-use Rattle.lock_modes.specs.Own.{has_lock, cleared, new_lock}
+use Rattle.lock_modes.specs.Own.{has_lock, cleared}
 use Rattle.inval_messages.specs.Lists.{Written, has_write_from, unsent_after}
 use Rattle.inval_messages.specs.declared.message.Message.TheVariants.{Cat, Rel}
 use Rattle.inval_messages.specs.Messages.{is_spared}
 use Rattle.command_lists.specs.Lists.{all_lists}
-use Rattle.ddl_effect.specs.Plans.{Plan, Absent, Do, Lookup, Column, rests_on}
+use Rattle.ddl_effect.specs.Plans.{Plan, Do, Lookup, Column, rests_on}
 use Rattle.ddl_effect.specs.Blocks.{Block, Outside, Inside, Failed, Blocks, no_block, ends_block, refused_by, innermost, blocks_well, blocks_badly}
 use Rattle.ddl_effect.specs.Stages.{plan_at}
 use Rattle.history_model.specs.Writes.{is_empty}
@@ -19,6 +19,8 @@ use Rattle.history_model.specs.Transactions.{Running}
 use Rattle.cacheless.specs.Session.{Session, Finished, Tally, Badly, Well, Unsettled, outcome_of, is_settled}
 use Rattle.cacheless.specs.Owed.{Owes, OwesLook, OwesFetch}
 use Rattle.cacheless.specs.Ends.{End, Ends, Commits, TakesBack}
+pub use Rattle.cacheless.specs.Locks.{locks_written}
+pub use Rattle.cacheless.specs.OnCourse.{is_absent}
 use Rattle.backend_core.specs.Types.{Oid, Mode, Message, Row, Purpose, Command, CommandError, Opening, OwnLock, KeptScan, Life, Phase, OwnTransaction, Backend}
 use Rattle.backend_core.specs.declared.phase.Life.TheVariants as lives
 use Rattle.backend_core.specs.declared.phase.Phase.TheVariants as phases
@@ -52,10 +54,6 @@ phase_fetched count = elim (count == 32) [ true ↦ phases.Looking | false ↦ p
 -- the locks after an entry of an accept: where it is over they are clear
 abbrev pub locks_accepted : Bool → List OwnLock → List OwnLock
 locks_accepted accepting locks = elim accepting [ true ↦ locks | false ↦ map cleared locks ]
-
--- the locks after a write: one is on the relation that it made, if it made one
-abbrev pub locks_written : ℕ → Oid → ℕ → List OwnLock → List OwnLock
-locks_written new_oids rel command locks = elim (nat_lt 0 new_oids) [ true ↦ locks ++ new_lock rel command ∷ [] | false ↦ locks ]
 
 -- the transaction is committed, and its locks are still held
 abbrev pub is_visible_at : Phase → Bool
@@ -150,11 +148,6 @@ act_missing kept read plan = []
 abbrev pub is_looked_for : Bool → Backend → Bool
 is_looked_for true s = s.looked_to_build
 is_looked_for false s = s.looked
-
--- a lookup has found nothing
-abbrev pub is_absent : Plan → Bool
-is_absent (Absent name) = true
-is_absent plan = false
 
 -- the scans that come before the next act: none once the command has failed
 abbrev pub scans_missing : Backend → List Purpose

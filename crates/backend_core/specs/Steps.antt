@@ -1,38 +1,41 @@
 -- What a step of a backend does, and what it does next.
-use Rattle.std.specs.Prelude.{◌≡◌, ◌≢◌, ◌⊎◌, ◌++◌, ◌∷◌, ℕ, Bool, true, false, Some, None, List, [], slice_get, length, is_some}
+use Rattle.std.specs.Prelude.{◌≡◌, ◌≢◌, ◌≤◌, ◌+◌, ◌⊎◌, ◌++◌, ◌∷◌, ℕ, Bool, true, false, Some, None, List, [], slice_get, length, is_some}
 use Rattle.std.specs.Option.{option_map_or}
 use Rattle.base_types.specs.Scans.{build_scans}
 use Rattle.base_types.specs.declared.scan.Purpose.TheVariants as scans
 use Rattle.ddl_effect.specs.Plans.{Plan, Act, Do, Lookup, Open, Column, Read, Write}
 use Rattle.ddl_effect.specs.Stages.{plan_at}
-use Rattle.history_model.specs.Orderly.{MayComeNext}
-use Rattle.history_model.specs.Lapped.{FetchesFrom}
-use Rattle.history_model.specs.Read.{ScansOnlyIfNeeded}
+use Rattle.seg_calls.specs.Calls.{IsUnchanged}
 use Rattle.cacheless.specs.Ends.{Ends, Commits, TakesBack}
-use Rattle.cacheless.specs.Plays.{IsNext}
-use Rattle.cacheless.specs.Schedule.{LooksTruly}
-use Rattle.cacheless.specs.TableWrites.{WritesTables}
+use Rattle.cacheless.specs.MayEnter.{MayEnter}
 use Rattle.backend_core.specs.Types.{Oid, Mode, Kind, Row, Purpose, Scenario, Entry, Draft, Next, Backend}
 use Rattle.backend_core.specs.declared.next.Next.TheVariants as nexts
 use Rattle.backend_core.specs.declared.phase.Phase.TheVariants as phases
-use Rattle.backend_core.specs.State.{owed_first, is_looked_for, scans_missing, missing, is_out, end_at, end_of_running, has_write_since, unsent_at, unlocked_of, Rest, HasCommand, is_kept, builds_missing}
+use Rattle.backend_core.specs.State.{owed_first, is_looked_for, missing, is_out, end_at, end_of_running, has_write_since, unsent_at, unlocked_of, Rest, HasCommand, is_kept, builds_missing}
 use Rattle.backend_core.specs.Agrees.{IsPlayed, Agrees, Stands}
 use Rattle.backend_core.specs.Coherent.{IsCoherent}
 
--- one entry of the backend is appended, which the history and the script allow; after it the backend is right, and its caches are coherent with the history
-pub record Steps (scenario : Scenario) (old new : List Entry) (was now : Backend) : Type 0 where
+-- one entry of the backend is appended, which the history and the script allow; of the places that are promised it takes at most one, of its own, and none is promised
+pub record MakesEntry (scenario : Scenario) (old new : List Entry) (had has : ℕ → ℕ) (b : ℕ) : Type 0 where
   pub entry : Entry
   pub is : new ≡ old ++ entry ∷ []
-  pub own : entry.backend ≡ was.id
+  pub own : entry.backend ≡ b
+  pub may : MayEnter scenario old entry
+  pub place : had b ≤ has b + 1
+  pub most : has b ≤ had b
+  pub others : (a : ℕ) → a ≢ b → has a ≡ had a
+
+-- a step: one entry, after which the backend is right, and its caches are coherent with the history
+pub record Steps (scenario : Scenario) (old new : List Entry) (had has : ℕ → ℕ) (was now : Backend) : Type 0 where
+  pub makes : MakesEntry scenario old new had has was.id
   pub id : now.id ≡ was.id
-  pub comes : MayComeNext old entry
-  pub next : IsNext scenario old entry
-  pub needed : ScansOnlyIfNeeded old entry.backend entry.event
-  pub truly : LooksTruly old entry.backend entry.event
-  pub tables : WritesTables old entry
-  pub queue : FetchesFrom scenario.size old entry.backend entry.event
   pub stands : Stands scenario new now
   pub coherent : IsCoherent new now
+
+-- a step that was refused memory: nothing has changed, or its entry is made
+pub data IsRefused (scenario : Scenario) (old new : List Entry) (had has : ℕ → ℕ) (b : ℕ) : Type 0 where
+  Before : IsUnchanged old new had has → IsRefused scenario old new had has b
+  After : MakesEntry scenario old new had has b → IsRefused scenario old new had has b
 
 -- the places of a backend that has just made an entry, or passed on from there: its last entry is the history's last, and so its running command is judged there, if it is not yet answered
 pub record IsNow (seen : List Entry) (s : Backend) (rest : Rest) : Type 0 where
@@ -45,18 +48,10 @@ pub record AgreesNow (scenario : Scenario) (seen : List Entry) (s : Backend) : T
   pub agrees : Agrees scenario seen s
   pub now : IsNow seen s agrees.rest
 
--- one entry of the backend is appended, after which it agrees, before it goes on without entries
-pub record Enters (scenario : Scenario) (old new : List Entry) (was now : Backend) : Type 0 where
-  pub entry : Entry
-  pub is : new ≡ old ++ entry ∷ []
-  pub own : entry.backend ≡ was.id
+-- one entry, after which the backend agrees, before it goes on without entries
+pub record Enters (scenario : Scenario) (old new : List Entry) (had has : ℕ → ℕ) (was now : Backend) : Type 0 where
+  pub makes : MakesEntry scenario old new had has was.id
   pub id : now.id ≡ was.id
-  pub comes : MayComeNext old entry
-  pub next : IsNext scenario old entry
-  pub needed : ScansOnlyIfNeeded old entry.backend entry.event
-  pub truly : LooksTruly old entry.backend entry.event
-  pub tables : WritesTables old entry
-  pub queue : FetchesFrom scenario.size old entry.backend entry.event
   pub agrees : AgreesNow scenario new now
 
 -- a look is owed: at the start of a transaction, or in an accept of messages
@@ -162,10 +157,21 @@ pub record NextFinish (s : Backend) : Type 0 where
   pub answered : s.answer ≢ None
   pub ended : (s.phase ≡ phases.Ended) ⊎ ((s.phase ≡ phases.Working) × (owed_first s has.command ≡ []) × (end_at s has.command ≡ Ends))
 
+-- the scan that comes next is one for a descriptor, or one of a name or a column
+abbrev pub NextScan : Bool → Backend → Purpose → Type 0
+NextScan true s scan = NextBuild s scan
+NextScan false s scan = NextLookUp s scan
+
+-- a scan of this kind comes next, for which no look was made
+pub record NextLookFor (builds : Bool) (s : Backend) : Type 0 where
+  pub scan : Purpose
+  pub next : NextScan builds s scan
+  pub unlooked : is_looked_for builds s ≡ false
+
 -- what comes next, with all that it needs
 abbrev pub IsNextOf : Backend → Next → Type 0
 IsNextOf s nexts.Look = OwesLookNow s
-IsNextOf s (nexts.LookBeforeScan builds) = IsWorking s × (scans_missing s ≢ []) × (is_looked_for builds s ≡ false)
+IsNextOf s (nexts.LookBeforeScan builds) = IsWorking s × NextLookFor builds s
 IsNextOf s nexts.Fetch = s.phase ≡ phases.Fetching
 IsNextOf s (nexts.LookUp scan) = IsWorking s × NextLookUp s scan × (s.looked ≡ true)
 IsNextOf s (nexts.Build scan) = IsWorking s × NextBuild s scan × (s.looked_to_build ≡ true)

@@ -6,7 +6,7 @@
 
 ghost use Rattle.std.specs.Prelude.{◌≡◌, ◌≢◌, ◌<◌, ◌&&◌, ◌||◌, not, true, false, [], All};
 ghost use Rattle.base_types.specs.Scans.{is_build_scan};
-ghost use Rattle.backend_core.specs.State.{begun_own, phase_looked, phase_fetched, locks_accepted, is_in_accept, lacks_builds as lacks, is_looked_for, scans_missing};
+ghost use Rattle.backend_core.specs.State.{begun_own, phase_looked, phase_fetched, locks_accepted, is_in_accept, lacks_builds as lacks};
 ghost use Rattle.backend_core.specs.Fetched.{built_relation as relation_built, has_begun, marks_build, after_messages, after_reset as reset_backend};
 
 use crate::execute::{execute, is_covered};
@@ -26,7 +26,7 @@ const MOST_FETCHED: u32 = 32;
 impl Backend {
     ghost use Rattle.backend_core.specs.Agrees.{Agrees, IsPlayed};
     ghost use Rattle.backend_core.specs.declared.next.Next.{Next};
-    ghost use Rattle.backend_core.specs.Steps.{Enters, IsNextOf, OwesLookNow, IsWorking};
+    ghost use Rattle.backend_core.specs.Steps.{Enters, IsNextOf, OwesLookNow, IsWorking, NextLookFor};
 
     // The look that is owed: at its transaction's start, or in an acceptance of messages.
     pub(crate) fn look<L: Seg>(&mut self, seg: &mut L)
@@ -35,7 +35,7 @@ impl Backend {
         requires place { 0 < L.promised seg.old self.old.id }
         requires next { OwesLookNow self.old }
         ensures script { L.script seg.new ≡ L.script seg.old }
-        ensures enters { Enters (L.script seg.old) (L.history seg.old) (L.history seg.new) self.old self.new }
+        ensures enters { Enters (L.script seg.old) (L.history seg.old) (L.history seg.new) (L.promised seg.old) (L.promised seg.new) self.old self.new }
     {
         let number = self.finished + 1;
         let some_wait = seg.waits(self.id);
@@ -52,10 +52,9 @@ impl Backend {
         requires played { IsPlayed (L.script seg.old) (L.history seg.old) }
         requires place { 0 < L.promised seg.old self.old.id }
         requires works { IsWorking self.old }
-        requires missing { scans_missing self.old ≢ [] }
-        requires unlooked { is_looked_for builds self.old ≡ false }
+        requires next { NextLookFor builds self.old }
         ensures script { L.script seg.new ≡ L.script seg.old }
-        ensures enters { Enters (L.script seg.old) (L.history seg.old) (L.history seg.new) self.old self.new }
+        ensures enters { Enters (L.script seg.old) (L.history seg.old) (L.history seg.new) (L.promised seg.old) (L.promised seg.new) self.old self.new }
     {
         let some_wait = seg.waits(self.id);
         seg.looked(self.id, self.finished + 1, some_wait);
@@ -72,7 +71,7 @@ impl Backend {
         requires place { 0 < L.promised seg.old self.old.id }
         requires next { IsNextOf self.old Next.Fetch }
         ensures script { L.script seg.new ≡ L.script seg.old }
-        ensures enters { Enters (L.script seg.old) (L.history seg.old) (L.history seg.new) self.old self.new }
+        ensures enters { Enters (L.script seg.old) (L.history seg.old) (L.history seg.new) (L.promised seg.old) (L.promised seg.new) self.old self.new }
     {
         let mut messages = ArrayVec::new();
         match seg.fetch(self.id, self.finished + 1, &mut messages) {

@@ -43,11 +43,13 @@ pub struct Backend {
 }
 
 impl Backend {
-    ghost use Rattle.std.specs.Prelude.{◌≡◌, ◌≢◌, ◌≤◌, ◌<◌, true, false, length, All, OnOk, IfOk};
+    ghost use Rattle.std.specs.Prelude.{◌≡◌, ◌≢◌, ◌≤◌, ◌<◌, true, false, length, All, OnOk, OnErr, IfOk};
     ghost use Rattle.cacheless.specs.Runs.{runs};
     ghost use Rattle.backend_core.specs.State.{has_left};
-    ghost use Rattle.backend_core.specs.Agrees.{IsNew, IsPlayed, Stands};
-    ghost use Rattle.backend_core.specs.Steps.{Steps};
+    ghost use Rattle.history_model.specs.Legal.{IsLegal};
+    ghost use Rattle.cacheless.specs.Plays.{Plays};
+    ghost use Rattle.backend_core.specs.Agrees.{IsNew, Stands};
+    ghost use Rattle.backend_core.specs.Steps.{Steps, IsRefused};
 
     /// The backend of this number with its commands in order, which hasn't joined.
     pub fn new(alloc: Global, id: u32, commands: Listed<Command>) -> Result<Backend, NoMemory>
@@ -94,15 +96,20 @@ impl Backend {
         matches!(self.life, Life::Stopped)
     }
 
-    /// Makes its next entry, and goes on as far as it can without another. Conditions: a place in the
-    /// history is promised to it, and it hasn't left. Out of memory, it may not be used any more.
+    /// Makes its next entry, and goes on as far as it can without another. Conditions: it stands in the
+    /// segment's history, which is legal and was played by the script's commands, a place in the history
+    /// is promised to it, and it hasn't left. It takes at most one promised place, and none of another
+    /// backend. Out of memory, nothing has changed but the backend itself, or its entry is made; then the
+    /// backend may not be used any more, and others go on.
     pub fn step<L: Seg>(&mut self, alloc: Global, seg: &mut L) -> Result<(), NoMemory>
         requires stands { Stands (L.script seg.old) (L.history seg.old) self.old }
-        requires played { IsPlayed (L.script seg.old) (L.history seg.old) }
+        requires legal { IsLegal (L.history seg.old) }
+        requires plays { Plays (L.script seg.old) (L.history seg.old) }
         requires place { 0 < L.promised seg.old self.old.id }
         requires alive { has_left self.old.life ≡ false }
         ensures script { L.script seg.new ≡ L.script seg.old }
-        ensures steps { OnOk result (Steps (L.script seg.old) (L.history seg.old) (L.history seg.new) self.old self.new) }
+        ensures steps { OnOk result (Steps (L.script seg.old) (L.history seg.old) (L.history seg.new) (L.promised seg.old) (L.promised seg.new) self.old self.new) }
+        ensures refused { OnErr result (IsRefused (L.script seg.old) (L.history seg.old) (L.history seg.new) (L.promised seg.old) (L.promised seg.new) self.old.id) }
     {
         match self.life {
             Life::Unstarted => {

@@ -25,7 +25,7 @@ impl Backend {
         requires place { 0 < L.promised seg.old self.old.id }
         requires next { IsNextOf self.old (nexts.Commit xid) }
         ensures script { L.script seg.new ≡ L.script seg.old }
-        ensures enters { Enters (L.script seg.old) (L.history seg.old) (L.history seg.new) self.old self.new }
+        ensures enters { Enters (L.script seg.old) (L.history seg.old) (L.history seg.new) (L.promised seg.old) (L.promised seg.new) self.old self.new }
     {
         seg.visible(self.id, self.finished + 1, xid);
         self.phase = Phase::Visible { published: 0 };
@@ -38,7 +38,7 @@ impl Backend {
         requires place { 0 < L.promised seg.old self.old.id }
         requires next { IsNextOf self.old nexts.Publish }
         ensures script { L.script seg.new ≡ L.script seg.old }
-        ensures enters { Enters (L.script seg.old) (L.history seg.old) (L.history seg.new) self.old self.new }
+        ensures enters { Enters (L.script seg.old) (L.history seg.old) (L.history seg.new) (L.promised seg.old) (L.promised seg.new) self.old self.new }
     {
         let Phase::Visible { published } = self.phase else {
             unreachable!()
@@ -71,7 +71,7 @@ impl Backend {
         requires place { 0 < L.promised seg.old self.old.id }
         requires next { IsNextOf self.old (nexts.TakeBack from) }
         ensures script { L.script seg.new ≡ L.script seg.old }
-        ensures enters { Enters (L.script seg.old) (L.history seg.old) (L.history seg.new) self.old self.new }
+        ensures enters { Enters (L.script seg.old) (L.history seg.old) (L.history seg.new) (L.promised seg.old) (L.promised seg.new) self.old self.new }
     {
         seg.gone(self.id, self.finished + 1, from);
         execute(alloc, &mut self.kept, self.lists.cats_from(from));
@@ -87,7 +87,7 @@ impl Backend {
         requires place { 0 < L.promised seg.old self.old.id }
         requires next { IsNextOf self.old (nexts.Release from) }
         ensures script { L.script seg.new ≡ L.script seg.old }
-        ensures enters { Enters (L.script seg.old) (L.history seg.old) (L.history seg.new) self.old self.new }
+        ensures enters { Enters (L.script seg.old) (L.history seg.old) (L.history seg.new) (L.promised seg.old) (L.promised seg.new) self.old self.new }
     {
         seg.release(self.id, self.finished + 1, from);
         self.locks.release(from);
@@ -99,10 +99,11 @@ impl Backend {
     // It leaves.
     pub(crate) fn leave<L: Seg>(&mut self, seg: &mut L)
         requires agrees { Agrees (L.script seg.old) (L.history seg.old) self.old }
+        requires played { IsPlayed (L.script seg.old) (L.history seg.old) }
         requires place { 0 < L.promised seg.old self.old.id }
         requires next { IsNextOf self.old nexts.Leave }
         ensures script { L.script seg.new ≡ L.script seg.old }
-        ensures steps { Steps (L.script seg.old) (L.history seg.old) (L.history seg.new) self.old self.new }
+        ensures steps { Steps (L.script seg.old) (L.history seg.old) (L.history seg.new) (L.promised seg.old) (L.promised seg.new) self.old self.new }
     {
         seg.stop(self.id, self.finished + 1);
         self.life = Life::Stopped;

@@ -12,7 +12,7 @@ impl Backend {
         requires played { IsPlayed (L.script seg.old) (L.history seg.old) }
         requires place { 0 < L.promised seg.old self.old.id }
         ensures script { L.script seg.new ≡ L.script seg.old }
-        ensures enters { Enters (L.script seg.old) (L.history seg.old) (L.history seg.new) self.old self.new }
+        ensures enters { Enters (L.script seg.old) (L.history seg.old) (L.history seg.new) (L.promised seg.old) (L.promised seg.new) self.old self.new }
     {
         seg.start(self.id);
         self.life = Life::Alive;

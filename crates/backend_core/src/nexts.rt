@@ -8,7 +8,7 @@ ghost use Rattle.cacheless.specs.Ends.{Commits};
 ghost use Rattle.backend_core.specs.State.{is_kept, builds_missing, is_out as has_come_out, begins_in, end_at, end_in_well, end_in_badly, end_in_block, has_write_since as is_written_since, unlocked_of};
 ghost use Rattle.backend_core.specs.Endings.{end_of_ending};
 ghost use Rattle.backend_core.specs.Agrees.{Well};
-ghost use Rattle.backend_core.specs.Steps.{IsNextOf, IsWorking};
+ghost use Rattle.backend_core.specs.Steps.{IsNextOf, IsWorking, NextBuild, NextLookUp};
 
 use crate::{Backend, KeptScan, Next, Phase};
 use base_types::{Command, Kind, Mode, Name, Oid, Purpose, Row, same_scan, table_scans};
@@ -122,8 +122,33 @@ impl Backend {
     {
         match self.first_build() {
             None => self.next_of_want(want),
-            Some(scan) if self.looked_to_build => Next::Build(scan),
-            Some(_) => Next::LookBeforeScan { builds: true },
+            Some(scan) => self.next_of_build(scan),
+        }
+    }
+
+    // A scan for a descriptor, which has a look of its own before it.
+    fn next_of_build(&self, scan: Purpose) -> Next
+        requires working { IsWorking self.now }
+        requires next { NextBuild self.now scan }
+        ensures { IsNextOf self.now result }
+    {
+        if self.looked_to_build {
+            Next::Build(scan)
+        } else {
+            Next::LookBeforeScan { builds: true }
+        }
+    }
+
+    // A scan of a name or a column, which has a look of its own before it.
+    fn next_of_name(&self, scan: Purpose) -> Next
+        requires working { IsWorking self.now }
+        requires next { NextLookUp self.now scan }
+        ensures { IsNextOf self.now result }
+    {
+        if self.looked {
+            Next::LookUp(scan)
+        } else {
+            Next::LookBeforeScan { builds: false }
         }
     }
 
@@ -140,10 +165,7 @@ impl Backend {
             Want::Lookup { name, mode } => self.next_of_lookup(*name, *mode),
             Want::Open { rel, kind } => self.next_of_open(*rel, *kind),
             Want::Column { .. } if self.read => Next::Find,
-            Want::Column { rel, name } if self.looked => Next::LookUp(Purpose::AttName(
-                *rel, *name,
-            )),
-            Want::Column { .. } => Next::LookBeforeScan { builds: false },
+            Want::Column { rel, name } => self.next_of_name(Purpose::AttName(*rel, *name)),
             Want::Read(_) => Next::Find,
             Want::Write => Next::Write,
             Want::Lock { .. } | Want::Done | Want::Fails(_) | Want::Absent(_) => unreachable!(),
@@ -185,10 +207,7 @@ impl Backend {
                 None => Next::Find,
             };
         }
-        if self.looked {
-            return Next::LookUp(Purpose::RelName(name));
-        }
-        Next::LookBeforeScan { builds: false }
+        self.next_of_name(Purpose::RelName(name))
     }
 
     // The relation that the lookup's rows name, if it isn't locked in the mode.
@@ -211,8 +230,7 @@ impl Backend {
     {
         match first_missing(self.kept.as_slice(), kind, rel) {
             None => Next::Open { rel, kind },
-            Some(scan) if self.looked_to_build => Next::Build(scan),
-            Some(_) => Next::LookBeforeScan { builds: true },
+            Some(scan) => self.next_of_build(scan),
         }
     }
 

@@ -8,9 +8,9 @@ use rel_desc::CommandError;
 use seg_calls::{LockRefusal, Seg};
 
 impl Backend {
-    ghost use Rattle.std.specs.Prelude.{◌≡◌, true, OnOk};
+    ghost use Rattle.std.specs.Prelude.{◌≡◌, true, OnOk, OnErr};
     ghost use Rattle.backend_core.specs.Agrees.{Agrees, IsPlayed};
-    ghost use Rattle.backend_core.specs.Steps.{Enters, IsWorking, NextLookUp, NextBuild, NextLock};
+    ghost use Rattle.backend_core.specs.Steps.{Enters, IsRefused, IsWorking, NextLookUp, NextBuild, NextLock};
 
     // The scan of a relation's or a column's name.
     pub(crate) fn look_up<L: Seg>(&mut self, seg: &mut L, scan: &Purpose) -> Result<(), NoMemory>
@@ -20,7 +20,8 @@ impl Backend {
         requires next { NextLookUp self.old scan.now }
         requires looked { self.old.looked ≡ true }
         ensures script { L.script seg.new ≡ L.script seg.old }
-        ensures enters { OnOk result (Enters (L.script seg.old) (L.history seg.old) (L.history seg.new) self.old self.new) }
+        ensures enters { OnOk result (Enters (L.script seg.old) (L.history seg.old) (L.history seg.new) (L.promised seg.old) (L.promised seg.new) self.old self.new) }
+        ensures refused { OnErr result (IsRefused (L.script seg.old) (L.history seg.old) (L.history seg.new) (L.promised seg.old) (L.promised seg.new) self.old.id) }
     {
         let scanned = seg.scan(self.id, self.finished + 1, scan)?;
         self.looked = false;
@@ -38,7 +39,8 @@ impl Backend {
         requires next { NextBuild self.old scan.now }
         requires looked { self.old.looked_to_build ≡ true }
         ensures script { L.script seg.new ≡ L.script seg.old }
-        ensures enters { OnOk result (Enters (L.script seg.old) (L.history seg.old) (L.history seg.new) self.old self.new) }
+        ensures enters { OnOk result (Enters (L.script seg.old) (L.history seg.old) (L.history seg.new) (L.promised seg.old) (L.promised seg.new) self.old self.new) }
+        ensures refused { OnErr result (IsRefused (L.script seg.old) (L.history seg.old) (L.history seg.new) (L.promised seg.old) (L.promised seg.new) self.old.id) }
     {
         let scanned = seg.scan(self.id, self.finished + 1, scan)?;
         self.looked_to_build = false;
@@ -60,7 +62,8 @@ impl Backend {
         requires works { IsWorking self.old }
         requires next { NextLock self.old rel mode }
         ensures script { L.script seg.new ≡ L.script seg.old }
-        ensures enters { OnOk result (Enters (L.script seg.old) (L.history seg.old) (L.history seg.new) self.old self.new) }
+        ensures enters { OnOk result (Enters (L.script seg.old) (L.history seg.old) (L.history seg.new) (L.promised seg.old) (L.promised seg.new) self.old self.new) }
+        ensures refused { OnErr result (IsRefused (L.script seg.old) (L.history seg.old) (L.history seg.new) (L.promised seg.old) (L.promised seg.new) self.old.id) }
     {
         self.locks.reserve()?;
         let number = self.finished + 1;

@@ -6,13 +6,13 @@ use seg_calls::Seg;
 use std::alloc::Global;
 
 impl Backend {
-    ghost use Rattle.std.specs.Prelude.{◌≡◌, ◌≢◌, ◌<◌, List, true, false, OnOk};
+    ghost use Rattle.std.specs.Prelude.{◌≡◌, ◌≢◌, ◌<◌, List, true, false, OnOk, OnErr};
     ghost use Rattle.base_types.specs.Scenario.{Scenario};
     ghost use Rattle.event_kinds.specs.declared.entry.Entry.{Entry};
     ghost use Rattle.backend_core.specs.declared.next.Next.TheVariants as nexts;
     ghost use Rattle.backend_core.specs.Agrees.{Agrees, AwaitsEntry, IsPlayed, Well};
     ghost use Rattle.backend_core.specs.Measure.{left_of};
-    ghost use Rattle.backend_core.specs.Steps.{AgreesNow, Enters, Steps, IsNextOf, makes_entry as is_entry};
+    ghost use Rattle.backend_core.specs.Steps.{AgreesNow, Enters, Steps, IsRefused, IsNextOf, makes_entry as is_entry};
 
     // Its step, where it has joined and hasn't left.
     pub(crate) fn go_on<L: Seg>(&mut self, alloc: Global, seg: &mut L) -> Result<(), NoMemory>
@@ -20,7 +20,8 @@ impl Backend {
         requires played { IsPlayed (L.script seg.old) (L.history seg.old) }
         requires place { 0 < L.promised seg.old self.old.id }
         ensures script { L.script seg.new ≡ L.script seg.old }
-        ensures steps { OnOk result (Steps (L.script seg.old) (L.history seg.old) (L.history seg.new) self.old self.new) }
+        ensures steps { OnOk result (Steps (L.script seg.old) (L.history seg.old) (L.history seg.new) (L.promised seg.old) (L.promised seg.new) self.old self.new) }
+        ensures refused { OnErr result (IsRefused (L.script seg.old) (L.history seg.old) (L.history seg.new) (L.promised seg.old) (L.promised seg.new) self.old.id) }
     {
         let next = self.next();
         if next.leaves() {
@@ -45,7 +46,8 @@ impl Backend {
         requires entry { is_entry next.now ≡ true }
         requires stays { next.now ≢ nexts.Leave }
         ensures script { L.script seg.new ≡ L.script seg.old }
-        ensures enters { OnOk result (Enters (L.script seg.old) (L.history seg.old) (L.history seg.new) self.old self.new) }
+        ensures enters { OnOk result (Enters (L.script seg.old) (L.history seg.old) (L.history seg.new) (L.promised seg.old) (L.promised seg.new) self.old self.new) }
+        ensures refused { OnErr result (IsRefused (L.script seg.old) (L.history seg.old) (L.history seg.new) (L.promised seg.old) (L.promised seg.new) self.old.id) }
     {
         match next {
             Next::Look => self.look(seg),

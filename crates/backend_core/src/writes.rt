@@ -21,10 +21,10 @@ use std::alloc::Global;
 use std::mem::replace;
 
 impl Backend {
-    ghost use Rattle.std.specs.Prelude.{◌≡◌, OnOk};
+    ghost use Rattle.std.specs.Prelude.{◌≡◌, OnOk, OnErr};
     ghost use Rattle.backend_core.specs.Agrees.{Agrees, IsPlayed};
     ghost use Rattle.backend_core.specs.declared.next.Next.{Next};
-    ghost use Rattle.backend_core.specs.Steps.{Enters, IsNextOf};
+    ghost use Rattle.backend_core.specs.Steps.{Enters, IsRefused, IsNextOf};
 
     /// Writes the draft of its command, or ends the command where a name that it gives is taken.
     /// Condition: a write comes next. Out of memory, the backend may not be used any more.
@@ -33,7 +33,8 @@ impl Backend {
         requires played { IsPlayed (L.script seg.old) (L.history seg.old) }
         requires next { IsNextOf self.old Next.Write }
         ensures script { L.script seg.new ≡ L.script seg.old }
-        ensures enters { OnOk result (Enters (L.script seg.old) (L.history seg.old) (L.history seg.new) self.old self.new) }
+        ensures enters { OnOk result (Enters (L.script seg.old) (L.history seg.old) (L.history seg.new) (L.promised seg.old) (L.promised seg.new) self.old self.new) }
+        ensures refused { OnErr result (IsRefused (L.script seg.old) (L.history seg.old) (L.history seg.new) (L.promised seg.old) (L.promised seg.new) self.old.id) }
     {
         self.locks.reserve()?;
         let command = self.finished + 1;

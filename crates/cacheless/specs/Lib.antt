@@ -9,8 +9,14 @@ pub mod Settled
 pub mod ActsDone
 pub mod Sessions
 pub mod Plays
+pub mod MayEnter
 pub mod TableWrites
 pub mod Protected
 pub mod Lines
 pub mod Schedule
 pub mod Output
+pub mod OnCourse
+pub mod Played
+pub mod Told
+pub mod Judged
+pub mod OpenedReads

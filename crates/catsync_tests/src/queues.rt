@@ -1,4 +1,4 @@
-ghost use Rattle.std.specs.Prelude.{◌<◌, ◌≤◌, ◌+◌, ◌*◌, ◌^◌, length};
+ghost use Rattle.std.specs.Prelude.{◌<◌, ◌≤◌, ◌*◌};
 ghost use Rattle.base_types.specs.Scenario.{IsQueueSize};
 
 use arrayvec::ArrayVec;
@@ -13,7 +13,6 @@ use std::test::Fail;
 struct Numbered {
     ring: Ring,
     inserted: u32,
-    ghost few: { ring.from + length ring.log < 2 ^ 31 + inserted },
 }
 
 // A call, with the backend or the number of messages.
@@ -25,6 +24,7 @@ enum Call {
     Clean(u32),
     Fetch(u32),
     Has(u32),
+    Number,
 }
 
 // What a call is answered. Of fetched messages how many there are, and the number of the first.
@@ -37,6 +37,7 @@ enum Answer {
     Reset,
     Yes,
     No,
+    Number(u64),
     Refused,
 }
 
@@ -141,6 +142,7 @@ impl Numbered {
             Call::Clean(min_free) => self.clean(min_free),
             Call::Fetch(b) => self.fetch(b),
             Call::Has(b) => of_has(self.ring.has(b)),
+            Call::Number => Answer::Number(self.ring.number()),
         }
     }
 }
@@ -275,9 +277,52 @@ const ONE_SIGNAL_AFTER_THE_OTHER: &[(Call, Answer)] = &[
     (Call::Insert(24), Answer::Cleaned(4, Some(1))),
 ];
 
+// Where all readers are past the wraparound, a cleanup moves the numbers back, and they read on.
+const NUMBERS_GO_BACK: &[(Call, Answer)] = &[
+    (Call::Start(1), Answer::Done),
+    (Call::Start(2), Answer::Done),
+    (Call::Insert(4), Answer::Idle),
+    (Call::Fetch(1), Answer::Messages(4, 0)),
+    (Call::Fetch(2), Answer::Messages(4, 0)),
+    (Call::Number, Answer::Number(16_777_218)),
+    (Call::Clean(1), Answer::Cleaned(0, None)),
+    (Call::Number, Answer::Number(2)),
+    (Call::Insert(3), Answer::Idle),
+    (Call::Number, Answer::Number(5)),
+    (Call::Has(2), Answer::Yes),
+    (Call::Fetch(1), Answer::Messages(3, 4)),
+    (Call::Fetch(2), Answer::Messages(3, 4)),
+];
+
+// They don't go back while a reader is before the wraparound, and do with two readers exactly at it. Of these one reads
+// on, and one is signaled and then lapped; one was reset before, and one starts after.
+const READERS_AT_BOTH_ENDS: &[(Call, Answer)] = &[
+    (Call::Start(1), Answer::Done),
+    (Call::Start(2), Answer::Done),
+    (Call::Start(3), Answer::Done),
+    (Call::Insert(32), Answer::Idle),
+    (Call::Fetch(1), Answer::Messages(32, 0)),
+    (Call::Fetch(2), Answer::Messages(32, 0)),
+    (Call::Clean(0), Answer::Cleaned(0, None)),
+    (Call::Number, Answer::Number(16_777_216)),
+    (Call::Insert(64), Answer::Cleaned(4, None)),
+    (Call::Number, Answer::Number(64)),
+    (Call::Fetch(2), Answer::Messages(32, 32)),
+    (Call::Fetch(2), Answer::Messages(32, 64)),
+    (Call::Start(4), Answer::Done),
+    (Call::Clean(0), Answer::Cleaned(0, Some(1))),
+    (Call::Fetch(3), Answer::Reset),
+    (Call::Insert(1), Answer::Cleaned(1, None)),
+    (Call::Number, Answer::Number(65)),
+    (Call::Fetch(1), Answer::Reset),
+    (Call::Fetch(2), Answer::Messages(1, 96)),
+    (Call::Fetch(3), Answer::Messages(1, 96)),
+    (Call::Fetch(4), Answer::Messages(1, 96)),
+];
+
 // The size of the queue and the number of its first message, the last of which is the highest that there may be, and
 // the calls. What each is answered was worked out by hand from the rules of the server.
-const TABLES: [(u32, u64, &[(Call, Answer)]); 9] = [
+const TABLES: [(u32, u64, &[(Call, Answer)]); 11] = [
     (128, 0, FILLED_BY_TWO_QUANTA),
     (128, 0, LAPPED_BY_ONE_MESSAGE_MORE),
     (64, 0, EXACTLY_THE_FREE_ROOM),
@@ -287,6 +332,8 @@ const TABLES: [(u32, u64, &[(Call, Answer)]); 9] = [
     (64, 16_777_215, EXACTLY_THE_FREE_ROOM),
     (64, 16_777_215, ONE_SIGNAL_AFTER_THE_OTHER),
     (64, 16_777_213, STOPPED_WHILE_BEHIND),
+    (64, 16_777_214, NUMBERS_GO_BACK),
+    (64, 16_777_184, READERS_AT_BOTH_ENDS),
 ];
 
 #[test]

@@ -3,7 +3,9 @@ use Rattle.std.specs.Prelude.{◌≡◌, ◌≤◌, ◌<◌, ◌+◌, ⊤, ℕ, 
 use Rattle.std.specs.Io.KnownBytes.{Consumes, IsAtEnd}
 use Rattle.edge_io.specs.Causes.{Rose}
 use Rattle.edge_io.specs.declared.reading.TheConstants.{PIECE}
-use Rattle.out_text.specs.Typed.{SpellsOnly}
+use Rattle.std.specs.List.{All}
+use Rattle.history_model.specs.Orderly.{IsSound}
+use Rattle.out_text.specs.Typed.{IsTyped, IsLine, SpellsOnly}
 use Rattle.walk_run.specs.Built.{is_built}
 use Rattle.walk_run.specs.Sessions.{AreSessions}
 use Rattle.script_text.specs.Grammar.{Reading, script_of}
@@ -37,7 +39,7 @@ pub record IsInput (left rest : Option (List ℕ)) (input : List ℕ) : Type 0 w
   pub ended : IsAtEnd rest
   pub short : length input ≤ MOST_INPUT
 
--- the input is a script that can be walked; an output of the program for that script was written, or a prefix of one; that output spells its history alone; and the sessions are the backends that were run, with their parts of the answers
+-- the input is a script that can be walked; an output of the program for that script was written, or a prefix of one; its history is sound, so that each law of sound histories is one of it; its entries and lines are such as their types allow, and that output spells them alone; and the sessions are the backends that were run, with their parts of the answers
 pub record Ran (left rest : Option (List ℕ)) (taken now : Option (List ℕ)) (Writes : Option (List ℕ) → Option (List ℕ) → List ℕ → Type 0) (sessions : List Backend) : Type 0 where
   pub input : List ℕ
   pub whole : IsInput left rest input
@@ -46,6 +48,9 @@ pub record Ran (left rest : Option (List ℕ)) (taken now : Option (List ℕ)) (
   pub built : is_built reading.script ≡ true
   pub output : List ℕ
   pub is : IsOutput reading.script output
+  pub sound : IsSound is.history
+  pub entries : All IsTyped is.history
+  pub answers : All IsLine (lines_of reading.script is.history)
   pub only : SpellsOnly output is.history (lines_of reading.script is.history)
   pub are : AreSessions reading.script is.history (lines_of reading.script is.history) sessions
   pub written : Writes taken now output

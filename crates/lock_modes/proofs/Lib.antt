@@ -3,3 +3,4 @@ mod Filters
 mod Conflicts
 mod Room
 mod Releasing
+pub mod Excluding

@@ -1,6 +1,7 @@
 -- How a lock table keeps its grants.
-use Rattle.std.specs.Prelude.{ℕ, List, ◌≡◌, ◌≤◌, ◌<◌, ◌==◌, filter, length, slice_index_or}
+use Rattle.std.specs.Prelude.{ℕ, List, ◌≡◌, ◌≤◌, ◌<◌, ◌==◌, ◌++◌, filter, length, slice_index_or}
 use Rattle.lock_modes.specs.Types.{Grant}
+use Rattle.lock_modes.specs.Excluding.{DoExclude}
 use Rattle.lock_modes.specs.GrantLists.{grants_at, room_at}
 use Rattle.lock_modes.specs.declared.grant_lists.GrantLists.{GrantLists}
 
@@ -14,7 +15,8 @@ pub record HasRoom (by_rel by_backend : GrantLists) (grants : List Grant) (first
   pub rels : (i : ℕ) (g : Grant) → i < first → g ≡ slice_index_or grants i g → count ≤ room_at by_rel g.rel.0
   pub backends : (i : ℕ) (g : Grant) → i < first → g ≡ slice_index_or grants i g → count ≤ room_at by_backend g.backend
 
--- so are all grants kept, with room for those that are prepared
+-- so are all grants kept, with room for those that are prepared; they exclude each other
 pub record Keeps (by_rel by_backend : GrantLists) (prepared held : List Grant) : Type 0 where
   pub holds : Holds by_rel by_backend held
   pub room : HasRoom by_rel by_backend prepared (length prepared) (length prepared)
+  pub exclude : DoExclude (held ++ prepared)

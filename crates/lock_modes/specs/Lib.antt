@@ -1,6 +1,7 @@
 pub mod Types
 pub mod Grants
 pub mod Requests
+pub mod Excluding
 pub mod Changes
 pub mod Own
 pub mod States

@@ -1,4 +1,5 @@
-ghost use Rattle.std.specs.Prelude.{◌≡◌, ◌≤◌, ◌<◌, ◌+◌, ◌++◌, ◌∷◌, ◌==◌, ℕ, [], cond, filter, OnOk};
+ghost use Rattle.std.specs.Prelude.{◌≡◌, ◌≤◌, ◌<◌, ◌+◌, ◌++◌, ◌∷◌, ◌==◌, ℕ, [], None, nat_eq, cond, filter, OnOk};
+ghost use Rattle.indexmap.specs.IndexMap.{get};
 ghost use Rattle.lock_modes.specs.Changes.{is_kept};
 ghost use Rattle.lock_modes.specs.GrantLists.{grants_at, room_at};
 
@@ -77,7 +78,8 @@ impl GrantLists {
 
     // Forgets the list of a number, and its room, if it is empty.
     pub(crate) fn trim(&mut self, key: u32)
-        ensures { (other : ℕ) → grants_at self.new other ≡ grants_at self.old other }
+        ensures same { (other : ℕ) → grants_at self.new other ≡ grants_at self.old other }
+        ensures forgets { grants_at self.old key ≡ [] → get nat_eq self.new.lists key ≡ None }
     {
         if self.get(key).is_empty() {
             self.lists.swap_remove(&key);

@@ -4,6 +4,7 @@ ghost use Rattle.base_types.specs.Modes.{conflicts as do_conflict};
 ghost use Rattle.base_types.specs.Scans.{same_oid};
 ghost use Rattle.lock_modes.specs.Grants.{is_lock, holds as do_hold, first_conflict, stays};
 ghost use Rattle.lock_modes.specs.Changes.{is_kept, is_out, is_released};
+ghost use Rattle.lock_modes.specs.Excluding.{AreFree, DoExclude};
 ghost use Rattle.lock_modes.specs.GrantLists.{grants_at};
 ghost use Rattle.lock_modes.specs.Kept.{Holds, HasRoom};
 ghost use Rattle.lock_modes.specs.Requests.{Requests};
@@ -65,7 +66,8 @@ impl LockTable {
     /// `ConditionalLockRelationOid`). `Held`: exactly where it holds the mode on the relation already.
     /// `Conflict`: exactly where it doesn't, and another backend holds a mode on the relation that
     /// conflicts; of several the one that was granted first is named. Neither changes what is held, nor
-    /// does `NoMemory`.
+    /// does `NoMemory`. So at all times what is held excludes each other: of two backends that hold a
+    /// relation the modes don't conflict, and none holds a mode twice.
     pub fn request(
         &mut self,
         backend: u32,
@@ -75,6 +77,7 @@ impl LockTable {
     ) -> Result<Granted, LockRefusal>
         ensures answers { Requests self.old.held self.new.held (record { backend = backend; command = command; rel = rel; mode = mode }) result }
         ensures prepared { self.new.prepared ≡ [] }
+        ensures exclude { DoExclude self.new.held }
     {
         self.prepared.clear();
         if is_held(self.by_rel.get(rel.0), backend, rel, mode) {
@@ -104,10 +107,12 @@ impl LockTable {
         Ok(Granted::New)
     }
 
-    /// Makes room for grants that need no test, such as those of a new relation, which nobody else
-    /// can ask for yet. They take the place of what was prepared before; a request, an `unlock` or a
-    /// `release` forgets them. Out of memory, nothing changes.
+    /// Makes room for grants that nobody is in the way of, such as those of a new relation, which nobody
+    /// else can ask for yet. They take the place of what was prepared before; a request, an `unlock` or a
+    /// `release` forgets them. Condition: each might be given after those before it. Out of memory,
+    /// nothing changes.
     pub fn prepare(&mut self, grants: Vec<Grant>) -> Result<(), NoMemory>
+        requires { AreFree self.old.held grants.items }
         ensures held { self.new.held ≡ self.old.held }
         ensures ok { OnOk result (self.new.prepared ≡ grants.items) }
         ensures err { OnErr result (self.new.prepared ≡ self.old.prepared) }
@@ -121,6 +126,7 @@ impl LockTable {
     pub fn grant_prepared(&mut self)
         ensures held { self.new.held ≡ self.old.held ++ self.old.prepared }
         ensures prepared { self.new.prepared ≡ [] }
+        ensures exclude { DoExclude self.new.held }
     {
         add(
             &mut self.by_rel,

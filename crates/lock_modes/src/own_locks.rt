@@ -1,4 +1,4 @@
-ghost use Rattle.std.specs.Prelude.{◌≡◌, ◌<◌, ◌++◌, ◌∷◌, ◌&&◌, [], true, false, not, is_some, filter, map, nat_lt, OnOk};
+ghost use Rattle.std.specs.Prelude.{◌≡◌, ◌≤◌, ◌<◌, ◌+◌, ◌++◌, ◌∷◌, ◌&&◌, [], true, false, not, is_some, filter, map, nat_lt, OnOk};
 ghost use Rattle.std.specs.List.{list_any};
 ghost use Rattle.base_types.specs.Modes.{conflicts as do_conflict};
 ghost use Rattle.base_types.specs.Scans.{same_oid};
@@ -53,9 +53,11 @@ impl OwnLocks {
         is_any_against(&self.items, rel, mode)
     }
 
-    /// Makes room for one more. Out of memory, nothing changes.
+    /// Makes room for one more. Out of memory, the locks are as they were. No call gives up room but for a
+    /// lock that it adds.
     pub fn reserve(&mut self) -> Result<(), NoMemory>
         ensures same { self.new.items ≡ self.old.items }
+        ensures room { self.old.room ≤ self.new.room }
         ensures ok { OnOk result (0 < self.new.room) }
     {
         self.items.reserve(1)?;
@@ -67,7 +69,8 @@ impl OwnLocks {
     pub fn add(&mut self, rel: Oid, mode: Mode, command: u32)
         requires room { 0 < self.old.room }
         requires new { has_lock self.old.items rel mode ≡ false }
-        ensures { self.new.items ≡ self.old.items ++ record { rel = rel; mode = mode; command = command; clear = false } ∷ [] }
+        ensures items { self.new.items ≡ self.old.items ++ record { rel = rel; mode = mode; command = command; clear = false } ∷ [] }
+        ensures room { self.old.room ≤ self.new.room + 1 }
     {
         self.items.push_reserved(OwnLock {
             rel,
@@ -82,7 +85,8 @@ impl OwnLocks {
     pub fn add_new(&mut self, rel: Oid, command: u32)
         requires room { 0 < self.old.room }
         requires new { has_lock self.old.items rel Mode.AccessExclusive ≡ false }
-        ensures { self.new.items ≡ self.old.items ++ new_lock rel command ∷ [] }
+        ensures items { self.new.items ≡ self.old.items ++ new_lock rel command ∷ [] }
+        ensures room { self.old.room ≤ self.new.room + 1 }
     {
         self.items.push_reserved(OwnLock {
             rel,
@@ -96,14 +100,16 @@ impl OwnLocks {
     /// Condition: it is held.
     pub fn clear(&mut self, rel: Oid, mode: Mode)
         requires { has_lock self.old.items rel mode ≡ true }
-        ensures { self.new.items ≡ map (cleared_if rel mode) self.old.items }
+        ensures items { self.new.items ≡ map (cleared_if rel mode) self.old.items }
+        ensures room { self.old.room ≤ self.new.room }
     {
         clear_each(&mut self.items, rel, mode);
     }
 
     /// All locks are clear from now on.
     pub fn clear_all(&mut self)
-        ensures { self.new.items ≡ map cleared self.old.items }
+        ensures items { self.new.items ≡ map cleared self.old.items }
+        ensures room { self.old.room ≤ self.new.room }
     {
         clear_every(&mut self.items);
     }
@@ -111,7 +117,8 @@ impl OwnLocks {
     /// Takes out a lock (`RemoveLocalLock` in `src/backend/storage/lmgr/lock.c`). Condition: it is held.
     pub fn remove(&mut self, rel: Oid, mode: Mode)
         requires { has_lock self.old.items rel mode ≡ true }
-        ensures { self.new.items ≡ filter (λ lock. not (is_own rel mode lock)) self.old.items }
+        ensures items { self.new.items ≡ filter (λ lock. not (is_own rel mode lock)) self.old.items }
+        ensures room { self.old.room ≤ self.new.room }
     {
         self.items.retain(|lock| !is_own_lock(lock, rel, mode));
     }
@@ -119,7 +126,8 @@ impl OwnLocks {
     /// Takes out what was granted in commands of this number and above (`LockReleaseAll` and, where a
     /// savepoint is rolled back, `LockReleaseCurrentOwner` in `src/backend/storage/lmgr/lock.c`).
     pub fn release(&mut self, from: u32)
-        ensures { self.new.items ≡ filter (λ lock. nat_lt lock.command from) self.old.items }
+        ensures items { self.new.items ≡ filter (λ lock. nat_lt lock.command from) self.old.items }
+        ensures room { self.old.room ≤ self.new.room }
     {
         self.items.retain(|lock| lock.command < from);
     }

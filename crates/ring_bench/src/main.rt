@@ -4,8 +4,6 @@
 //! anything but 32 messages.
 #![tactic(auto)]
 
-ghost use Rattle.std.specs.Prelude.{◌<◌, ◌≤◌, ◌+◌, ◌^◌, length};
-
 use arrayvec::ArrayVec;
 use base_types::{Fetched, Oid};
 use inval_messages::Message;
@@ -52,8 +50,6 @@ fn run<R: Env + AllocGlobal>(rt: &R, alloc: Global) -> Option<()> {
 struct Queue {
     ring: Ring,
     inserted: u64,
-    ghost few: { ring.from + length ring.log ≤ inserted },
-    ghost short: { inserted ≤ 2 ^ 40 + 64 },
 }
 
 fn new_queue(alloc: Global) -> Option<Queue> {

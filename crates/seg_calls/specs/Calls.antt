@@ -1,6 +1,6 @@
 -- What the calls of a segment need, and what they do: one word for each class of call.
 -- `old` and `new` are the history before and after a call, `had` and `has` how many places each backend was promised then.
-use Rattle.std.specs.Prelude.{ℕ, Bool, true, false, Option, Some, Result, Ok, Err, OnOk, OnErr, List, [], ◌∷◌, ◌++◌, ◌≡◌, ◌≢◌, ◌≤◌, ◌+◌, ◌-◌, min, length, take}
+use Rattle.std.specs.Prelude.{ℕ, Bool, true, false, Option, Some, Result, Ok, Err, OnOk, OnErr, List, [], ◌∷◌, ◌++◌, ◌≡◌, ◌≢◌, ◌≤◌, ◌+◌, ◌-◌, zero, suc, min, max, length, take}
 use Rattle.std.specs.List.{flat_map, filter_map, list_any, list_all, range_with_len}
 use Rattle.std.specs.Str.{bytes_eq}
 use Rattle.base_types.specs.RowKeys.{are_distinct_keys}
@@ -68,13 +68,17 @@ pub record IsUnchanged (old new : List Entry) (had has : ℕ → ℕ) : Type 0 w
   pub entries : new ≡ old
   pub places : (b : ℕ) → has b ≡ had b
 
--- at least so many places are promised to a backend, and all promises are kept
+-- a backend has the places that it is promised, or those that it had if these are more
 pub record Promises (old new : List Entry) (had has : ℕ → ℕ) (b n : ℕ) (result : Result (Unit {0}) NoMemory) : Type 0 where
   pub entries : new ≡ old
-  pub ok : OnOk result (n ≤ has b)
-  pub kept : had b ≤ has b
+  pub ok : OnOk result (has b ≡ max (had b) n)
   pub err : OnErr result (has b ≡ had b)
   pub others : (a : ℕ) → a ≢ b → has a ≡ had a
+
+-- how many places are promised to the backends up to this number
+abbrev pub all_promised : (ℕ → ℕ) → ℕ → ℕ
+all_promised promised zero = 0
+all_promised promised (suc b) = all_promised promised b + promised (suc b)
 
 -- how many promised places an entry may take: none where a backend asks for something, which may be refused
 abbrev pub places_for : Event → ℕ
@@ -86,11 +90,12 @@ places_for (ClashRow name rel) = 0
 places_for (ClashRunning name xid) = 0
 places_for event = 1
 
--- one entry is appended, which the entries before it allow; it takes no promised place of another backend, and of its own at most those that it may
+-- one entry is appended, which the entries before it allow; it changes no promise to another backend, and of its own promised places it takes at most those that it may, and adds none
 pub record Appends (old new : List Entry) (had has : ℕ → ℕ) (e : Entry) : Type 0 where
   pub entries : new ≡ old ++ e ∷ []
   pub comes : MayComeNext old e
   pub own : had e.backend ≤ has e.backend + places_for e.event
+  pub most : has e.backend ≤ had e.backend
   pub others : (b : ℕ) → b ≢ e.backend → has b ≡ had b
 
 -- a scan gives its answer, and its entry says how many rows that is

@@ -10,7 +10,7 @@ pub use Rattle.base_types.specs.declared.scanned.Scanned.{Scanned}
 pub use Rattle.base_types.specs.Scenario.{Scenario}
 pub use Rattle.event_kinds.specs.declared.entry.Entry.{Entry}
 pub use Rattle.event_kinds.specs.declared.entry.Event.{Event}
-pub use Rattle.event_kinds.specs.declared.entry.Event.TheVariants.{Look, Fetch, FetchReset, Gone, LockOk, LockHeld, Scan, Write, ClashRow, ClashRunning}
+pub use Rattle.event_kinds.specs.declared.entry.Event.TheVariants.{Start, Stop, Look, Fetch, FetchReset, Publish, Gone, LockOk, LockHeld, Scan, Write, ClashRow, ClashRunning}
 pub use Rattle.event_kinds.specs.declared.entry.Item.{Item}
 pub use Rattle.inval_messages.specs.declared.message.Message.{Message}
 pub use Rattle.row_visibility.specs.declared.clash.Clash.{Clash}

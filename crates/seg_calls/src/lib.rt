@@ -19,9 +19,12 @@
 //! seg.promise(b, 48)?;
 //! let written = seg.write(b, c, &draft)?;
 //! seg.visible(b, c, written.xid);
-//! seg.publish(b, c, written.messages.as_slice());
+//! let cleaned = seg.publish(b, c, written.messages.as_slice());
 //! seg.release(b, c, first);
 //! ```
+//!
+//! The answer of a `publish` says whom a cleanup of the queue put into reset state and who is to be
+//! signaled; it is for whoever runs the backends.
 //!
 //! Contracts speak of a segment by three meanings: its `history`, the `script` that it was made for,
 //! and how many places are `promised` to each backend. `specs/Calls.antt` has one word for what each
@@ -34,3 +37,4 @@ mod seg;
 pub use lock_modes::LockRefusal;
 pub use refusal::{WriteRefusal, Written};
 pub use seg::Seg;
+pub use sinval_ring::Cleaned;

@@ -4,18 +4,21 @@ use base_types::{Fetched, Mode, NoMemory, Oid, Purpose, Scanned, Xid};
 use ddl_effect::Draft;
 use event_kinds::Event;
 use inval_messages::Message;
+use sinval_ring::Cleaned;
 
 /// What the backends share. The backend is 1 to the script's number of backends; the command is 0 at
 /// its start, then 1 to the number of its commands, and one more for what comes after the last one.
 pub trait Seg {
-    ghost use Rattle.std.specs.Prelude.{◌≡◌, ◌≤◌, ◌<◌, ◌^◌, ℕ, false, List, [], length};
+    ghost use Rattle.std.specs.Prelude.{◌≡◌, ◌≤◌, ◌<◌, ◌+◌, ◌^◌, ℕ, false, List, [], length};
     ghost use Rattle.base_types.specs.Scenario.{Scenario, IsBackend};
     ghost use Rattle.event_kinds.specs.declared.entry.Entry.{Entry};
     ghost use Rattle.lock_modes.specs.Grants.{holds};
     ghost use Rattle.history_model.specs.Drawn.{next_oid};
     ghost use Rattle.history_model.specs.Held.{held_of};
     ghost use Rattle.history_model.specs.Log.{is_waiting};
-    ghost use Rattle.seg_calls.specs.Calls.{entry_of, MayCall, MayRequest, MayWrite, Promises, Appends, due_to, Fetches, Scans, Locks, Writes, ArePublishedNext};
+    ghost use Rattle.seg_calls.specs.Calls.{entry_of, MayCall, MayRequest, MayWrite, Promises, Appends, due_to, Fetches, Scans, Locks, Writes, ArePublishedNext, all_promised};
+    ghost use Rattle.seg_calls.specs.Queue.{queue_of};
+    ghost use Rattle.sinval_ring.specs.Cleaning.{room_answer};
 
     ghost history: { Self → List Entry };
 
@@ -23,7 +26,8 @@ pub trait Seg {
 
     ghost promised: { Self → ℕ → ℕ };
 
-    /// Promises the backend at least so many places in the history. Out of memory, nothing changes.
+    /// Promises the backend so many places in the history, if it has fewer. Out of memory, nothing
+    /// changes.
     fn promise(&mut self, b: u32, n: u32) -> Result<(), NoMemory>
         requires { IsBackend (script self.old).backends b }
         ensures script { script self.new ≡ script self.old }
@@ -102,11 +106,13 @@ pub trait Seg {
 
     /// It puts messages of its commit into the queue (`SIInsertDataEntries` in
     /// `src/backend/storage/ipc/sinvaladt.c`). Conditions: its transaction is committed, and these are
-    /// the next of its messages, 1 to 64 of them.
-    fn publish(&mut self, b: u32, c: u32, messages: &[Message])
+    /// the next of its messages, 1 to 64 of them. It answers what the cleanup did that makes room for
+    /// them, if one ran: who was put into reset state, and who is to be signaled.
+    fn publish(&mut self, b: u32, c: u32, messages: &[Message]) -> Cleaned
         requires call { MayCall (script self.old) (history self.old) (entry_of b c (Event.Publish (length messages.now))) }
         requires place { 0 < promised self.old b }
         requires next { ArePublishedNext (history self.old) b messages.now }
+        ensures cleaned { result ≡ room_answer (queue_of (script self.old) (history self.old)) (length messages.now) }
         ensures script { script self.new ≡ script self.old }
         ensures appends { Appends (history self.old) (history self.new) (promised self.old) (promised self.new) (entry_of b c (Event.Publish (length messages.now))) };
 
@@ -133,5 +139,5 @@ pub trait Seg {
         ensures script { script self.new ≡ script self.old }
         ensures appends { Appends (history self.old) (history self.new) (promised self.old) (promised self.new) (entry_of b c Event.Stop) };
 
-    ghost short: { (s : Self) → length (history s) ≤ 2 ^ 56 };
+    ghost short: { (s : Self) → length (history s) + all_promised (promised s) (script s).backends ≤ 2 ^ 56 };
 }

@@ -22,6 +22,7 @@ appends_placed old new had has e one entries comes taken within = record {
   entries = entries;
   comes = comes;
   own = omega (arith, one, ap (λ l. promised_in l e.backend) taken, promised-own had e.backend (promised_in had e.backend - 1) within);
+  most = omega (arith, ap (λ l. promised_in l e.backend) taken, promised-own had e.backend (promised_in had e.backend - 1) within);
   others = λ a other. ap (λ l. promised_in l a) taken ∙ promised-other had e.backend (promised_in had e.backend - 1) a other;
 }
 
@@ -31,6 +32,7 @@ appends_free old new had has e entries comes same = record {
   entries = entries;
   comes = comes;
   own = omega (arith, ap (λ l. promised_in l e.backend) same);
+  most = omega (arith, ap (λ l. promised_in l e.backend) same);
   others = λ a other. ap (λ l. promised_in l a) same;
 }
 
@@ -41,15 +43,13 @@ promises old new had has b n (Ok done) entries within ok err =
     let own : promised_in has b ≡ max (promised_in had b) n = ap (λ l. promised_in l b) ok ∙ promised-own had b (max (promised_in had b) n) within in
     record {
       entries = entries;
-      ok = omega (arith, own);
-      kept = omega (arith, own);
+      ok = own;
       err = tt;
       others = λ a other. ap (λ l. promised_in l a) ok ∙ promised-other had b (max (promised_in had b) n) a other;
     }
 promises old new had has b n (Err error) entries within ok err = record {
   entries = entries;
   ok = tt;
-  kept = omega (arith, ap (λ l. promised_in l b) err);
   err = ap (λ l. promised_in l b) err;
   others = λ a other. ap (λ l. promised_in l a) err;
 }

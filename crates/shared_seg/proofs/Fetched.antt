@@ -20,6 +20,7 @@ use Rattle.history_model.specs.Orderly.{IsOrderlyEvent}
 use Rattle.history_model.proofs.Lapped.{not_lapped}
 use Rattle.history_model.proofs.Reading.{life_of-own, log_of-more, position_of-own}
 use Rattle.seg_calls.specs.Calls.{entry_of, due_to, places_for, Appends, Fetches, MayCall}
+use Rattle.seg_calls.specs.Queue.{queue_by}
 use Rattle.seg_calls.proofs.Allowed.{reset_follows}
 use Rattle.shared_seg.specs.declared.transaction.Transaction.{Transaction}
 use Rattle.shared_seg.specs.Kept.{Kept, places_in}
@@ -96,6 +97,10 @@ fetch_log : (history : List Entry) (b : ℕ) (answer : Fetched) (old : List Mess
 fetch_log history b (fetches.Messages count) old = refl
 fetch_log history b fetches.Reset old = refl
 
+fetch_sets : (history : List Entry) (b : ℕ) (answer : Fetched) (queue : Queue) → queue_by history b (event_of_fetch answer) queue ≡ with_reader queue b (after_fetch (length queue.log) (reader_of queue b))
+fetch_sets history b (fetches.Messages count) queue = refl
+fetch_sets history b fetches.Reset queue = refl
+
 fetch_lives : (c : ℕ) (answer : Fetched) → is_alive (life_by c (event_of_fetch answer)) ≡ true
 fetch_lives c (fetches.Messages count) = refl
 fetch_lives c fetches.Reset = refl
@@ -111,7 +116,7 @@ moves_near false size end at is = omega (arith, ltb-false (at + size) end (sym i
 -- a fetch
 pub fetch_queued : (script : Scenario) (history : List Entry) (b c : ℕ) (answer : Fetched) (queue : Queue) → b < length queue.readers → KeepsQueue script history queue → is_alive (life_of history b) ≡ true → answer ≡ answer_due script.size history b
     → KeepsQueue script (history ++ entry_of b c (event_of_fetch answer) ∷ []) (with_reader queue b (after_fetch (length queue.log) (reader_of queue b)))
-fetch_queued script history b c answer queue within k alive due = queue_set script history e queue (after_fetch (length queue.log) (reader_of queue b)) k within (fetch_log history b answer)
+fetch_queued script history b c answer queue within k alive due = queue_set script history e queue (after_fetch (length queue.log) (reader_of queue b)) k within (fetch_sets history b answer queue) (fetch_log history b answer)
     (ap (λ log. unmarked (after_fetch (length log) (reader_of queue b))) k.log
     ∙ after_is (reader_of queue b) (is_lapped script.size history b) (length (log_of history)) (position_of history b) (reader_is script history queue b k alive)
     ∙ sym (λ i. reader_at (lives i) (near i) (at i)))

@@ -5,6 +5,7 @@ mod Entered
 mod Keeps
 mod Locked
 mod NewNames
+mod NewLocks
 mod Own
 mod Promises
 mod Rows

@@ -1,9 +1,10 @@
 -- The sum of promises, where one of them is taken.
-use Rattle.std.proofs.Common.{◌≡◌, ◌≤◌, ◌<◌, ◌+◌, ◌-◌, ◌∙◌, ℕ, List, sum, length, get_or, slice_set, arith, sym}
+use Rattle.std.proofs.Common.{◌≡◌, ◌≤◌, ◌<◌, ◌+◌, ◌-◌, ◌∙◌, ℕ, List, sum, length, get_or, slice_set, replicate, arith, sym}
 use Rattle.std.proofs.lemmas.List.Sums.{get_or-le-sum_by, sum_by-set}
 use Rattle.std.proofs.lemmas.List.{get_or_default}
 use Rattle.std.proofs.lemmas.Option.{unwrap_or-slice_get}
 use Rattle.shared_seg.specs.Places.{promised_in}
+use Rattle.shared_seg.proofs.Start.{all_same}
 
 -- a promise as code reads it
 pub promised_at : (promised : List ℕ) (b n : ℕ) → b < length promised → n ≡ get_or promised b n → n ≡ promised_in promised b
@@ -16,3 +17,7 @@ promised_in-le promised b within = omega (arith, unwrap_or-slice_get promised b 
 -- with one place less for a backend there is one less of all
 pub sum-taken : (promised : List ℕ) (b : ℕ) → b < length promised → 0 < promised_in promised b → sum (slice_set promised b (promised_in promised b - 1)) + 1 ≡ sum promised
 sum-taken promised b within place = omega (arith, unwrap_or-slice_get promised b 0, sum_by-set (λ n. n) promised b (promised_in promised b - 1) 0 within)
+
+-- no places are promised where all numbers are 0
+pub none_promised : (n b : ℕ) → promised_in (replicate n 0) b ≡ 0
+none_promised n b = unwrap_or-slice_get (replicate n 0) b 0 ∙ all_same n b 0

@@ -16,7 +16,8 @@ use Rattle.sinval_ring.specs.declared.reader.Reader.{Reader}
 use Rattle.sinval_ring.specs.declared.reader.Reader.TheVariants.{Inactive, At, Reset}
 use Rattle.sinval_ring.specs.Readers.{is_active, is_behind, unmarked}
 use Rattle.sinval_ring.specs.Cleanups.{swept, marked}
-use Rattle.sinval_ring.specs.Cleaning.{must_clean, signal_of, swept_of, low_of, cleaned, made_room, inserted}
+use Rattle.sinval_ring.specs.declared.cleaned.Cleaned.{Cleaned}
+use Rattle.sinval_ring.specs.Cleaning.{must_clean, signal_of, swept_of, low_of, cleaned, made_room, room_answer, inserted}
 use Rattle.sinval_ring.specs.Queues.{Queue, empty_queue, reader_of, with_reader}
 use Rattle.catalog_rows.specs.Store.{Store, no_rows}
 use Rattle.history_model.specs.Lapped.{is_lapped}
@@ -27,7 +28,9 @@ use Rattle.history_model.specs.Sent.{unsent_of}
 use Rattle.history_model.proofs.Lapped.{same_test, or_longer, not_lapped, leaves_lapped, other_lapped, publish_laps, log_of-few}
 use Rattle.history_model.proofs.Reading.{life_of-own, life_of-other, log_of-more, position_of-own, position_of-other}
 use Rattle.seg_calls.specs.Calls.{entry_of, MayCall, MayRequest}
+use Rattle.seg_calls.specs.Queue.{queue_by, queue_of}
 use Rattle.seg_calls.proofs.Allowed.{is_start, request_follows}
+use Rattle.seg_calls.proofs.Queue.{queue_of-more}
 use Rattle.shared_seg.specs.declared.transaction.Transaction.{Transaction}
 use Rattle.shared_seg.specs.Kept.{Kept}
 use Rattle.shared_seg.specs.Naming.{clash_event_of}
@@ -46,9 +49,10 @@ reader_other : (size : ℕ) (history : List Entry) (e : Entry) (b : ℕ) → (e.
 reader_other size history e b other log = reader_same size history e b (ap is_alive (life_of-other history e b other)) (other_lapped size history e b other log) (position_of-other history e b other)
 
 -- what is kept after an entry that adds no message and leaves all readers
-queue_left : (script : Scenario) (history : List Entry) (e : Entry) (queue : Queue) → KeepsQueue script history queue → ((old : List Message) → log_by history e.backend e.event old ≡ old) → reader_kept script.size (history ++ e ∷ []) e.backend ≡ reader_kept script.size history e.backend
+queue_left : (script : Scenario) (history : List Entry) (e : Entry) (queue : Queue) → KeepsQueue script history queue → ((old : Queue) → queue_by history e.backend e.event old ≡ old) → ((old : List Message) → log_by history e.backend e.event old ≡ old) → reader_kept script.size (history ++ e ∷ []) e.backend ≡ reader_kept script.size history e.backend
     → KeepsQueue script (history ++ e ∷ []) queue
-queue_left script history e queue k log own = record {
+queue_left script history e queue k left log own = record {
+  folds = k.folds ∙ sym (queue_of-more script history e ∙ left (queue_of script history));
   size = k.size;
   from = k.from;
   log = k.log ∙ sym (log_of-more history e ∙ log (log_of history));
@@ -61,9 +65,10 @@ queue_left script history e queue k log own = record {
     by_owner b false other = k.readers b ∙ sym (reader_other script.size history e b other log)
 
 -- and after one that adds no message and sets its backend's reader
-pub queue_set : (script : Scenario) (history : List Entry) (e : Entry) (queue : Queue) (reader : Reader) → KeepsQueue script history queue → e.backend < length queue.readers → ((old : List Message) → log_by history e.backend e.event old ≡ old)
-    → unmarked reader ≡ reader_kept script.size (history ++ e ∷ []) e.backend → KeepsQueue script (history ++ e ∷ []) (with_reader queue e.backend reader)
-queue_set script history e queue reader k within log own = record {
+pub queue_set : (script : Scenario) (history : List Entry) (e : Entry) (queue : Queue) (reader : Reader) → KeepsQueue script history queue → e.backend < length queue.readers → queue_by history e.backend e.event queue ≡ with_reader queue e.backend reader
+    → ((old : List Message) → log_by history e.backend e.event old ≡ old) → unmarked reader ≡ reader_kept script.size (history ++ e ∷ []) e.backend → KeepsQueue script (history ++ e ∷ []) (with_reader queue e.backend reader)
+queue_set script history e queue reader k within sets log own = record {
+  folds = sym sets ∙ ap (queue_by history e.backend e.event) k.folds ∙ sym (queue_of-more script history e);
   size = k.size;
   from = k.from;
   log = k.log ∙ sym (log_of-more history e ∙ log (log_of history));
@@ -89,6 +94,14 @@ still-log : (history : List Entry) (b : ℕ) (event : Event) (messages : List Me
 still-log history b (events.Publish count) messages still = absurd (cc)
 still-log history b event messages still = refl
 
+still-queue : (history : List Entry) (b : ℕ) (event : Event) (queue : Queue) → is_still event ≡ true → queue_by history b event queue ≡ queue
+still-queue history b events.Start queue still = absurd (cc)
+still-queue history b events.Stop queue still = absurd (cc)
+still-queue history b (events.Fetch count) queue still = absurd (cc)
+still-queue history b events.FetchReset queue still = absurd (cc)
+still-queue history b (events.Publish count) queue still = absurd (cc)
+still-queue history b event queue still = refl
+
 still-position : (history : List Entry) (event : Event) (at : ℕ) → is_still event ≡ true → position_by history event at ≡ at
 still-position history events.Start at still = absurd (cc)
 still-position history events.FetchReset at still = absurd (cc)
@@ -112,7 +125,7 @@ no-start event still is = absurd (cc (ap is_still is))
 -- so the queue needs no step
 queue_still : (script : Scenario) (history : List Entry) (e : Entry) (queue : Queue) → KeepsQueue script history queue → MayFollow history e → is_still e.event ≡ true → KeepsQueue script (history ++ e ∷ []) queue
 queue_still script history e queue k follows still =
-    queue_left script history e queue k (λ old. still-log history e.backend e.event old still)
+    queue_left script history e queue k (λ old. still-queue history e.backend e.event old still) (λ old. still-log history e.backend e.event old still)
     (reader_same script.size history e e.backend
     (ap is_alive (life_of-own history e e.backend own) ∙ still-lives e.command e.event still ∙ sym (lives-before (life_of history e.backend) e.command e.event follows.life (no-start e.event still)))
     (leaves_lapped script.size history e e.backend (λ old. still-position history e.event old still) (λ old. still-log history e.backend e.event old still))
@@ -176,7 +189,7 @@ active_needs k now b c event queue is keeps call other =
 
 -- a start
 pub start_queued : (script : Scenario) (history : List Entry) (b : ℕ) (queue : Queue) → b < length queue.readers → KeepsQueue script history queue → KeepsQueue script (history ++ entry_of b 0 events.Start ∷ []) (with_reader queue b (At (length queue.log) false))
-start_queued script history b queue within k = queue_set script history e queue (At (length queue.log) false) k within (λ old. refl)
+start_queued script history b queue within k = queue_set script history e queue (At (length queue.log) false) k within refl (λ old. refl)
     (ap (λ log. At (length log) false) k.log ∙ sym (λ i. reader_at (alive i) (near i) (at i)))
   where
     e : Entry
@@ -193,7 +206,7 @@ start_queued script history b queue within k = queue_set script history e queue 
 
 -- a stop
 pub stop_queued : (script : Scenario) (history : List Entry) (b c : ℕ) (queue : Queue) → b < length queue.readers → KeepsQueue script history queue → KeepsQueue script (history ++ entry_of b c events.Stop ∷ []) (with_reader queue b Inactive)
-stop_queued script history b c queue within k = queue_set script history e queue Inactive k within (λ old. refl)
+stop_queued script history b c queue within k = queue_set script history e queue Inactive k within refl (λ old. refl)
     (sym (ap (λ t. reader_at t (is_lapped script.size (history ++ e ∷ []) b) (position_of (history ++ e ∷ []) b)) (ap is_alive (life_of-own history e b (eq-eqb b b refl)))))
   where
     e : Entry
@@ -256,6 +269,7 @@ swept_is (At position signaled) true false at low is = let same : position ≡ a
 pub publish_queued : (script : Scenario) (history : List Entry) (b c : ℕ) (messages : List Message) (queue after : Queue) → KeepsQueue script history queue → MayFollow history (entry_of b c (events.Publish (length messages))) → messages ≡ take (length messages) (unsent_of history b)
     → after ≡ inserted queue messages → ((a : ℕ) → unmarked (reader_of after a) ≡ unmarked (swept (length after.log - after.size) (reader_of queue a))) → KeepsQueue script (history ++ entry_of b c (events.Publish (length messages)) ∷ []) after
 publish_queued script history b c messages queue after k follows next is sweeps = record {
+  folds = is ∙ ap (inserted queue) next ∙ ap (queue_by history b (events.Publish (length messages))) k.folds ∙ sym (queue_of-more script history e);
   size = ap (λ (q : Queue). q.size) is ∙ leaves.size ∙ k.size;
   from = ap (λ (q : Queue). q.from) is ∙ leaves.from ∙ k.from;
   log = longer ∙ ap (λ ms. log_of history ++ ms) next ∙ sym (log_of-more history e);
@@ -303,13 +317,14 @@ few_published k now b c count is call =
     let inside : MayCall k.script k.history (entry_of b c (events.Publish count)) = call_inside k now (entry_of b c (events.Publish count)) is call in
     (inside.follows.event.1, omega (arith, inside.follows.event.2))
 
--- and room for their numbers
-pub number_fits : (script : Scenario) (history : List Entry) (queue : Queue) → IsScript script → IsLegal history → length history ≤ 2 ^ 56 → KeepsQueue script history queue → queue.from + length queue.log < 2 ^ 63
-number_fits script history queue is legal short k = omega (arith, k.from, is.from, is.size.most, ap length k.log, log_of-few history legal, short)
+-- and what it answers
+pub cleaned_is : (k now : Kept) (queue : Queue) (count : ℕ) (cleaned : Cleaned) → k ≡ now → KeepsQueue k.script k.history queue → cleaned ≡ room_answer queue count → cleaned ≡ room_answer (queue_of now.script now.history) count
+cleaned_is k now queue count cleaned is keeps answer = answer ∙ ap (λ q. room_answer q count) keeps.folds ∙ ap (λ (x : Kept). room_answer (queue_of x.script x.history) count) is
 
 -- the queue of an empty history
 queue_start : (script : Scenario) → KeepsQueue script [] (empty_queue script.size script.backends script.from)
 queue_start script = record {
+  folds = refl;
   size = refl;
   from = refl;
   log = refl;

@@ -15,6 +15,7 @@ use Rattle.row_visibility.specs.declared.clash.Clash.{Clash}
 use Rattle.row_visibility.specs.declared.version.Reader.{Reader}
 use Rattle.row_visibility.specs.declared.clash.Clash.TheVariants.{Row, Running}
 use Rattle.lock_modes.specs.declared.grant.Grant.{Grant}
+use Rattle.lock_modes.specs.Excluding.{AreFree}
 use Rattle.seg_calls.specs.declared.refusal.Written.{Written}
 use Rattle.seg_calls.specs.declared.refusal.WriteRefusal.{WriteRefusal}
 use Rattle.seg_calls.specs.declared.refusal.WriteRefusal.TheVariants.{Clash as RefusesClash}
@@ -25,7 +26,7 @@ use Rattle.ddl_effect.specs.declared.draft.Draft.{Draft}
 use Rattle.ddl_effect.specs.Drawing.{changes_of}
 use Rattle.history_model.specs.Changes.{items_of}
 use Rattle.history_model.specs.Drawn.{next_oid}
-use Rattle.history_model.specs.Held.{granted_by}
+use Rattle.history_model.specs.Held.{granted_by, held_of}
 use Rattle.history_model.specs.Legal.{AllowsEvent}
 use Rattle.history_model.specs.Names.{new_names}
 use Rattle.history_model.specs.Orderly.{IsOrderlyWrite}
@@ -33,7 +34,7 @@ use Rattle.history_model.specs.Versions.{change_by}
 use Rattle.history_model.specs.Writes.{is_free, changed_key}
 use Rattle.base_types.specs.RowKeys.{are_distinct_keys}
 use Rattle.history_model.proofs.Covering.{named_covers}
-use Rattle.history_model.proofs.Ordered.{sound_ordered}
+use Rattle.history_model.proofs.Ordered.{sound_ordered, locks_exclude}
 use Rattle.seg_calls.specs.Calls.{entry_of, items_drawn, messages_in, MayRequest, MayWrite, MakesWrite, Clashes, Writes}
 use Rattle.shared_seg.specs.declared.drawing.Drawn.{Drawn}
 use Rattle.shared_seg.specs.declared.naming.Taken.{Taken}
@@ -53,6 +54,8 @@ use Rattle.shared_seg.proofs.Asked.{request_inside, asked_appends, asked_keeps, 
 use Rattle.shared_seg.proofs.Clashes.{row_same, Mirrors, all_free, names_same, clash_allowed}
 use Rattle.shared_seg.proofs.Entered.{within}
 use Rattle.shared_seg.proofs.Keeps.{Steps}
+use Rattle.shared_seg.proofs.NewLocks.{grants_free}
+use Rattle.shared_seg.proofs.NewNames.{taken_new}
 use Rattle.shared_seg.proofs.Own.{kept_set}
 use Rattle.shared_seg.proofs.Queue.{asked_still}
 use Rattle.shared_seg.proofs.Rows.{runs_own}
@@ -106,6 +109,13 @@ module _ (script : Scenario) (history : List Entry) (promised : List ℕ) (store
     covered = named_covers history b c drawn.xid (items_drawn history draft) k.sound enter.may.orderly.named;
   }
 
+  -- nobody is in the way of the grants of its new relations
+  pub write_granted : (draft : Draft) (drawn : Drawn) → MayEnter script history b c store transactions next last draft drawn → AreFree locks (flat_map (granted_by b c) drawn.items.items)
+  write_granted draft drawn enter =
+      subst (λ held. AreFree held (flat_map (granted_by b c) drawn.items.items)) (sym k.locks_are)
+      (subst (λ items. AreFree (held_of history) (flat_map (granted_by b c) items)) (sym (items_made draft drawn enter.drawn_is))
+      (grants_free b c (items_drawn history draft) (held_of history) (next_oid history) draft.new_oids (locks_exclude history k.sound).drawn enter.may.oids))
+
   -- its entry has the items that its draft has now
   pub write_entered : (draft : Draft) (drawn : Drawn) (after : List Entry) → MayEnter script history b c store transactions next last draft drawn → after ≡ history ++ entry_of b c (Write drawn.xid drawn.items.items) ∷ [] → after ≡ history ++ entry_of b c (Write drawn.xid (items_drawn history draft)) ∷ []
   write_entered draft drawn after enter entries = entries ∙ (λ i. history ++ entry_of b c (Write drawn.xid ((items_made draft drawn enter.drawn_is) i)) ∷ [])
@@ -143,14 +153,14 @@ module _ (script : Scenario) (history : List Entry) (promised : List ℕ) (store
 
   -- a clash is allowed
   pub taken_allowed : (changes : List Change) (taken : Taken) → IsTaken store (own_reader transactions b c) changes taken → AllowsEvent history b c (clash_with taken)
-  taken_allowed changes taken is = clash_allowed history b c store (xid_at transactions b) mirrors taken.name taken.clash is.clash
+  taken_allowed changes taken is = clash_allowed history b c store (xid_at transactions b) mirrors taken.name taken.clash is.by.clash
 
   -- of a new name
   pub taken_is_new : (draft : Draft) (drawn : Drawn) (taken : Taken) → MayRequest script history b c → IsDrawn (xid_at transactions b) draft next last drawn → IsTaken store (own_reader transactions b c) drawn.changes.items taken
       → list_any (bytes_eq taken.name) (new_names history b (items_drawn history draft)) ≡ true
   taken_is_new draft drawn taken request is at =
       ap (list_any (bytes_eq taken.name)) (sym (names_same history b store (own_reader transactions b c) k.versions (reads_same script history promised store locks transactions next last b c k request) drawn.changes.items draft.forced
-      ∙ ap (new_names history b) (ap (λ cs. items_of cs draft.forced) is.changes ∙ items_are draft))) ∙ at.is_new
+      ∙ ap (new_names history b) (ap (λ cs. items_of cs draft.forced) is.changes ∙ items_are draft))) ∙ taken_new store (own_reader transactions b c) drawn.changes.items taken at
 
 -- what is kept after a write
 pub write_keeps : (k now : Kept) (after : List Entry) (has : List ℕ) (b c : ℕ) (draft : Draft) (drawn : Drawn) (store stored : Store) (locks locked : List Grant) (transactions own : List (Option Transaction)) (next last xid : ℕ) (queue : Queue)

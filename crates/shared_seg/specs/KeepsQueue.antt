@@ -14,6 +14,7 @@ use Rattle.sinval_ring.specs.Queues.{Queue, reader_of}
 use Rattle.sinval_ring.specs.declared.reader.Reader.{Reader}
 use Rattle.sinval_ring.specs.declared.reader.Reader.TheVariants.{Inactive, At, Reset}
 use Rattle.sinval_ring.specs.Readers.{unmarked}
+use Rattle.seg_calls.specs.Queue.{queue_of}
 use Rattle.catalog_rows.specs.Store.{Store}
 use Rattle.shared_seg.specs.declared.transaction.Transaction.{Transaction}
 use Rattle.shared_seg.specs.KeepsFolds.{KeepsFolds}
@@ -28,8 +29,9 @@ reader_at true false position = At position false
 abbrev pub reader_kept : ℕ → List Entry → ℕ → Reader
 reader_kept size history b = reader_at (is_alive (life_of history b)) (is_lapped size history b) (position_of history b)
 
--- the queue is of the script's size and first number, and has the log's messages and the backends' readers, whether they were signaled or not
+-- the queue is the one that the history leaves; so it is of the script's size and first number, and has the log's messages and, whether they were signaled or not, the backends' readers
 pub record KeepsQueue (script : Scenario) (history : List Entry) (queue : Queue) : Type 0 where
+  pub folds : queue ≡ queue_of script history
   pub size : queue.size ≡ script.size
   pub from : queue.from ≡ script.from
   pub log : queue.log ≡ log_of history

@@ -1,5 +1,6 @@
 pub mod Places
 pub mod KeepsPlaces
+pub mod AllPromised
 pub mod Transactions
 pub mod KeepsFolds
 pub mod Kept

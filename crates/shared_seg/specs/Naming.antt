@@ -1,8 +1,7 @@
 -- The new names of changes, and which of them is taken.
-use Rattle.std.specs.Prelude.{ℕ, true, Option, Some, None, List, [], ◌∷◌, ◌≡◌}
+use Rattle.std.specs.Prelude.{ℕ, Option, Some, None, List, [], ◌∷◌, ◌++◌, ◌≡◌}
 use Rattle.std.specs.Option.{option_map_or}
-use Rattle.std.specs.List.{flat_map, list_any, AllByRecursion}
-use Rattle.std.specs.Str.{bytes_eq}
+use Rattle.std.specs.List.{AllByRecursion}
 use Rattle.base_types.specs.declared.change.Change.{Change}
 use Rattle.base_types.specs.declared.row.Row.{Row as CatalogRow}
 use Rattle.base_types.specs.declared.row.Row.TheVariants.{Class}
@@ -43,10 +42,14 @@ pub record IsTakenBy (store : Store) (reader : Reader) (change : Change) (taken 
   pub clash : clash_of store reader.xid taken.name ≡ Some taken.clash
   pub is_new : new_name_of store reader change ≡ taken.name ∷ []
 
--- a new name is taken
+-- the first new name that is taken: those of the changes before are free
 pub record IsTaken (store : Store) (reader : Reader) (changes : List Change) (taken : Taken) : Type 0 where
-  pub clash : clash_of store reader.xid taken.name ≡ Some taken.clash
-  pub is_new : list_any (bytes_eq taken.name) (flat_map (new_name_of store reader) changes) ≡ true
+  pub before : List Change
+  pub change : Change
+  pub after : List Change
+  pub parts : changes ≡ before ++ change ∷ after
+  pub free : NamesFree store reader before
+  pub by : IsTakenBy store reader change taken
 
 -- the entry of a clash
 abbrev pub clash_event_of : List ℕ → Clash → Event

@@ -66,7 +66,7 @@ impl Places {
     // How many entries there are.
     pub(crate) fn len(&self) -> usize
         ensures value { result ≡ length self.now.entries }
-        ensures short { length self.now.entries ≤ 2 ^ 56 }
+        ensures short { length self.now.entries + sum self.now.promised ≤ 2 ^ 56 }
     {
         self.entries.len()
     }
@@ -78,12 +78,13 @@ impl Places {
         self.promised.get(b as usize).copied().unwrap_or(0)
     }
 
-    // Promises a backend at least so many places.
+    // Promises a backend so many places, if it has fewer.
     pub(crate) fn promise(&mut self, b: u32, n: u32) -> Result<(), NoMemory>
         requires { b < length self.old.promised }
         ensures entries { self.new.entries ≡ self.old.entries }
         ensures ok { OnOk result (self.new.promised ≡ slice_set self.old.promised b (max (places_of self.old b) n)) }
         ensures err { OnErr result (self.new.promised ≡ self.old.promised) }
+        ensures short { length self.new.entries + sum self.new.promised ≤ 2 ^ 56 }
     {
         let Places {
             entries,
@@ -110,7 +111,7 @@ impl Places {
         requires place { 0 < places_of self.old entry.backend }
         ensures entries { self.new.entries ≡ self.old.entries ++ entry ∷ [] }
         ensures promised { self.new.promised ≡ slice_set self.old.promised entry.backend (places_of self.old entry.backend - 1) }
-        ensures short { length self.new.entries ≤ 2 ^ 56 }
+        ensures short { length self.new.entries + sum self.new.promised ≤ 2 ^ 56 }
     {
         let Places {
             entries,
@@ -128,7 +129,7 @@ impl Places {
         ensures ok { OnOk result (self.new.entries ≡ self.old.entries ++ entry ∷ []) }
         ensures promised { self.new.promised ≡ self.old.promised }
         ensures err { OnErr result (self.new.entries ≡ self.old.entries) }
-        ensures short { length self.new.entries ≤ 2 ^ 56 }
+        ensures short { length self.new.entries + sum self.new.promised ≤ 2 ^ 56 }
     {
         self.make_room()?;
         self.push(entry);
@@ -139,7 +140,7 @@ impl Places {
     pub(crate) fn make_room(&mut self) -> Result<(), NoMemory>
         ensures same { SamePlaces self.old self.new }
         ensures ok { OnOk result (0 < self.new.room) }
-        ensures short { length self.new.entries ≤ 2 ^ 56 }
+        ensures short { length self.new.entries + sum self.new.promised ≤ 2 ^ 56 }
     {
         let Places {
             entries,
@@ -158,7 +159,7 @@ impl Places {
         requires { 0 < self.old.room }
         ensures entries { self.new.entries ≡ self.old.entries ++ entry ∷ [] }
         ensures promised { self.new.promised ≡ self.old.promised }
-        ensures short { length self.new.entries ≤ 2 ^ 56 }
+        ensures short { length self.new.entries + sum self.new.promised ≤ 2 ^ 56 }
     {
         self.entries.push_reserved(entry);
     }

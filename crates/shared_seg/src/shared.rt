@@ -1,4 +1,5 @@
-ghost use Rattle.std.specs.Prelude.{◌≡◌, ◌≤◌, ◌<◌, ◌+◌, ◌++◌, ◌^◌, [], false, None, length, replicate, vec_len, vec_capacity, IfOk};
+ghost use Rattle.std.specs.Prelude.{◌≡◌, ◌≤◌, ◌<◌, ◌+◌, ◌++◌, ◌^◌, ℕ, [], false, None, length, sum, replicate, vec_len, vec_capacity, IfOk};
+ghost use Rattle.shared_seg.specs.Places.{promised_in};
 ghost use Rattle.shared_seg.specs.Undone.{undone};
 ghost use Rattle.shared_seg.specs.KeepsQueue.{event_of_fetch};
 
@@ -17,7 +18,7 @@ use inval_messages::Message;
 use lock_modes::{Granted, LockTable};
 use script_text::Script;
 use seg_calls::{LockRefusal, Seg, WriteRefusal, Written};
-use sinval_ring::Ring;
+use sinval_ring::{Cleaned, Ring};
 use std::alloc::Global;
 use std::marker::Model;
 use std::snapshot::Snapshot;
@@ -35,7 +36,7 @@ pub struct Shared {
     transactions: Vec<Option<Transaction>>,
     next_oid: u32,
     last_xid: u32,
-    ghost short: { length places.entries ≤ 2 ^ 56 },
+    ghost short: { length places.entries + sum places.promised ≤ 2 ^ 56 },
 }
 
 impl Model for Shared {
@@ -55,6 +56,7 @@ impl Shared {
     pub fn new(alloc: Global, script: &Script) -> Result<Shared, NoMemory>
         ensures history { IfOk result (λ shared. shared.history ≡ []) }
         ensures script { IfOk result (λ shared. shared.script ≡ script.now) }
+        ensures promised { IfOk result (λ shared. (b : ℕ) → promised_in shared.promised b ≡ 0) }
     {
         let backends = script.backends();
         let places = Places::new(alloc, backends)?;
@@ -253,7 +255,7 @@ impl Seg for Shared {
         begin(&mut self.transactions, b, c);
     }
 
-    fn publish(&mut self, b: u32, c: u32, messages: &[Message]) {
+    fn publish(&mut self, b: u32, c: u32, messages: &[Message]) -> Cleaned {
         self.places.append(Entry {
             backend: b,
             command: c,
@@ -261,8 +263,9 @@ impl Seg for Shared {
                 count: messages.len() as u32,
             },
         });
-        self.queue.insert(messages);
+        let cleaned = self.queue.insert(messages);
         begin(&mut self.transactions, b, c);
+        cleaned
     }
 
     fn release(&mut self, b: u32, c: u32, from: u32) {
@@ -295,7 +298,9 @@ impl Seg for Shared {
         self.queue.stop(b);
     }
 
-    ghost short = { λ s. s.short };
+    ghost use Rattle.shared_seg.specs.AllPromised.{all_short};
+
+    ghost short = { λ s. all_short s.history s.promised s.script.backends s.short };
 }
 
 // The event of a fetch, by what it gave.

@@ -1,8 +1,9 @@
-ghost use Rattle.std.specs.Prelude.{◌≡◌, ◌≤◌, ◌++◌, ◌∷◌, ◌^◌, [], length, OnOk, OnErr};
+ghost use Rattle.std.specs.Prelude.{◌≡◌, ◌≤◌, ◌+◌, ◌++◌, ◌∷◌, ◌^◌, [], length, sum, OnOk, OnErr};
 ghost use Rattle.std.specs.List.{flat_map};
 ghost use Rattle.catalog_rows.specs.Store.{after_write};
 ghost use Rattle.event_kinds.specs.declared.entry.Event.TheVariants as events;
 ghost use Rattle.history_model.specs.Held.{granted_by};
+ghost use Rattle.lock_modes.specs.Excluding.{AreFree};
 ghost use Rattle.seg_calls.specs.Calls.{entry_of};
 ghost use Rattle.shared_seg.specs.Naming.{clash_with, refuses};
 
@@ -19,7 +20,7 @@ use seg_calls::WriteRefusal;
 use std::alloc::Global;
 
 // Makes the changes of a write, grants the relations that it adds, and enters it. Out of memory, the
-// rows, the grants and the entries are as before.
+// rows, the grants and the entries are as before. Condition: nobody is in the way of the grants.
 pub(crate) fn enter_write(
     alloc: Global,
     store: &mut RowStore,
@@ -29,6 +30,7 @@ pub(crate) fn enter_write(
     c: u32,
     drawn: Drawn,
 ) -> Result<(), NoMemory>
+    requires { AreFree locks.old.held (flat_map (granted_by b c) drawn.items.items) }
     ensures rows { OnOk result (store.new ≡ after_write store.old drawn.xid c drawn.changes.items) }
     ensures held { OnOk result (locks.new.held ≡ locks.old.held ++ flat_map (granted_by b c) drawn.items.items) }
     ensures entries { OnOk result (places.new.entries ≡ places.old.entries ++ entry_of b c (events.Write drawn.xid drawn.items.items) ∷ []) }
@@ -36,7 +38,7 @@ pub(crate) fn enter_write(
     ensures same_rows { OnErr result (store.new ≡ store.old) }
     ensures same_held { OnErr result (locks.new.held ≡ locks.old.held) }
     ensures same_entries { OnErr result (places.new.entries ≡ places.old.entries) }
-    ensures short { OnOk result (length places.new.entries ≤ 2 ^ 56) }
+    ensures short { OnOk result (length places.new.entries + sum places.new.promised ≤ 2 ^ 56) }
 {
     let Drawn {
         xid,

@@ -2,6 +2,7 @@ pub mod Sweeping
 pub mod Numbers
 pub mod Sound
 pub mod Windows
+pub mod Counting
 pub mod Keeping
 pub mod Calling
 pub mod Signals

@@ -1,12 +1,11 @@
 -- Positions as numbers and as counts.
-use Rattle.std.proofs.Common.{◌≡◌, ◌≤◌, ◌<◌, ◌+◌, ◌-◌, ◌∙◌, ◌&&◌, ℕ, Bool, true, false, cond, nat_lt, Option, Some, None, List, [], ◌∷◌, map, get_or, set, refl, sym, ap, arith}
+use Rattle.std.proofs.Common.{◌≡◌, ◌≤◌, ◌<◌, ◌+◌, ◌-◌, ◌∙◌, ◌&&◌, ℕ, Bool, true, false, cond, nat_lt, Option, Some, None, List, [], ◌∷◌, map, get_or, set, zero, suc, refl, sym, ap, arith}
 use Rattle.std.proofs.lemmas.Bool.{lt-ltb, ltb-true, le-ltb, ltb-false}
 use Rattle.std.proofs.lemmas.List.{map-set}
 use Rattle.std.proofs.Math.ListN.{get_or-map}
 use Rattle.sinval_ring.specs.declared.call.Call.{Call}
-use Rattle.sinval_ring.specs.Readers.{Reader, Inactive, At, Reset, is_below, count_at, after_fetch, signaled}
+use Rattle.sinval_ring.specs.Readers.{Reader, Inactive, At, Reset, is_below, count_at, counted, numbered, IsFrom, after_fetch, signaled}
 use Rattle.sinval_ring.specs.Cleanups.{called_by, called_from, furthest, least_by, least_of, swept, marked}
-use Rattle.sinval_ring.specs.RingParts.{counted, numbered}
 
 -- two comparisons that go the same way
 pub lt-same : (a b m n : ℕ) → (a < b → m < n) → (b ≤ a → n ≤ m) → nat_lt a b ≡ nat_lt m n
@@ -25,6 +24,16 @@ counted_numbered c Reset = refl
 pub all_counted : (c : ℕ) (readers : List Reader) → map (counted c) (map (numbered c) readers) ≡ readers
 all_counted c [] = refl
 all_counted c (reader ∷ rest) = λ i. counted_numbered c reader i ∷ all_counted c rest i
+
+-- a reader that has gone back is the same one where all numbers have gone back as far
+back_numbered : (gone by : ℕ) (reader : Reader) → IsFrom by reader → numbered (gone + by) (counted by reader) ≡ numbered gone reader
+back_numbered gone by Inactive from = refl
+back_numbered gone by (At position mark) from = ap (λ n. At n mark) (omega (arith, from))
+back_numbered gone by Reset from = refl
+
+pub all_back : (gone by : ℕ) (readers : List Reader) → ((b : ℕ) → IsFrom by (get_or readers b Inactive)) → map (numbered (gone + by)) (map (counted by) readers) ≡ map (numbered gone) readers
+all_back gone by [] from = refl
+all_back gone by (reader ∷ rest) from = λ i. back_numbered gone by reader (from zero) i ∷ all_back gone by rest (λ b. from (suc b)) i
 
 -- a reader is below a number where it is below the count
 is_below-numbered : (c low : ℕ) (reader : Reader) → is_below low (numbered c reader) ≡ is_below (low - c) reader

@@ -5,11 +5,11 @@ use Rattle.std.proofs.lemmas.List.{length-set, length-map}
 use Rattle.std.proofs.Math.Nat.{lt-div-mul-add, add-mul}
 use Rattle.std.proofs.Math.ListN.{get_or-map}
 use Rattle.inval_messages.specs.declared.message.Message.{Message}
-use Rattle.sinval_ring.specs.Readers.{Reader, Inactive, At, Reset, signaled, unmarked}
+use Rattle.sinval_ring.specs.Readers.{Reader, Inactive, At, Reset, IsFrom, signaled, unmarked}
 use Rattle.sinval_ring.specs.Cleanups.{least_by, least_of, swept, marked, threshold_of}
-use Rattle.sinval_ring.specs.Queues.{Queue, reader_of, with_reader}
+use Rattle.sinval_ring.specs.Queues.{Queue, reader_of, with_reader, IsKeptFor}
 use Rattle.sinval_ring.specs.Cleaning.{low_of, swept_of, signal_of, least_after, cleaned, must_clean, made_room, with_messages}
-use Rattle.sinval_ring.specs.RingParts.{IsReachable, IsSound}
+use Rattle.sinval_ring.specs.RingParts.{IsSound}
 
 -- what holds of every reader, and of those that are given another
 pub each_set : (P : Reader → Type 0) (readers : List Reader) (b : ℕ) (reader : Reader) → P reader → ((a : ℕ) → P (get_or readers a Inactive)) → (a : ℕ) → P (get_or (set readers b reader) a Inactive)
@@ -52,11 +52,7 @@ least_of-le end [] = omega arith
 least_of-le end (reader ∷ rest) = omega (arith, least_of-le (least_by end reader) rest, least_by-le end reader)
 
 -- and at most each reader's
-abbrev pub IsFrom : ℕ → Reader → Type 0
-IsFrom least (At position mark) = least ≤ position
-IsFrom least reader = Unit {0}
-
-from_less : (less least : ℕ) (reader : Reader) → less ≤ least → IsFrom least reader → IsFrom less reader
+pub from_less : (less least : ℕ) (reader : Reader) → less ≤ least → IsFrom least reader → IsFrom less reader
 from_less less least Inactive le from = tt
 from_less less least (At position mark) le from = omega arith
 from_less less least Reset le from = tt
@@ -89,44 +85,56 @@ all_swept_least low end (reader ∷ rest) less = all_swept_least low (least_by e
 pub reader_swept : (low : ℕ) (readers : List Reader) (b : ℕ) → get_or (map (swept low) readers) b Inactive ≡ swept low (get_or readers b Inactive)
 reader_swept low readers b = get_or-map (swept low) readers b Inactive
 
--- is reachable
-reach_swept : (q : Queue) (least low : ℕ) (reader : Reader) → IsReachable q reader → IsFrom least (swept low reader) → IsReachable (record q { least = least }) (swept low reader)
-reach_swept q least low Inactive reach from = tt
-reach_swept q least low Reset reach from = tt
-reach_swept q least low (At position mark) reach from = by_test (nat_lt position low) from
+-- can go on
+kept_swept : (q : Queue) (least room : ℕ) (reader : Reader) → IsKeptFor q 0 reader → IsFrom least (swept (low_of q room) reader) → IsKeptFor (record q { least = least }) room (swept (low_of q room) reader)
+kept_swept q least room Inactive kept from = tt
+kept_swept q least room Reset kept from = tt
+kept_swept q least room (At position mark) kept from = by_test (nat_lt position (low_of q room)) refl from
   where
-    by_test : (t : Bool) → IsFrom least (cond t Reset (At position mark)) → IsReachable (record q { least = least }) (cond t Reset (At position mark))
-    by_test true from = tt
-    by_test false from = (from, reach.1, reach.2)
+    by_test : (t : Bool) → nat_lt position (low_of q room) ≡ t → IsFrom least (cond t Reset (At position mark)) → IsKeptFor (record q { least = least }) room (cond t Reset (At position mark))
+    by_test true is from = tt
+    by_test false is from = (from, kept.1, omega (arith, ltb-false position (low_of q room) is))
 
-reach_signaled : (q : Queue) (reader : Reader) → IsReachable q reader → IsReachable q (signaled reader)
-reach_signaled q Inactive reach = tt
-reach_signaled q (At position mark) reach = reach
-reach_signaled q Reset reach = tt
+kept_signaled : (q : Queue) (room : ℕ) (reader : Reader) → IsKeptFor q room reader → IsKeptFor q room (signaled reader)
+kept_signaled q room Inactive kept = tt
+kept_signaled q room (At position mark) kept = kept
+kept_signaled q room Reset kept = tt
+
+-- with room for fewer it can too
+kept_less : (q : Queue) (room : ℕ) (reader : Reader) → IsKeptFor q room reader → IsKeptFor q 0 reader
+kept_less q room Inactive kept = tt
+kept_less q room (At position mark) kept = (kept.0, kept.1, omega (arith, kept.2))
+kept_less q room Reset kept = tt
 
 pub length-marked : (backend : Option ℕ) (readers : List Reader) → length (marked backend readers) ≡ length readers
 length-marked None readers = refl
 length-marked (Some b) readers = length-set readers b (signaled (get_or readers b Inactive))
 
+-- after a cleanup all go on that it hasn't reset, also when so many messages more have come
+pub cleaned_kept : (q : Queue) (room : ℕ) → IsSound q → (b : ℕ) → IsKeptFor (cleaned q room) room (reader_of (cleaned q room) b)
+cleaned_kept q room sound =
+    each_marked (IsKeptFor (record q { least = least_after q room }) room) (signal_of q room) (swept_of q room) (kept_signaled (record q { least = least_after q room }) room)
+    (λ b. subst (IsKeptFor (record q { least = least_after q room }) room) (sym (reader_swept (low_of q room) q.readers b))
+    (kept_swept q (least_after q room) room (get_or q.readers b Inactive) (sound.readers b)
+    (subst (IsFrom (least_after q room)) (reader_swept (low_of q room) q.readers b) (least_of-from (length q.log) (swept_of q room) b))))
+
+-- and there is room for as many messages as it was to make
+pub cleaned_room : (q : Queue) (room : ℕ) → room ≤ 64 → IsSound q → length q.log + room ≤ least_after q room + q.size
+cleaned_room q room few sound =
+    let low : low_of q room ≤ length q.log = omega (arith, few, sound.small) in
+    omega (arith, all_swept_least (low_of q room) (length q.log) q.readers low)
+
 -- a cleanup leaves all as it must be
-pub cleaned_sound : (q : Queue) (room : ℕ) → IsSound q → IsSound (cleaned q room)
-cleaned_sound q room sound = record {
+pub cleaned_sound : (q : Queue) (room : ℕ) → room ≤ 64 → IsSound q → IsSound (cleaned q room)
+cleaned_sound q room few sound = record {
   least = least_of-le (length q.log) (swept_of q room);
-  readers = each_marked (IsReachable (record q { least = least_after q room })) (signal_of q room) (swept_of q room) (reach_signaled (record q { least = least_after q room }))
-      (λ b. subst (IsReachable (record q { least = least_after q room })) (sym (reader_swept (low_of q room) q.readers b))
-      (reach_swept q (least_after q room) (low_of q room) (get_or q.readers b Inactive) (sound.readers b)
-      (subst (IsFrom (least_after q room)) (reader_swept (low_of q room) q.readers b) (least_of-from (length q.log) (swept_of q room) b))));
+  kept = omega (arith, cleaned_room q room few sound);
+  readers = λ b. kept_less (cleaned q room) room (reader_of (cleaned q room) b) (cleaned_kept q room sound b);
   some = omega (arith, sound.some, length-marked (signal_of q room) (swept_of q room), length-map q.readers (swept (low_of q room)));
   backends = omega (arith, sound.backends, length-marked (signal_of q room) (swept_of q room), length-map q.readers (swept (low_of q room)));
   small = sound.small;
   large = sound.large;
 }
-
--- and room for as many messages as it was to make
-pub cleaned_room : (q : Queue) (room : ℕ) → room ≤ 64 → IsSound q → length q.log + room ≤ least_after q room + q.size
-cleaned_room q room few sound =
-    let low : low_of q room ≤ length q.log = omega (arith, few, sound.small) in
-    omega (arith, all_swept_least (low_of q room) (length q.log) q.readers low)
 
 or-false : (a b : Bool) → (a || b) ≡ false → (a ≡ false) × (b ≡ false)
 or-false true b is = cc
@@ -148,10 +156,10 @@ pub cleaned_lapses : (q : Queue) (room b : ℕ) → unmarked (reader_of (cleaned
 cleaned_lapses q room b = unmarked_marked (signal_of q room) (swept_of q room) b ∙ ap unmarked (reader_swept (low_of q room) q.readers b)
 
 -- no reader that has room is swept
-unswept : (q : Queue) (room : ℕ) (reader : Reader) → length q.log + room ≤ q.least + q.size → IsReachable q reader → swept (low_of q room) reader ≡ reader
-unswept q room Inactive has reach = refl
-unswept q room Reset has reach = refl
-unswept q room (At position mark) has reach = ap (λ t. cond t Reset (At position mark)) (le-ltb position (low_of q room) (omega (arith, has, reach.0)))
+unswept : (q : Queue) (room : ℕ) (reader : Reader) → length q.log + room ≤ q.least + q.size → IsKeptFor q 0 reader → swept (low_of q room) reader ≡ reader
+unswept q room Inactive has kept = refl
+unswept q room Reset has kept = refl
+unswept q room (At position mark) has kept = ap (λ t. cond t Reset (At position mark)) (le-ltb position (low_of q room) (omega (arith, has, kept.0)))
 
 -- an insertion of so many messages puts a reader into reset state exactly where its next message is one that the queue can't keep beside them
 pub made_room_lapses : (q : Queue) (room : ℕ) → IsSound q → (b : ℕ) → unmarked (reader_of (made_room q room) b) ≡ unmarked (swept (low_of q room) (reader_of q b))
@@ -162,15 +170,16 @@ made_room_lapses q room sound b = by_test (must_clean q room) refl
     by_test false is = sym (ap unmarked (unswept q room (reader_of q b) (kept_room q room sound is) (sound.readers b)))
 
 -- more messages, where there is room
-reach_more : (q : Queue) (messages : List Message) (reader : Reader) → length q.log + length messages ≤ q.least + q.size → IsReachable q reader → IsReachable (with_messages q messages) reader
-reach_more q messages Inactive has reach = tt
-reach_more q messages Reset has reach = tt
-reach_more q messages (At position mark) has reach = (reach.0, omega (arith, length-append q.log messages, reach.1), omega (arith, length-append q.log messages, has, reach.0))
+kept_more : (q : Queue) (messages : List Message) (reader : Reader) → length q.log + length messages ≤ q.least + q.size → IsKeptFor q 0 reader → IsKeptFor (with_messages q messages) 0 reader
+kept_more q messages Inactive has kept = tt
+kept_more q messages Reset has kept = tt
+kept_more q messages (At position mark) has kept = (kept.0, omega (arith, length-append q.log messages, kept.1), omega (arith, length-append q.log messages, has, kept.0))
 
 pub more_sound : (q : Queue) (messages : List Message) → length q.log + length messages ≤ q.least + q.size → IsSound q → IsSound (with_messages q messages)
 more_sound q messages has sound = record {
   least = omega (arith, length-append q.log messages, sound.least);
-  readers = λ b. reach_more q messages (reader_of q b) has (sound.readers b);
+  kept = omega (arith, length-append q.log messages, has);
+  readers = λ b. kept_more q messages (reader_of q b) has (sound.readers b);
   some = sound.some;
   backends = sound.backends;
   small = sound.small;
@@ -178,10 +187,11 @@ more_sound q messages has sound = record {
 }
 
 -- another reader
-pub reader_sound : (q : Queue) (b : ℕ) (reader : Reader) → IsReachable q reader → IsSound q → IsSound (with_reader q b reader)
-reader_sound q b reader reach sound = record {
+pub reader_sound : (q : Queue) (b : ℕ) (reader : Reader) → IsKeptFor q 0 reader → IsSound q → IsSound (with_reader q b reader)
+reader_sound q b reader kept sound = record {
   least = sound.least;
-  readers = each_set (IsReachable q) q.readers b reader reach sound.readers;
+  kept = sound.kept;
+  readers = each_set (IsKeptFor q 0) q.readers b reader kept sound.readers;
   some = omega (arith, sound.some, length-set q.readers b reader);
   backends = omega (arith, sound.backends, length-set q.readers b reader);
   small = sound.small;
@@ -208,3 +218,18 @@ cleaned_once q room few sound = λ i. fits i || ahead i
 
     ahead : nat_le (threshold_of q.size (length q.log - least_after q room)) (length q.log - least_after q room) ≡ false
     ahead = lt-leb (threshold_of q.size (length q.log - least_after q room)) (length q.log - least_after q room) (threshold_ahead q.size (length q.log - least_after q room) sound.small)
+
+-- the messages are the same after the cleanup before an insertion
+pub made_room_log : (q : Queue) (room : ℕ) → (made_room q room).log ≡ q.log
+made_room_log q room = by_test (must_clean q room)
+  where
+    by_test : (t : Bool) → (cond t (cleaned q room) q).log ≡ q.log
+    by_test true = refl
+    by_test false = refl
+
+pub made_room_size : (q : Queue) (room : ℕ) → (made_room q room).size ≡ q.size
+made_room_size q room = by_test (must_clean q room)
+  where
+    by_test : (t : Bool) → (cond t (cleaned q room) q).size ≡ q.size
+    by_test true = refl
+    by_test false = refl

@@ -45,3 +45,11 @@ bits_of (false ∷ flags) = 2 * bits_of flags
 -- how many messages start the next cleanup, where so many are left of this one: at least half the queue, and else the next whole sixteenth of it
 abbrev pub threshold_of : ℕ → ℕ → ℕ
 threshold_of size filled = if nat_lt filled (size / 2) then size / 2 else (filled / (size / 16) + 1) * (size / 16)
+
+-- the number at which all numbers go back to begin again (`MSGNUMWRAPAROUND` in `src/backend/storage/ipc/sinvaladt.c`)
+abbrev pub wraparound : ℕ → ℕ
+wraparound size = size * 262144
+
+-- by how much they go back, where the least of them is this
+abbrev pub wrap_at : ℕ → ℕ → ℕ
+wrap_at size least = if nat_lt least (wraparound size) then 0 else wraparound size

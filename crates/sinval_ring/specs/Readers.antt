@@ -1,4 +1,4 @@
--- How far a backend is among all messages.
+-- How far a backend is among all messages: its position counts those that it is past.
 use Rattle.std.specs.Prelude.{ℕ, Bool, true, false, List, [], ◌≤◌, ◌+◌, ◌-◌, ◌&&◌, nat_lt, min, length, take, drop, if◌then◌else◌}
 use Rattle.base_types.specs.declared.fetched.Fetched.{Fetched}
 use Rattle.base_types.specs.declared.fetched.Fetched.TheVariants as fetches
@@ -50,6 +50,21 @@ signaled reader = reader
 abbrev pub IsUpTo : ℕ → Reader → Type 0
 IsUpTo end (At position mark) = position ≤ end
 IsUpTo end reader = Unit {0}
+
+-- with its position counted from this number on
+abbrev pub counted : ℕ → Reader → Reader
+counted first (At position mark) = At (position - first) mark
+counted first reader = reader
+
+-- and back
+abbrev pub numbered : ℕ → Reader → Reader
+numbered first (At position mark) = At (position + first) mark
+numbered first reader = reader
+
+-- it is at this number or after it, unless it has none
+abbrev pub IsFrom : ℕ → Reader → Type 0
+IsFrom least (At position mark) = least ≤ position
+IsFrom least reader = Unit {0}
 
 -- the reader, whether it was signaled or not
 abbrev pub unmarked : Reader → Reader

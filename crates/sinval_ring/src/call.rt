@@ -1,6 +1,6 @@
 ghost use Rattle.std.specs.Prelude.{◌≡◌};
 
-use crate::Reader;
+use crate::reader::Reader;
 
 // Which backend is to be signaled, and below which number a reader has to be to be signaled in its place.
 #[derive(Clone, Copy)]

@@ -1,9 +1,12 @@
-ghost use Rattle.std.specs.Prelude.{◌≡◌, ◌≤◌, ◌<◌, ◌+◌, ◌^◌, map, drop, length, IfSome};
-ghost use Rattle.sinval_ring.specs.Readers.{is_below};
-ghost use Rattle.sinval_ring.specs.Cleanups.{bits_of, swept, least_of, furthest, marked, threshold_of};
+ghost use Rattle.std.specs.Prelude.{◌≡◌, ◌≤◌, ◌<◌, ◌^◌, map, drop, length, IfSome};
+ghost use Rattle.sinval_ring.specs.Readers.{is_below, counted};
+ghost use Rattle.sinval_ring.specs.Cleanups.{bits_of, swept, least_of, furthest, marked, threshold_of, wrap_at};
 
-use crate::Reader;
 use crate::call::Call;
+use crate::reader::Reader;
+
+// After how many times as many messages as the queue keeps their numbers begin again.
+const QUEUES_TO_WRAP: u64 = 262_144;
 
 // The backends whose readers are below a number, as bits: backend 1 is the lowest. The first reader is
 // nobody's.
@@ -84,7 +87,7 @@ pub(crate) fn mark(backend: Option<u32>, readers: &mut [Reader])
 // The number of messages at which the next cleanup runs, while the queue has so many.
 pub(crate) fn next_threshold(size: u64, filled: u64) -> u64
     requires size { (64 ≤ size) × (size ≤ 4096) }
-    requires filled { filled ≤ 2 ^ 63 + 64 }
+    requires filled { filled < 2 ^ 32 }
     ensures { result ≡ threshold_of size filled }
 {
     if filled < size / 2 {
@@ -92,5 +95,23 @@ pub(crate) fn next_threshold(size: u64, filled: u64) -> u64
     } else {
         let quantum = size / 16;
         (filled / quantum + 1) * quantum
+    }
+}
+
+// By how much all numbers go back, where the least of them is this: by the wraparound or not at all.
+pub(crate) fn wrap_at(size: u64, least: u64) -> u64
+    requires { size ≤ 4096 }
+    ensures { result ≡ wrap_at size least }
+{
+    let wraparound = size * QUEUES_TO_WRAP;
+    if least < wraparound { 0 } else { wraparound }
+}
+
+// Moves the positions of the readers back by so much.
+pub(crate) fn move_back(by: u64, readers: &mut [Reader])
+    ensures { readers.new ≡ map (counted by) readers.old }
+{
+    for reader in readers.iter_mut() {
+        *reader = reader.moved_back(by);
     }
 }

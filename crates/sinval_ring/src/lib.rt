@@ -20,13 +20,17 @@
 //!   sixteenth. So it runs once for many insertions, and needs no second turn.
 //! - **Signals.** A cleanup names the backend furthest back, if that is half a queue behind: it is to be
 //!   signaled, so that it catches up before it is lapped. It isn't named again before it has.
+//! - **Numbers.** Messages are numbered in order. Where all readers are past 262,144 times the size of the
+//!   queue, a cleanup moves all numbers back by that (`MSGNUMWRAPAROUND`), so they stay small.
+//!   [`Ring::number`] is the next one. Contracts count the messages from the first one on instead, and
+//!   those counts never go back.
 //! - **Who has something to fetch.** The server keeps a word for each backend, `hasMessages`, raised by
 //!   each insertion and lowered by a fetch that gave all. [`Ring::has`] gives the value that it has then:
 //!   the backend is in reset state, or messages wait for it.
 //!
 //! Different from the server: nothing is locked, since each call takes the whole queue; whoever calls
 //! sends the signals; the cleanup's minimum, the distance for a signal and the step of the threshold
-//! follow from the size, which is chosen; numbers begin where the caller says, and don't wrap.
+//! follow from the size, which is chosen; numbers begin where the caller says.
 //!
 //! ```text
 //! let mut ring = Ring::new(alloc, 4096, 2)?;      // no later call takes memory
@@ -50,5 +54,4 @@ mod ring;
 mod window;
 
 pub use cleaned::Cleaned;
-pub use reader::Reader;
 pub use ring::Ring;

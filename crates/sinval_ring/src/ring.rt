@@ -1,12 +1,14 @@
-ghost use Rattle.std.specs.Prelude.{◌≡◌, ◌≤◌, ◌<◌, ◌+◌, ◌-◌, ◌*◌, ◌^◌, ◌++◌, ℕ, [], false, length, replicate, vec_len, vec_capacity, IsTrue, IfOk};
+ghost use Rattle.std.specs.Prelude.{◌≡◌, ◌≤◌, ◌<◌, ◌+◌, ◌-◌, ◌*◌, ◌%◌, ◌++◌, ℕ, [], false, length, replicate, vec_len, vec_capacity, IsTrue, IfOk};
 ghost use Rattle.base_types.specs.Scenario.{IsQueueSize};
 ghost use Rattle.sinval_ring.specs.Readers.{Inactive, At, is_active, is_behind, unmarked, fetched, given_to, after_fetch};
-ghost use Rattle.sinval_ring.specs.Cleanups.{swept};
+ghost use Rattle.sinval_ring.specs.Cleanups.{swept, wraparound};
 
-use crate::cleanup::{bits_below, furthest_back, least_position, mark, next_threshold, sweep};
-use crate::reader::MOST_FETCHED;
+use crate::Cleaned;
+use crate::cleanup::{
+    bits_below, furthest_back, least_position, mark, move_back, next_threshold, sweep, wrap_at,
+};
+use crate::reader::{MOST_FETCHED, Reader, reader_at};
 use crate::window::Window;
-use crate::{Cleaned, Reader};
 use arrayvec::ArrayVec;
 use base_types::{Fetched, NoMemory};
 use inval_messages::Message;
@@ -16,7 +18,9 @@ use std::snapshot::Snapshot;
 
 /// The queue of invalidation messages and its readers, the backends 1 to the number that it is made for
 /// (`SISeg` in `src/backend/storage/ipc/sinvaladt.c`). Messages have numbers in the order of their
-/// insertion.
+/// insertion. A contract counts them from the first one on; the queue's own numbers begin where its
+/// caller says, and go back by 262,144 times the size where a cleanup finds that all readers are past
+/// that number (`MSGNUMWRAPAROUND`).
 #[derive(Drop)]
 pub struct Ring {
     window: Window,
@@ -45,7 +49,7 @@ impl Model for Ring {
 }
 
 impl Ring {
-    ghost use Rattle.sinval_ring.specs.Queues.{empty_queue, reader_of, with_reader};
+    ghost use Rattle.sinval_ring.specs.Queues.{empty_queue, reader_of, with_reader, number_of, IsKeptFor};
     ghost use Rattle.sinval_ring.specs.Cleaning.{must_clean, cleaned, cleaned_answer, made_room, room_answer, inserted};
 
     /// An empty queue for so many messages and backends, of which none is active
@@ -115,14 +119,21 @@ impl Ring {
         (self.readers.len() - 1) as u32
     }
 
+    /// The number of the next message to be inserted (`maxMsgNum` of `SISeg`). It differs from the first
+    /// number and the count of all messages inserted since by a multiple of the wraparound.
+    pub fn number(&self) -> u64
+        ensures number { result ≡ number_of self.now }
+        ensures below { result < wraparound self.now.size + self.now.size }
+        ensures wrapped { result % wraparound self.now.size ≡ (self.now.from + length self.now.log) % wraparound self.now.size }
+    {
+        self.max
+    }
+
     /// Whether a backend is active.
     pub fn is_active(&self, b: u32) -> bool
         ensures { result ≡ is_active (reader_of self.now b) }
     {
-        match self.readers.get(b as usize) {
-            Some(Reader::At { .. } | Reader::Reset) => true,
-            Some(Reader::Inactive) | None => false,
-        }
+        reader_at(&self.readers, b).is_active()
     }
 
     /// Whether an active backend has something to fetch: it is in reset state, or messages wait for it.
@@ -130,11 +141,7 @@ impl Ring {
     pub fn has(&self, b: u32) -> bool
         ensures { result ≡ is_behind (length self.now.log) (reader_of self.now b) }
     {
-        match self.readers.get(b as usize) {
-            Some(Reader::At { position, .. }) => *position < self.max,
-            Some(Reader::Reset) => true,
-            Some(Reader::Inactive) | None => false,
-        }
+        reader_at(&self.readers, b).is_behind(self.max)
     }
 
     /// Gives a backend its next messages, at most 32, and moves it past them (`SIGetDataEntries`).
@@ -166,14 +173,13 @@ impl Ring {
 
     /// Inserts messages, after a cleanup where there is no room for them or the threshold is reached
     /// (`SIInsertDataEntries`). Exactly those readers are put into reset state that wait for a message
-    /// which the queue can't keep beside the new ones. Conditions: 1 to 64 messages, and the next
-    /// message's number is below 2^63.
+    /// which the queue can't keep beside the new ones. Condition: 1 to 64 messages.
     pub fn insert(&mut self, quantum: &[Message]) -> Cleaned
-        requires few { (1 ≤ length quantum.now) × (length quantum.now ≤ 64) }
-        requires number { self.old.from + length self.old.log < 2 ^ 63 }
+        requires { (1 ≤ length quantum.now) × (length quantum.now ≤ 64) }
         ensures queue { self.new ≡ inserted self.old quantum.now }
         ensures answer { result ≡ room_answer self.old (length quantum.now) }
         ensures lapped { (b : ℕ) → unmarked (reader_of self.new b) ≡ unmarked (swept (length self.new.log - self.new.size) (reader_of self.old b)) }
+        ensures kept { (b : ℕ) → IsKeptFor self.new 0 (reader_of self.new b) }
     {
         let cleaned = self.make_room(quantum.len() as u32);
         let Ring { window, max, .. } = self;
@@ -205,12 +211,15 @@ impl Ring {
     }
 
     /// Puts the readers into reset state that are too far back for a queue with room for so many more
-    /// messages, and names one of the others, far back, to be signaled (`SICleanupQueue`). Condition: room
-    /// for 64 at most.
+    /// messages, and names one of the others, far back, to be signaled (`SICleanupQueue`). All others go
+    /// on, and no second cleanup is needed for so many messages. Condition: room for 64 at most.
     pub fn clean(&mut self, min_free: u32) -> Cleaned
         requires { min_free ≤ 64 }
         ensures queue { self.new ≡ cleaned self.old min_free }
         ensures answer { result ≡ cleaned_answer self.old min_free }
+        ensures lapped { (b : ℕ) → unmarked (reader_of self.new b) ≡ unmarked (swept (length self.old.log + min_free - self.old.size) (reader_of self.old b)) }
+        ensures kept { (b : ℕ) → IsKeptFor self.new min_free (reader_of self.new b) }
+        ensures done { must_clean self.new min_free ≡ false }
     {
         let Ring {
             window,
@@ -225,10 +234,14 @@ impl Ring {
         let low = (*max + u64::from(min_free)).saturating_sub(size);
         let reset = bits_below(low, readers);
         sweep(low, readers);
-        *min = least_position(*max, readers);
-        *threshold = next_threshold(size, *max - *min);
+        let least = least_position(*max, readers);
+        *threshold = next_threshold(size, *max - least);
         let signal = furthest_back(max.saturating_sub(size / 2), readers);
         mark(signal, readers);
+        let wrap = wrap_at(size, least);
+        move_back(wrap, readers);
+        *min = least - wrap;
+        *max -= wrap;
         Cleaned {
             ran: true,
             reset,

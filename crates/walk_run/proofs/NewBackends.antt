@@ -10,7 +10,6 @@ use Rattle.ddl_effect.specs.Commands.{commands_of}
 use Rattle.cacheless.specs.Runs.{runs}
 use Rattle.backend_core.specs.declared.backend.Backend.{Backend}
 use Rattle.backend_core.specs.Agrees.{IsNew, Stands}
-use Rattle.backend_core.proofs.Played.{IsPlayed-start}
 use Rattle.walk_run.specs.Built.{is_built}
 use Rattle.walk_run.specs.Walks.{AllStand, StandsAt}
 use Rattle.walk_run.proofs.ScheduleSteps.{StandsAs}
@@ -101,7 +100,7 @@ begins_more s bs n y commands built few copies begins within new = record {
 -- all backends stand before the first entry
 pub begins_stand : (s : Scenario) (bs : List Backend) → Begins s bs s.backends → AllStand s [] bs
 begins_stand s bs begins = record {
-  played = IsPlayed-start s;
+  entered = tt;
   count = begins.count;
   each = begins.each;
 }

@@ -71,8 +71,8 @@ goes_on_step s t h h' h'' bs' bs'' b same number goes running made =
     let id : makes.was.id ≡ b = at.id ∙ n in
     let alive : has_stopped h' b ≡ false = ap (has_stopped h') (sym n) ∙ stopped_at s h' ((b - 1) + 1) makes.was at ∙ running makes.was makes.is in
     record {
-      stand = subst (AllStand s h'') (sym makes.set) (stand_more s h' h'' bs' (b - 1) makes.was makes.now goes.stand makes.is makes.steps);
-      turn = λ none turn. subst (λ x. InTurn s x (b - 1)) (sym makes.steps.is) (turn_more s h' makes.steps.entry b none number (makes.steps.own ∙ id) alive (goes.turn none turn));
+      stand = subst (AllStand s h'') (sym makes.set) (stand_more s h' h'' makes.had makes.has bs' (b - 1) makes.was makes.now goes.stand makes.is makes.steps);
+      turn = λ none turn. subst (λ x. InTurn s x (b - 1)) (sym makes.steps.makes.is) (turn_more s h' makes.steps.makes.entry b none number (makes.steps.makes.own ∙ id) alive (goes.turn none turn));
     }
 
 -- and its stop
@@ -94,7 +94,7 @@ goes_on_stopped s h h' bs b was number goes same stopped =
 -- a step leaves less room for entries
 pub makes_less : (s : Scenario) (h h' : List Entry) (bs bs' : List Backend) (b most : ℕ) → Makes s h h' bs bs' b → length h' ≤ most → most - length h' < most - length h
 makes_less s h h' bs bs' b most makes short =
-    let longer : length h' ≡ length h + 1 = ap length makes.steps.is ∙ length_push h makes.steps.entry in
+    let longer : length h' ≡ length h + 1 = ap length makes.steps.makes.is ∙ length_push h makes.steps.makes.entry in
     omega (arith, longer, short)
 
 -- a walk without a schedule follows it, and is complete

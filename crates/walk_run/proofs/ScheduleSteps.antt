@@ -11,16 +11,18 @@ use Rattle.std.proofs.Math.ListN.{length-set}
 use Rattle.base_types.specs.declared.command.Turns.{Turns}
 use Rattle.base_types.specs.Scenario.{Scenario, IsBackend, schedule_of}
 use Rattle.event_kinds.specs.declared.entry.Entry.{Entry}
+use Rattle.history_model.specs.Prefixes.{EachEntry}
 use Rattle.history_model.proofs.Prefixes.{EachEntry-more, along-more}
+use Rattle.cacheless.specs.MayEnter.{MayEnter}
 use Rattle.cacheless.specs.Schedule.{FollowsSchedule, IsComplete, is_stopped, has_stopped, pass_stopped, steps_after, turns_by, turns_left}
 use Rattle.backend_core.specs.declared.backend.Backend.{Backend}
 use Rattle.backend_core.specs.declared.phase.Life.{Life}
 use Rattle.backend_core.specs.declared.phase.Life.TheVariants as lives
 use Rattle.backend_core.specs.State.{has_left}
-use Rattle.backend_core.specs.Agrees.{IsPlayed, HasNotJoined, AwaitsEntry, HasLeft, Stands}
-use Rattle.backend_core.specs.Steps.{Steps}
+use Rattle.backend_core.specs.Agrees.{HasNotJoined, AwaitsEntry, HasLeft, Stands}
+use Rattle.backend_core.specs.Steps.{MakesEntry, Steps}
 use Rattle.backend_core.proofs.Others.{Stands-other}
-use Rattle.backend_core.proofs.Played.{IsPlayed-more}
+use Rattle.backend_core.proofs.Played.{entered_played}
 use Rattle.walk_run.specs.Walks.{AllStand, StandsAt, IsDue, Goes, HasSchedule, IsRunning, Makes}
 
 -- where a backend is, by its life
@@ -36,9 +38,9 @@ stopped_as s h x stands = of x.life stands
     of lives.Alive awaits = ap is_stopped awaits.agrees.life.alive
     of lives.Stopped left = ap is_stopped left.life
 
--- the history of one step more was played
-pub played_more : (s : Scenario) (h h' : List Entry) (was now : Backend) → IsPlayed s h → Steps s h h' was now → IsPlayed s h'
-played_more s h h' was now played steps = subst (IsPlayed s) (sym steps.is) (IsPlayed-more s h steps.entry played steps.comes steps.next steps.needed steps.truly steps.tables steps.queue)
+-- the history of one step more
+entered_more : (s : Scenario) (h h' : List Entry) (had has : ℕ → ℕ) (b : ℕ) → EachEntry (MayEnter s) h → MakesEntry s h h' had has b → EachEntry (MayEnter s) h'
+entered_more s h h' had has b entered makes = subst (EachEntry (MayEnter s)) (sym makes.is) (EachEntry-more (MayEnter s) h makes.entry entered makes.may)
 
 -- the entry of a step isn't another backend's
 entry_apart : (e : Entry) (was other : Backend) (i j : ℕ) → e.backend ≡ was.id → was.id ≡ i + 1 → other.id ≡ j + 1 → i ≢ j → (e.backend == other.id) ≡ false
@@ -66,9 +68,9 @@ same_or_not i j = of (eqb_tells i j)
     of (inr apart) = inr apart.1
 
 -- the backends stand after a step of one of them
-pub stand_more : (s : Scenario) (h h' : List Entry) (bs : List Backend) (i : ℕ) (was now : Backend) → AllStand s h bs → slice_get bs i ≡ Some was → Steps s h h' was now → AllStand s h' (slice_set bs i now)
-stand_more s h h' bs i was now stand is steps = record {
-  played = played_more s h h' was now stand.played steps;
+pub stand_more : (s : Scenario) (h h' : List Entry) (had has : ℕ → ℕ) (bs : List Backend) (i : ℕ) (was now : Backend) → AllStand s h bs → slice_get bs i ≡ Some was → Steps s h h' had has was now → AllStand s h' (slice_set bs i now)
+stand_more s h h' had has bs i was now stand is steps = record {
+  entered = entered_more s h h' had has was.id stand.entered steps.makes;
   count = length-set bs i now ∙ stand.count;
   each = λ j backend at. by_place j backend at (same_or_not i j);
 }
@@ -89,8 +91,8 @@ stand_more s h h' bs i was now stand is steps = record {
         let old = stand.each j backend before in
         record {
           id = old.id;
-          stands = subst (λ x. Stands s x backend) (sym steps.is)
-              (Stands-other s h steps.entry backend (entry_apart steps.entry was backend i j steps.own mine old.id apart) stand.played steps.comes steps.tables old.stands);
+          stands = subst (λ x. Stands s x backend) (sym steps.makes.is)
+              (Stands-other s h steps.makes.entry backend (entry_apart steps.makes.entry was backend i j steps.makes.own mine old.id apart) (entered_played s h stand.entered) steps.makes.may.comes steps.makes.may.suits.tables old.stands);
         }
 
 -- no step
@@ -130,11 +132,11 @@ pub stopped_at : (s : Scenario) (h : List Entry) (b : ℕ) (x : Backend) → Sta
 stopped_at s h b x at = ap (has_stopped h) (sym at.id) ∙ stopped_as s h x at.stands
 
 -- one step by the schedule
-goes_by_step : (s : Scenario) (h h' : List Entry) (bs : List Backend) (i : ℕ) (was now : Backend) → AllStand s h bs → slice_get bs i ≡ Some was → has_left was.life ≡ false → Steps s h h' was now → Goes s h h' (slice_set bs i now) ((i + 1) ∷ [])
-goes_by_step s h h' bs i was now stand is running steps = record {
-  stand = stand_more s h h' bs i was now stand is steps;
-  due = λ has rest due. subst (λ x. IsDue s x rest) (sym steps.is)
-      (goes_a_step s h steps.entry (i + 1) rest (steps.own ∙ (stand.each i was is).id) (stopped_at s h (i + 1) was (stand.each i was is) ∙ running) has due);
+goes_by_step : (s : Scenario) (h h' : List Entry) (had has : ℕ → ℕ) (bs : List Backend) (i : ℕ) (was now : Backend) → AllStand s h bs → slice_get bs i ≡ Some was → has_left was.life ≡ false → Steps s h h' had has was now → Goes s h h' (slice_set bs i now) ((i + 1) ∷ [])
+goes_by_step s h h' had has bs i was now stand is running steps = record {
+  stand = stand_more s h h' had has bs i was now stand is steps;
+  due = λ by rest due. subst (λ x. IsDue s x rest) (sym steps.makes.is)
+      (goes_a_step s h steps.makes.entry (i + 1) rest (steps.makes.own ∙ (stand.each i was is).id) (stopped_at s h (i + 1) was (stand.each i was is) ∙ running) by due);
 }
 
 -- the step of a backend that has stopped
@@ -181,20 +183,22 @@ pub makes_goes : {T E : Type 0} (s : Scenario) (h h' : List Entry) (bs bs' : Lis
 makes_goes s h h' bs bs' b (Ok x) number stand running makes =
     let n : (b - 1) + 1 ≡ b = omega (arith, number.0) in
     subst (λ xs. Goes s h h' xs (b ∷ [])) (sym makes.set)
-    (subst (λ y. Goes s h h' (slice_set bs (b - 1) makes.now) (y ∷ [])) n (goes_by_step s h h' bs (b - 1) makes.was makes.now stand makes.is (running makes.was makes.is) makes.steps))
+    (subst (λ y. Goes s h h' (slice_set bs (b - 1) makes.now) (y ∷ [])) n (goes_by_step s h h' makes.had makes.has bs (b - 1) makes.was makes.now stand makes.is (running makes.was makes.is) makes.steps))
 makes_goes s h h' bs bs' b (Err e) number stand running makes = makes
 
 -- a step of a backend is one that is made
-pub step_makes : {T E : Type 0} (s t : Scenario) (h g h' : List Entry) (bs : List Backend) (b : ℕ) (was now : Backend) (result : Result T E) → t ≡ s → g ≡ h → IsBackend s.backends b → AllStand s h bs → was ≡ get_or bs (b - 1) was
-    → OnOk result (Steps t g h' was now) → OnOk result (Makes s h h' bs (slice_set bs (b - 1) now) b)
-step_makes s t h g h' bs b was now (Ok x) script history number stand same steps = record {
+pub step_makes : {T E : Type 0} (s t : Scenario) (h g h' : List Entry) (had has : ℕ → ℕ) (bs : List Backend) (b : ℕ) (was now : Backend) (result : Result T E) → t ≡ s → g ≡ h → IsBackend s.backends b → AllStand s h bs → was ≡ get_or bs (b - 1) was
+    → OnOk result (Steps t g h' had has was now) → OnOk result (Makes s h h' bs (slice_set bs (b - 1) now) b)
+step_makes s t h g h' had has bs b was now (Ok x) script history number stand same steps = record {
   was = was;
   is = found_at s h bs b was number stand same;
   now = now;
-  steps = subst (λ before. Steps s before h' was now) history (subst (λ y. Steps y g h' was now) script steps);
+  had = had;
+  has = has;
+  steps = subst (λ before. Steps s before h' had has was now) history (subst (λ y. Steps y g h' had has was now) script steps);
   set = refl;
 }
-step_makes s t h g h' bs b was now (Err e) script history number stand same steps = steps
+step_makes s t h g h' had has bs b was now (Err e) script history number stand same steps = steps
 
 replicate_more : (n b : ℕ) → replicate (n + 1) b ≡ replicate n b ++ b ∷ []
 replicate_more zero b = refl

@@ -15,6 +15,7 @@ use Rattle.backend_core.specs.declared.phase.Life.TheVariants as lives
 use Rattle.backend_core.specs.Agrees.{Stands}
 use Rattle.backend_core.specs.Coherent.{IsCoherent}
 use Rattle.backend_core.proofs.Coherent.{stands_coherent}
+use Rattle.backend_core.proofs.Played.{entered_played}
 use Rattle.walk_run.specs.Sessions.{transcripts_of, AreSessions}
 use Rattle.walk_run.specs.Walks.{AllStand, StandsAt}
 use Rattle.walk_run.proofs.ScheduleSteps.{StandsAs}
@@ -85,4 +86,4 @@ stand_each s h bs stand = all_at (Stands s h) bs (λ i x is. (stand.each i x is)
 
 -- and is coherent with it
 pub stand_coherent : (s : Scenario) (h : List Entry) (bs : List Backend) → AllStand s h bs → All (IsCoherent h) bs
-stand_coherent s h bs stand = all_at (IsCoherent h) bs (λ i x is. stands_coherent s h x stand.played.sound (stand.each i x is).stands)
+stand_coherent s h bs stand = all_at (IsCoherent h) bs (λ i x is. stands_coherent s h x (entered_played s h stand.entered).sound (stand.each i x is).stands)

@@ -5,7 +5,13 @@ use Rattle.base_types.specs.declared.command.Turns.{Turns}
 use Rattle.base_types.specs.Scenario.{Scenario, schedule_of}
 use Rattle.event_kinds.specs.declared.entry.Entry.{Entry}
 use Rattle.history_model.proofs.Sound.{sound_is_legal}
-use Rattle.cacheless.specs.Schedule.{FollowsSchedule, IsComplete}
+use Rattle.history_model.specs.Lapped.{FetchesFrom}
+use Rattle.history_model.specs.Read.{ScansOnlyIfNeeded}
+use Rattle.history_model.proofs.Prefixes.{EachEntry-weaker}
+use Rattle.cacheless.specs.MayEnter.{MayEnter}
+use Rattle.cacheless.specs.Schedule.{FollowsSchedule, LooksTruly, IsComplete}
+use Rattle.backend_core.specs.Agrees.{IsPlayed}
+use Rattle.backend_core.proofs.Played.{entered_played}
 use Rattle.backend_core.specs.declared.backend.Backend.{Backend}
 use Rattle.walk_run.specs.Sessions.{transcripts_of}
 use Rattle.walk_run.specs.Walks.{AllStand, Goes, GoesOn, HasSchedule, IsWalk}
@@ -29,12 +35,21 @@ some_steps s (line ∷ lines) same some = omega (arith, ap length same)
 
 ended_walk : (s : Scenario) (h : List Entry) (bs : List Backend) → AllStand s h bs → FollowsSchedule s h × IsComplete s h → IsWalk s h (transcripts_of bs)
 ended_walk s h bs stand end = record {
-  allowed = record { legal = sound_is_legal h stand.played.sound; queue = stand.played.queue; plays = stand.played.plays; economical = stand.played.economical };
+  allowed = record {
+    legal = sound_is_legal h played.sound;
+    queue = EachEntry-weaker (MayEnter s) (λ before e. FetchesFrom s.size before e.backend e.event) (λ before e may. may.suits.queue) h stand.entered;
+    plays = played.plays;
+    economical = EachEntry-weaker (MayEnter s) (λ before e. ScansOnlyIfNeeded before e.backend e.event) (λ before e may. may.suits.needed) h stand.entered;
+  };
+  sound = played.sound;
   follows = end.0;
-  looks = stand.played.looks;
+  looks = EachEntry-weaker (MayEnter s) (λ before e. LooksTruly before e.backend e.event) (λ before e may. may.suits.truly) h stand.entered;
   complete = end.1;
   lines_are = transcripts_are s h bs stand;
 }
+  where
+    played : IsPlayed s h
+    played = entered_played s h stand.entered
 
 -- by the schedule
 pub scheduled_walk : (s : Scenario) (start h : List Entry) (bs : List Backend) (steps : List (List Turns)) → steps ≡ s.steps → (length steps == 0) ≡ false → start ≡ [] → Goes s start h bs (schedule_of s) → IsWalk s h (transcripts_of bs)

@@ -3,17 +3,21 @@ use Rattle.std.specs.Prelude.{◌≡◌, ◌≤◌, ◌<◌, ◌+◌, ◌-◌, �
 use Rattle.base_types.specs.Scenario.{Scenario}
 use Rattle.event_kinds.specs.declared.entry.Entry.{Entry}
 use Rattle.event_kinds.specs.declared.entry.Line.{Line}
+use Rattle.history_model.specs.Orderly.{IsSound}
+use Rattle.history_model.specs.Prefixes.{EachEntry}
+use Rattle.cacheless.specs.MayEnter.{MayEnter}
 use Rattle.cacheless.specs.Output.{IsAllowed}
 use Rattle.cacheless.specs.Schedule.{FollowsSchedule, AreLooksTrue, IsComplete, has_stopped, pass_stopped, steps_after}
 use Rattle.cacheless.specs.Lines.{lines_of}
 use Rattle.backend_core.specs.declared.backend.Backend.{Backend}
 use Rattle.backend_core.specs.State.{has_left}
-use Rattle.backend_core.specs.Agrees.{IsPlayed, Stands}
+use Rattle.backend_core.specs.Agrees.{Stands}
 use Rattle.backend_core.specs.Steps.{Steps}
 
--- a walk's history is allowed, follows the schedule to its end, and its looks see all that was sent; the lines are those of the history
+-- a walk's history is allowed and sound, so that each law of sound histories is one of it; it follows the schedule to its end, and its looks see all that was sent; the lines are those of the history
 pub record IsWalk (scenario : Scenario) (history : List Entry) (lines : List Line) : Type 0 where
   pub allowed : IsAllowed scenario history
+  pub sound : IsSound history
   pub follows : FollowsSchedule scenario history
   pub looks : AreLooksTrue history
   pub complete : IsComplete scenario history
@@ -24,9 +28,9 @@ pub record StandsAt (scenario : Scenario) (history : List Entry) (b : ℕ) (back
   pub id : backend.id ≡ b
   pub stands : Stands scenario history backend
 
--- the history was played so far, and each backend of the script stands in it
+-- each entry of the history was one that might be made, and each backend of the script stands in it
 pub record AllStand (scenario : Scenario) (history : List Entry) (backends : List Backend) : Type 0 where
-  pub played : IsPlayed scenario history
+  pub entered : EachEntry (MayEnter scenario) history
   pub count : length backends ≡ scenario.backends
   pub each : (i : ℕ) (backend : Backend) → slice_get backends i ≡ Some backend → StandsAt scenario history (i + 1) backend
 
@@ -63,5 +67,7 @@ pub record Makes (scenario : Scenario) (old new : List Entry) (were are : List B
   pub was : Backend
   pub is : slice_get were (b - 1) ≡ Some was
   pub now : Backend
-  pub steps : Steps scenario old new was now
+  pub had : ℕ → ℕ
+  pub has : ℕ → ℕ
+  pub steps : Steps scenario old new had has was now
   pub set : are ≡ slice_set were (b - 1) now

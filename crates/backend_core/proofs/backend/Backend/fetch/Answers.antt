@@ -1,4 +1,4 @@
-use Rattle.std.proofs.Common.{◌≡◌, ◌∙◌, List, ap, sym, subst}
+use Rattle.std.proofs.Common.{◌≡◌, ◌∙◌, ℕ, List, ap, sym, subst}
 use Rattle.backend_core.specs.State.{locks_accepted, is_in_accept}
 use Rattle.backend_core.specs.Fetched.{after_messages}
 use Rattle.backend_core.specs.Types.{Scenario, Entry, Backend}
@@ -25,6 +25,6 @@ returns-clause-enters g c = elim c.match-fetch.branch [
     locks_are : {now : Backend} → c.match-fetch.self ≡ now → c.accept.new.locks.items ≡ locks_accepted (is_in_accept now) now.locks.items
     locks_are is = c.accept.ensures ∙ ap (λ t. locks_accepted t c.match-fetch.self.locks.items) c.is_in_acceptance-accepting.ensures ∙ ap (λ s. locks_accepted (is_in_accept s) s.locks.items) is
 
-    with_locks : {scenario : Scenario} {old new : List Entry} {now : Backend} → c.match-fetch.self ≡ now → Enters scenario old new c.args.self.now (record now { locks = c.accept.new.locks })
-        → Enters scenario old new c.args.self.now (record c.match-fetch.self { locks = c.accept.new.locks })
-    with_locks {scenario = scenario} {old = old} {new = new} is enters = subst (λ s. Enters scenario old new c.args.self.now (record s { locks = c.accept.new.locks })) (sym is) enters
+    with_locks : {scenario : Scenario} {old new : List Entry} {had has : ℕ → ℕ} {now : Backend} → c.match-fetch.self ≡ now → Enters scenario old new had has c.args.self.now (record now { locks = c.accept.new.locks })
+        → Enters scenario old new had has c.args.self.now (record c.match-fetch.self { locks = c.accept.new.locks })
+    with_locks {scenario = scenario} {old = old} {new = new} {had = had} {has = has} is enters = subst (λ s. Enters scenario old new had has c.args.self.now (record s { locks = c.accept.new.locks })) (sym is) enters

@@ -8,5 +8,5 @@ returns-in-Some c = (c.requires.working, next_lock c.args.self.now c.requires.wh
 pub returns-in-None : goal.returns-in-None
 returns-in-None c = (c.requires.working, next_find c.args.self.now c.requires.whole c.args.name c.args.mode c.requires.want c.if-self.true (sym c.unlocked.ensures ∙ c.in-None.is))
 
-pub returns-then-self-2 : goal.returns-then-self-2
-returns-then-self-2 c = (c.requires.working, next_look_up c.args.self.now c.requires.whole c.args.name c.args.mode c.requires.want c.if-self.false, c.if-self-2.true)
+pub next_of_name-requires-clause-next : goal.next_of_name-requires-clause-next
+next_of_name-requires-clause-next c = next_look_up c.args.self.now c.requires.whole c.args.name c.args.mode c.requires.want c.if-self.false

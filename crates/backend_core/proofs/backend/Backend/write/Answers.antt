@@ -2,7 +2,7 @@ use Rattle.std.proofs.Common.{rules, ◌≡◌, ◌∙◌, false, sym, ap, subst
 use Rattle.base_types.specs.declared.mode.Mode.TheVariants.{AccessExclusive}
 use Rattle.lock_modes.specs.Own.{has_lock}
 use Rattle.backend_core.specs.State.{kept_spared}
-use Rattle.backend_core.proofs.Writing.{may_write, lists_early, new_unheld, wrote_enters}
+use Rattle.backend_core.proofs.Writing.{may_write, lists_early, new_unheld, wrote_refused, wrote_enters}
 use Rattle.backend_core.proofs.Clashing.{refusal_enters}
 use Rattle.backend_core.proofs.backend.Backend.write.Goals as goal
 
@@ -21,3 +21,6 @@ returns-in-Ok-clause-enters g c =
 
 pub returns-clause-enters : goal.returns-clause-enters
 returns-clause-enters g c = refusal_enters _ _ _ _ _ _ c.requires.agrees c.requires.next.0 _ (search rules) c.requires.next.1.whole c.in-Err.refusal c.in-Some.error _ (search rules) c.requires.played (search rules) c.in-Err.ensures.writes
+
+pub returns-in_err-register-in-Ok-clause-refused : goal.returns-in_err-register-in-Ok-clause-refused
+returns-in_err-register-in-Ok-clause-refused g c = wrote_refused _ _ _ _ _ _ c.requires.agrees c.requires.next.0 _ (search rules) c.requires.next.1.whole c.in-Ok.written _ c.requires.played c.in-Ok.ensures.writes

@@ -1,6 +1,8 @@
 use Rattle.std.proofs.Common.{sym, subst}
 use Rattle.lock_modes.specs.Kept.{Holds}
+use Rattle.lock_modes.specs.Changes.{is_kept}
 use Rattle.lock_modes.proofs.Room.{room_for_none}
+use Rattle.lock_modes.proofs.Excluding.{exclude_released}
 use Rattle.lock_modes.proofs.Releasing.{holds_released}
 use Rattle.lock_modes.proofs.lock_table.LockTable.take_out.Goals as goal
 
@@ -10,4 +12,5 @@ invariant_of-self c = record {
       subst (Holds c.take_out_each.new.by_rel c.take_out.new.self) (sym c.after-self-inside.ensures)
       (holds_released c.args.released c.args.backend c.requires _ _ _ _ _ c.get.result.now c.get.ensures c.take_out_each.ensures c.take_out.ensures c.self.invariant.holds);
   room = room_for_none _ _ _ c.clear.ensures.items;
+  exclude = exclude_released (is_kept c.args.released) _ _ _ _ c.clear.ensures.items c.after-self-inside.ensures c.self.invariant.exclude;
 }

@@ -38,4 +38,6 @@ returns-clause-short c =
     let same : c.args.self.now.promised ≡ c.self.inside.promised.items = ap (λ (p : Placed). p.promised) (sym c.self.view_is) in
     let within : c.args.entry.backend < length c.self.inside.promised.items = rw same at c.requires.within in
     let place : 0 < promised_in c.self.inside.promised.items c.args.entry.backend = rw same at c.requires.place in
-    omega (arith, promised_in-le c.self.inside.promised.items c.args.entry.backend within, c.self.invariant.counted, c.self.invariant.short, c.push_reserved.ensures.len)
+    let had : c.index-had.result.now ≡ promised_in c.self.inside.promised.items c.args.entry.backend = promised_at c.self.inside.promised.items c.args.entry.backend c.index-had.result.now within c.index-had.ensures in
+    let less : sum (slice_set c.self.inside.promised.items c.args.entry.backend (c.index-had.result.now - 1)) + 1 ≡ sum c.self.inside.promised.items = rw had (sum-taken c.self.inside.promised.items c.args.entry.backend within place) in
+    omega (arith, less, c.self.invariant.counted, c.self.invariant.short, c.push_reserved.ensures.len)

@@ -1,4 +1,4 @@
-use Rattle.std.proofs.Common.{◌≡◌, ◌∙◌, ◌++◌, ◌∷◌, [], max, refl, ap, subst, rules}
+use Rattle.std.proofs.Common.{◌≡◌, ◌∙◌, ◌++◌, ◌∷◌, [], max, length, sum, refl, ap, subst, rules, arith}
 use Rattle.std.specs.List.{flat_map}
 use Rattle.row_visibility.specs.declared.version.Reader.{Reader}
 use Rattle.seg_calls.specs.Calls.{entry_of}
@@ -8,7 +8,7 @@ use Rattle.shared_seg.specs.Naming.{clash_with}
 use Rattle.shared_seg.specs.Transactions.{own_reader}
 use Rattle.shared_seg.proofs.Asked.{request_inside, small_number}
 use Rattle.shared_seg.proofs.Queue.{clash_still}
-use Rattle.shared_seg.proofs.Writing.{may_enter, write_allowed, write_entered, write_announced, write_keeps, taken_of, taken_allowed, taken_is_new, clash_keeps, clash_writes_at, makes_write}
+use Rattle.shared_seg.proofs.Writing.{may_enter, write_allowed, write_granted, write_entered, write_announced, write_keeps, taken_of, taken_allowed, taken_is_new, clash_keeps, clash_writes_at, makes_write}
 use Rattle.shared_seg.proofs.shared.SharedSeg.write.Goals as goal
 
 pub reader_in-reader-requires-clause-number : goal.reader_in-reader-requires-clause-number
@@ -35,6 +35,12 @@ returns-in-Some-clause-writes c =
     (taken_allowed _ _ _ _ _ _ _ _ c.args.b c.args.c c.self.invariant.folds c.in-Ok.drawn.changes.items c.in-Some.taken taken)
     (taken_is_new _ _ _ _ _ _ _ _ c.args.b c.args.c c.self.invariant.folds c.args.draft.now c.in-Ok.drawn c.in-Some.taken request drawn taken) entered c.add.ensures.promised
 
+pub enter_write-requires : goal.enter_write-requires
+enter_write-requires c =
+    let reader = c.reader_in-reader.ensures ∙ ap (λ ts. own_reader ts c.args.b c.args.c) c.deref.ensures.value in
+    let enter = may_enter _ _ c.args.b c.args.c c.self.inside.store _ _ _ c.args.draft.now c.in-Ok.drawn _ c.self.view_is c.requires.call c.requires.write reader c.in-Ok.ensures (search rules) in
+    write_granted _ _ _ _ _ _ _ _ c.args.b c.args.c c.self.invariant.folds c.args.draft.now c.in-Ok.drawn enter
+
 pub invariant_of-self-2 : goal.invariant_of-self-2
 invariant_of-self-2 c =
     let reader = c.reader_in-reader.ensures ∙ ap (λ ts. own_reader ts c.args.b c.args.c) c.deref.ensures.value in
@@ -51,3 +57,6 @@ returns-clause-writes c =
     (write_allowed _ _ _ _ _ _ _ _ c.args.b c.args.c c.self.invariant.folds c.args.draft.now c.in-Ok.drawn enter) enter.may.orderly
     (write_entered _ _ _ _ _ _ _ _ c.args.b c.args.c c.self.invariant.folds c.args.draft.now c.in-Ok.drawn _ enter c.in-Ok-enter_write.ensures.entries) c.enter_write.ensures.promised refl c.self.invariant.folds.next_is
     (write_announced _ _ _ _ _ _ _ _ c.args.b c.args.c c.self.invariant.folds c.args.draft.now c.in-Ok.drawn _ _ enter reader messages)
+
+pub invariant_of-self-inside-in_default-enter_write : goal.invariant_of-self-inside-in_default-enter_write
+invariant_of-self-inside-in_default-enter_write c = (omega (arith, ap length c.in_default-enter_write.ensures.same_entries, ap sum c.enter_write.ensures.promised, c.self.inside.short), tt)

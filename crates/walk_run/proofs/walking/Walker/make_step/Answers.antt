@@ -1,7 +1,26 @@
-use Rattle.walk_run.proofs.ScheduleSteps.{step_makes}
+use Rattle.std.proofs.Common.{◌<◌, sym, subst, arith}
+use Rattle.history_model.specs.Legal.{IsLegal}
+use Rattle.history_model.proofs.Sound.{sound_is_legal}
+use Rattle.cacheless.specs.Plays.{Plays}
+use Rattle.backend_core.proofs.Played.{entered_played}
+use Rattle.walk_run.proofs.ScheduleSteps.{found_at, stands_there, step_makes}
 use Rattle.walk_run.proofs.walking.Walker.make_step.Goals as goal
+
+pub step-requires-clause-legal : goal.step-requires-clause-legal
+step-requires-clause-legal g c = subst IsLegal (sym c.promise.ensures.promises.entries) (sound_is_legal _ (entered_played _ _ c.requires.stand.entered).sound)
+
+pub step-requires-clause-plays : goal.step-requires-clause-plays
+step-requires-clause-plays g c =
+    subst (λ s. Plays s (g.L.Seg.history c.promise.new.self)) (sym c.promise.ensures.script) (subst (Plays (g.L.Seg.script c.args.seg.now)) (sym c.promise.ensures.promises.entries) (entered_played _ _ c.requires.stand.entered).plays)
+
+pub step-requires-clause-place : goal.step-requires-clause-place
+step-requires-clause-place g c =
+    subst (λ b. 0 < g.L.Seg.promised c.promise.new.self b) (sym (stands_there _ _ _ _ _ c.requires.backend c.requires.stand c.index_mut-backend.ensures.value).id) (omega (arith, c.in_ok-promise.ensures.promises.ok))
+
+pub step-requires-clause-alive : goal.step-requires-clause-alive
+step-requires-clause-alive g c = c.requires.running _ (found_at _ _ _ _ _ c.requires.backend c.requires.stand c.index_mut-backend.ensures.value)
 
 pub returns-clause-makes : goal.returns-clause-makes
 returns-clause-makes g c =
-    step_makes (g.L.Seg.script c.args.seg.now) (g.L.Seg.script c.promise.new.self) (g.L.Seg.history c.args.seg.now) (g.L.Seg.history c.promise.new.self) (g.L.Seg.history c.step.new.seg) c.args.self.now.backends.items c.args.b
+    step_makes (g.L.Seg.script c.args.seg.now) (g.L.Seg.script c.promise.new.self) (g.L.Seg.history c.args.seg.now) (g.L.Seg.history c.promise.new.self) (g.L.Seg.history c.step.new.seg) (g.L.Seg.promised c.promise.new.self) (g.L.Seg.promised c.step.new.seg) c.args.self.now.backends.items c.args.b
     c.index_mut-backend.result.now c.step.new.self c.step.result c.promise.ensures.script c.promise.ensures.promises.entries c.requires.backend c.requires.stand c.index_mut-backend.ensures.value c.step.ensures.steps

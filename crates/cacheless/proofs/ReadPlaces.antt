@@ -1,18 +1,30 @@
--- The rows that a scan gave are its answer by the entries up to its own.
-use Rattle.std.proofs.Common.{◌≡◌, ◌+◌, ◌∙◌, ℕ, Bool, true, false, Option, Some, None, List, [], ◌∷◌, ◌++◌, ◌==◌, ◌||◌, refl, sym, ap, length, take, map, filter, arith}
+-- Where a backend last made a scan; and the rows that the scan gave are its answer by the entries up to its own.
+use Rattle.std.proofs.Common.{◌≡◌, ◌+◌, ◌∙◌, ℕ, Bool, true, false, Option, Some, None, List, [], ◌∷◌, ◌++◌, ◌==◌, ◌||◌, refl, sym, ap, length, take, map, filter, unwrap_or, arith}
 use Rattle.std.proofs.Math.Bool.{or-false}
 use Rattle.std.proofs.lemmas.List.{take-append-le, take_all, length_push}
 use Rattle.base_types.specs.Scans.{scan_of}
 use Rattle.event_kinds.specs.declared.entry.Event.TheVariants as events
-use Rattle.history_model.specs.Read.{is_scan_of, place_read, rows_read}
+use Rattle.history_model.specs.Read.{is_scan_of, read_at, place_read, rows_read}
 use Rattle.history_model.specs.Transactions.{Running, running_by, running_transaction_of, has_xid, runs_as, makes_visible, is_committed}
 use Rattle.history_model.specs.Versions.{counts, versions_by, versions_of, answer_of}
 use Rattle.history_model.proofs.Prefixes.{along-keeps}
-use Rattle.history_model.proofs.Reading.{versions_of-more, is_committed-more, running_transaction_of-own, running_transaction_of-other, rows_read-own, rows_read-other, place_read-short, place_read-other}
+use Rattle.history_model.proofs.Reading.{versions_of-more, is_committed-more, running_transaction_of-own, running_transaction_of-other, rows_read-own, rows_read-other, read_at-own, place_read-short, place_read-other}
 use Rattle.row_visibility.specs.Seen.{seen_by}
 use Rattle.row_visibility.specs.declared.version.Stamp.{Stamp}
-use Rattle.backend_core.specs.Types.{Purpose, Entry, Event, Version}
-use Rattle.backend_core.proofs.Carry.{place_read-more, place_read-scan}
+use Rattle.row_visibility.specs.declared.version.Version.{Version}
+use Rattle.cacheless.specs.Types.{Purpose, Entry, Event}
+
+-- the place of a scan, after an entry that isn't this scan
+pub place_read-more : (history : List Entry) (e : Entry) (b : ℕ) (scan : Purpose) → is_scan_of scan e.event ≡ false → place_read (history ++ e ∷ []) b scan ≡ place_read history b scan
+place_read-more history e b scan others = by_owner (e.backend == b) refl
+  where
+    by_owner : (t : Bool) → (e.backend == b) ≡ t → place_read (history ++ e ∷ []) b scan ≡ place_read history b scan
+    by_owner true own = ap (λ o. unwrap_or o 0) (read_at-own history e b scan own ∙ ap (λ t. elim t [ true ↦ Some (length history + 1) | false ↦ read_at history b scan ]) others)
+    by_owner false other = place_read-other history e b scan other
+
+-- and after the scan
+pub place_read-scan : (history : List Entry) (e : Entry) (b : ℕ) (scan : Purpose) → (e.backend == b) ≡ true → is_scan_of scan e.event ≡ true → place_read (history ++ e ∷ []) b scan ≡ length history + 1
+place_read-scan history e b scan own is = ap (λ o. unwrap_or o 0) (read_at-own history e b scan own ∙ ap (λ t. elim t [ true ↦ Some (length history + 1) | false ↦ read_at history b scan ]) is)
 
 scan_versions : (scan : Purpose) (before : List Entry) (b c : ℕ) (event : Event) (old : List Version) → is_scan_of scan event ≡ true → versions_by before b c event old ≡ old
 scan_versions scan before b c (events.Scan made count) old is = refl

@@ -5,6 +5,7 @@ use Rattle.std.specs.Str.{bytes_eq}
 use Rattle.std.proofs.lemmas.List.{append-nil}
 use Rattle.base_types.specs.Fields.{has_field}
 use Rattle.base_types.specs.declared.command.Command.TheVariants as commands
+use Rattle.base_types.specs.declared.command.NewColumn.{NewColumn}
 use Rattle.base_types.specs.declared.dropped.TheConstants.{MOST_COLUMNS}
 use Rattle.base_types.specs.declared.mode.Mode.TheVariants.{AccessShare, AccessExclusive}
 use Rattle.base_types.specs.declared.row.Row.TheVariants as rows
@@ -16,11 +17,9 @@ use Rattle.history_model.specs.Drawn.{next_oid}
 use Rattle.history_model.specs.Names.{new_names}
 use Rattle.history_model.specs.Orderly.{IsSound}
 use Rattle.history_model.specs.Prefixes.{EachEntry}
-use Rattle.history_model.specs.Writes.{has_written}
-use Rattle.seg_calls.specs.Calls.{MayWrite, items_drawn}
 use Rattle.cacheless.specs.ActsDone.{reached, made_in, opening_by, relation_by, WayHolds}
 use Rattle.cacheless.specs.Facts.{Facts}
-use Rattle.cacheless.specs.Locks.{locked_by}
+use Rattle.cacheless.specs.Locks.{locked_by, locks_written}
 use Rattle.cacheless.specs.Plays.{names_of, drafted}
 use Rattle.cacheless.specs.Session.{none_open}
 use Rattle.cacheless.specs.TableWrites.{WritesTables, KeepsTables}
@@ -29,22 +28,22 @@ use Rattle.cacheless.proofs.AlterationsFit.{MayBeWritten, IsAlteration}
 use Rattle.cacheless.proofs.AlteringLocks.{alteration_may_write}
 use Rattle.cacheless.proofs.NewTableItems as tables
 use Rattle.cacheless.proofs.Ways.{NeverWrites, never_reaches, none_reached, made_in-over}
-use Rattle.backend_core.specs.Types.{Oid, Mode, Kind, NewColumn, Row, Command, CommandError, Draft, Entry, Opening, OwnLock}
-use Rattle.backend_core.specs.State.{locks_written}
-use Rattle.backend_core.proofs.NewTable.{new_table_may_write, new_table_locks, new_table_names}
+use Rattle.cacheless.specs.Types.{Oid, Mode, Kind, Row, Command, CommandError, Draft, Entry, Opening, OwnLock}
+use Rattle.cacheless.proofs.FitToWrite.{IsFit}
+use Rattle.cacheless.proofs.NewTable.{new_table_fits, new_table_locks, new_table_names}
 
--- a draft may be written, but for its names; it keeps tables; the names that the history sees in it are those of its plan; and it takes the lock of the relation that it makes, if it makes one
+-- a draft may be written, but for its names and that its command has written nothing yet; it keeps tables; the names that the history sees in it are those of its plan; and it takes the lock of the relation that it makes, if it makes one
 pub record WriteFits (history : List Entry) (b c : ℕ) (facts : Facts) (draft : Draft) : Type 0 where
-  pub may : MayWrite history b c draft
-  pub keeps : KeepsTables history b (items_drawn history draft)
-  pub names : (name : List ℕ) → list_any (bytes_eq name) (new_names history b (items_drawn history draft)) ≡ true → list_any (bytes_eq name) (flat_map (names_of facts) (drafted (next_oid history) draft)) ≡ true
+  pub fit : IsFit history b draft.new_oids (drafted (next_oid history) draft)
+  pub keeps : KeepsTables history b (drafted (next_oid history) draft)
+  pub names : (name : List ℕ) → list_any (bytes_eq name) (new_names history b (drafted (next_oid history) draft)) ≡ true → list_any (bytes_eq name) (flat_map (names_of facts) (drafted (next_oid history) draft)) ≡ true
   pub locks : (rel : Oid) (locks : List OwnLock) → rel.0 ≡ next_oid history → locks ++ flat_map (locked_by c) (drafted (next_oid history) draft) ≡ locks_written draft.new_oids rel c locks
 
 -- a new table
-table_fits : (history : List Entry) (b c : ℕ) (facts : Facts) (draft : Draft) → IsSound history → IsTableDraft draft → has_written history b c ≡ false → WriteFits history b c facts draft
-table_fits history b c facts draft sound table only = record {
-  may = new_table_may_write history b c draft sound table only;
-  keeps = subst (λ d. KeepsTables history b (items_drawn history d)) (sym table.is) (tables.new_table_keeps history b table.name table.columns);
+table_fits : (history : List Entry) (b c : ℕ) (facts : Facts) (draft : Draft) → IsSound history → IsTableDraft draft → WriteFits history b c facts draft
+table_fits history b c facts draft sound table = record {
+  fit = new_table_fits history b draft sound table;
+  keeps = subst (λ d. KeepsTables history b (drafted (next_oid history) d)) (sym table.is) (tables.new_table_keeps history b table.name table.columns);
   names = λ name is. ap (list_any (bytes_eq name)) (sym (new_table_names history b facts draft table)) ∙ is;
   locks = λ rel locks first.
       ap (λ l. locks ++ l) (new_table_locks c (next_oid history) draft table ∙ (λ i. record { rel = record { 0 = sym first i }; mode = AccessExclusive; command = c; clear = true } ∷ []))
@@ -52,9 +51,9 @@ table_fits history b c facts draft sound table only = record {
 }
 
 -- an alteration
-rows_fit : (history : List Entry) (b c : ℕ) (facts : Facts) (draft : Draft) → IsRowsDraft draft → MayBeWritten history b draft → has_written history b c ≡ false → WriteFits history b c facts draft
-rows_fit history b c facts draft drawn may only = record {
-  may = record { oids = may.fit.oids; keys = may.fit.keys; there = may.fit.there; kinds = may.fit.kinds; only = only; guarded = may.fit.guarded; orderly = may.fit.orderly };
+rows_fit : (history : List Entry) (b c : ℕ) (facts : Facts) (draft : Draft) → IsRowsDraft draft → MayBeWritten history b draft → WriteFits history b c facts draft
+rows_fit history b c facts draft drawn may = record {
+  fit = may.fit;
   keeps = may.keeps;
   names = λ name is. absurd (let no : false ≡ true = sym (ap (list_any (bytes_eq name)) may.nameless) ∙ is in cc no);
   locks = λ rel locks first. ap (λ l. locks ++ l) (may.lockless c) ∙ append-nil locks ∙ sym (ap (λ d. locks_written d.new_oids rel c locks) drawn.is);
@@ -101,8 +100,8 @@ alters command gave draft rest o built on one = absurd (cc)
 
 -- what a command is about to write, by its way
 pub write_fits : (history : List Entry) (b c : ℕ) (facts : Facts) (command : Command) (gave : List (List Row)) (draft : Draft) (rest : List Row → Plan) → IsSound history → EachEntry WritesTables history → runs command ≡ true → WayHolds history b gave (plan_of none_open command)
-    → reached gave (plan_of none_open command) ≡ Do (Write draft) rest → has_written history b c ≡ false → WriteFits history b c facts draft
-write_fits history b c facts command gave draft rest sound kept built way on only = by_write
+    → reached gave (plan_of none_open command) ≡ Do (Write draft) rest → WriteFits history b c facts draft
+write_fits history b c facts command gave draft rest sound kept built way on = by_write
     (at_write relations opened draft rest (subst (HasCome relations opened) on (has_come gave (plan_of none_open command) (follows_order none_open command (runs_built none_open command built))))).1
   where
     relations : List Opening
@@ -112,6 +111,6 @@ write_fits history b c facts command gave draft rest sound kept built way on onl
     opened = made_in opening_by gave (plan_of none_open command)
 
     by_write : WritesTable relations opened draft ⊎ WritesRows relations opened draft → WriteFits history b c facts draft
-    by_write (inl table) = table_fits history b c facts draft sound table.table only
+    by_write (inl table) = table_fits history b c facts draft sound table.table
     by_write (inr altered) = rows_fit history b c facts draft altered.rows_are
-        (alteration_may_write history b none_open command gave draft rest sound kept (alters command gave draft rest _ built on altered.found_is) way on) only
+        (alteration_may_write history b none_open command gave draft rest sound kept (alters command gave draft rest _ built on altered.found_is) way on)

@@ -4,6 +4,7 @@ use Rattle.std.specs.List.{AllByRecursion, flat_map, filter_map, list_any, list_
 use Rattle.std.proofs.lemmas.Bool.{ne_eqb, eq-eqb, or_left, or_right}
 use Rattle.std.proofs.lemmas.List.Folds.{list_any-append}
 use Rattle.base_types.specs.RowKeys.{key_of, same_key, are_distinct_keys}
+use Rattle.base_types.specs.declared.command.NewColumn.{NewColumn}
 use Rattle.base_types.specs.declared.ids.Oid.{Oid}
 use Rattle.base_types.specs.declared.mode.Mode.TheVariants.{AccessExclusive}
 use Rattle.base_types.specs.declared.key.CacheId.TheVariants.{RelName, RelOid, AttName}
@@ -29,16 +30,16 @@ use Rattle.history_model.specs.Names.{new_names}
 use Rattle.history_model.specs.Orderly.{main_rel, IsSound, is_fresh, keeps_relation, covers_named}
 use Rattle.history_model.specs.Sent.{cats_by, rels_by, messages_written}
 use Rattle.history_model.specs.Versions.{versions_of, ended_key, old_row}
-use Rattle.history_model.specs.Writes.{changed_key, has_row, has_written, is_guarded, keeps_kind, rows_named}
+use Rattle.history_model.specs.Writes.{changed_key, has_row, is_guarded, keeps_kind, rows_named}
 use Rattle.history_model.specs.Held.{held_of}
 use Rattle.history_model.proofs.DrawnRows.{rows_drawn}
-use Rattle.seg_calls.specs.Calls.{MayWrite, items_drawn}
 use Rattle.cacheless.specs.Facts.{Facts}
 use Rattle.cacheless.specs.Locks.{locked_by}
 use Rattle.cacheless.specs.Plays.{names_of, drafted}
 use Rattle.cacheless.proofs.ActOrder.{IsTableDraft}
 use Rattle.cacheless.proofs.NewTableItems.{column_item, table_items, drafted_is}
-use Rattle.backend_core.specs.Types.{NewColumn, Draft}
+use Rattle.cacheless.specs.Types.{Draft}
+use Rattle.cacheless.proofs.FitToWrite.{IsFit}
 
 columns_draw : (rel : Oid) (numbered : List (ℕ × NewColumn)) → (flat_map drawn_by (map (column_item rel) numbered) ≡ []) × (flat_map made_by (map (column_item rel) numbered) ≡ [])
 columns_draw rel [] = (refl, refl)
@@ -195,18 +196,17 @@ may_add before b rel name columns drawn = record {
     numbered = enumerate_from 1 columns
 
 -- a backend may write a new table, unless its name is taken
-pub new_table_may_write : (history : List Entry) (b c : ℕ) (draft : Draft) → IsSound history → IsTableDraft draft → has_written history b c ≡ false → MayWrite history b c draft
-new_table_may_write history b c draft sound table only = subst (MayWrite history b c) (sym table.is) (record {
+pub new_table_fits : (history : List Entry) (b : ℕ) (draft : Draft) → IsSound history → IsTableDraft draft → IsFit history b draft.new_oids (drafted (next_oid history) draft)
+new_table_fits history b draft sound table = subst (λ d. IsFit history b d.new_oids (drafted (next_oid history) d)) (sym table.is) (record {
   oids = may.oids;
   keys = may.keys;
   there = may.there;
   kinds = may.kinds;
-  only = only;
   guarded = may.guarded;
   orderly = record { fresh = may.fresh; keeps = may.keeps; named = may.named };
 })
   where
-    may : MayAdd history b (next_oid history) 1 (items_drawn history (new_table table.name table.columns))
+    may : MayAdd history b (next_oid history) 1 (drafted (next_oid history) (new_table table.name table.columns))
     may = subst (MayAdd history b (next_oid history) 1) (sym (drafted_is (next_oid history) table.name table.columns))
         (may_add history b (record { 0 = next_oid history }) table.name table.columns (rows_drawn history sound))
 
@@ -220,7 +220,7 @@ columns_named before b facts rel [] = refl
 columns_named before b facts rel (column ∷ numbered) = columns_named before b facts rel numbered
 
 -- the new names of a new table, as the history and as its command say
-pub new_table_names : (history : List Entry) (b : ℕ) (facts : Facts) (draft : Draft) → IsTableDraft draft → new_names history b (items_drawn history draft) ≡ flat_map (names_of facts) (drafted (next_oid history) draft)
+pub new_table_names : (history : List Entry) (b : ℕ) (facts : Facts) (draft : Draft) → IsTableDraft draft → new_names history b (drafted (next_oid history) draft) ≡ flat_map (names_of facts) (drafted (next_oid history) draft)
 new_table_names history b facts draft table =
     ap (λ d. new_names history b (drafted (next_oid history) d)) table.is ∙ ap (new_names history b) same
     ∙ ap (λ l. table.name ∷ l) (columns_named history b facts (record { 0 = next_oid history }) (enumerate_from 1 table.columns))

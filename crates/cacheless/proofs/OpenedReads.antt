@@ -1,11 +1,10 @@
 -- What a command reads is of a descriptor that it has opened before.
-use Rattle.std.proofs.Common.{◌≡◌, ◌-◌, ◌∙◌, ℕ, Bool, true, false, not, ◌||◌, Option, Some, None, List, [], ◌∷◌, ◌++◌, refl, sym, ap, subst, cond, Contains}
-use Rattle.std.specs.List.{list_any}
+use Rattle.std.proofs.Common.{◌≡◌, ◌-◌, ◌∙◌, ℕ, true, false, ◌||◌, Option, Some, None, List, [], ◌∷◌, ◌++◌, refl, sym, ap, subst, Contains}
 use Rattle.std.proofs.lemmas.List.{append-nil}
 use Rattle.std.proofs.lemmas.List.Folds.{list_any_at}
 use Rattle.base_types.specs.Scans.{same_scan, build_scans}
 use Rattle.base_types.specs.declared.row.Row.TheVariants as rows
-use Rattle.base_types.proofs.SameScan.{same_scan-true, same_scan-itself}
+use Rattle.base_types.proofs.SameScan.{same_scan-itself}
 use Rattle.ddl_effect.specs.Plans.{Plan, Act, Do, Lookup, Open, Column, Read, Lock, Write}
 use Rattle.ddl_effect.specs.Commands.{plan_of, found}
 use Rattle.cacheless.specs.Runs.{runs}
@@ -14,9 +13,8 @@ use Rattle.cacheless.specs.Session.{none_open, outcome_of, is_settled, plan_admi
 use Rattle.cacheless.specs.Settled.{opened_by}
 use Rattle.cacheless.proofs.ActOrder.{FollowsOpen, FollowsFound, FollowsOrder, follows_order, runs_built}
 use Rattle.cacheless.proofs.EffectAlong.{plain_row}
-use Rattle.backend_core.specs.Types.{Oid, Mode, Kind, Row, Purpose, Command, CommandError, Opening, KeptScan}
-use Rattle.backend_core.specs.State.{is_kept, missing, builds_missing}
-use Rattle.backend_core.specs.Agrees.{is_of_opened, ReadsOpened}
+use Rattle.cacheless.specs.Types.{Oid, Mode, Kind, Row, Purpose, Command, CommandError, Opening}
+use Rattle.cacheless.specs.OpenedReads.{is_of_opened, ReadsOpened}
 
 -- a plan that has come out reads nothing
 pub reads_out : (opened : List Opening) (plan : Plan) → is_settled (outcome_of plan) ≡ true → ReadsOpened opened plan
@@ -82,35 +80,3 @@ reads_after opened act rest given now plan reads pushed on = subst (λ o. ReadsO
     by_act (Column rel name) all = all given
     by_act (Lock rel mode) all = all given
     by_act (Write draft) all = all given
-
--- where the scans of a descriptor are there, each is
-kept_among : (kept : List KeptScan) (scan : Purpose) (wanted : List Purpose) → missing kept wanted ≡ [] → list_any (same_scan scan) wanted ≡ true → is_kept kept scan ≡ true
-kept_among kept scan [] none has = absurd (cc)
-kept_among kept scan (first ∷ wanted) none has = by_same (kept_among kept scan wanted both.1) (same_scan scan first) refl has
-  where
-    by_kept : (t : Bool) → is_kept kept first ≡ t → cond (not t) (first ∷ missing kept wanted) (missing kept wanted) ≡ [] → (is_kept kept first ≡ true) × (missing kept wanted ≡ [])
-    by_kept true is none = (is, none)
-    by_kept false is none = absurd (cc)
-
-    both : (is_kept kept first ≡ true) × (missing kept wanted ≡ [])
-    both = by_kept (is_kept kept first) refl none
-
-    by_same : (list_any (same_scan scan) wanted ≡ true → is_kept kept scan ≡ true) → (t : Bool) → same_scan scan first ≡ t → (t || list_any (same_scan scan) wanted) ≡ true → is_kept kept scan ≡ true
-    by_same later true is any = ap (is_kept kept) (same_scan-true scan first is) ∙ both.0
-    by_same later false is any = later any
-
-pub two_empty : (xs ys : List Purpose) → xs ++ ys ≡ [] → (xs ≡ []) × (ys ≡ [])
-two_empty [] ys none = (refl, none)
-two_empty (x ∷ xs) ys none = absurd (cc)
-
--- where no scan is missing for the opened descriptors, what is read is kept
-pub kept_opened : (kept : List KeptScan) (scan : Purpose) (opened : List Opening) → builds_missing kept opened ≡ [] → is_of_opened scan opened ≡ true → is_kept kept scan ≡ true
-kept_opened kept scan [] none has = absurd (cc)
-kept_opened kept scan (o ∷ opened) none has = by_here (kept_opened kept scan opened both.1) (list_any (same_scan scan) (build_scans o.kind o.rel)) refl has
-  where
-    both : (missing kept (build_scans o.kind o.rel) ≡ []) × (builds_missing kept opened ≡ [])
-    both = two_empty (missing kept (build_scans o.kind o.rel)) (builds_missing kept opened) none
-
-    by_here : (is_of_opened scan opened ≡ true → is_kept kept scan ≡ true) → (t : Bool) → list_any (same_scan scan) (build_scans o.kind o.rel) ≡ t → (t || is_of_opened scan opened) ≡ true → is_kept kept scan ≡ true
-    by_here later true is any = kept_among kept scan (build_scans o.kind o.rel) both.0 is
-    by_here later false is any = later any

@@ -1,0 +1,133 @@
+-- How far a command is in what its plan says, by the session of its backend and the history.
+use Rattle.std.specs.Prelude.{◌≡◌, ◌<◌, ⊤, ℕ, Bool, true, false, Option, Some, None, List, [], ◌∷◌, map, length, slice_get}
+use Rattle.std.specs.List.{AllByRecursion}
+use Rattle.base_types.specs.declared.row.Row.TheVariants as rows
+use Rattle.base_types.specs.declared.scan.Purpose.TheVariants as scans
+use Rattle.event_kinds.specs.declared.entry.Event.TheVariants as events
+use Rattle.lock_modes.specs.Own.{cleared}
+use Rattle.ddl_effect.specs.Plans.{Act, Lookup, Write, Plan, Done, Fails, Absent, Do, NotBuilt}
+use Rattle.ddl_effect.specs.Commands.{plan_of, commands_of}
+use Rattle.history_model.specs.Lives.{last_event_of}
+use Rattle.history_model.specs.Read.{rows_read}
+use Rattle.history_model.specs.Versions.{answer_of}
+use Rattle.history_model.specs.Writes.{has_written}
+use Rattle.cacheless.specs.Types.{Oid, Mode, Kind, Row, Command, CommandError, Draft, Scenario, Entry, Event}
+use Rattle.cacheless.specs.Facts.{Facts, facts_of}
+use Rattle.cacheless.specs.Owed.{owes_accept}
+use Rattle.cacheless.specs.Runs.{runs}
+use Rattle.cacheless.specs.Session.{Session, none_open, number_of, outcome_of, is_settled}
+use Rattle.cacheless.specs.Settled.{class_oid, found_by, is_finished}
+use Rattle.cacheless.specs.Sessions.{session_of}
+use Rattle.cacheless.specs.ActsDone.{reached, made_in, opening_by, locked_relation_by, IsHeld, IsStill, WayHolds}
+
+-- the command failed to find a relation
+abbrev pub is_absent : Plan → Bool
+is_absent (Absent name) = true
+is_absent plan = false
+
+-- a command that the program runs and that hasn't written, by what its acts gave so far
+pub record OnItsWay (seen : List Entry) (b : ℕ) (s : Session) (command : Command) : Type 0 where
+  pub gave : List (List Row)
+  pub plan : s.left ≡ reached gave (plan_of none_open command)
+  pub found : s.found ≡ made_in found_by gave (plan_of none_open command)
+  pub opened : s.opened ≡ made_in opening_by gave (plan_of none_open command)
+  pub runs : runs command ≡ true
+  pub holds : WayHolds seen b gave (plan_of none_open command)
+  pub unwritten : has_written seen b (number_of s) ≡ false
+
+-- a command that has written, by what its acts before gave
+pub record HasWritten (seen : List Entry) (b : ℕ) (s : Session) (command : Command) : Type 0 where
+  pub gave : List (List Row)
+  pub draft : Draft
+  pub further : List Row → Plan
+  pub came : reached gave (plan_of none_open command) ≡ Do (Write draft) further
+  pub plan : s.left ≡ Done
+  pub written : has_written seen b (number_of s) ≡ true
+
+-- a command that isn't built, and so never ends
+pub record IsNotBuilt (s : Session) : Type 0 where
+  pub plan : s.left ≡ NotBuilt
+
+-- the last entry took writes of the command back, or its release is made
+abbrev pub is_over : Option Event → Session → Bool
+is_over (Some (events.Gone from)) s = true
+is_over last s = s.ended
+
+-- a command that has come out, and whose locks may be gone
+pub record IsOver (seen : List Entry) (b : ℕ) (s : Session) : Type 0 where
+  pub out : is_settled (outcome_of s.left) ≡ true
+  pub over : is_over (last_event_of seen b) s ≡ true
+
+-- how far a command is that no error of an entry has ended
+pub data Way (seen : List Entry) (b : ℕ) (s : Session) (command : Command) : Type 0 where
+  Begun : (way : OnItsWay seen b s command) → Way seen b s command
+  Wrote : (written : HasWritten seen b s command) → Way seen b s command
+  Unbuilt : (unbuilt : IsNotBuilt s) → Way seen b s command
+  Over : (over : IsOver seen b s) → Way seen b s command
+
+-- what an act gave is so, and the relation that it found is locked
+pub record GaveNow (seen : List Entry) (b : ℕ) (act : Act) (gave : List Row) : Type 0 where
+  pub locked : AllByRecursion (IsHeld seen b) (locked_relation_by act gave)
+  pub still : IsStill (answer_of seen b) act gave
+
+-- a lookup by its oid shows the backend one relation, of this kind
+pub record SeesRelation (seen : List Entry) (b : ℕ) (rel : Oid) (kind : Kind) : Type 0 where
+  pub name : List ℕ
+  pub fill : Option ℕ
+  pub row : answer_of seen b (scans.Class rel) ≡ rows.Class rel name kind fill ∷ []
+
+-- the relation that the first row names is seen
+abbrev pub IsFirstSeen : List Entry → ℕ → List Row → Type 0
+IsFirstSeen seen b (rows.Class rel own kind fill ∷ more) = SeesRelation seen b rel kind
+IsFirstSeen seen b given = ⊤
+
+-- what the last scan of a name gave: the relation is seen, where a lookup rests on it, and there is none, where the command failed to find one
+abbrev pub NamedFits : List Entry → ℕ → Plan → Bool → Type 0
+NamedFits seen b (Do (Lookup name mode) rest) true = IsFirstSeen seen b (rows_read seen b (scans.RelName name))
+NamedFits seen b (Absent name) read = class_oid (rows_read seen b (scans.RelName name)) ≡ None
+NamedFits seen b plan read = ⊤
+
+-- a command that failed to find a relation was at its first act before, to which a fetch brings it back
+pub record WasSought (seen : List Entry) (b : ℕ) (s : Session) (command : Command) (name : List ℕ) : Type 0 where
+  pub mode : Mode
+  pub rest : List Row → Plan
+  pub looks : s.sought ≡ Do (Lookup name mode) rest
+  pub first : s.sought ≡ plan_of none_open command
+  pub runs : runs command ≡ true
+  pub found : length s.found ≡ 1
+  pub opened : s.opened ≡ []
+  pub unwritten : has_written seen b (number_of s) ≡ false
+
+-- the running command does what its plan says
+pub record FollowsPlan (seen : List Entry) (b : ℕ) (s : Session) (command : Command) : Type 0 where
+  pub refused : (error : CommandError) → s.refused ≡ Some error → s.left ≡ Fails error
+  pub way : s.refused ≡ None → Way seen b s command
+  pub named : NamedFits seen b s.left s.read
+  pub sought : (name : List ℕ) → s.left ≡ Absent name → WasSought seen b s command name
+  pub plain : plan_of none_open command ≡ Done → s.opened ≡ []
+
+-- a session is on its course: the running command, if there is one, does what its plan says and hasn't made its release, and no later one has written
+pub record IsOnCourse (scenario : Scenario) (seen : List Entry) (b : ℕ) (s : Session) : Type 0 where
+  pub follows : (command : Command) → slice_get (commands_of scenario b) (length s.finished) ≡ Some command → FollowsPlan seen b s command
+  pub going : (command : Command) → slice_get (commands_of scenario b) (length s.finished) ≡ Some command → s.ended ≡ false
+  pub later : (c : ℕ) → number_of s < c → has_written seen b c ≡ false
+
+-- the locks of a session are clear, unless its accept of messages isn't over
+abbrev pub ClearUnlessOwed : Facts → Option Command → Session → Type 0
+ClearUnlessOwed facts command s = owes_accept facts command s ≡ false → map cleared s.locks ≡ s.locks
+
+-- the same before it has gone on without entries: where the running command has made its release, it is finished
+pub record EntersCourse (scenario : Scenario) (seen : List Entry) (b : ℕ) (s : Session) : Type 0 where
+  pub follows : (command : Command) → slice_get (commands_of scenario b) (length s.finished) ≡ Some command → FollowsPlan seen b s command
+  pub ends : (command : Command) → slice_get (commands_of scenario b) (length s.finished) ≡ Some command → s.ended ≡ true → is_finished (facts_of seen b) command s ≡ true
+  pub later : (c : ℕ) → number_of s < c → has_written seen b c ≡ false
+  pub clear : ClearUnlessOwed (facts_of seen b) (slice_get (commands_of scenario b) (length s.finished)) s
+
+-- before its start a backend has written nothing, and afterwards its session is on its course
+abbrev pub CourseOf : Scenario → List Entry → ℕ → Option Session → Type 0
+CourseOf scenario seen b None = (c : ℕ) → has_written seen b c ≡ false
+CourseOf scenario seen b (Some s) = IsOnCourse scenario seen b s
+
+-- each backend is on its course
+abbrev pub AllOnCourse : Scenario → List Entry → Type 0
+AllOnCourse scenario history = (b : ℕ) → CourseOf scenario history b (session_of scenario history b)
