@@ -25,7 +25,7 @@ from catsync_tools.orders import History, Search
 from catsync_tools.program import Program, Run
 from catsync_tools.progress import Progress
 from catsync_tools.report import led_to
-from catsync_tools.scripts import read_script, steps_line, turns_of
+from catsync_tools.scripts import steps_line, turns_of
 from catsync_tools.search import Exploration, Settings, wanted_of
 from catsync_tools.serial import SerialRuns, WholeAccesses, commands_of, transactions_of
 from catsync_tools.shares import shares
@@ -403,7 +403,7 @@ class Explorer(unittest.TestCase):
 
     def run_with(self, script, line):
         """The run of a script with this line of steps."""
-        return self.program.run(read_script(script).with_steps(line))
+        return self.program.run(read_source(script).script.with_steps(line))
 
     def test_answers_by_hand(self):
         """Each set of answers that was worked out by hand is found, and no other."""
@@ -471,10 +471,10 @@ class Explorer(unittest.TestCase):
         one, other = (self.explore(script, "--jobs", jobs) for jobs in ("1", "3"))
         self.assertEqual(one, other)
         self.assertRegex(one[1], "^all 287 orders: ")
-        self.assertEqual(self.merged(script, 3), self.without_runs(one[1]))
+        self.assertEqual(self.merged(script, 3), one[1])
 
     def merged(self, script, count, *words):
-        """What the parts of a search are merged to, without how often the program was run."""
+        """What the parts of a search are merged to."""
         with tempfile.TemporaryDirectory() as folder:
             paths = [os.path.join(folder, "part%d" % part) for part in range(1, count + 1)]
             for part, path in enumerate(paths, 1):
@@ -486,18 +486,14 @@ class Explorer(unittest.TestCase):
             self.assertEqual((status, said), (0, ""))
             some = call("explore", "--merge", *paths[:-1])[1].decode() if count > 1 else ""
             self.assertEqual(some.split(" ", 1)[0], "stopped" if count > 1 else "")
-        return self.without_runs(text.decode())
-
-    def without_runs(self, text):
-        """A report without how often the program was run."""
-        return re.sub(r" \([0-9]+ runs? of the program\)", "", text, count=1)
+        return text.decode()
 
     def test_parts(self):
         """Parts are merged to what one search prints."""
         for script, _ in BY_HAND:
             for words in ((), ("--random", "90")):
                 with self.subTest((script, words)):
-                    self.assertEqual(self.merged(script, 4, *words), self.without_runs(self.explore(script, *words)[1]))
+                    self.assertEqual(self.merged(script, 4, *words), self.explore(script, *words)[1])
 
     def test_faulty_parts(self):
         """Files that aren't different parts of one search are refused."""
@@ -578,8 +574,8 @@ class Explorer(unittest.TestCase):
 
     def test_find_interleaved(self):
         """What a serial order leads to is passed over."""
-        self.assertEqual(self.explore(CREATE_AND_SHOW, "--find", "name t")[0], 0)
-        self.assertEqual(self.explore(CREATE_AND_SHOW, "--find", "name t", "--interleaved")[0], 1)
+        self.assertEqual(self.explore(CREATE_AND_SHOW, "--find", "l 2 1 name t")[0], 0)
+        self.assertEqual(self.explore(CREATE_AND_SHOW, "--find", "l 2 1 name t", "--interleaved")[0], 1)
         self.assertEqual(self.explore(CREATE_AND_SHOW, "--find", "55P03", "--interleaved")[0], 0)
 
     def test_setup(self):
@@ -625,7 +621,7 @@ class Explorer(unittest.TestCase):
                  (["--picture", "/proc"], TWO_CREATORS, "/proc/set1.svg: writing failed: "),
                  (["--program", "/no/such/program"], TWO_CREATORS, "/no/such/program: "),
                  (["--program", "/bin/echo"], TWO_CREATORS, "/bin/echo: what it prints isn't an output of catsync"),
-                 ([], b"", "catsync: line 1: NoBackends: ")]
+                 ([], b"", "line 1: "), (["--merge"], TWO_CREATORS, "--merge needs FILEs; "), (["x"], b"", "FILEs are for --merge; ")]
         for name in ("bad_line", "not_built_yet"):
             error = os.path.join(examples, name + ".error")
             if os.path.exists(error):

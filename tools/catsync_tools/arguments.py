@@ -1,5 +1,6 @@
 """The command line of a tool, and its --help, which has one form in all tools."""
 import argparse
+import textwrap
 
 from .faults import Fault, write_output
 
@@ -20,8 +21,8 @@ class Arguments(argparse.ArgumentParser):
 
     def __init__(self, prog, usage, purpose, statuses):
         rows = ["  %-5d%s" % status for status in sorted(statuses + (FAULTY, STOPPED))]
-        super().__init__(prog=prog, usage="%s %s" % (prog, usage), description=purpose, allow_abbrev=False, add_help=False,
-                         epilog="\n".join(["exit status:"] + rows), formatter_class=_form)
+        super().__init__(prog=prog, usage="%s %s" % (prog, usage), description=textwrap.fill(purpose, WIDTH),
+                         allow_abbrev=False, add_help=False, epilog="\n".join(["exit status:"] + rows), formatter_class=_form)
         self.options = self.add_argument_group("options")
 
     def option(self, name, **settings):

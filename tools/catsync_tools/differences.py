@@ -44,8 +44,8 @@ class Difference(NamedTuple):
 
 
 def profile():
-    """The text of docs/PROFILE.md, with one blank between words."""
-    return " ".join(read_file(PROFILE).decode("utf-8", "replace").split())
+    """The text of docs/PROFILE.md in small letters, with one blank between words."""
+    return " ".join(read_file(PROFILE).decode("utf-8", "replace").lower().split())
 
 
 def words_of(compared: Compared, part, text):

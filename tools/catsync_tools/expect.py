@@ -6,7 +6,7 @@ from .access import Accesses
 from .arguments import Arguments
 from .counting import counted_script
 from .expected import NEVER, OWN, SOME, Answers, Expectation
-from .faults import Fault, read_input, write_output
+from .faults import Fault, read_file, read_input, write_output
 from .orders import Search
 from .program import Program, proved_program
 from .progress import Progress
@@ -57,15 +57,6 @@ def scripts_at(path):
     if not found:
         raise Fault("%s: no file there ends with .script" % path)
     return found
-
-
-def content_of(path):
-    """The bytes of a file."""
-    try:
-        with open(path, "rb") as file:
-            return file.read()
-    except OSError as error:
-        raise Fault("%s: %s" % (path, error.strerror))
 
 
 def read_script(name, data):
@@ -129,8 +120,7 @@ def trial_of(named: Named, program, most):
     """What became of a script's expectations."""
     trial = Trial(named.source, program, most)
     try:
-        if len(trial.left) < len(named.source.expected):
-            trial.run_own()
+        trial.run_own()
         if trial.left:
             trial.run_orders()
     except Fault as fault:
@@ -152,7 +142,7 @@ def main(words):
     """Runs the scripts, and prints which expectations are met."""
     options = arguments_of(words)
     paths = [path for named in options.paths for path in scripts_at(named)]
-    scripts = [read_script(path, content_of(path)) for path in paths] or [read_script(INPUT, read_input())]
+    scripts = [read_script(path, read_file(path)) for path in paths] or [read_script(INPUT, read_input())]
     program, progress = Program(options.program or proved_program()), Progress()
     lines, passed = [], 0
     for number, named in enumerate(scripts):

@@ -1,4 +1,5 @@
 """The command tools/explore."""
+import argparse
 import os
 import re
 
@@ -19,7 +20,7 @@ MOST_ORDERS = 5000
 
 def count_of(text):
     """A count on the command line."""
-    if not text.isdigit() or int(text) == 0:
+    if not re.fullmatch("0*[1-9][0-9]{0,8}", text):
         raise Fault("not a count: %s" % text)
     return int(text)
 
@@ -34,7 +35,7 @@ def part_of(text):
 
 def arguments_of(words):
     """The command line."""
-    parser = Arguments("explore", "[OPTION].. < SCRIPT", "Runs a script under many schedules, and prints each set of answers "
+    parser = Arguments("explore", "[OPTION].. < SCRIPT, or explore --merge FILE..", "Runs a script under many schedules, and prints each set of answers "
                        "with the shortest schedule that leads to it.",
                        ((0, "the search came to its end, or found the texts"), (1, "no schedule has the texts")))
     parser.option("--most", type=count_of, metavar="N",
@@ -51,7 +52,8 @@ def arguments_of(words):
     parser.option("--html", action="store_true", help="pictures are pages")
     parser.option("--jobs", type=count_of, metavar="N", help="use N processors (all; with --part one)")
     parser.option("--part", type=part_of, metavar="K/N", help="do part K of N parts of the search, and print it for --merge")
-    parser.option("--merge", nargs="+", metavar="FILE", help="print what all parts found; no script is read")
+    parser.option("--merge", action="store_true", help="print what the parts in FILEs found; no script is read")
+    parser.option("files", nargs="*", metavar="FILE", help=argparse.SUPPRESS)
     parser.option("--program", metavar="FILE", help="run FILE in place of the proved executable")
     options = parser.parse(words)
     check(parser, options)
@@ -68,6 +70,8 @@ def check(parser, options):
             ("--interleaved", "--part", options.interleaved and options.part)):
         if is_bad:
             parser.error("%s doesn't go with %s" % (one, other))
+    if bool(options.merge) != bool(options.files):
+        parser.error("--merge needs FILEs" if options.merge else "FILEs are for --merge")
     if "" in options.find:
         parser.error("--find needs a text")
     if options.html and not options.picture:
@@ -115,7 +119,7 @@ def explore(options, exploration):
 def extent_of(options, exploration):
     """What was run."""
     most = None if options.random else options.most or MOST_ORDERS
-    return Extent(exploration.schedules, exploration.is_random, options.seed, most, exploration.runs, exploration.is_over, "")
+    return Extent(exploration.schedules, exploration.is_random, options.seed, most, exploration.is_over, "")
 
 
 def part_found(options, exploration, data):
@@ -123,7 +127,7 @@ def part_found(options, exploration, data):
     sets = [(shown.answers, shown.found) for shown in shown_sets(exploration)]
     serial = {"\n".join(key): kind for key, kind in exploration.serial.items()} if options.part[0] == 1 else None
     return Part(data.decode("utf-8", "surrogateescape"), options.places, options.random, options.seed, options.part[0], options.part[1],
-                exploration.is_over, exploration.schedules, exploration.runs, serial, exploration.is_serial_over, sets)
+                exploration.is_over, exploration.schedules, serial, exploration.is_serial_over, sets)
 
 
 def tell_sets(options, exploration, status):
@@ -156,13 +160,13 @@ def draw(options, exploration, name, run):
         make_folder(options.picture)
         output = read_output(run.output)
         write_file(os.path.join(options.picture, name + (".html" if options.html else ".svg")),
-                   picture_of(output, options.html, span_of(len(output.entries))))
+                   picture_of(output, options.html, span_of(len(output.entries)), exploration.source.commands))
 
 
 def merge(options):
     """Prints what all parts of a search have found."""
-    parts = [read_part(path, read_file(path)) for path in options.merge]
-    check_same(options.merge, parts)
+    parts = [read_part(path, read_file(path)) for path in options.files]
+    check_same(options.files, parts)
     extent, serial, sets = merged(parts)
     if options.interleaved:
         sets = [shown for shown in sets if serial.is_interleaved(shown.answers)]

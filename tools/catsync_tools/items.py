@@ -1,6 +1,6 @@
 """The items of a schedule: whose turn is next, and how far it goes."""
 import re
-from bisect import bisect_right
+from bisect import bisect_left
 from typing import List, NamedTuple, Optional, Tuple
 
 from .events import FORMS
@@ -35,7 +35,7 @@ class Answered(NamedTuple):
     def steps(self, own: Own, at) -> Optional[int]:
         """How many steps it takes; None where a later command has begun. A command that makes no step of its own is answered
         with the step before it."""
-        end = bisect_right([command for command, _ in own], self.command)
+        end = bisect_left(own, (self.command + 1,))
         return end - at if end >= at else None
 
     def missing(self, own: Own, at):

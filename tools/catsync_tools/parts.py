@@ -20,7 +20,6 @@ class Part(NamedTuple):
     parts: int
     is_over: bool
     schedules: int
-    runs: int
     serial: Optional[Dict[str, str]]    # of the first part: kinds of serial orders by their answers, joined by line feeds
     is_serial_over: bool
     sets: List[Tuple[Answers, Found]]   # answers with places
@@ -82,5 +81,5 @@ def extent_of(parts: List[Part]):
     first = parts[0]
     is_whole = len(parts) == first.parts
     return Extent(sum(part.schedules for part in parts), first.random is not None, first.seed, None,
-                  sum(part.runs for part in parts), is_whole and all(part.is_over for part in parts),
+                  is_whole and all(part.is_over for part in parts),
                   "" if is_whole else " of %d of %d parts" % (len(parts), first.parts))

@@ -55,17 +55,27 @@ class Program:
 
     def renew(self):
         """Takes new files for input and standard error, as a process needs that was split off another."""
-        self.input, self.said = tempfile.TemporaryFile(), tempfile.TemporaryFile()
+        try:
+            self.input, self.said = tempfile.TemporaryFile(), tempfile.TemporaryFile()
+        except OSError as error:
+            raise Fault("no file can be made for the program's input: %s" % error.strerror)
+
+    def give(self, script):
+        """Writes the program's input, and empties what it said."""
+        try:
+            for file, content in ((self.input, script), (self.said, b"")):
+                file.seek(0)
+                file.truncate()
+                file.write(content)
+                file.flush()
+                file.seek(0)
+        except OSError as error:
+            raise Fault("the program's input can't be written: %s" % error.strerror)
 
     def run(self, script):
         """What the program prints for a script; a Fault says why it was refused."""
         self.runs += 1
-        for file, content in ((self.input, script), (self.said, b"")):
-            file.seek(0)
-            file.truncate()
-            file.write(content)
-            file.flush()
-            file.seek(0)
+        self.give(script)
         output, status = self.wait()
         if status == -signal.SIGINT:
             raise KeyboardInterrupt

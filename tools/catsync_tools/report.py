@@ -17,12 +17,11 @@ class Shown(NamedTuple):
 
 
 class Extent(NamedTuple):
-    """What was run: how many schedules, of which kind, how often the program, and whether that is all there is to run."""
+    """What was run: how many schedules, of which kind, and whether that is all there is to run."""
     schedules: int
     is_random: bool
     seed: str
     most_orders: Optional[int]      # where there are more orders than this, so that schedules were drawn
-    runs: int
     is_over: bool
     parts: str                      # of which parts, or nothing
 
@@ -94,8 +93,7 @@ def report(extent: Extent, serial: Serial, sets: List[Shown]):
         lines += ["", "set %d: %s%s" % (number, led_to(shown.found, extent.ran), serial.mark(shown.answers)),
                   steps_line(shown.found.turns)] + list(shown.answers)
     interleaved = sum(serial.is_interleaved(shown.answers) for shown in sets)
-    head = "%s: %s of answers, %s only when interleaved (%s of the program)" % (
-        extent.text, counted(len(sets), "set"), interleaved or "none", counted(extent.runs, "run"))
+    head = "%s: %s of answers, %s only when interleaved" % (extent.text, counted(len(sets), "set"), interleaved or "none")
     return "\n".join([head] + lines) + "\n"
 
 

@@ -1,8 +1,6 @@
 """Scripts with other schedules than their own."""
 from typing import Dict, List, NamedTuple, Tuple
 
-from .faults import Fault
-
 Turns = List[Tuple[int, int]]       # backends, each with how many steps it makes before the next one's turn
 
 
@@ -21,24 +19,13 @@ class Script(NamedTuple):
     def commands(self):
         """The texts of its commands, by backend and number."""
         found: Dict[Tuple[int, int], str] = {}
+        counts: Dict[int, int] = {}
         for line in self.lines:
             backend, colon, text = line.decode("ascii", "replace").partition(":")
             if colon and backend.strip().isdigit():
-                number = 1 + sum(other == int(backend) for other, _ in found)
-                found[int(backend), number] = text.strip()
+                counts[int(backend)] = counts.get(int(backend), 0) + 1
+                found[int(backend), counts[int(backend)]] = text.strip()
         return found
-
-
-def read_script(data):
-    """The script of an input that the program doesn't refuse."""
-    lines = []
-    for line in data.split(b"\n"):
-        words = line.lower().split()
-        if words == [b"end"]:
-            return Script(lines)
-        if words[:1] != [b"steps"]:
-            lines.append(line)
-    raise Fault("line %d: the input ends without an 'end' line" % (len(lines) + 1))
 
 
 def turns_of(backends):

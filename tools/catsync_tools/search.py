@@ -31,7 +31,7 @@ class Piece:
 
     def __init__(self, places):
         self.findings = Findings(places)
-        self.schedules, self.runs = 0, 0
+        self.schedules = 0
         self.found: Optional[Turns] = None      # the schedule that is looked for
 
 
@@ -56,7 +56,7 @@ class Exploration:
         self.findings = Findings(settings.places)
         self.serial: Dict[Answers, str] = {}    # the answers of serial orders, each with the first kind that has them
         self.is_serial_over = True
-        self.schedules, self.other_runs = 0, 0  # of the program, in other processes
+        self.schedules = 0
         self.is_random, self.is_over = False, False
         self.found: Optional[Turns] = None      # the schedule that was looked for
 
@@ -76,11 +76,6 @@ class Exploration:
             return False
         lines = lines_of(run)
         return all(any(wanted.search(line) for line in lines) for wanted in self.settings.wanted)
-
-    @property
-    def runs(self):
-        """How often the program was run."""
-        return self.program.runs + self.other_runs
 
     def is_serial(self, answers):
         """Whether a serial order of commands has these answers."""
@@ -128,11 +123,10 @@ class Exploration:
         """A task: all orders of a share."""
         def task():
             """What is found, after each order."""
-            piece, runs = Piece(self.settings.places), self.program.runs
+            piece = Piece(self.settings.places)
             yield piece
             search = Search(self.runner.run, self.runner.backends, Accesses(self.settings.places, self.runner.past), share)
             for run, history in search.orders():
-                piece.runs = self.program.runs - runs
                 if run is not None:
                     found = self.add(piece, run, history.steps)
                     yield piece
@@ -163,12 +157,11 @@ class Exploration:
         """A task: the random schedules of these numbers."""
         def task():
             """What is found, after each schedule."""
-            piece, runs = Piece(self.settings.places), self.program.runs
+            piece = Piece(self.settings.places)
             yield piece
             for number in numbers:
                 draw = random.Random("%s/%d" % (self.settings.seed, number))
                 run = self.runner.run(*random_schedule(draw, self.runner.backends, self.longest))
-                piece.runs = self.program.runs - runs
                 found = self.add(piece, run, self.history(run).steps)
                 yield piece
                 if found:
@@ -225,7 +218,6 @@ class Exploration:
         for number, piece in sorted(jobs.pieces.items()):
             self.findings.merge(piece.findings.sets)
             self.schedules += piece.schedules
-            self.other_runs += piece.runs if jobs.count > 1 else 0
             if piece is found:
                 break
         self.found = found.found if found is not None else None

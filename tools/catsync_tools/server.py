@@ -38,8 +38,9 @@ def main(words):
 def report(version, all_compared, found):
     """Each command with both answers, and what differs."""
     count, new = sum(map(bool, found)), sum(any(each.is_new for each in differences) for differences in found)
-    lines = ["beside PostgreSQL %s: %s, of which %d differ%s" % (
-        version, counted(len(all_compared), "command"), count,
+    differ = "none differs" if not count else "1 differs" if count == 1 else "%d differ" % count
+    lines = ["beside PostgreSQL %s: %s, of which %s%s" % (
+        version, counted(len(all_compared), "command"), differ,
         ", %d in a way that docs/PROFILE.md doesn't name" % new if new else "")]
     for compared, differences in zip(all_compared, found):
         lines += ["", "%d.%d %s" % (compared.command + (compared.text,))] + answers(compared)

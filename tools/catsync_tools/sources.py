@@ -18,7 +18,7 @@ from .expected import Expectation, check_expectation, read_expectation
 from .faults import Fault
 from .items import Answered, Count, Item, check_item, read_items
 from .scripts import Script
-from .spellings import respelled, tokens_of
+from .spellings import respelled, words_of
 
 OTHER, COMMAND, STEPS, EXPECT = "other", "command", "steps", "expect"
 
@@ -69,8 +69,9 @@ class Reader:
 
     def read(self, line):
         """One more line, without its line feed."""
-        text = line.decode("latin-1").rstrip("\r")
-        words = text.lower().split()
+        text = line.decode("latin-1")
+        text = text[:-1] if text.endswith("\r") else text
+        words = words_of(text)
         if self.source.tail:
             if words and not words[0].startswith("--"):
                 raise Fault("line %d: only blank lines and comments may follow the 'end' line" % self.number)

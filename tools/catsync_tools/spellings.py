@@ -2,6 +2,7 @@
 import re
 
 NAME = "[a-z_][a-z0-9_]*"
+WORD = re.compile("[^ \t]+")
 TOKEN = re.compile(r"[(),=:*;]|[^ \t(),=:*;]+")
 
 
@@ -20,7 +21,7 @@ FORMS = tuple((re.compile(pattern), form) for pattern, form in (
     ("(?:begin|start)(?: work| transaction)", "begin"),
     ("(?:commit|end)" + _WORK, "commit"),
     ("(?:rollback|abort)" + _WORK, "rollback"),
-    ("(?:rollback|abort)%s to (?:savepoint )?(%s)" % (_WORK, NAME), r"rollback to \1"),
+    ("(?:rollback work|rollback transaction|abort%s) to (?:savepoint )?(%s)" % (_WORK, NAME), r"rollback to \1"),
     ("lock (?:table )?(?:only )?(%s)(?: nowait)?" % _TABLE, r"lock table \1 in access exclusive mode"),
     ("lock (?:table )?(?:only )?(%s) (in [a-z ]+ mode)(?: nowait)?" % _TABLE, r"lock table \1 \2"),
     ("alter table only (%s) (.*)" % _other_than("add", "drop", "rename", "alter", "set"), r"alter table \1 \2"),
@@ -49,9 +50,19 @@ def without_comment(text):
     return text
 
 
+def words_of(text):
+    """What blanks and tabs separate in a line, in small letters."""
+    return WORD.findall(text.lower())
+
+
 def tokens_of(text):
     """The tokens of a line, in small letters."""
     return TOKEN.findall(text.lower())
+
+
+def spaced(text):
+    """A command with one blank between tokens, as it is written."""
+    return re.sub(r" (?=[,):])|(?<=\() ", "", text)
 
 
 def in_forms(text):
@@ -73,4 +84,4 @@ def respelled(text):
         tokens.pop()
     command = " ".join(tokens)
     spelled = in_forms(command)
-    return plain if spelled == command else " " + spelled
+    return plain if spelled == command else " " + spaced(spelled)

@@ -2,7 +2,9 @@
 //!
 //! They stand in one crate since a crate with tests is proved twice. They test what no clause says:
 //! the definitions against tables from outside, that a call with ample memory succeeds, the texts
-//! that are printed, and what happens where a reader, a writer or a call in its middle fails.
+//! that are printed, and what happens where a reader, a writer or a call in its middle fails. Whole
+//! outputs of the program aren't here: they are files, in tests/runs and examples, which `./prove`
+//! compares with what the proved executable prints.
 //!
 //! Each test is proved before it runs, so most are tables: of calls and what each is answered, or of
 //! texts and what they come to. A helper tries one row. What a proof costs is the steps of a function
@@ -11,11 +13,7 @@
 #![tactic(auto)]
 
 #[cfg(test)]
-mod alter_runs;
-#[cfg(test)]
 mod answers;
-#[cfg(test)]
-mod blocks;
 #[cfg(test)]
 mod calls;
 #[cfg(test)]
@@ -29,13 +27,11 @@ mod ends;
 #[cfg(test)]
 mod events;
 #[cfg(test)]
-mod lock_runs;
+mod faults;
 #[cfg(test)]
 mod locks;
 #[cfg(test)]
 mod messages;
-#[cfg(test)]
-mod messages_runs;
 #[cfg(test)]
 mod pins;
 #[cfg(test)]
@@ -44,8 +40,6 @@ mod queues;
 mod readers;
 #[cfg(test)]
 mod rel_caches;
-#[cfg(test)]
-mod reset_runs;
 #[cfg(test)]
 mod row_texts;
 #[cfg(test)]

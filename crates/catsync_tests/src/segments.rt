@@ -121,3 +121,48 @@ fn a_segment_has_its_history(rt: HostRuntime) -> Result<(), Fail> {
     assert!(rt; has_its_history(rt.alloc())?);
     Ok(())
 }
+
+// Schedules that end in the middle of a commit, or after it, and for whom messages wait then. Nothing waits for a
+// backend that hasn't started or that has stopped.
+const WAITING: [(&[u8], [bool; 3]); 4] = [
+    (
+        b"backends 3\n1: create table t (a int4)\n2: show t\nsteps 2 1*4\nend\n",
+        [false, false, false],
+    ),
+    (
+        b"backends 3\n1: create table t (a int4)\n2: show t\nsteps 2 1*5\nend\n",
+        [true, true, false],
+    ),
+    (
+        b"backends 3\n1: create table t (a int4)\n2: show t\nsteps 2 1*8\nend\n",
+        [false, true, false],
+    ),
+    (
+        b"backends 3\n1: create table t (a int4)\n2: show t\nsteps 2 1*7 2*3 3\nend\n",
+        [true, false, false],
+    ),
+];
+
+// For which of the backends of a script messages wait after its walk.
+fn waits(alloc: Global, text: &[u8]) -> Result<[bool; 3], NoMemory> {
+    let script = script_of(alloc, text)?;
+    if !is_built(&script) {
+        return Err(NoMemory);
+    }
+    waits_after(alloc, &script)
+}
+
+fn waits_after(alloc: Global, script: &Script) -> Result<[bool; 3], NoMemory>
+    requires { is_built_scenario script.now ≡ true }
+{
+    let (seg, _backends) = walked_segment(alloc, script)?;
+    Ok([seg.waits(1), seg.waits(2), seg.waits(3)])
+}
+
+#[test]
+fn messages_wait_until_they_are_fetched(rt: HostRuntime) -> Result<(), Fail> {
+    for (text, waiting) in WAITING {
+        assert!(rt; waits(rt.alloc(), text)? == waiting);
+    }
+    Ok(())
+}

@@ -17,8 +17,8 @@ pub fn is_built(script: &Script) -> bool
         .all(|placed| is_built_command(&placed.command))
 }
 
-// The command can be run.
-fn is_built_command(command: &Command) -> bool
+/// Whether one command can be run today.
+pub fn is_built_command(command: &Command) -> bool
     ensures { result ≡ runs command.now }
 {
     matches!(

@@ -1,0 +1,108 @@
+use crate::ends::{Calls, STEADY, source_of};
+use base_types::NoMemory;
+use edge_io::read_all;
+use fault_hints::{KeptSource, hint, unbuilt_command};
+use script_text::ScriptCause;
+use std::alloc::Global;
+use std::test::Fail;
+
+// Faulty lines between others, and what is said of them; nothing of a line whose cause says all.
+const HINTS: [(&[u8], u32, ScriptCause, &str); 4] = [
+    (
+        b"backends 1\n1: Show 1t;\nend\n",
+        2,
+        ScriptCause::BadCommand,
+        "BadCommand: after \"Show\" comes a name; found \"1t\" (a name doesn't begin with a digit)",
+    ),
+    (
+        b"-- one\r\nbackends 1\r\n1: begin transaction\r\nend\r\n",
+        3,
+        ScriptCause::BadCommand,
+        "BadCommand: after \"begin\" comes the end of the line; found \"transaction\"",
+    ),
+    (
+        b"backends 1\n1: show t\xe2\x88\x92\nend\n",
+        2,
+        ScriptCause::BadByte,
+        "BadByte: the byte 0xE2 in column 10 (of the character U+2212) is neither printable ASCII nor a tab",
+    ),
+    (
+        b"backends 1\n2: show t\nend\n",
+        2,
+        ScriptCause::UnknownBackend,
+        "",
+    ),
+];
+
+// Whether this is said; nothing where the text is empty.
+fn is_said(said: Option<String>, text: &str) -> bool {
+    match said {
+        Some(said) => said.as_str() == text,
+        None => text.is_empty(),
+    }
+}
+
+fn is_hint(
+    alloc: Global,
+    script: &[u8],
+    line: u32,
+    cause: ScriptCause,
+    text: &str,
+) -> Result<bool, NoMemory> {
+    Ok(is_said(hint(alloc, script, line, cause)?, text))
+}
+
+#[test]
+fn faulty_lines_have_hints(rt: HostRuntime) -> Result<(), Fail> {
+    for (script, line, cause, text) in HINTS {
+        assert!(rt; is_hint(rt.alloc(), script, line, cause, text)?, "{text}");
+    }
+    Ok(())
+}
+
+// Scripts, and their first command that isn't built yet.
+const UNBUILT: [(&[u8], &str); 3] = [
+    (
+        b"ring 64\nbackends 2\n1: begin\n\n2: Drop Table t ;\n1: savepoint s\nsteps 1\nend\n",
+        "line 5: \"Drop Table t ;\"",
+    ),
+    (b"backends 1\n1: begin\nend\n", ""),
+    (b"backends 1\n1: drop tabel t\nend\n", ""),
+];
+
+fn is_unbuilt(alloc: Global, script: &[u8], text: &str) -> Result<bool, NoMemory> {
+    Ok(is_said(unbuilt_command(alloc, script)?, text))
+}
+
+#[test]
+fn the_first_command_that_is_not_built_is_named(rt: HostRuntime) -> Result<(), Fail> {
+    for (script, text) in UNBUILT {
+        assert!(rt; is_unbuilt(rt.alloc(), script, text)?, "{text}");
+    }
+    Ok(())
+}
+
+// How many bytes are kept of a source whose calls go so.
+fn kept(alloc: Global, text: &[u8], calls: Calls) -> Result<usize, NoMemory> {
+    let mut source = KeptSource::new(alloc, source_of(alloc, text, calls)?);
+    let _ = read_all(alloc, &mut source, 100);
+    let kept = source.text();
+    Ok(if text.starts_with(kept) {
+        kept.len()
+    } else {
+        usize::MAX
+    })
+}
+
+// The third call fails, after two of two bytes.
+const FAILING: Calls = Calls {
+    per_call: 2,
+    failing: 3,
+};
+
+#[test]
+fn a_source_keeps_what_it_gave(rt: HostRuntime) -> Result<(), Fail> {
+    assert!(rt; kept(rt.alloc(), b"backends", STEADY)? == 8);
+    assert!(rt; kept(rt.alloc(), b"backends", FAILING)? == 4);
+    Ok(())
+}

@@ -1,0 +1,197 @@
+use crate::following::{most_taken, wanted_after};
+use crate::lines::{command_of, push_ascii, push_quoted};
+use crate::near::is_near;
+use crate::symbols::{FIELDS, Symbol, TYPES};
+use crate::tokens::{Span, is, text_at, tokens_of};
+use base_types::{Name, NameFault, NoMemory};
+use std::alloc::Global;
+
+// How much of a line is shown.
+const MOST_SHOWN: usize = 60;
+
+// What is wrong in a line that has none of the forms of a command; `None` where no word is.
+pub(crate) fn command_hint(alloc: Global, line: &[u8]) -> Result<Option<String>, NoMemory> {
+    let command = command_of(line);
+    let mut small = command.to_vec(alloc)?;
+    small.make_ascii_lowercase();
+    let spans = tokens_of(alloc, command)?;
+    let spans = without_semicolon(command, &spans);
+    let count = most_taken(&small, spans);
+    let wanted = wanted_after(alloc, &small, spans, count)?;
+    if count >= spans.len() && wanted.iter().any(|symbol| matches!(symbol, Symbol::End)) {
+        return Ok(None);
+    }
+    let mut text = String::from_str(alloc, "BadCommand: ")?;
+    push_before(&mut text, command, spans, count)?;
+    push_wanted(&mut text, &wanted)?;
+    push_found(&mut text, found_at(command, spans, count))?;
+    push_help(&mut text, found_at(&small, spans, count), &wanted)?;
+    Ok(Some(text))
+}
+
+// Without the one semicolon at the end that a command may have.
+fn without_semicolon<'a>(line: &[u8], spans: &'a [Span]) -> &'a [Span] {
+    match spans {
+        [front @ .., last] if is(text_at(line, *last), ";") => front,
+        _ => spans,
+    }
+}
+
+// The token after so many others; empty at the end of the line.
+fn found_at<'a>(line: &'a [u8], spans: &[Span], count: usize) -> &'a [u8] {
+    match spans.get(count) {
+        Some(span) => text_at(line, *span),
+        None => &[],
+    }
+}
+
+// What the line has up to the fault; only the end of it where that is long.
+fn push_before(
+    text: &mut String,
+    command: &[u8],
+    spans: &[Span],
+    count: usize,
+) -> Result<(), NoMemory> {
+    let taken = spans.get(..count).unwrap_or(&[]);
+    let (Some(first), Some(last)) = (taken.first(), taken.last()) else {
+        text.push_str("a command begins with ")?;
+        return Ok(());
+    };
+    let least = last.end.saturating_sub(MOST_SHOWN);
+    let start = taken
+        .iter()
+        .map(|span| span.start)
+        .find(|start| *start >= least)
+        .unwrap_or(last.start);
+    text.push_str("after \"")?;
+    if start > first.start {
+        text.push_str(".. ")?;
+    }
+    push_ascii(
+        text,
+        text_at(
+            command,
+            Span {
+                start,
+                end: last.end,
+            },
+        ),
+    )?;
+    text.push_str("\" comes ")?;
+    Ok(())
+}
+
+fn push_wanted(text: &mut String, wanted: &[Symbol]) -> Result<(), NoMemory> {
+    for (i, symbol) in wanted.iter().enumerate() {
+        if i > 0 {
+            text.push_str(", ")?;
+        }
+        if symbol.is_literal() {
+            push_quoted(text, symbol.text().as_bytes())?;
+        } else {
+            text.push_str(symbol.text())?;
+        }
+    }
+    Ok(())
+}
+
+fn push_found(text: &mut String, found: &[u8]) -> Result<(), NoMemory> {
+    text.push_str("; found ")?;
+    if found.is_empty() {
+        text.push_str(Symbol::End.text())?;
+        return Ok(());
+    }
+    match found.get(..MOST_SHOWN) {
+        Some(front) => {
+            push_quoted(text, front)?;
+            text.push_str(" ..")?;
+        }
+        None => push_quoted(text, found)?,
+    }
+    Ok(())
+}
+
+// The word that was meant, or why the word can't be what is wanted, or which words could stand there.
+fn push_help(text: &mut String, found: &[u8], wanted: &[Symbol]) -> Result<(), NoMemory> {
+    if let Some(word) = near_word(found, wanted) {
+        text.push_str(" (near \"")?;
+        text.push_str(word)?;
+        text.push_str("\")")?;
+    } else if found.starts_with(b"--") {
+        text.push_str(" (a comment has a line of its own)")?;
+    } else if is_wanted(wanted, Symbol::Type) {
+        push_words(text, "types", &TYPES)?;
+    } else if is_wanted(wanted, Symbol::Field) && Name::new(found).is_ok() {
+        push_words(text, "fields", &FIELDS)?;
+    } else if let Some(why) = why_not(found, wanted) {
+        text.push_str(why)?;
+    }
+    Ok(())
+}
+
+fn push_words(text: &mut String, what: &str, words: &[&'static str]) -> Result<(), NoMemory> {
+    text.push_str(" (")?;
+    text.push_str(what)?;
+    text.push_str(":")?;
+    for word in words {
+        text.push_str(" ")?;
+        text.push_str(word)?;
+    }
+    text.push_str(")")?;
+    Ok(())
+}
+
+fn is_wanted(wanted: &[Symbol], symbol: Symbol) -> bool {
+    wanted.iter().any(|other| other.is_same(symbol))
+}
+
+// The first of the words that could stand there that is near.
+fn near_word(found: &[u8], wanted: &[Symbol]) -> Option<&'static str> {
+    for symbol in wanted {
+        let near = match symbol {
+            Symbol::Word(word) => first_near(found, &[*word]),
+            Symbol::Type => first_near(found, &TYPES),
+            Symbol::Field => first_near(found, &FIELDS),
+            _ => None,
+        };
+        if near.is_some() {
+            return near;
+        }
+    }
+    None
+}
+
+fn first_near(found: &[u8], words: &[&'static str]) -> Option<&'static str> {
+    for word in words {
+        if is_near(found, word.as_bytes()) {
+            return Some(*word);
+        }
+    }
+    None
+}
+
+// Whether a token is one of the marks, which stand by themselves.
+fn is_mark(found: &[u8]) -> bool {
+    matches!(found, [b'(' | b')' | b',' | b'=' | b':' | b'*' | b';'])
+}
+
+// Why a word is no name, or no number, where one is wanted.
+fn why_not(found: &[u8], wanted: &[Symbol]) -> Option<&'static str> {
+    if is_wanted(wanted, Symbol::Name) {
+        return match Name::new(found) {
+            Err(NameFault::TooLong) => Some(" (a name has at most 63 bytes)"),
+            Err(NameFault::BadByte { at: 0 }) if found.first().is_some_and(u8::is_ascii_digit) => {
+                Some(" (a name doesn't begin with a digit)")
+            }
+            Err(NameFault::BadByte { .. }) if !is_mark(found) => Some(
+                " (a name has letters, digits and _ alone)",
+            ),
+            _ => None,
+        };
+    }
+    let is_number = found.iter().all(|byte| byte.is_ascii_digit());
+    if is_wanted(wanted, Symbol::Number) && is_number && found.len() > 9 {
+        return Some(" (a number has at most nine digits)");
+    }
+    None
+}

@@ -1,0 +1,27 @@
+use crate::bytes::byte_hint;
+use crate::commands::command_hint;
+use crate::lines::line_at;
+use base_types::NoMemory;
+use script_text::ScriptCause;
+use std::alloc::Global;
+
+/// What to say of a faulty line in place of its cause's sentence: the cause's name, and where the
+/// line goes wrong. `None` where the sentence says all.
+///
+/// - `BadCommand`: after which words no form of a command goes on, what could stand there, and what
+///   stands there; with the word that is near, or the reason, where one is known.
+/// - `BadByte`: the byte, and its column from 1.
+///
+/// `text` is the script, and `line` the line's number, from 1. `Err` where out of memory.
+pub fn hint(
+    alloc: Global,
+    text: &[u8],
+    line: u32,
+    cause: ScriptCause,
+) -> Result<Option<String>, NoMemory> {
+    match cause {
+        ScriptCause::BadCommand => command_hint(alloc, line_at(text, line)),
+        ScriptCause::BadByte => byte_hint(alloc, line_at(text, line)),
+        _ => Ok(None),
+    }
+}

@@ -1,0 +1,212 @@
+#!/usr/bin/env python3
+"""Tests of tools/expect and of the scripts in examples/races: python3 tools/test_expect.py"""
+import glob
+import os
+import re
+import subprocess
+import sys
+import tempfile
+import unittest
+
+sys.dont_write_bytecode = True
+
+from testing import HAS_PROGRAM, NO_PROGRAM, PROGRAM, TOOLS, TOP, call, content_of
+
+from catsync_tools.expected import Answers, Part, read_expectation
+from catsync_tools.faults import Fault
+
+RACES = os.path.join(TOP, "examples", "races")
+SCRIPTS = sorted(glob.glob(os.path.join(RACES, "*.script")))
+
+# The reader is refused the lock at one point, and has the new columns at the next.
+ALTERED = b"""backends 2
+setup 1: create table t (a int4)
+1: alter table t add b text
+2: show t columns
+2: show t
+steps 1 to visible, 2 to 1, 1 to end, 2 to end
+%send
+"""
+
+
+class Expectations(unittest.TestCase):
+    """Lines that begin with `expect`, and answers."""
+
+    def test_forms(self):
+        """The forms of a line."""
+        for text, runs, parts in (
+                ("expect 2.3 statistics 1:500", "own", (Part(2, 3, "statistics 1:500"),)),
+                (" EXPECT 1.1  Error   42p01\t", "own", (Part(1, 1, "error 42p01"),)),
+                ("expect some 1.2 ok and 2 . 1 error", "some", (Part(1, 2, "ok"), Part(2, 1, "error"))),
+                ("expect never 1.2 columns and:int4 and 2.1 ok", "never", (Part(1, 2, "columns and:int4"), Part(2, 1, "ok"))),
+                ("expect 1.1 fillfactor 70 as of 57; name t", "own", (Part(1, 1, "fillfactor 70; name t"),))):
+            with self.subTest(text):
+                found = read_expectation(7, text)
+                self.assertEqual((found.line, found.runs, found.parts), (7, runs, parts))
+
+    def test_no_forms(self):
+        """What has none is refused, with its line."""
+        for text in ("expect", "expect some", "expect 1.1", "expect 1.1 ", "expect 1 ok", "expect ok", "expect all 1.1 ok",
+                     "expect 1.1 ok and 2.1", "expect 1.1 caf\u00e9", "expect .1 ok"):
+            with self.subTest(text):
+                with self.assertRaisesRegex(Fault, "^line 7: an expectation must read "):
+                    read_expectation(7, text)
+
+    ANSWERS = Answers((
+        "l 1 1 table 16384; name t; columns a:int4 b:text; defaults -; statistics 1:500 2:-1 as of 17; fillfactor - as of 15",
+        "l 1 2 error 42P01 relation t does not exist as of 4", "l 2 1 ok", "l 2 2 columns -"))
+
+    def test_what_an_answer_has(self):
+        """A text is looked for in whole words and without places; a `;` ends a field."""
+        for backend, command, text, has in (
+                (1, 1, "statistics 1:500", True), (1, 1, "statistics 1:500;", False), (1, 1, "statistics 1:500 2:-1;", True),
+                (1, 1, "statistics 1:50", False), (1, 1, "2:-1; fillfactor -;", True), (1, 1, "table 16384", True),
+                (1, 1, "statistics 1:500 2:-1 as of 99", True), (1, 1, "columns a:int4", True), (1, 1, "a:int4;", False),
+                (1, 1, "ame t", False), (1, 2, "error 42p01", True), (1, 2, "does not exist;", True), (1, 2, "ok", False),
+                (2, 1, "ok", True), (2, 1, "ok;", True), (2, 2, "columns -", True), (2, 2, "columns", True), (2, 3, "ok", False),
+                (2, 3, "no answer", True)):
+            with self.subTest((backend, command, text)):
+                part = read_expectation(1, "expect %d.%d %s" % (backend, command, text)).parts[0]
+                self.assertEqual(self.ANSWERS.has(part), has)
+
+    def test_differences(self):
+        """What was expected and what came: of a `show` the field alone."""
+        for part, came in ((Part(1, 1, "statistics 1:7"), "statistics 1:500 2:-1"), (Part(1, 2, "ok"),
+                           "error 42P01 relation t does not exist"), (Part(2, 3, "ok"), "no answer")):
+            with self.subTest(part):
+                self.assertEqual(self.ANSWERS.differences([part]), ["- %d.%d %s" % part, "+ %d.%d %s" % (part[:2] + (came,))])
+        self.assertEqual(self.ANSWERS.differences([Part(2, 1, "ok")]), [])
+
+
+class Tool(unittest.TestCase):
+    """tools/expect."""
+
+    def expect(self, *words, given=b""):
+        """Exit status, standard output and standard error."""
+        status, printed, said = call("expect", "--program", PROGRAM, *words, given=given)
+        return status, printed.decode(), said
+
+    @unittest.skipUnless(HAS_PROGRAM, NO_PROGRAM)
+    def test_met(self):
+        """Where all is met the exit status is 0; without a path the script is on standard input."""
+        given = ALTERED % (b"expect 2.1 error 55P03\nexpect 2.2 columns a:int4 b:text; defaults - and 1.2 ok\n"
+                           b"expect some 2.1 columns a:int4; and 2.2 columns a:int4 b:text;\nexpect never 2.1 error 42P01\n")
+        self.assertEqual(self.expect(given=given), (0, "passed: standard input\n1 passed, 0 failed\n", ""))
+
+    @unittest.skipUnless(HAS_PROGRAM, NO_PROGRAM)
+    def test_not_met(self):
+        """What isn't met is told with its line and with what came, and the exit status is 1."""
+        given = ALTERED % (b"expect 2.1 columns a:int4;\nexpect 2.2 columns a:int4; and 2.1 error 55P03\n"
+                           b"expect some 2.1 error 42P01\nexpect never 1.2 error and 2.1 columns a:int4;\n")
+        status, printed, said = self.expect(given=given)
+        self.assertEqual((status, said), (1, ""))
+        orders = re.search("all ([0-9]+) orders", printed).group(1)
+        steps = re.search("steps .*", printed).group()
+        self.assertEqual(printed, """FAILED: standard input
+  line 7: expect 2.1 columns a:int4;
+    - 2.1 columns a:int4;
+    + 2.1 error 55P03 relation 16384 is locked by backend 1 in ax
+  line 8: expect 2.2 columns a:int4; and 2.1 error 55P03
+    - 2.2 columns a:int4;
+    + 2.2 columns a:int4 b:text
+  line 9: expect some 2.1 error 42P01
+    none of all %s orders has it
+  line 10: expect never 1.2 error and 2.1 columns a:int4;
+    %s
+    + 1.2 error 55P03 relation 16384 is locked by backend 2 in as
+    + 2.1 columns a:int4
+0 passed, 1 failed
+""" % (orders, steps))
+        again = (ALTERED % b"expect 2.1 columns a:int4; and 1.2 error 55P03\n").replace(
+            b"steps 1 to visible, 2 to 1, 1 to end, 2 to end", steps.encode())
+        self.assertEqual(self.expect(given=again)[0], 0)
+
+    @unittest.skipUnless(HAS_PROGRAM, NO_PROGRAM)
+    def test_more_orders_than_are_run(self):
+        """Then nothing is said of all orders, and that is no success."""
+        status, printed, _ = self.expect("--most", "3", given=ALTERED % b"expect never 1.2 error 42P01\n")
+        self.assertEqual((status, printed), (1, """FAILED: standard input
+  line 7: expect never 1.2 error 42P01
+    none of 3 orders has it, but there are more: --most N
+0 passed, 1 failed
+"""))
+
+    @unittest.skipUnless(HAS_PROGRAM, NO_PROGRAM)
+    def test_schedule_that_ends_early(self):
+        """A command that isn't finished has no answer."""
+        given = b"backends 1\n1: create table t (a int4)\nsteps 1*3\nexpect 1.1 no answer\nexpect 1.1 ok\nend\n"
+        status, printed, _ = self.expect(given=given)
+        self.assertEqual(status, 1)
+        self.assertIn("  line 5: expect 1.1 ok\n    - 1.1 ok\n    + 1.1 no answer\n", printed)
+        self.assertNotIn("line 4", printed)
+
+    @unittest.skipUnless(HAS_PROGRAM, NO_PROGRAM)
+    def test_folder(self):
+        """All scripts of a folder, by name, and no other file."""
+        with tempfile.TemporaryDirectory() as folder:
+            for name, content in (("b.script", ALTERED % b"expect 1.2 ok\n"), ("a.script", ALTERED % b"expect 1.2 error\n"),
+                                  ("c.output", b"")):
+                with open(os.path.join(folder, name), "wb") as file:
+                    file.write(content)
+            status, printed, said = self.expect(folder, os.path.join(folder, "b.script"))
+        self.assertEqual((status, said), (1, ""))
+        self.assertEqual([line for line in printed.splitlines() if not line.startswith(" ")], [
+            "FAILED: %s/a.script" % folder, "passed: %s/b.script" % folder, "passed: %s/b.script" % folder,
+            "2 passed, 1 failed"])
+
+    def test_faults(self):
+        """A fault is one line on standard error with its place, exit status 2, and nothing is printed."""
+        with tempfile.TemporaryDirectory() as folder:
+            for words, given, said in (
+                    ([], b"", "standard input: line 1: the input ends without an 'end' line"),
+                    ([], ALTERED % b"", "standard input: no line expects anything"),
+                    ([], ALTERED % b"expect 3.1 ok\n", "standard input: line 7: there is no command 1 of backend 3"),
+                    (["/no/such.script"], b"", "/no/such.script: reading failed: No such file or directory"),
+                    ([folder], b"", "%s: no file there ends with .script" % folder),
+                    (["--most", "0"], b"", "not a count of orders: 0"),
+                    (["--sideways"], b"", "unrecognized arguments: --sideways; expect --help says more"),
+                    (["--program", "/bin/false"], ALTERED % b"expect 1.2 ok\n", "standard input: /bin/false: exit status 1")):
+                with self.subTest(said):
+                    status, printed, error = call("expect", *words, given=given)
+                    self.assertEqual((status, printed), (2, b""))
+                    self.assertTrue(error.startswith("expect: " + said), error)
+                    self.assertEqual(error.count("\n"), 1)
+
+    @unittest.skipUnless(HAS_PROGRAM, NO_PROGRAM)
+    def test_faults_of_scripts(self):
+        """What the program refuses, and what a schedule can't reach, is told with the script's name."""
+        for line, said in ((b"1: creat\n", "standard input: catsync: line 2"),
+                           (b"1: begin\nsteps 1 to lock\n", "standard input: line 3: '1 to lock' can't be reached: ")):
+            with self.subTest(said):
+                status, printed, error = self.expect(given=b"backends 1\n%sexpect 1.1 ok\nend\n" % line)
+                self.assertEqual((status, printed), (2, ""))
+                self.assertTrue(error.startswith("expect: " + said), error)
+
+    def test_closed_input(self):
+        """Closed standard input is a fault too."""
+        done = subprocess.run(["bash", "-c", "%s %s/expect <&-" % (sys.executable, TOOLS)], stdout=subprocess.PIPE,
+                              stderr=subprocess.PIPE)
+        self.assertEqual((done.returncode, done.stderr), (2, b"expect: reading failed: standard input is closed\n"))
+
+
+class Races(unittest.TestCase):
+    """examples/races."""
+
+    @unittest.skipUnless(HAS_PROGRAM, NO_PROGRAM)
+    def test_races(self):
+        """All expectations are met."""
+        status, printed, said = call("expect", "--program", PROGRAM, RACES)
+        self.assertEqual((status, said), (0, ""), printed.decode())
+        self.assertEqual(printed.decode().splitlines()[-1], "%d passed, 0 failed" % len(SCRIPTS))
+
+    def test_comments(self):
+        """Each begins with a comment, and is a line of the table."""
+        self.assertGreaterEqual(len(SCRIPTS), 20)
+        for path in SCRIPTS:
+            self.assertRegex(content_of(path), b"^-- [A-Z]")
+        table = re.findall("^\\| `([a-z0-9_]+)` \\|", content_of(os.path.join(RACES, "README.md")).decode(), re.MULTILINE)
+        self.assertEqual(table, [os.path.basename(path)[:-len(".script")] for path in SCRIPTS])
+
+
+if __name__ == "__main__":
+    unittest.main()

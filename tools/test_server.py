@@ -1,0 +1,190 @@
+#!/usr/bin/env python3
+"""Tests of tools/server: python3 tools/test_server.py
+
+Without PostgreSQL's server they are skipped, but for those that need none; testing.py says which program is run.
+CATSYNC_SERVER_SCRIPTS says how many random scripts are run beside the server: 20 if it isn't set.
+"""
+import glob
+import os
+import random
+import tempfile
+import unittest
+
+from testing import HAS_PROGRAM, NO_PROGRAM, PROGRAM, TOP, call
+
+from catsync_tools.beside import Compared, Pairs, compare, differences, order_of
+from catsync_tools.differences import KNOWN, all_differences, profile
+from catsync_tools.postgres import Server, folder_of_programs
+from catsync_tools.program import Program
+from catsync_tools.sources import read_source
+from catsync_tools.sql import Answer, Shown, statement_of
+
+HAS_SERVER = folder_of_programs() is not None
+SCRIPTS = int(os.environ.get("CATSYNC_SERVER_SCRIPTS", "20"))
+
+TABLES = ("t", "t", "t", "u", "order", "_t")
+COLUMNS = ("a", "b", "a", "b", "c", "d", "select")
+SYSTEM_COLUMNS = ("ctid", "xmin", "tableoid", "oid")
+TYPES = ("bool", "int2", "int4", "int8", "text", "bytea", "date", "timestamptz", "boolean", "smallint", "integer", "bigint")
+MODES = ("access share", "row share", "row exclusive", "share update exclusive", "share", "share row exclusive", "exclusive",
+         "access exclusive")
+FIELDS = ("name", "columns", "defaults", "statistics", "fillfactor", "constraints", "referenced", "indexes", "triggers", "of",
+          "valid")
+COMMANDS = (
+    (10, "begin"), (8, "commit"), (4, "rollback"), (10, "show T"), (10, "show T FIELD"), (10, "lock table T in MODE mode"),
+    (9, "create table T (COLUMNS)"), (7, "alter table T add column C TYPE"), (6, "alter table T drop column C"),
+    (6, "alter table T rename column C to C"), (7, "alter table T alter column C set statistics STAT"),
+    (6, "alter table T set (fillfactor = FILL)"))
+
+
+def random_command(draw, columns):
+    """A command, of today's."""
+    text = draw.choices([form for _, form in COMMANDS], [weight for weight, _ in COMMANDS])[0]
+    if "COLUMNS" in text:
+        text = text.replace("COLUMNS", ", ".join("C TYPE" for _ in range(draw.randint(0, 4))))
+    choices = {"T": TABLES, "C": columns, "TYPE": TYPES, "MODE": MODES, "FIELD": FIELDS, "FILL": ("0", "9", "10", "50", "100", "101"),
+               "STAT": ("-2", "-1", "0", "1", "100", "9999", "10000", "10001", "999999999")}
+    words = text.replace("(", "( ").replace(")", " )").replace(",", " ,").split(" ")
+    return " ".join(draw.choice(choices[word]) if word in choices else word for word in words)
+
+
+def random_script(draw):
+    """A script, and an order of its commands."""
+    backends = draw.randint(1, 4)
+    columns = COLUMNS + (SYSTEM_COLUMNS if draw.random() < 0.2 else ())
+    lines, order, counts = ["1: create table t (a int4, b text)"], [(1, 1)], {1: 1}
+    for _ in range(draw.randint(4, 24)):
+        backend = draw.randint(1, backends)
+        counts[backend] = counts.get(backend, 0) + 1
+        lines.append("%d: %s" % (backend, random_command(draw, columns)))
+        order.append((backend, counts[backend]))
+    return "\n".join(["backends %d" % backends] + lines + ["end", ""]).encode(), order
+
+
+class Statements(unittest.TestCase):
+    """Commands as SQL, and answers beside each other."""
+
+    def test_statements(self):
+        """Each command of today has its SQL, with names in quotes."""
+        for command, statement in (
+                ("BEGIN;", "begin"), ("commit", "commit"), ("rollback ;", "rollback"),
+                ("show t", Shown("t", None)), ("show t statistics", Shown("t", "statistics")),
+                ("lock table order in SHARE row exclusive mode", 'lock table "order" in share row exclusive mode'),
+                ("create table t(a int4,b text);", 'create table "t" ("a" int4, "b" text)'),
+                ("create table t ()", 'create table "t" ()'),
+                ("alter table t add column b bool", 'alter table "t" add column "b" bool'),
+                ("alter table t drop column b", 'alter table "t" drop column "b"'),
+                ("alter table t rename column a to b", 'alter table "t" rename column "a" to "b"'),
+                ("alter table t alter column a set statistics -1", 'alter table "t" alter column "a" set statistics -1'),
+                ("alter table t set (fillfactor=70)", 'alter table "t" set (fillfactor = 70)'),
+                ("drop table t", None), ("show", None), ("create table t (a)", None)):
+            self.assertEqual(statement_of(command), statement)
+
+    def test_differences(self):
+        """What differs is told by fields; oids needn't be the same, errors are compared by their codes."""
+        pairs = Pairs()
+        for here, server, expected in (
+                ("ok", Answer("ok", []), []), ("ok", Answer("rolled back", []), ["answer"]),
+                ("ok", Answer("ok", ["25001 x"]), ["warning"]),
+                ("error 42P01 a", Answer("error 42P01 b", []), []), ("error 42P01 a", Answer("error 42P07 a", []), ["error"]),
+                ("ok", Answer("error 42P07 a", []), ["answer"]), ("error 42P07 a", Answer("ok", []), ["answer"]),
+                ("table 1; name t", Answer("table 5; name t", []), []), ("table 1; name t", Answer("table 6; name u", []), ["table", "name"]),
+                ("table 2; name t", Answer("table 5; name t", []), ["table"]),
+                ("statistics 1:-1", Answer("statistics 1:-1", []), []), ("statistics 1:-1", Answer("statistics 1:5", []), ["statistics"])):
+            with self.subTest((here, server)):
+                self.assertEqual(differences(here, server, pairs), expected)
+
+    def test_order(self):
+        """Commands come in the order in which they end; one without an entry comes after the one before it."""
+        commands = {(1, 1): "", (1, 2): "", (1, 3): "", (2, 1): "", (2, 2): ""}
+        steps = [(1, 0, "start"), (2, 0, "start"), (1, 1, "a"), (2, 1, "a"), (1, 1, "b"), (1, 2, "a"), (2, 2, "a"), (1, 4, "stop")]
+        self.assertEqual(order_of(commands, steps), [(2, 1), (1, 1), (1, 2), (1, 3), (2, 2)])
+
+    def test_profile_names_them(self):
+        """The page has the words by which differences are named."""
+        text = profile()
+        for known in KNOWN:
+            self.assertTrue(known.words in text, known.words)
+
+    def test_what_follows(self):
+        """What comes after a command that is done in one of the two alone may follow from that."""
+        compared = [Compared((1, 1), "show t", "ok", Answer("error 42P01 x", []), ["answer"]),
+                    Compared((2, 1), "show t", "a", Answer("b", []), ["answer"])]
+        found = all_differences(compared, "")
+        self.assertTrue(found[0][0].is_new)
+        self.assertEqual((found[1][0].after, found[1][0].is_new), ("1.1", False))
+
+
+@unittest.skipUnless(HAS_PROGRAM, NO_PROGRAM)
+class Faults(unittest.TestCase):
+    """Faults, for which no server is needed."""
+
+    def test_faults(self):
+        """A fault is one line on standard error, exit status 2, and nothing is printed."""
+        with tempfile.TemporaryDirectory() as folder:
+            paths = {}
+            for name, text in (("good", "backends 1\n1: show t\nend\n"), ("bad", "backends 1\n1: shwo t\nend\n")):
+                paths[name] = os.path.join(folder, name)
+                with open(paths[name], "w", encoding="ascii") as file:
+                    file.write(text)
+            for words, expected in (([paths["bad"]], "line 2: "), (["/no/such"], "/no/such: reading failed: "),
+                                    ([], "the following arguments are required: SCRIPT; "),
+                                    ([paths["good"], "--programs", folder], "no PostgreSQL server in " + folder)):
+                with self.subTest(words):
+                    status, shown, said = call("server", "--program", PROGRAM, *words)
+                    self.assertEqual((status, shown, said.count("\n")), (2, b"", 1))
+                    self.assertIn(expected, said)
+
+
+@unittest.skipUnless(HAS_PROGRAM, NO_PROGRAM)
+@unittest.skipUnless(HAS_SERVER, "no PostgreSQL server")
+class Beside(unittest.TestCase):
+    """Scripts beside a server."""
+
+    @classmethod
+    def setUpClass(cls):
+        cls.server, cls.program = Server(), Program(PROGRAM)
+
+    @classmethod
+    def tearDownClass(cls):
+        cls.server.stop()
+        cls.program.close()
+
+    def check(self, data, order=None):
+        """All differences are ones that are named, or follow from one."""
+        all_compared = compare(read_source(data), self.program, self.server, order)
+        for compared, found in zip(all_compared, all_differences(all_compared, profile())):
+            self.assertFalse([each for each in found if each.is_new], (data, compared))
+
+    def test_examples(self):
+        """The examples that the program runs, and the races."""
+        races = glob.glob(os.path.join(TOP, "examples", "races", "*.script"))
+        for path in sorted(glob.glob(os.path.join(TOP, "examples", "*.output"))) + sorted(races):
+            with self.subTest(path), open(os.path.splitext(path)[0] + ".script", "rb") as file:
+                self.check(file.read())
+
+    def test_random_scripts(self):
+        """Random scripts whose commands don't overlap."""
+        for number in range(SCRIPTS):
+            data, order = random_script(random.Random("beside %d" % number))
+            with self.subTest(number):
+                self.check(data, order)
+
+    def test_command(self):
+        """What is printed, and the exit status; and nothing is left behind."""
+        with tempfile.NamedTemporaryFile() as file:
+            file.write(b"backends 2\nsetup 1: create table t (a int4)\n1: begin\n1: begin\n2: show t name\n1: end\n2: show u\nend\n")
+            file.flush()
+            before = set(glob.glob(os.path.join(tempfile.gettempdir(), "catsync*")))
+            status, shown, said = call("server", "--program", PROGRAM, file.name)
+            self.assertEqual((status, said), (0, ""))
+            self.assertEqual(set(glob.glob(os.path.join(tempfile.gettempdir(), "catsync*"))), before)
+        head, *commands = shown.decode().split("\n\n")
+        self.assertRegex(head, "^beside PostgreSQL [0-9.]+: 6 commands, of which 1 differs$")
+        self.assertIn("1.3 begin\n    here    ok\n    server  ok\n    server  warning 25001 there is already a transaction in progress\n"
+                      "    differs in warning, as docs/PROFILE.md says: with a warning (25001, 25P01)", commands)
+        self.assertIn("2.1 show t name\n    both    name t", commands)
+
+
+if __name__ == "__main__":
+    unittest.main()
