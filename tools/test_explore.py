@@ -113,7 +113,7 @@ class Orders(unittest.TestCase):
         """Each order of whole commands is found once, against all ways to put them one after the other."""
         draw = random.Random(6)
         for _ in range(30):
-            commands = {backend: [[draw.choice(self.STEPS) for _ in range(draw.randint(1, 3))] for _ in range(draw.randint(1, 3))]
+            commands = {backend: [draw.choices(self.STEPS, k=draw.randint(1, 3)) for _ in range(draw.randint(1, 3))]
                         for backend in (1, 2, 3)}
             with self.subTest(commands):
                 runner = Made(commands)
@@ -507,7 +507,8 @@ class Explorer(unittest.TestCase):
             for name, changed in (("cut", text[:-9]), ("form", text.replace("form 1", "form 9"))):
                 with open(paths[name], "w", encoding="utf-8") as file:
                     file.write(changed)
-            for names, said in ((["one", "one"], "one: part 1 of 2, as is "), (["one", "other"], "other: of another search than "),
+            for names, said in ((["one", "one"], "one: part 1 of 2, as is "),
+                                (["one", "other"], "other: of another search than "),
                                 (["cut"], "cut: not what 'explore --part' prints"), (["one", "form"], "form: not what "),
                                 (["no"], "no: reading failed: ")):
                 with self.subTest(names):
@@ -614,14 +615,17 @@ class Explorer(unittest.TestCase):
     def test_faults(self):
         """A fault is one line on standard error, exit status 2, and nothing is printed or written."""
         examples = os.path.join(TOP, "examples")
-        cases = [(["--most", "0"], TWO_CREATORS, "not a count: 0"), (["--part", "3/2"], TWO_CREATORS, "not a part, as 3/64: 3/2"),
+        cases = [(["--most", "0"], TWO_CREATORS, "not a count: 0"),
+                 (["--part", "3/2"], TWO_CREATORS, "not a part, as 3/64: 3/2"),
                  (["--part", "1/2", "--find", "x"], TWO_CREATORS, "--find doesn't go with --part; explore --help says more"),
-                 (["--find", ""], TWO_CREATORS, "--find needs a text; "), (["--html"], TWO_CREATORS, "--html is for --picture; "),
+                 (["--find", ""], TWO_CREATORS, "--find needs a text; "),
+                 (["--html"], TWO_CREATORS, "--html is for --picture; "),
                  (["--picture", "/dev/null/a"], TWO_CREATORS, "/dev/null/a: the folder can't be made: "),
                  (["--picture", "/proc"], TWO_CREATORS, "/proc/set1.svg: writing failed: "),
                  (["--program", "/no/such/program"], TWO_CREATORS, "/no/such/program: "),
                  (["--program", "/bin/echo"], TWO_CREATORS, "/bin/echo: what it prints isn't an output of catsync"),
-                 ([], b"", "line 1: "), (["--merge"], TWO_CREATORS, "--merge needs FILEs; "), (["x"], b"", "FILEs are for --merge; ")]
+                 ([], b"", "line 1: "), (["--merge"], TWO_CREATORS, "--merge needs FILEs; "),
+                 (["x"], b"", "FILEs are for --merge; ")]
         for name in ("bad_line", "not_built_yet"):
             error = os.path.join(examples, name + ".error")
             if os.path.exists(error):
