@@ -13,7 +13,6 @@ import signal
 import subprocess
 import sys
 import tempfile
-import time
 import unittest
 
 from testing import HAS_PROGRAM, NO_PROGRAM, PROGRAM, TOOLS, TOP, call, content_of
@@ -649,43 +648,47 @@ class Explorer(unittest.TestCase):
         done = subprocess.run(["sh", "-c", command + " 2>&-"], input=TWO_CREATORS, stdout=subprocess.PIPE)
         self.assertEqual(done.returncode, 0)
 
-    def start(self, *words, stderr=subprocess.PIPE):
-        """Starts the explorer on an example with many orders."""
+    def interrupted(self, number, shown, *words):
+        """Exit status and standard output of the explorer on an example with many orders, which is sent a signal once its bar
+        on a terminal shows this."""
+        terminal, other_end = pty.openpty()
         with open(os.path.join(TOP, "examples", "three_at_once.script"), "rb") as script:
             # what runs in a shell's background has Ctrl-C ignored, and so would the explorer
-            return subprocess.Popen([sys.executable, os.path.join(TOOLS, "explore"), "--program", PROGRAM] + list(words),
-                                    stdin=script, stdout=subprocess.PIPE, stderr=stderr,
-                                    preexec_fn=lambda: signal.signal(signal.SIGINT, signal.SIG_DFL))
+            explorer = subprocess.Popen([sys.executable, os.path.join(TOOLS, "explore"), "--program", PROGRAM] + list(words),
+                                        stdin=script, stdout=subprocess.PIPE, stderr=other_end,
+                                        preexec_fn=lambda: signal.signal(signal.SIGINT, signal.SIG_DFL))
+        with explorer:
+            os.close(other_end)
+            bar = b""
+            while not re.search(shown, bar):
+                bar += os.read(terminal, 4096)
+            explorer.send_signal(number)
+            text = explorer.stdout.read()
+        os.close(terminal)
+        return explorer.returncode, text
 
     def test_interrupt(self):
         """On Ctrl-C there are the results so far, on a terminal there was a bar, and the exit status is 130."""
-        terminal, other_end = pty.openpty()
-        with self.start("--most", "1000000", "--jobs", "2", stderr=other_end) as explorer:
-            os.close(other_end)
-            shown = b""
-            while not re.search(rb"[1-9][0-9]{2} of at most 1000000 orders", shown):
-                shown += os.read(terminal, 4096)
-            explorer.send_signal(signal.SIGINT)
-            text = explorer.stdout.read().decode()
-        os.close(terminal)
-        self.assertEqual(explorer.returncode, 130)
-        self.assertRegex(shown.decode(), r"\[#*\.*\] [0-9]+ of at most 1000000 orders, [0-9]+ sets? of answers")
-        report = Report(text)
+        status, text = self.interrupted(
+            signal.SIGINT, rb"\[#*\.*\] [1-9][0-9]{2} of at most 1000000 orders, [0-9]+ sets? of answers",
+            "--most", "1000000", "--jobs", "2")
+        self.assertEqual(status, 130)
+        report = Report(text.decode())
         self.assertRegex(report.head, "^stopped after [0-9]+ orders?: ")
         self.assertTrue(report.answers)
 
     def test_interrupt_of_a_part(self):
-        """On Ctrl-C a part prints what it has found, and the parts are merged as a search that isn't over."""
-        with self.start("--part", "1/1", "--jobs", "2") as explorer, tempfile.TemporaryDirectory() as folder:
-            time.sleep(2)
-            explorer.send_signal(signal.SIGINT)
-            path = os.path.join(folder, "part")
-            with open(path, "wb") as file:
-                file.write(explorer.stdout.read())
-            explorer.wait()
-            self.assertEqual(explorer.returncode, 130)
-            self.assertFalse(json.loads(content_of(path).decode())["is_over"])
-            self.assertRegex(call("explore", "--merge", path)[1].decode(), "^stopped after [0-9]+ orders?: ")
+        """On Ctrl-C, and on a batch system's SIGTERM, a part prints what it has found, and the parts are merged as a search
+        that isn't over."""
+        for number in (signal.SIGINT, signal.SIGTERM):
+            with tempfile.TemporaryDirectory() as folder:
+                status, text = self.interrupted(number, rb"[1-9][0-9]* orders", "--part", "1/1", "--jobs", "2")
+                self.assertEqual(status, 130)
+                path = os.path.join(folder, "part")
+                with open(path, "wb") as file:
+                    file.write(text)
+                self.assertFalse(json.loads(text.decode())["is_over"])
+                self.assertRegex(call("explore", "--merge", path)[1].decode(), "^stopped after [0-9]+ orders?: ")
 
 
 if __name__ == "__main__":
