@@ -138,6 +138,17 @@ class Orders(unittest.TestCase):
         return history
 
 
+class Groups(unittest.TestCase):
+    """Which commands are made one after the other in serial orders."""
+
+    def test_groups(self):
+        """Each command by itself; and by transactions, of which a block is one up to its end."""
+        texts = ("show t", "begin", "show t", "begin;", "COMMIT ;", "show t", "commit", "begin", "rollback", "begin", "show t")
+        commands = {(2, number): text for number, text in enumerate(texts, 1)}
+        self.assertEqual(commands_of(commands), {2: list(range(1, 12))})
+        self.assertEqual(transactions_of(commands), {2: [1, 2, 6, 7, 8, 10]})
+
+
 class Made:
     """Backends with made-up commands, of so many steps whatever the others do; each ends with a stop."""
 

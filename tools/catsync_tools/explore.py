@@ -10,7 +10,7 @@ from .parts import Part, check_same, merged, part_text, read_part
 from .picture import picture_of, span_of
 from .program import proved_program
 from .progress import Progress
-from .report import Extent, Serial, found_text, not_found, report, run_again, shown_sets
+from .report import Extent, Serial, found_text, not_found, report, shown_sets
 from .search import Exploration, Settings, processors, wanted_of
 from .sources import read_source
 
