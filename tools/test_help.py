@@ -9,8 +9,7 @@ import unittest
 
 from testing import TOOLS, TOP, call, content_of
 
-NAMES = sorted(name for name in os.listdir(TOOLS)
-               if "." not in name and os.access(os.path.join(TOOLS, name), os.X_OK) and os.path.isfile(os.path.join(TOOLS, name)))
+NAMES = sorted(name for name in os.listdir(TOOLS) if "." not in name and os.path.isfile(os.path.join(TOOLS, name)))
 MAN = os.path.join(TOP, "man", "catsync.1")
 
 
@@ -55,10 +54,11 @@ class Help(unittest.TestCase):
         for name in NAMES:
             for redirection in ("<&-", "<&- >&-", "<&- 2>&-", "</dev/null >/dev/full", "--help >&-", "--help >/dev/full"):
                 with self.subTest((name, redirection)):
-                    done = subprocess.run(["sh", "-c", "exec %s %s %s" % (sys.executable, os.path.join(TOOLS, name), redirection)],
-                                          stdout=subprocess.PIPE, stderr=subprocess.PIPE, stdin=subprocess.DEVNULL)
-                    self.assertEqual((done.returncode, done.stdout + done.stderr if b"Trace" in done.stdout + done.stderr else b""),
-                                     (2, b""))
+                    command = "exec %s %s %s" % (sys.executable, os.path.join(TOOLS, name), redirection)
+                    done = subprocess.run(["sh", "-c", command], stdin=subprocess.DEVNULL, stdout=subprocess.PIPE,
+                                          stderr=subprocess.STDOUT)
+                    self.assertNotIn(b"Traceback", done.stdout)
+                    self.assertEqual(done.returncode, 2)
 
     def test_man_page(self):
         """The man page has each tool with all of its options, and no others."""

@@ -6,7 +6,7 @@ from .counting import counted_script
 from .faults import Fault
 from .findings import PLACE
 from .runner import Runner
-from .sql import FIELDS, Answer, Asked, Shown, statement_of
+from .sql import FIELDS, Answer, Asked, statement_of
 
 Command = Tuple[int, int]       # a backend, and the number of a command of it
 

@@ -85,8 +85,8 @@ class Server:
         if self.account:
             os.chown(self.folder, *self.account)
         data = os.path.join(self.folder, "data")
-        initdb = self.begin("initdb", "-D", data, "-U", USER, "-A", "trust", "-E", "UTF8", "--locale=C", "--no-sync")
-        if initdb.wait() != 0:
+        self.process = self.begin("initdb", "-D", data, "-U", USER, "-A", "trust", "-E", "UTF8", "--locale=C", "--no-sync")
+        if self.process.wait() != 0:
             raise Fault("initdb failed: %s" % self.last_said())
         settings = dict(SETTINGS, unix_socket_directories=self.folder)
         self.process = self.begin("postgres", "-D", data, *["--%s=%s" % setting for setting in settings.items()])

@@ -18,8 +18,8 @@ from .shares import shares
 from .turns import fewest_turns
 
 FIRST = 256             # orders, before a search is split
-SHARES = 64             # of a search; and for each part of one
-SHARES_OF_PART = 16
+SHARES = 64             # of a search that is split
+SHARES_OF_PART = 16     # of each part of one
 CHUNK = 64              # random schedules, of a task
 MOST_SERIAL = 1000      # serial orders of each kind
 

@@ -7,7 +7,6 @@ from typing import Dict, List, NamedTuple, Tuple
 
 from .access import Access, Accesses
 from .program import Run
-from .scripts import Turns, turns_of
 
 Groups = Dict[int, List[int]]       # for each backend the first command of each group of its commands, in order
 
