@@ -13,7 +13,6 @@ import signal
 import subprocess
 import sys
 import tempfile
-import time
 import unittest
 
 from testing import HAS_PROGRAM, NO_PROGRAM, PROGRAM, TOOLS, TOP, call, content_of
@@ -113,7 +112,7 @@ class Orders(unittest.TestCase):
         """Each order of whole commands is found once, against all ways to put them one after the other."""
         draw = random.Random(6)
         for _ in range(30):
-            commands = {backend: [[draw.choice(self.STEPS) for _ in range(draw.randint(1, 3))] for _ in range(draw.randint(1, 3))]
+            commands = {backend: [draw.choices(self.STEPS, k=draw.randint(1, 3)) for _ in range(draw.randint(1, 3))]
                         for backend in (1, 2, 3)}
             with self.subTest(commands):
                 runner = Made(commands)
@@ -507,7 +506,8 @@ class Explorer(unittest.TestCase):
             for name, changed in (("cut", text[:-9]), ("form", text.replace("form 1", "form 9"))):
                 with open(paths[name], "w", encoding="utf-8") as file:
                     file.write(changed)
-            for names, said in ((["one", "one"], "one: part 1 of 2, as is "), (["one", "other"], "other: of another search than "),
+            for names, said in ((["one", "one"], "one: part 1 of 2, as is "),
+                                (["one", "other"], "other: of another search than "),
                                 (["cut"], "cut: not what 'explore --part' prints"), (["one", "form"], "form: not what "),
                                 (["no"], "no: reading failed: ")):
                 with self.subTest(names):
@@ -614,14 +614,17 @@ class Explorer(unittest.TestCase):
     def test_faults(self):
         """A fault is one line on standard error, exit status 2, and nothing is printed or written."""
         examples = os.path.join(TOP, "examples")
-        cases = [(["--most", "0"], TWO_CREATORS, "not a count: 0"), (["--part", "3/2"], TWO_CREATORS, "not a part, as 3/64: 3/2"),
+        cases = [(["--most", "0"], TWO_CREATORS, "not a count: 0"),
+                 (["--part", "3/2"], TWO_CREATORS, "not a part, as 3/64: 3/2"),
                  (["--part", "1/2", "--find", "x"], TWO_CREATORS, "--find doesn't go with --part; explore --help says more"),
-                 (["--find", ""], TWO_CREATORS, "--find needs a text; "), (["--html"], TWO_CREATORS, "--html is for --picture; "),
+                 (["--find", ""], TWO_CREATORS, "--find needs a text; "),
+                 (["--html"], TWO_CREATORS, "--html is for --picture; "),
                  (["--picture", "/dev/null/a"], TWO_CREATORS, "/dev/null/a: the folder can't be made: "),
                  (["--picture", "/proc"], TWO_CREATORS, "/proc/set1.svg: writing failed: "),
                  (["--program", "/no/such/program"], TWO_CREATORS, "/no/such/program: "),
                  (["--program", "/bin/echo"], TWO_CREATORS, "/bin/echo: what it prints isn't an output of catsync"),
-                 ([], b"", "line 1: "), (["--merge"], TWO_CREATORS, "--merge needs FILEs; "), (["x"], b"", "FILEs are for --merge; ")]
+                 ([], b"", "line 1: "), (["--merge"], TWO_CREATORS, "--merge needs FILEs; "),
+                 (["x"], b"", "FILEs are for --merge; ")]
         for name in ("bad_line", "not_built_yet"):
             error = os.path.join(examples, name + ".error")
             if os.path.exists(error):
@@ -645,43 +648,47 @@ class Explorer(unittest.TestCase):
         done = subprocess.run(["sh", "-c", command + " 2>&-"], input=TWO_CREATORS, stdout=subprocess.PIPE)
         self.assertEqual(done.returncode, 0)
 
-    def start(self, *words, stderr=subprocess.PIPE):
-        """Starts the explorer on an example with many orders."""
+    def interrupted(self, number, shown, *words):
+        """Exit status and standard output of the explorer on an example with many orders, which is sent a signal once its bar
+        on a terminal shows this."""
+        terminal, other_end = pty.openpty()
         with open(os.path.join(TOP, "examples", "three_at_once.script"), "rb") as script:
             # what runs in a shell's background has Ctrl-C ignored, and so would the explorer
-            return subprocess.Popen([sys.executable, os.path.join(TOOLS, "explore"), "--program", PROGRAM] + list(words),
-                                    stdin=script, stdout=subprocess.PIPE, stderr=stderr,
-                                    preexec_fn=lambda: signal.signal(signal.SIGINT, signal.SIG_DFL))
+            explorer = subprocess.Popen([sys.executable, os.path.join(TOOLS, "explore"), "--program", PROGRAM] + list(words),
+                                        stdin=script, stdout=subprocess.PIPE, stderr=other_end,
+                                        preexec_fn=lambda: signal.signal(signal.SIGINT, signal.SIG_DFL))
+        with explorer:
+            os.close(other_end)
+            bar = b""
+            while not re.search(shown, bar):
+                bar += os.read(terminal, 4096)
+            explorer.send_signal(number)
+            text = explorer.stdout.read()
+        os.close(terminal)
+        return explorer.returncode, text
 
     def test_interrupt(self):
         """On Ctrl-C there are the results so far, on a terminal there was a bar, and the exit status is 130."""
-        terminal, other_end = pty.openpty()
-        with self.start("--most", "1000000", "--jobs", "2", stderr=other_end) as explorer:
-            os.close(other_end)
-            shown = b""
-            while not re.search(rb"[1-9][0-9]{2} of at most 1000000 orders", shown):
-                shown += os.read(terminal, 4096)
-            explorer.send_signal(signal.SIGINT)
-            text = explorer.stdout.read().decode()
-        os.close(terminal)
-        self.assertEqual(explorer.returncode, 130)
-        self.assertRegex(shown.decode(), r"\[#*\.*\] [0-9]+ of at most 1000000 orders, [0-9]+ sets? of answers")
-        report = Report(text)
+        status, text = self.interrupted(
+            signal.SIGINT, rb"\[#*\.*\] [1-9][0-9]{2} of at most 1000000 orders, [0-9]+ sets? of answers",
+            "--most", "1000000", "--jobs", "2")
+        self.assertEqual(status, 130)
+        report = Report(text.decode())
         self.assertRegex(report.head, "^stopped after [0-9]+ orders?: ")
         self.assertTrue(report.answers)
 
     def test_interrupt_of_a_part(self):
-        """On Ctrl-C a part prints what it has found, and the parts are merged as a search that isn't over."""
-        with self.start("--part", "1/1", "--jobs", "2") as explorer, tempfile.TemporaryDirectory() as folder:
-            time.sleep(2)
-            explorer.send_signal(signal.SIGINT)
-            path = os.path.join(folder, "part")
-            with open(path, "wb") as file:
-                file.write(explorer.stdout.read())
-            explorer.wait()
-            self.assertEqual(explorer.returncode, 130)
-            self.assertFalse(json.loads(content_of(path).decode())["is_over"])
-            self.assertRegex(call("explore", "--merge", path)[1].decode(), "^stopped after [0-9]+ orders?: ")
+        """On Ctrl-C, and on a batch system's SIGTERM, a part prints what it has found, and the parts are merged as a search
+        that isn't over."""
+        for number in (signal.SIGINT, signal.SIGTERM):
+            with tempfile.TemporaryDirectory() as folder:
+                status, text = self.interrupted(number, rb"[1-9][0-9]* orders", "--part", "1/1", "--jobs", "2")
+                self.assertEqual(status, 130)
+                path = os.path.join(folder, "part")
+                with open(path, "wb") as file:
+                    file.write(text)
+                self.assertFalse(json.loads(text.decode())["is_over"])
+                self.assertRegex(call("explore", "--merge", path)[1].decode(), "^stopped after [0-9]+ orders?: ")
 
 
 if __name__ == "__main__":

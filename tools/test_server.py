@@ -42,7 +42,8 @@ def random_command(draw, columns):
     text = draw.choices([form for _, form in COMMANDS], [weight for weight, _ in COMMANDS])[0]
     if "COLUMNS" in text:
         text = text.replace("COLUMNS", ", ".join("C TYPE" for _ in range(draw.randint(0, 4))))
-    choices = {"T": TABLES, "C": columns, "TYPE": TYPES, "MODE": MODES, "FIELD": FIELDS, "FILL": ("0", "9", "10", "50", "100", "101"),
+    choices = {"T": TABLES, "C": columns, "TYPE": TYPES, "MODE": MODES, "FIELD": FIELDS,
+               "FILL": ("0", "9", "10", "50", "100", "101"),
                "STAT": ("-2", "-1", "0", "1", "100", "9999", "10000", "10001", "999999999")}
     words = text.replace("(", "( ").replace(")", " )").replace(",", " ,").split(" ")
     return " ".join(draw.choice(choices[word]) if word in choices else word for word in words)
@@ -88,23 +89,26 @@ class Statements(unittest.TestCase):
                 ("ok", Answer("ok", ["25001 x"]), ["warning"]),
                 ("error 42P01 a", Answer("error 42P01 b", []), []), ("error 42P01 a", Answer("error 42P07 a", []), ["error"]),
                 ("ok", Answer("error 42P07 a", []), ["answer"]), ("error 42P07 a", Answer("ok", []), ["answer"]),
-                ("table 1; name t", Answer("table 5; name t", []), []), ("table 1; name t", Answer("table 6; name u", []), ["table", "name"]),
+                ("table 1; name t", Answer("table 5; name t", []), []),
+                ("table 1; name t", Answer("table 6; name u", []), ["table", "name"]),
                 ("table 2; name t", Answer("table 5; name t", []), ["table"]),
-                ("statistics 1:-1", Answer("statistics 1:-1", []), []), ("statistics 1:-1", Answer("statistics 1:5", []), ["statistics"])):
+                ("statistics 1:-1", Answer("statistics 1:-1", []), []),
+                ("statistics 1:-1", Answer("statistics 1:5", []), ["statistics"])):
             with self.subTest((here, server)):
                 self.assertEqual(differences(here, server, pairs), expected)
 
     def test_order(self):
         """Commands come in the order in which they end; one without an entry comes after the one before it."""
         commands = {(1, 1): "", (1, 2): "", (1, 3): "", (2, 1): "", (2, 2): ""}
-        steps = [(1, 0, "start"), (2, 0, "start"), (1, 1, "a"), (2, 1, "a"), (1, 1, "b"), (1, 2, "a"), (2, 2, "a"), (1, 4, "stop")]
+        steps = [(1, 0, "start"), (2, 0, "start"), (1, 1, "a"), (2, 1, "a"), (1, 1, "b"), (1, 2, "a"), (2, 2, "a"),
+                 (1, 4, "stop")]
         self.assertEqual(order_of(commands, steps), [(2, 1), (1, 1), (1, 2), (1, 3), (2, 2)])
 
     def test_profile_names_them(self):
         """The page has the words by which differences are named."""
         text = profile()
         for known in KNOWN:
-            self.assertTrue(known.words in text, known.words)
+            self.assertTrue(known.words.lower() in text, known.words)
 
     def test_what_follows(self):
         """What comes after a command that is done in one of the two alone may follow from that."""
@@ -157,9 +161,10 @@ class Beside(unittest.TestCase):
             self.assertFalse([each for each in found if each.is_new], (data, compared))
 
     def test_examples(self):
-        """The examples that the program runs."""
-        for path in sorted(glob.glob(os.path.join(TOP, "examples", "*.output"))):
-            with self.subTest(path), open(path[:-len("output")] + "script", "rb") as file:
+        """The examples that the program runs, and the races."""
+        races = glob.glob(os.path.join(TOP, "examples", "races", "*.script"))
+        for path in sorted(glob.glob(os.path.join(TOP, "examples", "*.output"))) + sorted(races):
+            with self.subTest(path), open(os.path.splitext(path)[0] + ".script", "rb") as file:
                 self.check(file.read())
 
     def test_random_scripts(self):
@@ -172,7 +177,8 @@ class Beside(unittest.TestCase):
     def test_command(self):
         """What is printed, and the exit status; and nothing is left behind."""
         with tempfile.NamedTemporaryFile() as file:
-            file.write(b"backends 2\nsetup 1: create table t (a int4)\n1: begin\n1: begin\n2: show t name\n1: end\n2: show u\nend\n")
+            file.write(b"backends 2\nsetup 1: create table t (a int4)\n1: begin\n1: begin\n2: show t name\n1: end\n"
+                       b"2: show u\nend\n")
             file.flush()
             before = set(glob.glob(os.path.join(tempfile.gettempdir(), "catsync*")))
             status, shown, said = call("server", "--program", PROGRAM, file.name)
@@ -180,7 +186,8 @@ class Beside(unittest.TestCase):
             self.assertEqual(set(glob.glob(os.path.join(tempfile.gettempdir(), "catsync*"))), before)
         head, *commands = shown.decode().split("\n\n")
         self.assertRegex(head, "^beside PostgreSQL [0-9.]+: 6 commands, of which 1 differs$")
-        self.assertIn("1.3 begin\n    here    ok\n    server  ok\n    server  warning 25001 there is already a transaction in progress\n"
+        self.assertIn("1.3 begin\n    here    ok\n    server  ok\n"
+                      "    server  warning 25001 there is already a transaction in progress\n"
                       "    differs in warning, as docs/PROFILE.md says: with a warning (25001, 25P01)", commands)
         self.assertIn("2.1 show t name\n    both    name t", commands)
 

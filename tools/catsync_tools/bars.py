@@ -152,6 +152,7 @@ def kept_title(why: Why, kept: Kept):
 def kept_parts(layout: Layout, kept: Kept, top, bottom):
     """The parts of a bar: its build, where it is as the catalogs are, and where it is out of date."""
     def height(entry):
+        """The height of an entry on the bar."""
         return bottom if entry is None else min(max(top, layout.middle(entry)), bottom)
     built = height(kept.built) if kept.is_descriptor else top
     outdated = height(kept.outdated)

@@ -53,7 +53,7 @@ def words_of(compared: Compared, part, text):
     for known in KNOWN:
         servers = compared.server.warnings if part == "warning" else [compared.server.text]
         if (known.part == part and re.fullmatch(known.command, tokens_of(compared.text))
-                and re.fullmatch(known.here, compared.here) and known.words in text
+                and re.fullmatch(known.here, compared.here) and known.words.lower() in text
                 and all(re.fullmatch(known.server, server) for server in servers)):
             return known.words
     return None

@@ -1,5 +1,5 @@
 """Draws a story as an SVG: bars, arrows, and a mark and a text for each entry."""
-from typing import List, NamedTuple
+from typing import Dict, NamedTuple
 from xml.sax.saxutils import escape
 
 from .arrows import message_arrow, refusal_arrow, waiting_number
@@ -24,7 +24,7 @@ text.label { font: 9px 'DejaVu Sans Mono', Menlo, Consolas, monospace }
 text.waits { font: bold 9px 'DejaVu Sans', Verdana, sans-serif; fill: %(blue)s;
   paint-order: stroke; stroke: #ffffff; stroke-width: 3px }
 text.error { fill: #963800 }
-text.command { font-weight: bold }
+text.bold { font-weight: bold }
 .leader { stroke: #d0d0d0; stroke-dasharray: 1 3 }
 .message { fill: none; stroke: %(blue)s; stroke-width: 1.3; stroke-opacity: 0.75 }
 .refusal { fill: none; stroke: %(red)s; stroke-width: 1.4; stroke-dasharray: 4 2 }
@@ -44,7 +44,7 @@ class Drawing(NamedTuple):
     head: str
     rows: str
     top: float
-    sentences: List[str]
+    sentences: Dict[int, str]
 
 
 def arrows_in(span, story: Story):
@@ -92,18 +92,23 @@ def text_lines(x, y, lines):
                    for at, line in enumerate(lines))
 
 
+def cut(row):
+    """The class of a row whose text is cut."""
+    return " cut" if row.cut else ""
+
+
 def entry_text(layout: Layout, row, sentences):
     """The number, mark and text of a row's entries, and what they do, if that is given; where the text is cut the title has
     all of it."""
     step = row.content
     lane, y = layout.lanes[step.main.backend], row.middle + 4
     numbers = str(step.first) if step.first == step.last else "%d\u2013%d" % (step.first, step.last)
-    titles = [plain(sentences[entry.number - 1]) for entry in step.entries] if sentences else []
+    titles = [plain(sentences[entry.number]) for entry in step.entries] if sentences else []
     titles += [step.text] if row.cut else []
     drawn = text_at(layout.numbers - 8, y, numbers, "number", text_anchor="end")
     drawn += element("use", href="#" + mark_of_step(step), x=lane.mark, y=row.middle)
     drawn += '<text class="line">%s</text>' % text_lines(layout.text, y, row.lines)
-    return group(drawn, "\n".join(titles), class_="entry cut" if row.cut else "entry", id="entry%d" % step.first)
+    return group(drawn, "\n".join(titles), class_="entry" + cut(row), id="entry%d" % step.first)
 
 
 def answer_text(layout: Layout, row):
@@ -117,7 +122,7 @@ def answer_text(layout: Layout, row):
     drawn += element("circle", cx=mark, cy=row.middle, r=2.5, fill=colour)
     drawn += '<text class="%s">%s</text>' % (class_, text_lines(layout.text, row.middle + 4, row.lines))
     title = "the answer of command %d of backend %d" % (answer.command, answer.backend)
-    return group(drawn, title + ("\n" + answer.line if row.cut else ""), class_="answer")
+    return group(drawn, title + ("\n" + answer.line if row.cut else ""), class_="answer" + cut(row))
 
 
 def command_text(layout: Layout, row):
@@ -128,9 +133,9 @@ def command_text(layout: Layout, row):
                     fill="#eef1f8", rx=2)
     drawn += element("path", d=path("M", mark + 4, row.middle, "H", layout.text - 6), stroke=BLUE, stroke_opacity=0.5)
     drawn += element("circle", cx=mark, cy=row.middle, r=2.5, fill="#ffffff", stroke=BLUE, stroke_width=1.4)
-    drawn += '<text class="line command">%s</text>' % text_lines(layout.text, row.middle + 4, row.lines)
+    drawn += '<text class="line bold">%s</text>' % text_lines(layout.text, row.middle + 4, row.lines)
     title = "command %d of backend %d" % (command.number, command.backend)
-    return group(drawn, title + ("\n" + command.text if row.cut else ""), class_="command")
+    return group(drawn, title + ("\n" + command.text if row.cut else ""), class_="command" + cut(row))
 
 
 def rows_drawn(layout: Layout, kind, one_drawn):
@@ -192,13 +197,13 @@ def draw(story: Story, wanted: Wanted):
     plan = layout_of(story, wanted, 0, 0)
     drawn, right, top = legend(items_of(story, plan, messages, refusals), TITLE_HEIGHT, min(LEGEND_WIDTH, wanted.width))
     layout = layout_of(story, wanted, top + 6, right)
-    sentences, title = sentences_of(story), title_for(story, wanted.span)
+    sentences, title = sentences_of(story, *wanted.span), title_for(story, wanted.span)
     rows = [
         lanes_ground(layout), rows_drawn(layout, "entry", row_ground), bars_drawn(layout, story, refusals),
         arrows_drawn(layout, story, messages, refusals),
         rows_drawn(layout, "header", lambda layout, row: lane_names(layout, row.y, row.height)),
         rows_drawn(layout, "command", command_text), rows_drawn(layout, "answer", answer_text),
-        rows_drawn(layout, "entry", lambda layout, row: entry_text(layout, row, [] if wanted.in_page else sentences)),
+        rows_drawn(layout, "entry", lambda layout, row: entry_text(layout, row, {} if wanted.in_page else sentences)),
     ]
     return Drawing(title, layout, head_of(story, layout, title, (drawn, right, top)), "\n".join(rows), top + 6, sentences)
 

@@ -35,8 +35,8 @@ def part_of(text):
 
 def arguments_of(words):
     """The command line."""
-    parser = Arguments("explore", "[OPTION].. < SCRIPT, or explore --merge FILE..", "Runs a script under many schedules, and prints each set of answers "
-                       "with the shortest schedule that leads to it.",
+    parser = Arguments("explore", "[OPTION].. < SCRIPT, or explore --merge FILE..", "Runs a script under many schedules, and "
+                       "prints each set of answers with the shortest schedule that leads to it.",
                        ((0, "the search came to its end, or found the texts"), (1, "no schedule has the texts")))
     parser.option("--most", type=count_of, metavar="N",
                   help="all orders are run where there are at most N, else N random schedules (%d)" % MOST_ORDERS)
@@ -126,8 +126,8 @@ def part_found(options, exploration, data):
     """What a part of a search found."""
     sets = [(shown.answers, shown.found) for shown in shown_sets(exploration)]
     serial = {"\n".join(key): kind for key, kind in exploration.serial.items()} if options.part[0] == 1 else None
-    return Part(data.decode("utf-8", "surrogateescape"), options.places, options.random, options.seed, options.part[0], options.part[1],
-                exploration.is_over, exploration.schedules, serial, exploration.is_serial_over, sets)
+    return Part(data.decode("utf-8", "surrogateescape"), options.places, options.random, options.seed, options.part[0],
+                options.part[1], exploration.is_over, exploration.schedules, serial, exploration.is_serial_over, sets)
 
 
 def tell_sets(options, exploration, status):

@@ -1,5 +1,6 @@
 """Faults of the input or the command line: one line on standard error, and an exit status other than 0."""
 import os
+import signal
 import sys
 
 BAD = 2
@@ -11,7 +12,9 @@ class Fault(Exception):
 
 
 def run(name, main, arguments):
-    """Runs a command; its exit status. A fault is said in one line that begins with the command's name."""
+    """Runs a command; its exit status. A fault is said in one line that begins with the command's name. SIGTERM, by which
+    batch systems end what has taken too long, is taken as Ctrl-C is."""
+    signal.signal(signal.SIGTERM, signal.default_int_handler)
     try:
         return main(arguments)
     except Fault as fault:

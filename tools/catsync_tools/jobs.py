@@ -99,8 +99,9 @@ class Jobs:
             end.close()
 
     def serve(self, end, is_stopped):
-        """A child: does the tasks that it is given. Ctrl-C is its parent's to hear."""
+        """A child: does the tasks that it is given. Ctrl-C and SIGTERM are its parent's to hear."""
         signal.signal(signal.SIGINT, signal.SIG_IGN)
+        signal.signal(signal.SIGTERM, signal.SIG_IGN)
         try:
             self.prepare()
             for number in iter(end.recv, None):

@@ -4,7 +4,7 @@ All lengths are in pixels of the picture.
 """
 from typing import Dict, List, NamedTuple, Tuple
 
-from .steps import Step, steps_of
+from .steps import steps_of
 from .story import Story
 
 CHAR = 7.23             # the width of a character of the texts

@@ -67,14 +67,16 @@ def kept_box(kind, more=""):
 def kept_items(layout: Layout, all_kept):
     """The bars of what is kept, and their ends."""
     def drawn(number):
+        """Whether an entry is drawn."""
         return number is not None and layout.span.holds(number)
     descriptors = [kept for kept in all_kept if kept.is_descriptor]
     found = [
         (descriptors, kept_box("build"), "a descriptor is built"),
-        ([kept for kept in all_kept if kept.built], kept_box("current"), "what is kept of scans"),
+        ([kept for kept in all_kept if kept.built], kept_box("current"),
+         "a descriptor is kept" if len(descriptors) == len(all_kept) else "kept: a descriptor, a name, an oid, a column or a list"),
         ([kept for kept in all_kept if kept.outdated], kept_box("outdated"), "out of date, and not told yet"),
-        ([kept for kept in all_kept if any(drawn(served.entry) for served in kept.serves)], kept_box("current", serve_mark(0, 0)),
-         "serves a command without a scan"),
+        ([kept for kept in all_kept if any(drawn(served.entry) for served in kept.serves)],
+         kept_box("current", serve_mark(0, 0)), "serves a command without a scan"),
         ([kept for kept in all_kept if drawn(kept.last) and kept.cause in CAPS and kept.built],
          kept_box("current", element("use", href="#fetch", transform="translate(0 6) scale(0.62)")), "stale, by this entry"),
     ]
@@ -103,6 +105,7 @@ def items_of(story: Story, layout: Layout, messages, refusals):
     span = layout.span
 
     def drawn(bars):
+        """Those of some bars that are drawn."""
         return [bar for bar in bars if span.meets(bar)]
     waiting = [waiting for waiting in story.log.waiting if span.holds(waiting.entry) and waiting.count]
     return (mark_items(layout), transaction_items(drawn(story.transactions)), lock_items(drawn(story.locks)),

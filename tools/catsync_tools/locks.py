@@ -53,6 +53,10 @@ class Locks:
         wanted = (backend, rel, mode)
         return next((lock for lock in self.held if (lock.backend, lock.rel, lock.mode) == wanted), None)
 
+    def of(self, backend, rel):
+        """The locks that a backend holds on a relation."""
+        return [lock for lock in self.held if (lock.backend, lock.rel) == (backend, rel)]
+
     def of_others(self, backend, rel):
         """The locks that other backends hold on a relation."""
         return [lock for lock in self.held if lock.rel == rel and lock.backend != backend]

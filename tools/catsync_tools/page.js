@@ -33,10 +33,10 @@ function make(name, className, ...content) {
   return made;
 }
 
-// A text with links in place of {numbers}.
+// A text with links in place of {numbers}, as far as these entries are in the page.
 function linked(text) {
   return text.split(/\{(\d+)\}/).map((part, at) => {
-    if (at % 2 === 0) return part;
+    if (at % 2 === 0 || part < data.first || part >= data.first + data.entries.length) return part;
     const link = make('a', '', part);
     link.href = '#' + part;
     return link;
@@ -55,14 +55,24 @@ function waiting(backend, number) {
   return to > from ? `${to - from}, for ${parts.join(', ')}` : '';
 }
 
-// What holds of a backend after an entry.
-function backendBox([backend, first, last], things, number, active) {
-  const isAway = number < first || (last && number >= last);
-  const box = make('div', 'backend' + (active ? ' here' : '') + (isAway ? ' away' : ''));
-  box.dataset.backend = backend;
-  const title = isAway ? (number < first ? ' has not started' : ' has stopped') : '';
-  box.append(make('h2', '', `backend ${backend}${title}`));
-  if (isAway) return box;
+// The boxes of the backends, and what they were made of: a box is made anew only where that has changed.
+const boxes = new Map();
+function update(life, indexes, number, active) {
+  const [backend, first, last] = life;
+  const away = number < first ? ' has not started' : last && number >= last ? ' has stopped' : '';
+  const waits = away ? '' : waiting(backend, number);
+  const made = [indexes, waits, away, active].join('|'), box = boxes.get(backend);
+  if (box && box.made === made) return;
+  const element = backendBox(backend, away, indexes.map(index => data.things[index]), waits, active);
+  if (box) box.element.replaceWith(element); else document.getElementById('state').append(element);
+  boxes.set(backend, {element, made});
+}
+
+// What holds of a backend.
+function backendBox(backend, away, things, waits, active) {
+  const box = make('div', 'backend' + (active ? ' here' : '') + (away ? ' away' : ''));
+  box.append(make('h2', '', `backend ${backend}${away}`));
+  if (away) return box;
   const list = make('dl', '');
   let latest = '';
   function line(word, text) {
@@ -73,7 +83,6 @@ function backendBox([backend, first, last], things, number, active) {
   }
   things.filter(thing => thing[1] === 0).forEach(thing => line('command', thing[4]));
   for (const sort of [1, 2, 4]) things.filter(thing => thing[1] === sort).forEach(thing => line(words[sort], thing[4]));
-  const waits = waiting(backend, number);
   if (waits) line('waits', waits);
   things.filter(thing => thing[1] === 3).forEach(thing => line(words[3], thing[4]));
   box.append(list);
@@ -99,11 +108,12 @@ function show(at) {
   entry.replaceChildren(...shown);
   const active = data.entries[last - data.first][0];
   const held = new Map(data.lives.map(([backend]) => [backend, []]));
-  for (const thing of data.things)
-    if (thing[2] <= last && (thing[3] === null || last < thing[3])) held.get(thing[0]).push(thing);
-  state.replaceChildren(...data.lives.map(life => backendBox(life, held.get(life[0]), last, life[0] === active)));
+  data.things.forEach((thing, index) => {
+    if (thing[2] <= last && (thing[3] === null || last < thing[3])) held.get(thing[0]).push(index);
+  });
+  data.lives.forEach(life => update(life, held.get(life[0]), last, life[0] === active));
   document.body.dataset.entry = last;
-  const box = state.querySelector('.here');
+  const box = boxes.get(active).element;
   const below = box.offsetTop + box.offsetHeight - state.scrollTop - state.clientHeight;
   if (below > 0 || box.offsetTop < state.scrollTop) state.scrollTop = Math.max(0, box.offsetTop - state.clientHeight / 3);
 }

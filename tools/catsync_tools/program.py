@@ -77,7 +77,7 @@ class Program:
         self.runs += 1
         self.give(script)
         output, status = self.wait()
-        if status == -signal.SIGINT:
+        if status in (-signal.SIGINT, -signal.SIGTERM):
             raise KeyboardInterrupt
         if status != 0:
             raise Fault(self.refusal(status))

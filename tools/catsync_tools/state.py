@@ -45,21 +45,21 @@ def lock_things(story: Story):
     for lock in story.locks:
         text = "%s on %s since %s" % (MODE_NAMES[lock.mode], story.called(lock.rel, lock.name), at(lock.first))
         clear = text + (", clear" if lock.clear == lock.first else ", clear since %s" % at(lock.clear or 0))
-        yield from phases(lock.backend, LOCK, lock.first, lock.last, ((lock.first, text + ", not clear yet"), (lock.clear, clear)))
+        yield from phases(lock.backend, LOCK, lock.first, lock.last, (
+            (lock.first, text + ", not clear yet"), (lock.clear, clear)))
 
 
 def kept_things(story: Story):
     """What is kept."""
     why = Why(story)
     for kept in story.kept:
-        built = why.kept(kept, "")[1:] if kept.built else ""
-        outdated = "%s, out of date since %s" % (built or why.named(kept, "")[1:] + ", in the midst of its build",
-                                                 at(kept.outdated or 0))
-        building = "%s, in the midst of its build since %s" % (why.named(kept, "")[1:], at(kept.first))
-        changes = [(kept.first, building if kept.first != kept.built else built), (kept.built, built), (kept.outdated, outdated)]
-        if kept.outdated and kept.built and kept.outdated < kept.built:
-            changes = [changes[0], changes[2]]
-        yield from phases(kept.backend, KEPT, kept.first, kept.last, changes)
+        building, built = why.kept(kept, kept.first, ""), why.kept(kept, None, "")
+        outdated = ", out of date since %s" % at(kept.outdated or 0)
+        changes = [(kept.first, building), (kept.built, built), (kept.outdated, built + outdated)]
+        if kept.outdated and (kept.built is None or kept.outdated < kept.built):
+            changes = [(kept.first, building), (kept.outdated, building + outdated), (kept.built, built + outdated)]
+        for thing in phases(kept.backend, KEPT, kept.first, kept.last, changes):
+            yield thing._replace(text=thing.text.strip())
 
 
 def unsent_things(story: Story):
@@ -112,8 +112,8 @@ def things_of(story: Story, wanted: Wanted):
 def part_of_log(story: Story, span):
     """The log as far as a state that is drawn needs it: the names of relations, for each message the index of its own, the
     place of the first, and for each publish how long the log is then."""
-    places = story.log.places
-    start = min([place for own in places.values() for place in [value for entry, value in own if entry <= span.first][-1:]] or [0])
+    before = [[place for entry, place in own if entry <= span.first] for own in story.log.places.values()]
+    start = min([places[-1] for places in before if places] or [0])
     lengths = [(entry, length) for entry, length in story.log.lengths if entry <= span.last]
     names: Dict[str, int] = {}
     indexes = [names.setdefault(story.called(logged.message.rel, logged.message.name), len(names))
@@ -129,7 +129,7 @@ def is_plain_look(facts):
 def state_of(story: Story, wanted: Wanted, layout: Layout, sentences):
     """All that a page needs beside its picture."""
     span = wanted.span
-    entries = [[facts.entry.backend, facts.entry.line, sentences[facts.entry.number - 1], int(is_plain_look(facts))]
+    entries = [[facts.entry.backend, facts.entry.line, sentences[facts.entry.number], int(is_plain_look(facts))]
                for facts in story.facts[span.first - 1:span.last]]
     rows = [[row.content.first, row.content.last, round(row.y - layout.rows[0].y, 1), row.height]
             for row in layout.rows if row.kind == "entry"]

@@ -5,13 +5,13 @@ Where an entry can't follow those before it, so that this couldn't be said, it i
 are the definitions' and aren't tested here.
 """
 import bisect
-from typing import Dict, List, NamedTuple, Optional
+from typing import Dict, List, NamedTuple, Optional, Sequence
 
 from .caches import FAILED, FETCHED, LEFT, OWN_WRITE, RESET, TAKEN_BACK, Caches, Kept, datum_of
 from .faults import Fault
 from .locks import Lock, Locks, ends_accept
 from .log import Batch, Log
-from .messages import Message, messages_of, of_descriptor
+from .messages import Message, Row, messages_of, of_descriptor
 from .outputs import Answer, Entry, fault_at
 from .rows import Rows, Version
 from .transactions import Transaction, Transactions, Written
@@ -39,27 +39,28 @@ class Named(NamedTuple):
 
 class Facts:
     """What an entry did, beside what its line says. Of what an event of its kind doesn't do there is nothing."""
+    following: Optional[Entry] = None                   # the backend's entry after it
+    transaction: Optional[Transaction] = None           # the one that runs, or that it ends
+    batches: Sequence[Batch] = ()                       # messages that it takes, finds waiting, or puts into the queue
+    left = 0                                            # messages that wait for the backend after it
+    messages: Sequence[Message] = ()                    # those of its write, or of the writes that it takes back
+    receivers: Sequence[int] = ()                       # of a publish: for whom its messages wait,
+    published = 0                                       # and how many of the commit's were sent with it
+    rows: Sequence[Row] = ()                            # that its scan gives
+    unseen: Sequence[Version] = ()                      # versions of a name that its scan doesn't see
+    kept: Optional[Kept] = None                         # what its scan is part of
+    stale: Sequence[Kept] = ()                          # what the backend keeps no more
+    outdated: Sequence[Kept] = ()                       # what others keep that is out of date from here on
+    cleared: Sequence[Lock] = ()
+    granted: Sequence[Lock] = ()
+    released: Sequence[Lock] = ()
+    others: Sequence[Lock] = ()                         # locks of other backends on a relation that it locks
+    own: Sequence[Lock] = ()                            # the backend's locks on a relation that it finds by its name
+    refusal: Optional[Refusal] = None
+    serves: Sequence[Kept] = ()                         # what serves its backend's command by what was had here
 
     def __init__(self, entry: Entry, before: Optional[Entry]):
         self.entry, self.before = entry, before         # and the backend's entry before it
-        self.following: Optional[Entry] = None          # the backend's entry after it
-        self.transaction: Optional[Transaction] = None  # the one that runs, or that it ends
-        self.batches: List[Batch] = []                  # messages that it takes, finds waiting, or puts into the queue
-        self.left = 0                                   # messages that wait for the backend after it
-        self.messages: List[Message] = []               # those of its write, or of the writes that it takes back
-        self.receivers: List[int] = []                  # of a publish: for whom its messages wait,
-        self.published = 0                              # and how many of the commit's were sent with it
-        self.rows: list = []                            # that its scan gives
-        self.unseen: List[Version] = []                 # versions of a name that its scan doesn't see
-        self.kept: Optional[Kept] = None                # what its scan is part of
-        self.stale: List[Kept] = []                     # what the backend keeps no more
-        self.outdated: List[Kept] = []                  # what others keep that is out of date from here on
-        self.cleared: List[Lock] = []
-        self.granted: List[Lock] = []
-        self.released: List[Lock] = []
-        self.others: List[Lock] = []                    # locks of other backends on a relation that it locks
-        self.refusal: Optional[Refusal] = None
-        self.serves: List[Kept] = []                    # what serves its backend's command by what was had here
 
 
 class Life:
@@ -188,7 +189,7 @@ class Model:
     def grant(self, facts, lock):
         """A lock is granted, by itself or with a new relation."""
         self.locks.grant(lock)
-        facts.granted.append(lock)
+        facts.granted = [*facts.granted, lock]
 
     def take_lock_held(self, facts, entry):
         """A lock is refused."""
@@ -206,6 +207,7 @@ class Model:
         facts.rows = self.rows.answer(entry.backend, datum_of(entry.event))
         if parts["purpose"] == "relname":
             facts.unseen = self.rows.unseen(entry.backend, parts["name"])
+            facts.own = self.locks.of(entry.backend, self.rows.named(entry.backend, parts["name"]))
         name = self.names.name_of(parts["rel"]) if "rel" in parts else parts["name"]
         facts.kept = self.caches.scan(entry, facts.rows, name)
 

@@ -8,7 +8,7 @@ and without a write (`lock table`, or one that the history doesn't finish) isn't
 import re
 from typing import Dict, Optional
 
-from .caches import Served, served_by
+from .caches import Kept, Served, served_by
 
 SHOWN = re.compile(r"(?:table|index) ([0-9]+);")
 FIELDS = ("name", "columns", "defaults", "statistics", "fillfactor", "constraints", "referenced", "indexes", "triggers",
@@ -32,6 +32,12 @@ def changes_known(event):
     changes = event.parts["changes"]
     new = {change.columns[0] for change in changes if change.catalog == "class" and change.sign == "+"}
     return any(change.catalog not in ("class", "att", "ind") or change.columns[0] not in new for change in changes)
+
+
+def note(kept: Kept, facts, command):
+    """What is kept serves a command by what its backend had at an entry."""
+    kept.serves.append(Served(facts.entry.number, command))
+    facts.serves = [*facts.serves, kept]
 
 
 class Course:
@@ -58,6 +64,8 @@ class Uses:
                 found = pattern.match(answer.text)
                 if found:
                     numbers[place] = int(found.group(1))
+        self.columns = {(answer.backend, answer.command): answer.text.split(" ") for answer in output.answers
+                        if re.match("columns? ", answer.text)}
         self.last_command: Dict[int, int] = {}
         for answer in output.answers:
             self.last_command[answer.backend] = max(answer.command, self.last_command.get(answer.backend, 0))
@@ -94,6 +102,7 @@ class Uses:
             if place in self.opening and not own.is_over:
                 self.serve(model, own, last)
             self.serve_by_place(model, place, last)
+            self.serve_columns(model, place, last)
 
     def finish_all(self, model):
         """The history is over."""
@@ -107,13 +116,23 @@ class Uses:
         descriptor, name = served_by(model.caches.cache(facts.entry.backend), course.rel, course.command)
         for kept in (name if not course.by_scan else None, None if names else descriptor):
             if kept and all(served.command != course.command for served in kept.serves):
-                kept.serves.append(Served(facts.entry.number, course.command))
-                facts.serves.append(kept)
+                note(kept, facts, course.command)
+
+    def serve_columns(self, model, place, facts):
+        """An answer shows columns or a column, and the only list or entry that can have it is of an earlier command."""
+        words = self.columns.get(place)
+        if not words:
+            return
+        purpose, cache = "attlist" if words[0] == "columns" else "attname", model.caches.cache(place[0])
+        found = [scanned.kept for datum, scanned in cache.scans.items() if datum[0] == purpose and (
+            datum[1] not in cache.descriptors if purpose == "attlist"
+            else [(row.columns[1], row.columns[3]) for row in scanned.rows] == [tuple(words[1:])])]
+        if len(found) == 1 and found[0].command != place[1]:
+            note(found[0], facts, place[1])
 
     def serve_by_place(self, model, place, facts):
         """A name is absent, or an oid has a name, as of a scan of an earlier command."""
         scanned = self.scanned.get(place)
         kept = next((kept for kept in model.caches.all if kept.first == scanned), None) if scanned else None
         if kept and kept.command != place[1]:
-            kept.serves.append(Served(facts.entry.number, place[1]))
-            facts.serves.append(kept)
+            note(kept, facts, place[1])

@@ -49,7 +49,13 @@ class Why:
     def __init__(self, story: Story):
         self.story = story
         self.outdated: Dict[int, List[Kept]] = {}
+        self.latest: Dict[tuple, Kept] = {}
+        self.earlier: Dict[Kept, Kept] = {}
         for kept in story.kept:
+            place = (kept.backend, kept.rel, kept.datum)
+            if place in self.latest:
+                self.earlier[kept] = self.latest[place]
+            self.latest[place] = kept
             if kept.outdated is not None:
                 self.outdated.setdefault(kept.backend, []).append(kept)
 
@@ -62,11 +68,13 @@ class Why:
 
     # Things in words.
 
-    def kept(self, kept: Kept, whose="the"):
-        """What is kept, with its entries."""
-        return self.named(kept, whose) + (
-            ", built at %s to %s" % (at(kept.first), at(kept.built)) if kept.is_descriptor and kept.built
-            else ", read at %s" % at(kept.first) if kept.built else ", in the midst of its build")
+    def kept(self, kept: Kept, number=None, whose="the"):
+        """What is kept, with its entries; a descriptor as it is at an entry, or, if none is given, at its end."""
+        if not kept.is_descriptor:
+            return "%s, read at %s" % (self.named(kept, whose), at(kept.first))
+        if kept.built is None or (number is not None and number < kept.built):
+            return "%s, in the midst of its build since %s" % (self.named(kept, whose), at(kept.first))
+        return "%s, built at %s to %s" % (self.named(kept, whose), at(kept.first), at(kept.built))
 
     def named(self, kept: Kept, whose="the"):
         """What is kept."""
@@ -125,8 +133,7 @@ class Why:
         whole, builds = [kept for kept in known if kept.built], [kept for kept in known if not kept.built]
         texts = []
         if whole:
-            texts.append("%s%s %s stale" % (listed(self.kept(kept) for kept in whole),
-                                            "," if whole[-1].built else "", verb(whole, "is", "are")))
+            texts.append("%s, %s stale" % (listed(self.kept(kept) for kept in whole), verb(whole, "is", "are")))
         if builds:
             texts.append("the build of %s starts over" % listed(
                 "%s, which began at %s," % (self.story.called(kept.rel, kept.name), at(kept.first)) for kept in builds))
@@ -137,8 +144,8 @@ class Why:
         number = facts.entry.number
         found = [kept for kept in self.outdated.get(facts.entry.backend, ())
                  if kept.outdated < number and (kept.last is None or kept.last > number)]
-        return ["%s is out of date since %s: transaction %d has yet to send its messages" % (
-            self.named(kept, "its"), at(kept.outdated), kept.outdated_by.xid) for kept in found]
+        return ["%s, is out of date since %s: transaction %d has yet to send its messages" % (
+            self.kept(kept, number, "its"), at(kept.outdated), kept.outdated_by.xid) for kept in found]
 
     # The kinds of entries: what the backend does, and more sentences.
 
@@ -221,16 +228,15 @@ class Why:
         texts = ["scans %s, scan %d of %d for its descriptor: %s" % (
             scanned, scans.index(parts["purpose"]) + 1, len(scans), rows)]
         if kept.built == facts.entry.number:
-            texts.append("the descriptor is built, and kept from here on")
+            texts.append("the descriptor is built, and kept from here on" + (
+                ", though some of it is out of date since " + at(kept.outdated) if kept.outdated else ""))
         return texts + (self.reason_to_build(kept) if kept.first == facts.entry.number else [])
 
     def reason_to_build(self, kept: Kept):
         """Why a descriptor is built: there was none, or what became of the last one."""
-        earlier = [one for one in self.story.kept if one.is_descriptor and one.first < kept.first
-                   and (one.backend, one.rel) == (kept.backend, kept.rel)]
-        if not earlier:
+        last = self.earlier.get(kept)
+        if last is None:
             return ["it keeps none of this relation yet"]
-        last = earlier[-1]
         if not last.built:
             return ["the build that began at %s was given up at %s" % (at(last.first), at(last.last))]
         return ["the last one, built at %s to %s, is stale since %s" % (at(last.first), at(last.built), at(last.last))]
@@ -239,10 +245,19 @@ class Why:
         """The relation that a name means, or why there is none."""
         first = "looks the name %s up in pg_class: " % parts["name"]
         if facts.rows:
-            return [first + "it is relation %s" % facts.rows[0].columns[0]]
+            return [first + "it is relation %s" % facts.rows[0].columns[0]] + self.no_lock(facts)
         unseen = ["what backend %d wrote at %s isn't visible yet" % (version.transaction.backend, at(version.entry))
                   for version in facts.unseen]
         return [first + "no relation has it" + (", as " + listed(unseen) if unseen else "")]
+
+    def no_lock(self, facts: Facts):
+        """Why the relation that was found isn't locked: the backend holds locks that are clear, and asks for none."""
+        following = facts.following
+        asks = following and following.command == facts.entry.command and following.event.kind.startswith("lock")
+        if asks or not facts.own:
+            return []
+        return ["it asks for no lock on that, as it holds %s, clear" % listed(
+            "%s since %s" % (MODE_NAMES[lock.mode], at(lock.first)) for lock in facts.own)]
 
     def write(self, facts, parts):
         """Which rows are changed, and what messages that leaves."""
@@ -283,7 +298,7 @@ class Why:
             return texts + ["its %s sent yet, so nothing tells backend %s that %s, %s out of date" % (
                 "message isn't" if count == 1 else "%d messages aren't" % count,
                 listed(str(backend) for backend in sorted({kept.backend for kept in known})),
-                listed(self.kept(kept) for kept in known), verb(known, "is", "are"))]
+                listed(self.kept(kept, facts.entry.number) for kept in known), verb(known, "is", "are"))]
         return texts + ["%s to be sent" % ("1 message is" if count == 1 else "%d messages are" % count)]
 
     def publish(self, facts, parts):
@@ -321,7 +336,7 @@ class Why:
                                       if facts.left else "")]
 
 
-def sentences_of(story: Story) -> List[str]:
-    """The sentences of all entries, each entry's as one text."""
+def sentences_of(story: Story, first=1, last=None) -> Dict[int, str]:
+    """The sentences of some entries, each entry's as one text."""
     why = Why(story)
-    return [why.of(facts) for facts in story.facts]
+    return {facts.entry.number: why.of(facts) for facts in story.facts[first - 1:last]}

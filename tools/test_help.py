@@ -1,0 +1,94 @@
+#!/usr/bin/env python3
+"""Tests of the tools' --help, man page and completion: python3 tools/test_help.py"""
+import os
+import re
+import shutil
+import subprocess
+import sys
+import unittest
+
+from testing import TOOLS, TOP, call, content_of
+
+NAMES = sorted(name for name in os.listdir(TOOLS) if "." not in name and os.path.isfile(os.path.join(TOOLS, name)))
+MAN = os.path.join(TOP, "man", "catsync.1")
+
+
+def options_of(text):
+    """The options in a text."""
+    return set(re.findall(r"(?<![\w-])--[a-z][a-z-]*", text))
+
+
+def in_shell(command):
+    """What bash prints for a command."""
+    return subprocess.run(["bash", "-c", command], cwd=TOP, stdout=subprocess.PIPE, check=True).stdout.decode().split()
+
+
+class Help(unittest.TestCase):
+    """What the tools say of themselves."""
+
+    def test_form(self):
+        """Each tool's --help has one form, and comes though nothing else is given."""
+        for name in NAMES:
+            with self.subTest(name):
+                status, text, said = call(name, "--help")
+                self.assertEqual((status, said), (0, ""))
+                lines = text.decode().splitlines()
+                self.assertTrue(lines[0].startswith("usage: %s " % name))
+                self.assertIn("options:", lines)
+                self.assertIn("  -h, --help", text.decode())
+                statuses = [line.split(None, 1) for line in lines[lines.index("exit status:") + 1:]]
+                self.assertEqual([status for status, _ in statuses][-2:], ["2", "130"])
+                self.assertEqual(statuses[-1][1], "after Ctrl-C")
+                self.assertLessEqual(max(map(len, lines)), 120)
+
+    def test_wrong_option(self):
+        """A wrong option is a fault, in one line."""
+        for name in NAMES:
+            with self.subTest(name):
+                status, text, said = call(name, "--sideways", "x")
+                self.assertEqual((status, text, said.count("\n")), (2, b"", 1))
+                self.assertTrue(said.startswith(name + ": "), said)
+
+    def test_closed_streams(self):
+        """No tool ends in a traceback where its standard streams are closed."""
+        for name in NAMES:
+            for redirection in ("<&-", "<&- >&-", "<&- 2>&-", "</dev/null >/dev/full", "--help >&-", "--help >/dev/full"):
+                with self.subTest((name, redirection)):
+                    command = "exec %s %s %s" % (sys.executable, os.path.join(TOOLS, name), redirection)
+                    done = subprocess.run(["sh", "-c", command], stdin=subprocess.DEVNULL, stdout=subprocess.PIPE,
+                                          stderr=subprocess.STDOUT)
+                    self.assertNotIn(b"Traceback", done.stdout)
+                    self.assertEqual(done.returncode, 2)
+
+    def test_man_page(self):
+        """The man page has each tool with all of its options, and no others."""
+        text = content_of(MAN).decode().replace("\\-", "-")
+        parts = dict(re.findall(r"\n\.SS (\S+)\n(.*?)(?=\n\.S[HS] )", text, re.DOTALL))
+        for name in NAMES:
+            with self.subTest(name):
+                own = options_of(call(name, "--help")[1].decode()) - {"--help", "--program"}
+                self.assertEqual(options_of(parts[name]), own)
+
+    @unittest.skipUnless(shutil.which("man"), "no man")
+    def test_man_page_is_formatted(self):
+        """The man page is set without a warning."""
+        done = subprocess.run(["man", "--warnings", "-l", MAN], stdout=subprocess.PIPE, stderr=subprocess.PIPE)
+        self.assertEqual((done.returncode, done.stderr), (0, b""))
+
+    @unittest.skipUnless(shutil.which("bash"), "no bash")
+    def test_completion(self):
+        """All options are completed, and where one takes a folder, folders."""
+        complete = ". tools/completion.bash; COMP_WORDS=(%s); COMP_CWORD=%d; _catsync %s; echo ${COMPREPLY[*]}"
+        for name in NAMES:
+            with self.subTest(name):
+                tool = "tools/" + name
+                own = options_of(call(name, "--help")[1].decode())
+                self.assertEqual(set(in_shell(complete % (tool + " --", 1, tool))), own)
+                self.assertTrue(in_shell(". tools/completion.bash; complete -p " + tool))
+        self.assertEqual(in_shell(complete % ("./catsync ''", 1, "./catsync")), ["walk", "--help", "--version"])
+        self.assertEqual(in_shell(complete % ("tools/explore --picture too", 2, "tools/explore")), ["tools"])
+        self.assertEqual(in_shell(complete % ("tools/explore --most ''", 2, "tools/explore")), [])
+
+
+if __name__ == "__main__":
+    unittest.main()

@@ -1,0 +1,689 @@
+#!/usr/bin/env python3
+"""Tests of tools/picture: python3 tools/test_pictures.py
+
+The pictures are those of all outputs in examples/ and in tools/samples/; the latter have entries that no command of today
+makes. What is expected is worked out from the lines alone, or by hand. The keys of a page are tried in a browser, if
+there is one (chromium).
+"""
+import glob
+import html.parser
+import json
+import os
+import re
+import shutil
+import subprocess
+import sys
+import tempfile
+import unittest
+import xml.etree.ElementTree as ElementTree
+
+sys.dont_write_bytecode = True
+sys.path.insert(0, os.path.dirname(os.path.abspath(__file__)))
+
+from testing import TOOLS, TOP, call, content_of
+
+from catsync_tools.layout import Span
+from catsync_tools.messages import COLUMNS, NAMES, OIDS, Row, hash_of, messages_of
+from catsync_tools.outputs import read_output
+from catsync_tools.picture import picture_of, script_of
+from catsync_tools.steps import steps_of
+from catsync_tools.story import story_of
+from catsync_tools.why import plain, sentences_of
+
+OUTPUTS = sorted(path for folder in (os.path.join(TOP, "examples"), os.path.join(TOOLS, "samples"))
+                 for path in glob.glob(os.path.join(folder, "*.output")))
+SVG = "{http://www.w3.org/2000/svg}"
+
+
+def entry_lines(data):
+    """The lines of the entries of an output."""
+    return [line for line in data.decode().split("\n") if line.startswith("h ")]
+
+
+def answer_lines(data):
+    """The lines of the answers of an output."""
+    return [line for line in data.decode().split("\n") if line.startswith("l ")]
+
+
+def example(name):
+    """The story of an example, or of a sample."""
+    path = next(path for path in OUTPUTS if os.path.basename(path) == name + ".output")
+    return story_of(read_output(content_of(path)))
+
+
+# What a picture has to show, worked out from the lines alone.
+
+def message_pairs(lines):
+    """The publishes and fetches with a message in common, by their numbers."""
+    log, position, pairs = [], {}, set()
+    for number, line in enumerate(lines, 1):
+        backend, words = line.split(" ")[1], line.split(" ")[3:]
+        if words[0] == "start" or words == ["fetch", "reset"]:
+            position[backend] = len(log)
+        elif words[0] == "publish":
+            log += [number] * int(words[1])
+        elif words[0] == "fetch":
+            taken = log[position[backend]:position[backend] + int(words[1])]
+            position[backend] += int(words[1])
+            pairs.update((publish, number) for publish in taken)
+    return pairs
+
+
+def refused(lines):
+    """The numbers of the entries that were refused for another's lock or name."""
+    return [number for number, line in enumerate(lines, 1)
+            if line.split(" ")[3] == "clash" or (" lock " in line and " held " in line)]
+
+
+def grants(lines):
+    """How many locks were granted: those asked for, and one for each new relation."""
+    return sum(line.endswith(" ok") + line.count("+class(") for line in lines)
+
+
+def transactions(lines):
+    """How many transactions there were: each begins with a backend's first entry that is neither its start nor its stop,
+    and ends with the release of the command in which it began."""
+    began, count = {}, 0
+    for line in lines:
+        _, backend, command, word = line.split(" ")[:4]
+        if word in ("start", "stop"):
+            continue
+        if backend not in began:
+            began[backend] = command
+            count += 1
+        if word == "release" and line.split(" ")[4] == began[backend]:
+            del began[backend]
+    return count
+
+
+# What a picture shows.
+
+def classes(element):
+    """The classes of an element."""
+    return element.get("class", "").split()
+
+
+class Drawn:
+    """A picture that was parsed, without its legend."""
+
+    def __init__(self, text):
+        self.root = ElementTree.fromstring(text)
+        for legend in [child for child in self.root if "legend" in classes(child)]:
+            self.root.remove(legend)
+
+    def all(self, class_):
+        """The elements of a class."""
+        return [element for element in self.root.iter() if class_ in classes(element)]
+
+    def shown(self, class_):
+        """The texts of the entries or answers: the whole text, and the text as it is shown."""
+        texts = []
+        for group in self.all(class_):
+            shown = "".join(next(text for text in group.iter(SVG + "text") if "line" in classes(text)).itertext())
+            texts.append((group.find(SVG + "title").text.split("\n")[-1] if "cut" in classes(group) else shown, shown))
+        return texts
+
+    def numbers(self):
+        """The numbers beside the entries."""
+        return [int(text.text) for text in self.root.iter(SVG + "text") if "number" in classes(text)]
+
+
+class Pictures(unittest.TestCase):
+    """Pictures of all outputs."""
+
+    def drawn(self, path, first=1, last=None):
+        """The picture of an output, and its lines."""
+        data = content_of(path)
+        lines = entry_lines(data)
+        return Drawn(picture_of(read_output(data), False, Span(first, last or len(lines)))), lines, answer_lines(data)
+
+    def test_samples_have_all_events(self):
+        """The outputs that are drawn have each kind of event."""
+        kinds = {entry.event.kind for path in OUTPUTS for entry in read_output(content_of(path)).entries}
+        self.assertEqual(sorted(kinds), sorted([
+            "start", "look", "fetch", "fetch reset", "lock ok", "lock held", "unlock", "scan", "write", "clash row",
+            "clash running", "visible", "publish", "release", "gone", "fail", "stop"]))
+
+    def test_entries_and_answers(self):
+        """Each entry has its number, its mark and its text once, in order; so has each answer its text."""
+        for path in OUTPUTS:
+            with self.subTest(path):
+                drawn, lines, answers = self.drawn(path)
+                self.assertEqual(drawn.numbers(), list(range(1, len(lines) + 1)))
+                self.assertEqual([whole for whole, _ in drawn.shown("entry")], lines)
+                self.assertEqual(sorted(whole for whole, _ in drawn.shown("answer")), sorted(answers))
+                for whole, shown in drawn.shown("entry") + drawn.shown("answer"):
+                    self.assertTrue(shown == whole or (shown.endswith(" ...") and whole.startswith(shown[:-4])))
+                marks = {element.get("id") for element in drawn.root.find(SVG + "defs")}
+                used = [use.get("href") for use in drawn.root.iter(SVG + "use")]
+                self.assertEqual(len([use for entry in drawn.all("entry") for use in entry.iter(SVG + "use")]), len(lines))
+                self.assertLessEqual(set(used), {"#" + mark for mark in marks})
+
+    def test_text_is_nowhere_else(self):
+        """No other text of a picture has an entry's line."""
+        for path in OUTPUTS:
+            with self.subTest(path):
+                data = content_of(path)
+                text = picture_of(read_output(data), False, Span(1, len(entry_lines(data))))
+                found = [shown for element in ElementTree.fromstring(text).iter(SVG + "text")
+                         for shown in ["".join(element.itertext())] if re.match("h [0-9]+ [0-9]+ ", shown)]
+                self.assertEqual(len(found), len(entry_lines(data)))
+
+    def test_arrows(self):
+        """There is an arrow for each pair of a publish and a fetch, and for each refusal; and no other."""
+        for path in OUTPUTS:
+            with self.subTest(path):
+                drawn, lines, _ = self.drawn(path)
+                self.assertEqual(len(drawn.all("message")), len(message_pairs(lines)))
+                self.assertEqual(len(drawn.all("refusal")), len(refused(lines)))
+                titles = {tuple(int(number) for number in re.findall("entry ([0-9]+)", arrow.find(SVG + "title").text))
+                          for arrow in drawn.all("message")}
+                self.assertEqual(titles, message_pairs(lines))
+
+    def test_bars(self):
+        """There is a bar for each transaction, for each lock, and for each descriptor of which a scan was made."""
+        for path in OUTPUTS:
+            with self.subTest(path):
+                drawn, lines, _ = self.drawn(path)
+                self.assertEqual(len(drawn.all("transaction")), transactions(lines))
+                self.assertEqual(len(drawn.all("lock")), grants(lines))
+                self.assertEqual(len(drawn.all("build")), sum(" scan class " in line for line in lines))
+
+    def test_marks_of_what_serves(self):
+        """There is a mark for each command that is served, in the row by which it had what it needed."""
+        for path in OUTPUTS:
+            with self.subTest(path):
+                drawn, _, _ = self.drawn(path)
+                served = [served for kept in story_of(read_output(content_of(path))).kept for served in kept.serves]
+                self.assertEqual(len(drawn.all("serves")), len(served))
+                rows = {row.get("id"): float(row.get("y")) + 9 for row in drawn.all("row")}
+                self.assertEqual(sorted(float(mark.get("cy")) for mark in drawn.all("serves")),
+                                 sorted(rows["row%d" % one.entry] for one in served))
+
+    def test_part_of_a_history(self):
+        """Of a part the entries of the part are drawn, and the arrows with an end in it."""
+        for path in OUTPUTS:
+            with self.subTest(path):
+                lines = entry_lines(content_of(path))
+                first, last = len(lines) // 3 + 1, 2 * len(lines) // 3 + 1
+                drawn, _, _ = self.drawn(path, first, last)
+                self.assertEqual([whole for whole, _ in drawn.shown("entry")], lines[first - 1:last])
+                pairs = [pair for pair in message_pairs(lines) if any(first <= end <= last for end in pair)]
+                self.assertEqual(len(drawn.all("message")), len(pairs))
+                self.assertEqual(len(drawn.all("refusal")), sum(first <= number <= last for number in refused(lines)))
+
+    def test_width(self):
+        """A picture of few lanes is no wider than is wanted, and no text and no item of the legend lies beyond its edge."""
+        for path in OUTPUTS:
+            data = content_of(path)
+            for width in (700, 1340):
+                with self.subTest((path, width)):
+                    output = read_output(data)
+                    root = ElementTree.fromstring(picture_of(output, False, Span(1, len(output.entries)), width=width))
+                    if len({entry.backend for entry in output.entries}) < 3:
+                        self.assertLessEqual(float(root.get("width")), width)
+                    for text in root.iter(SVG + "text"):
+                        if "transform" in text.attrib:
+                            continue
+                        for part in text.iter():
+                            if part.text and part.get("x") and not text.get("text-anchor"):
+                                length = len(part.text) * (7.2 if "line" in classes(text) else 6)
+                                self.assertLessEqual(float(part.get("x")) + length, float(root.get("width")) + 1)
+
+    def test_pictures_of_the_readme(self):
+        """The pictures that README shows are those of its first example and of two backends."""
+        for script, given, shown in (
+                ("crates/catsync/stdin", "crates/catsync/stdout", "docs/first_run.svg"),
+                ("examples/two_backends.script", "examples/two_backends.output", "docs/two_backends.svg")):
+            with self.subTest(shown):
+                words = ("--script", os.path.join(TOP, script))
+                status, drawn, _ = call("picture", *words, given=content_of(os.path.join(TOP, given)))
+                self.assertEqual(status, 0)
+                self.assertEqual(drawn, content_of(os.path.join(TOP, shown)),
+                                 "make it anew: tools/picture --script %s < %s > %s" % (script, given, shown))
+
+
+class Brief(unittest.TestCase):
+    """Brief pictures, and pictures with commands."""
+
+    def test_rows(self):
+        """Each entry is in one row, in order; a row is of one command; and half of the rows are enough."""
+        entries = rows = 0
+        for path in OUTPUTS:
+            with self.subTest(path):
+                output = read_output(content_of(path))
+                steps = steps_of(output.entries, True)
+                self.assertEqual([entry for step in steps for entry in step.entries], output.entries)
+                for step in steps:
+                    self.assertEqual(len({(entry.backend, entry.command) for entry in step.entries}), 1)
+                    others = [entry for entry in step.entries if entry.event.kind != "look"]
+                    self.assertTrue(len(others) <= 1 or all(entry.event.kind == "scan" for entry in others))
+                entries, rows = entries + len(output.entries), rows + len(steps)
+        self.assertLess(rows, 0.55 * entries)
+
+    def test_by_hand(self):
+        """The rows of an example."""
+        path = os.path.join(TOP, "examples", "columns_protected.output")
+        steps = steps_of(read_output(content_of(path)).entries, True)
+        self.assertEqual([(step.first, step.last) for step in steps][:20], [
+            (1, 1), (2, 2), (3, 4), (5, 5), (6, 6), (7, 7), (8, 8), (9, 10), (11, 12), (13, 14), (15, 26), (27, 27), (28, 29),
+            (30, 31), (32, 33), (34, 45), (46, 47), (48, 48), (49, 49), (50, 50)])
+        self.assertEqual([step.text for step in steps][9:12], [
+            "h 1 3 lock 16384 as ok", "h 1 3 scan class, attribute, attrdef, constraint, index, trigger 16384", "h 1 4 look no"])
+
+    def test_same_bars(self):
+        """A brief picture has the same bars and arrows, and its rows have the texts of steps."""
+        for path in OUTPUTS:
+            with self.subTest(path):
+                output = read_output(content_of(path))
+                span = Span(1, len(output.entries))
+                long, brief = (Drawn(picture_of(output, False, span, brief=brief)) for brief in (False, True))
+                for class_ in ("transaction", "lock", "kept", "message", "refusal", "answer", "serves"):
+                    self.assertEqual(len(long.all(class_)), len(brief.all(class_)), class_)
+                self.assertEqual([whole for whole, _ in brief.shown("entry")],
+                                 [step.text for step in steps_of(output.entries, True)])
+
+    def test_commands(self):
+        """Each command that has an entry or an answer stands once above them, as it is written."""
+        for path in OUTPUTS:
+            script = path[:-len(".output")] + ".script"
+            if not os.path.exists(script):
+                continue
+            with self.subTest(script):
+                output = read_output(content_of(path))
+                commands = script_of(script, output)
+                drawn = Drawn(picture_of(output, False, Span(1, len(output.entries)), commands))
+                begun = {(one.backend, one.command) for one in output.entries + output.answers}
+                self.assertEqual(sorted(whole for whole, _ in drawn.shown("command")), sorted(
+                    "%d: %s" % (backend, text) for (backend, number), text in commands.items() if (backend, number) in begun))
+
+    def test_order_of_commands(self):
+        """A command stands above its first entry, or, where it has none, above its answer."""
+        path = os.path.join(TOP, "examples", "failed_block.output")
+        output = read_output(content_of(path))
+        drawn = Drawn(picture_of(output, False, Span(1, 11), script_of(path[:-7] + ".script", output)))
+        texts = [(float(next(text.iter(SVG + "tspan")).get("y")), "".join(text.itertext()))
+                 for text in drawn.root.iter(SVG + "text") if "line" in classes(text)]
+        self.assertEqual([text for _, text in sorted(texts)][:16], [
+            "h 1 0 start", "1: begin", "h 1 1 look no", "l 1 1 ok", "1: create table t (a int4)",
+            "h 1 2 write 1 +class(16384,t,r,-) +att(16384,1,a,int4,-1,l)", "l 1 2 ok", "1: create table t (b text)",
+            "h 1 3 clash t row 16384", "h 1 3 gone 1", "h 1 3 release 1", "l 1 3 error 42P07 relation t already exists",
+            "1: show t", "l 1 4 error 25P02 the transaction block has failed", "1: commit", "l 1 5 rolled back"])
+
+
+class Stories(unittest.TestCase):
+    """What a history comes to."""
+
+    def test_rows_of_scans(self):
+        """Each scan gives as many rows as its entry says."""
+        for path in OUTPUTS:
+            with self.subTest(path):
+                for facts in story_of(read_output(content_of(path))).facts:
+                    if facts.entry.event.kind == "scan":
+                        self.assertEqual(len(facts.rows), facts.entry.event.parts["rows"], facts.entry.line)
+
+    def test_looks(self):
+        """A look says yes where messages wait for its backend, and no where none does."""
+        for path in OUTPUTS:
+            with self.subTest(path):
+                for facts in story_of(read_output(content_of(path))).facts:
+                    if facts.entry.event.kind == "look":
+                        self.assertEqual(facts.entry.event.parts["answer"] == "yes", facts.left > 0, facts.entry.line)
+
+    def test_publishes(self):
+        """All messages of a commit are sent before its release."""
+        for path in OUTPUTS:
+            with self.subTest(path):
+                for transaction in story_of(read_output(content_of(path))).transactions:
+                    if transaction.visible and transaction.last:
+                        self.assertEqual(transaction.published, len(transaction.messages))
+
+    # Of what is kept: backend, first scan, last scan, out of date from, end, why it ends, and entries where it serves.
+    KEPT = {
+        "columns_protected": [
+            (1, 16, 26, 49, 56, "a message", [54]), (2, 35, 45, None, 48, "an own write", []),
+            (1, 59, 69, None, 77, "the stop", [75])],
+        "second_show": [(1, 15, 25, None, 27, "the stop", []), (2, 35, 45, None, 53, "the stop", [51])],
+        "serves_until_fetched": [(1, 9, 19, None, 27, "a message", [21]), (1, 33, 43, None, 45, "the stop", [])],
+        "rolled_back": [(1, 9, 19, None, 20, "an own write taken back", []), (2, 45, 55, None, 57, "the stop", [])],
+        "reset_inside_build": [(2, 15, None, None, 27, "a reset", []), (2, 29, 39, None, 41, "the stop", [])],
+        "build_starts_over": [
+            (2, 15, None, None, 45, "a message", []), (1, 24, 34, None, 37, "an own write", []),
+            (2, 47, 57, None, 59, "the stop", [])],
+        "early_end": [(2, 16, None, None, None, "", [])],
+        "names": [
+            (2, 4, 4, None, 55, "the stop", [17]), (2, 21, 21, None, 55, "the stop", [28, 34, 36, 40]),
+            (2, 25, 25, None, 55, "the stop", [33]), (2, 31, 31, None, 55, "the stop", [31]),
+            (2, 33, 33, None, 55, "the stop", [33]), (2, 43, 53, None, 55, "the stop", []),
+            (1, 62, 72, None, 75, "an own write", [])],
+    }
+
+    def test_kept(self):
+        """What is kept from when to when, and where it serves: worked out by hand."""
+        for name, wanted in self.KEPT.items():
+            with self.subTest(name):
+                found = [(kept.backend, kept.first, kept.built, kept.outdated, kept.last, kept.cause,
+                          [served.entry for served in kept.serves]) for kept in example(name).kept]
+                self.assertEqual(found, wanted)
+
+    def test_builds_that_start_over(self):
+        """The builds of a sample: three are given up for a message, and five come to their end."""
+        builds = [(kept.backend, kept.first, kept.built or kept.last, kept.outcome)
+                  for kept in example("started_over").kept if kept.is_descriptor]
+        self.assertEqual([build[3] for build in builds].count("started over"), 3)
+        self.assertIn((2, 16, 48, "started over"), builds)
+        self.assertIn((2, 50, 86, "started over"), builds)
+        self.assertIn((2, 88, 98, "finished"), builds)
+
+    def test_messages(self):
+        """The messages of a change: one for each cache, two where the hash of a key changes, and one for the descriptor."""
+        self.assertEqual(hash_of(NAMES, "an"), hash_of(NAMES, "c0"))
+        self.assertEqual(hash_of(NAMES, "an"), 4078)
+        old, new = Row("class", ("16384", "t", "r", "-")), Row("class", ("16384", "v", "r", "-"))
+        targets = [[message.target for message in part] for part in messages_of(old, new)]
+        self.assertEqual(targets, [[(NAMES, hash_of(NAMES, "t")), (NAMES, hash_of(NAMES, "v")),
+                                    (OIDS, hash_of(OIDS, 16384))], [(0, 16384)]])
+        column = Row("att", ("16384", "1", "a", "int4", "-1", "l"))
+        self.assertEqual([message.target for message in messages_of(column, column)[0]],
+                         [(COLUMNS, hash_of(COLUMNS, 16384, "a"))])
+
+
+class Sentences(unittest.TestCase):
+    """What entries do and why, in words."""
+
+    SAID = {
+        ("columns_protected", 14): "Backend 1 looks for messages after the grant at 13, and none waits. With that the lock of "
+                                   "13 is clear.",
+        ("columns_protected", 48): "Backend 2 writes as transaction 2: it replaces 1 row of pg_attribute. Its commit has to send "
+                                   "2 messages, for the column a of t and the descriptor of t. The descriptor of t, built at 35 "
+                                   "to 45, is stale.",
+        ("columns_protected", 49): "Backend 2 commits transaction 2: from here on all others see what it wrote at 48. Its 2 "
+                                   "messages aren't sent yet, so nothing tells backend 1 that the descriptor of t, built at 16 "
+                                   "to 26, is out of date.",
+        ("columns_protected", 54): "Backend 1 looks the name t up in pg_class: it is relation 16384. It asks for no lock on "
+                                   "that, as it holds AccessShare since 13, clear. The descriptor of t, built at 16 to 26, "
+                                   "serves command 4 without a scan, out of date as it is since 49.",
+        ("columns_protected", 56): "Backend 1 fetches the 2 messages of 50 and 51: the descriptor of t, built at 16 to 26, is "
+                                   "stale.",
+        ("columns_protected", 59): "Backend 1 scans pg_class for t, scan 1 of 6 for its descriptor: 1 row. The last one, built "
+                                   "at 16 to 26, is stale since 56.",
+        ("two_backends", 9): "Backend 2 is refused AccessShare on t: backend 1 holds AccessExclusive since 3, and the two "
+                             "conflict.",
+        ("two_backends", 13): "Backend 1 ends its committed transaction 1, and releases AccessExclusive on t (since 3).",
+        ("two_creators", 6): "Backend 2 is refused its write: transaction 1 of backend 1, which still runs, has the name t in "
+                             "use since 3.",
+        ("two_creators", 19): "Backend 1 is refused its write: t (16385) has the name t, since 11.",
+        ("absent_name", 11): "Backend 2 looks the name orders up in pg_class: no relation has it, as what backend 1 wrote at 8 "
+                             "isn't visible yet.",
+        ("reset_inside_build", 27): "Backend 2 has lost messages: of the 70 that waited the queue keeps only the last ones. So it "
+                                    "resets: it drops all that it keeps, and is past all messages. The build of t, which began "
+                                    "at 15, starts over.",
+        ("messages_in_parts", 14): "Backend 2 looks for messages again, since 13 took as many as a fetch can: 44 messages wait, "
+                                   "of 7, 8 and 9.",
+        ("serves_until_fetched", 27): "Backend 1 fetches its own 4 messages of 23 and 24: the descriptor of t, built at 9 to 19, "
+                                      "is stale.",
+        ("nothing_to_find", 14): "Backend 3 joins the queue of messages, past all that were published before: it has read "
+                                 "nothing that they could be for.",
+    }
+
+    def test_by_hand(self):
+        """Sentences of examples."""
+        for (name, number), wanted in self.SAID.items():
+            with self.subTest((name, number)):
+                self.assertEqual(plain(sentences_of(example(name))[number]), wanted)
+
+    def test_places(self):
+        """Each entry has sentences; each number in braces is an entry of the history; a sentence has nothing unfinished."""
+        for path in OUTPUTS:
+            with self.subTest(path):
+                story = story_of(read_output(content_of(path)))
+                for facts, text in zip(story.facts, sentences_of(story).values()):
+                    self.assertTrue(text.startswith("Backend %d " % facts.entry.backend) and text.endswith("."), text)
+                    self.assertNotRegex(text, r"None|\bnothing to\b|  |\.\.|,\.")
+                    for number in re.findall(r"\{([0-9]+)\}", text):
+                        self.assertTrue(1 <= int(number) <= len(story.entries), text)
+
+
+# What holds after an entry, worked out from the lines alone.
+
+def locks_after(lines, number):
+    """The locks that are held after an entry, as backends with modes and relations."""
+    held = []
+    for line in lines[:number]:
+        _, backend, command, *words = line.split(" ")
+        place = (int(backend), int(command))
+        if words[0] == "lock" and words[3] == "ok":
+            held.append(place + (words[2],))
+        elif words[0] == "write":
+            held += [place + ("ax",)] * line.count("+class(")
+        elif words[0] == "unlock":
+            held.remove(next(one for one in held if one[0] == place[0] and one[2] == words[2]))
+        elif words[0] == "release":
+            held = [one for one in held if one[0] != place[0] or one[1] < int(words[1])]
+    return sorted((backend, mode) for backend, _, mode in held)
+
+
+def waiting_after(lines, number):
+    """How many messages wait for each backend after an entry."""
+    length, place = 0, {}
+    for line in lines[:number]:
+        _, backend, _, *words = line.split(" ")
+        if words[0] == "publish":
+            length += int(words[1])
+        elif words[0] == "start" or words == ["fetch", "reset"]:
+            place[backend] = length
+        elif words[0] == "fetch":
+            place[backend] += int(words[1])
+    return {backend: length - at for backend, at in place.items()}
+
+
+def data_of(page):
+    """The data of a page."""
+    return json.loads(re.search(r'<script type="application/json" id="data">(.*?)</script>', page, re.DOTALL).group(1))
+
+
+def value_at(pairs, number):
+    """The last value of pairs of an entry and a value."""
+    return [0] + [value for entry, value in pairs if entry <= number]
+
+
+class Pages(unittest.TestCase):
+    """Pages to step through."""
+
+    MODES = {"AccessShare": "as", "RowShare": "rs", "RowExclusive": "rx", "ShareUpdateExclusive": "su", "Share": "sh",
+             "ShareRowExclusive": "sr", "Exclusive": "ex", "AccessExclusive": "ax"}
+
+    def pages(self):
+        """The pages of all outputs, with their lines."""
+        for path in OUTPUTS:
+            lines = entry_lines(content_of(path))
+            yield path, picture_of(read_output(content_of(path)), True, Span(1, len(lines))), lines
+
+    def test_alone(self):
+        """A page is well formed and needs nothing else."""
+        for path, page, lines in self.pages():
+            with self.subTest(path):
+                html.parser.HTMLParser().feed(page)
+                self.assertNotRegex(page.replace("http://www.w3.org/2000/svg", ""), r"https?:|<link|src=|@import|url\((?!#)")
+                self.assertEqual([entry[1] for entry in data_of(page)["entries"]], lines)
+                self.assertEqual(len(re.findall('class="row"', page)), len(lines))
+
+    def test_locks(self):
+        """After each entry the locks are those that the lines give."""
+        for path, page, lines in self.pages():
+            with self.subTest(path):
+                things = data_of(page)["things"]
+                for number in range(1, len(lines) + 1):
+                    held = sorted((thing[0], self.MODES[thing[4].split(" ")[0]]) for thing in things if thing[1] == 2
+                                  and thing[2] <= number and (thing[3] is None or number < thing[3]))
+                    self.assertEqual(held, locks_after(lines, number))
+
+    def test_waiting(self):
+        """After each entry as many messages wait as the lines give."""
+        for path, page, lines in self.pages():
+            with self.subTest(path):
+                data = data_of(page)
+                for number in range(1, len(lines) + 1):
+                    length = value_at(data["lengths"], number)[-1]
+                    waits = {backend: length - value_at(pairs, number)[-1] for backend, pairs in data["places"].items()
+                             if pairs[0][0] <= number}
+                    self.assertEqual(waits, waiting_after(lines, number))
+                self.assertEqual(len(data["log"]), value_at(data["lengths"], len(lines))[-1])
+
+    def test_part(self):
+        """The page of a part has the state that the whole one has there."""
+        for path, page, lines in self.pages():
+            with self.subTest(path):
+                first, last = len(lines) // 3 + 1, 2 * len(lines) // 3 + 1
+                part = data_of(picture_of(read_output(content_of(path)), True, Span(first, last)))
+                for number in range(first, last + 1):
+                    states = [[thing for thing in data["things"] if thing[2] <= number and
+                               (thing[3] is None or number < thing[3])] for data in (part, data_of(page))]
+                    self.assertEqual(states[0], states[1])
+                self.assertEqual(part["entries"], data_of(page)["entries"][first - 1:last])
+
+    def test_kept(self):
+        """What a backend keeps, in words, before and after it is out of date, and once it is told."""
+        path = os.path.join(TOP, "examples", "columns_protected.output")
+        output = read_output(content_of(path))
+        things = data_of(picture_of(output, True, Span(1, 77), script_of(path[:-7] + ".script", output)))["things"]
+        found = [(thing[1], plain(thing[4])) for thing in things if thing[0] == 1 and thing[2] <= 54 < (thing[3] or 99)]
+        self.assertEqual(found, [
+            (0, "show t columns \u2192 columns a:int4 b:text"), (1, "since 9"),
+            (2, "AccessShare on t since 13, clear since 14"),
+            (3, "descriptor of t, built at 16 to 26, out of date since 49")])
+        self.assertEqual([thing[2:4] for thing in things if thing[0] == 1 and thing[1] == 3],
+                         [[16, 26], [26, 49], [49, 56], [59, 69], [69, 77]])
+
+
+PRESSED = """<script>
+const seen = [];
+function press(key, shiftKey) {
+  document.dispatchEvent(new KeyboardEvent('keydown', {key, shiftKey: Boolean(shiftKey), bubbles: true}));
+  seen.push(document.body.dataset.entry);
+}
+seen.push(document.body.dataset.entry);
+for (const key of ['ArrowDown', 'j', 'ArrowRight', 'ArrowUp', 'k', 'ArrowLeft', 'k', 'PageDown', 'PageUp', 'End', 'j', 'Home'])
+  press(key);
+press('J', true);
+press('ArrowUp', true);
+document.getElementById('entry54').dispatchEvent(new MouseEvent('click', {bubbles: true}));
+seen.push(document.body.dataset.entry);
+const shown = [...document.querySelectorAll('#state .backend')].map(box => box.innerText.replace(/\\s+/g, ' ')).join(' | ');
+document.title = seen.join(' ') + ' / ' + document.querySelector('#entry p').innerText + ' / ' + shown;
+</script></body>"""
+
+
+@unittest.skipUnless(shutil.which("chromium"), "no browser (chromium)")
+class Keys(unittest.TestCase):
+    """The keys of a page, in a browser."""
+
+    def test_keys(self):
+        """Each key goes where it says; a click selects; and the panel shows the entry and what holds after it."""
+        path = os.path.join(TOP, "examples", "columns_protected.output")
+        output = read_output(content_of(path))
+        page = picture_of(output, True, Span(1, 77), script_of(path[:-7] + ".script", output))
+        with tempfile.TemporaryDirectory() as folder:
+            with open(os.path.join(folder, "page.html"), "w", encoding="utf-8") as file:
+                file.write(page.replace("</body>", PRESSED))
+            done = subprocess.run(
+                ["chromium", "--headless", "--no-sandbox", "--disable-gpu", "--user-data-dir=" + os.path.join(folder, "data"),
+                 "--window-size=1280,800", "--dump-dom", "file://" + os.path.join(folder, "page.html")],
+                stdout=subprocess.PIPE, stderr=subprocess.DEVNULL, timeout=120)
+        title = html.unescape(re.search("<title>(.*?)</title>", done.stdout.decode(), re.DOTALL).group(1))
+        seen, sentence, shown = title.split(" / ")
+        self.assertEqual(seen.split(), "1 2 3 4 3 2 1 1 11 1 77 77 1 28 1 54".split())
+        self.assertTrue(sentence.endswith("serves command 4 without a scan, out of date as it is since 49."), sentence)
+        self.assertEqual(shown, "backend 1 command show t columns \u2192 columns a:int4 b:text transaction since 9 locks "
+                         "AccessShare on t since 13, clear since 14 waits 2, for t keeps descriptor of t, built at 16 to 26, "
+                         "out of date since 49 | backend 2 has stopped")
+
+
+HEAD = "h 1 0 start\nh 1 1 look no\n"
+FAULTY_OUTPUTS = (
+    ("", "line 1: no output of catsync, which begins with an entry: ''"),
+    ("hello\n", "line 1: no output of catsync, which begins with an entry: 'hello'"),
+    ("end\n", "line 1: no output of catsync, which begins with an entry: 'end'"),
+    (HEAD + "h 1 1 lok no\nend\n", "line 3: not an entry: 'h 1 1 lok no'"),
+    (HEAD + "h 1 1 look maybe\nend\n", "line 3: not an entry: 'h 1 1 look maybe'"),
+    (HEAD + "h 1 1 lock 16384 xx ok\nend\n", "line 3: not an entry: 'h 1 1 lock 16384 xx ok'"),
+    (HEAD + "h 1 1 fetch 33\nend\n", "line 3: not an entry: 'h 1 1 fetch 33'"),
+    (HEAD + "h 1 1 write 1 +class(16384,t,x,-)\nend\n", "line 3: not an entry: 'h 1 1 write 1 +class(16384,t,x,-)'"),
+    (HEAD + "h 65 0 start\nend\n", "line 3: not an entry: 'h 65 0 start'"),
+    (HEAD + "h 1 1 caf\u00e9\nend\n", "line 3: not an entry: 'h 1 1 caf??'"),
+    (HEAD + "x\nend\n", "line 3: neither an entry nor an answer: 'x'"),
+    (HEAD + "l 1 1\nend\n", "line 3: neither an entry nor an answer: 'l 1 1'"),
+    (HEAD + "l 2 1 ok\nend\n", "line 3: an answer of backend 2, which made no entry"),
+    (HEAD, "line 3: the output ends without a line 'end'"),
+    (HEAD + "end\nend\n", "line 4: nothing may follow the line 'end': 'end'"),
+    ("h 1 1 look no\nend\n", "line 1: backend 1 hasn't started"),
+    (HEAD + "h 1 0 start\nend\n", "line 3: backend 1 starts twice"),
+    (HEAD + "h 1 2 stop\nh 1 2 look no\nend\n", "line 4: backend 1 has stopped"),
+    (HEAD + "h 1 0 look no\nend\n", "line 3: command 0 of backend 1 is over"),
+    (HEAD + "h 1 1 fetch 2\nend\n", "line 3: a fetch of 2 messages, but 0 wait for backend 1"),
+    (HEAD + "h 1 1 unlock 16384 as\nend\n", "line 3: backend 1 doesn't hold as on 16384"),
+    (HEAD + "h 1 1 lock 16384 as held 2 ax\nend\n", "line 3: backend 2 doesn't hold ax on 16384"),
+    (HEAD + "h 1 1 visible 1\nend\n", "line 3: transaction 1 isn't backend 1's running one"),
+    (HEAD + "h 1 1 publish 1\nend\n", "line 3: a publish of 1 messages, but backend 1 has 0 to send"),
+    (HEAD + "h 1 1 write 1 =class(16384,t,r,-)\nend\n", "line 3: backend 1 sees no row of class to change"),
+    (HEAD + "h 1 1 clash t running 1\nend\n", "line 3: transaction 1 isn't one that another backend runs"),
+    (HEAD + "h 1 1 clash t row 16384\nend\n", "line 3: no write gave relation 16384 the name t"),
+)
+
+
+class FaultyOutputs(unittest.TestCase):
+    """What isn't an output is refused with one line, and nothing is drawn."""
+
+    def test_faulty_outputs(self):
+        """The line says what is wrong, and where."""
+        for given, said in FAULTY_OUTPUTS:
+            with self.subTest(said):
+                with self.assertRaises(Exception) as raised:
+                    picture_of(read_output(given.encode()), False, Span(1, 1))
+                self.assertEqual(str(raised.exception), said)
+
+    def test_command(self):
+        """A fault is one line on standard error, exit status 2, and nothing on standard output."""
+        example_output = content_of(os.path.join(TOP, "examples", "two_backends.output"))
+        long = (HEAD + "h 1 1 look no\n" * 4999 + "end\n").encode()
+        with tempfile.TemporaryDirectory() as folder:
+            scripts = {}
+            for name, text in (("short", "backends 2\n1: show t\nend\n"), ("faulty", "backends 1\nsteps 1 to\nend\n")):
+                scripts[name] = os.path.join(folder, name)
+                with open(scripts[name], "w") as file:
+                    file.write(text)
+            for words, given, said in (
+                    ([], HEAD.encode() + b"h 1 1 lok no\nend\n", "line 3: not an entry: 'h 1 1 lok no'"),
+                    ([], b"", FAULTY_OUTPUTS[0][1]),
+                    ([], long, "the history has 5001 entries, and a picture at most 5000: give --from and --to"),
+                    (["--from", "0"], example_output, "no entries from 0 to "),
+                    (["--from", "7", "--to", "6"], example_output, "no entries from 7 to 6: the history has "),
+                    (["--from", "x"], example_output, "argument --from: invalid int value: 'x'; picture --help says more"),
+                    (["--width", "399"], example_output, "--width: at least 400 pixels; picture --help says more"),
+                    (["--script", scripts["short"]], example_output,
+                     scripts["short"] + ": line 6 of the output is of command 1 of backend 2, which the script hasn't"),
+                    (["--script", scripts["faulty"]], example_output, scripts["faulty"] + ": line 2: "),
+                    (["--script", os.path.join(folder, "none")], example_output,
+                     os.path.join(folder, "none") + ": reading failed: No such file or directory"),
+                    (["--sideways"], example_output, "unrecognized arguments: --sideways; picture --help says more")):
+                with self.subTest(said):
+                    status, drawn, error = call("picture", *words, given=given)
+                    self.assertEqual((status, drawn), (2, b""))
+                    self.assertTrue(error.startswith("picture: " + said), error)
+                    self.assertEqual(error.count("\n"), 1)
+        self.assertEqual(call("picture", "--to", "5000", given=long)[0], 0)
+
+    def test_closed_streams(self):
+        """A standard stream that is closed is a fault too."""
+        tool = os.path.join(TOOLS, "picture")
+        for closed, said in (("<&-", "picture: reading failed: standard input is closed\n"),
+                             (">&-", "picture: writing failed: standard output is closed\n"), ("2>&-", "")):
+            with self.subTest(closed):
+                given = "</dev/null" if closed == "2>&-" else "" if closed == "<&-" else "<" + OUTPUTS[0]
+                done = subprocess.run(["bash", "-c", "%s %s %s %s" % (sys.executable, tool, given, closed)],
+                                      stdout=subprocess.PIPE, stderr=subprocess.PIPE)
+                self.assertEqual((done.returncode, done.stdout, done.stderr.decode()), (2, b"", said))
+
+
+if __name__ == "__main__":
+    unittest.main()
