@@ -43,3 +43,8 @@ pub mod FitToWrite
 pub mod AlterationsFit
 pub mod NewTableItems
 pub mod AlteringLocks
+pub mod Tests
+pub mod ReadsBuilds
+pub mod Same
+pub mod Ending
+pub mod Resting

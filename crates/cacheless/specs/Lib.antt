@@ -14,3 +14,10 @@ pub mod Protected
 pub mod Lines
 pub mod Schedule
 pub mod Output
+pub mod Puts
+pub mod State
+pub mod SameItems
+pub mod May
+pub mod Endings
+pub mod Silently
+pub mod Holds
