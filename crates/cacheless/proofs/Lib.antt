@@ -48,3 +48,8 @@ pub mod ReadsBuilds
 pub mod Same
 pub mod Ending
 pub mod Resting
+pub mod Putting
+pub mod Entering
+pub mod EnteredLooks
+pub mod EnteredFetches
+pub mod EnteredScans

@@ -21,8 +21,8 @@ not_true true h = absurd (cc)
 not_true false h = refl
 
 pub not_both : (t : Bool) → t ≡ true → t ≡ false → ⊥
-not_both true yes no = absurd (cc)
-not_both false yes no = absurd (cc)
+not_both true is other = absurd (cc)
+not_both false is other = absurd (cc)
 
 pub empty_is : {X : Type 0} (xs : List X) → is_empty xs ≡ true → xs ≡ []
 empty_is [] is = refl

@@ -1,5 +1,5 @@
 -- Tests whether items of writes are equal.
-use Rattle.std.specs.Prelude.{ℕ, ⊤, ⊥, Bool, true, false, List, [], ◌∷◌, ◌&&◌}
+use Rattle.std.specs.Prelude.{ℕ, ⊤, Bool, true, false, List, [], ◌∷◌, ◌&&◌}
 use Rattle.base_types.specs.RowKeys.{same_key}
 use Rattle.base_types.specs.Scans.{same_oid}
 use Rattle.base_types.specs.declared.row.Row.TheVariants as rows

@@ -17,8 +17,9 @@ use Rattle.ddl_effect.specs.Blocks.{Block, Outside, Inside, Failed, Blocks, no_b
 use Rattle.ddl_effect.specs.Stages.{plan_at, plan_again}
 use Rattle.ddl_effect.specs.declared.exec.Exec.TheVariants as stages
 use Rattle.history_model.specs.Writes.{is_empty}
+use Rattle.history_model.specs.Sent.{cats_by, rels_by}
 use Rattle.history_model.specs.Transactions.{Running}
-use Rattle.cacheless.specs.Types.{Oid, Xid, Message, Row, Purpose, Command, CommandError, Clash, Event, Opening, OwnLock, Exec}
+use Rattle.cacheless.specs.Types.{Oid, Message, Row, Purpose, Command, CommandError, Clash, Item, Entry, Event, Opening, OwnLock}
 use Rattle.cacheless.specs.Session.{Session, Finished, Tally, Badly, Well, Unsettled, outcome_of, is_settled, plan_first, refused_first}
 use Rattle.cacheless.specs.Locks.{is_locked}
 use Rattle.cacheless.specs.Owed.{Owes, OwesLook, OwesFetch}
@@ -177,6 +178,10 @@ locks_made new_oids rel command = elim (nat_lt 0 new_oids) [ true ↦ new_lock r
 -- the locks after a write
 abbrev pub locks_written : ℕ → Oid → ℕ → List OwnLock → List OwnLock
 locks_written new_oids rel command locks = locks ++ locks_made new_oids rel command
+
+-- all messages of a write in the order of its changes
+abbrev pub messages_in : List Entry → ℕ → List Item → List Message
+messages_in before b items = flat_map (λ item. cats_by before b item ++ rels_by before b item) items
 
 -- the running transaction as a whole is taken back
 abbrev pub end_of_running : Option OwnTransaction → End

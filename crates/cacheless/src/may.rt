@@ -1,6 +1,6 @@
 // What may come next.
 
-ghost use Rattle.std.specs.Prelude.{◌≡◌, ◌&&◌, ◌≤◌, ◌<◌, ◌^◌, true, false, not, Some, is_none, is_some, slice_get};
+ghost use Rattle.std.specs.Prelude.{◌≡◌, ◌&&◌, ◌||◌, ◌≤◌, not, slice_get};
 ghost use Rattle.std.specs.List.{list_any};
 ghost use Rattle.base_types.specs.Modes.{same_mode as modes_match};
 ghost use Rattle.base_types.specs.Scans.{is_build_scan};

@@ -8,9 +8,8 @@ ghost use Rattle.event_kinds.specs.declared.entry.Entry.{Entry};
 ghost use Rattle.event_kinds.specs.declared.entry.Item.{Item};
 ghost use Rattle.lock_modes.specs.Own.{has_lock};
 ghost use Rattle.command_lists.specs.Lists.{all_lists, new_list, with_messages};
-ghost use Rattle.history_model.specs.Sent.{messages_written};
 ghost use Rattle.cacheless.specs.Locks.{locked_by};
-ghost use Rattle.cacheless.specs.State.{locks_made, locks_written, clash_event, error_of};
+ghost use Rattle.cacheless.specs.State.{locks_made, locks_written, messages_in, clash_event, error_of};
 
 use crate::enter::{accept, running_from};
 use crate::execute::execute;
@@ -49,7 +48,7 @@ impl Progress {
         requires order { AllByRecursion (λ list. list.command ≤ self.old.finished + 1) (lists_at self.old) }
         requires place { 0 < self.old.locks.room }
         requires new { 0 < new_oids → has_lock self.old.locks.items first AccessExclusive ≡ false }
-        ensures holds { OnOk result ((scenario : Scenario) (seen : List Entry) (items : List Item) → Rests scenario seen self.old → messages.now ≡ messages_written seen self.old.id items → flat_map (locked_by (self.old.finished + 1)) items ≡ locks_made new_oids first (self.old.finished + 1) → Holds scenario (with_own seen self.old (Event.Write xid items)) self.new) }
+        ensures holds { OnOk result ((scenario : Scenario) (seen : List Entry) (items : List Item) → Rests scenario seen self.old → messages.now ≡ messages_in seen self.old.id items → flat_map (locked_by (self.old.finished + 1)) items ≡ locks_made new_oids first (self.old.finished + 1) → Holds scenario (with_own seen self.old (Event.Write xid items)) self.new) }
     {
         let command = self.finished + 1;
         register(&mut self.lists, command, messages)?;
