@@ -53,3 +53,8 @@ pub mod Entering
 pub mod EnteredLooks
 pub mod EnteredFetches
 pub mod EnteredScans
+pub mod Unsent
+pub mod EnteredLocks
+pub mod EnteredWrites
+pub mod EnteredEnds
+pub mod EntryCodes

@@ -3,8 +3,8 @@ use Rattle.std.proofs.Common.{◌≡◌, ◌∙◌, ◌==◌, ◌&&◌, ◌||◌
 use Rattle.std.specs.Prelude.{⊤, ℤ, zero, suc, ◌+◌, ◌-◌}
 use Rattle.std.specs.Int.{int_min}
 use Rattle.std.specs.List.{AllByRecursion, list_any, enumerate_from, find}
-use Rattle.std.proofs.Math.Bool.{or-true}
-use Rattle.std.proofs.lemmas.Bool.{eq-eqb}
+use Rattle.std.proofs.Math.Bool.{and-false, or-true}
+use Rattle.std.proofs.lemmas.Bool.{eq-eqb, leb-true, false_from_ne_true}
 use Rattle.std.proofs.lemmas.List.Folds.{list_any-append}
 use Rattle.base_types.specs.Fields.{has_field}
 use Rattle.base_types.specs.Scans.{same_oid, selects}
@@ -28,7 +28,9 @@ use Rattle.ddl_effect.specs.Drawing.{drawn_oid, drawn_row, drawn_change}
 use Rattle.ddl_effect.specs.Plans.{Plan, Done, Fails, Absent, Do, NotBuilt, Column, Read}
 use Rattle.ddl_effect.specs.Commands.{plan_of, found, looking_up, if_passes, if_no_column, first_twice, writing, opening, showing, showing_field, is_table, locking, new_column, new_table, altering, column_there, with_column, column_free, without_column, reading, changing, adding, add_column, as_dropped, deleting, is_default_of, column_number, dropping, drop_column, with_name, renaming, rename_column, with_stat, most_stat, targeting, set_statistics, with_fill, filling, set_fillfactor}
 use Rattle.ddl_effect.specs.Stages.{plan_at, plan_again, altering_at, altering_again, altered, mode_of, name_sought, mode_sought, plan_found}
-use Rattle.ddl_effect.specs.Types.{Alteration, Altering, Search}
+use Rattle.ddl_effect.specs.declared.alteration.Alteration.{Alteration}
+use Rattle.ddl_effect.specs.declared.altering.Altering.{Altering}
+use Rattle.ddl_effect.specs.declared.search.Search.{Search}
 use Rattle.cacheless.specs.Types.{Oid, Mode, Kind, Field, Row, Purpose, Command, CommandError, Draft, Exec, Opening}
 use Rattle.history_model.specs.Changes.{item_of}
 use Rattle.history_model.proofs.Asking.{oid_eq}
@@ -77,9 +79,12 @@ puts_targeted opened stat row is next = absurd is
 none_drawn : (next : ℕ) (oid : Oid) → drawn_oid next 0 oid ≡ oid
 none_drawn next oid = by_number oid.0 refl
   where
+    none_below : (n : ℕ) → nat_le (suc n) 0 ≡ false
+    none_below n = false_from_ne_true (nat_le (suc n) 0) (λ is. absurd (omega (arith, leb-true (suc n) 0 is)))
+
     by_number : (n : ℕ) → oid.0 ≡ n → drawn_oid next 0 oid ≡ oid
     by_number zero is = ap (λ m. elim (nat_le 1 m && nat_le m 0) [ true ↦ record { 0 = next + oid.0 - 1 } | false ↦ oid ]) is
-    by_number (suc n) is = ap (λ m. elim (nat_le 1 m && nat_le m 0) [ true ↦ record { 0 = next + oid.0 - 1 } | false ↦ oid ]) is
+    by_number (suc n) is = ap (λ m. elim (nat_le 1 m && nat_le m 0) [ true ↦ record { 0 = next + oid.0 - 1 } | false ↦ oid ]) is ∙ ap (λ t. elim (nat_le 1 (suc n) && t) [ true ↦ record { 0 = next + oid.0 - 1 } | false ↦ oid ]) (none_below n) ∙ ap (λ t. elim t [ true ↦ record { 0 = next + oid.0 - 1 } | false ↦ oid ]) (and-false (nat_le 1 (suc n)))
 
 -- the row that the scan of an open relation's row gives is that relation's
 puts_filled : (opened : List Opening) (rel : Oid) (fill : ℕ) (row : Row) → is_opened opened rel ≡ true → selects (scans.Class rel) row ≡ true → (next : ℕ) → PutOpened opened (items.Put (drawn_row next 0 (with_fill fill row)))
