@@ -58,3 +58,5 @@ pub mod EnteredLocks
 pub mod EnteredWrites
 pub mod EnteredEnds
 pub mod EntryCodes
+pub mod Registering
+pub mod Passing

@@ -49,7 +49,7 @@ kept_rows facts (k ∷ kept) scan right is = by_same (kept_rows facts kept scan 
     by_same later true same any = ap facts (sym (same_scan-true k.scan scan same)) ∙ sym (right 0 k (omega arith)).rows_are
     by_same later false other any = later any
 
-cond_none : (t : Bool) (scan : Purpose) → cond (not t) (scan ∷ []) [] ≡ [] → t ≡ true
+pub cond_none : (t : Bool) (scan : Purpose) → cond (not t) (scan ∷ []) [] ≡ [] → t ≡ true
 cond_none true scan none = refl
 cond_none false scan none = absurd (cc)
 
