@@ -23,6 +23,7 @@ pub mod NewOids
 pub mod CreateThenShow
 pub mod AnothersTable
 pub mod FullFetch
+pub mod FullFetchInBuild
 pub mod LappedReader
 pub mod ResetInsideBuild
 pub mod FailedBlock
