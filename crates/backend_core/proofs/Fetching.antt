@@ -27,7 +27,7 @@ use Rattle.history_model.proofs.Locked.{IsIdle}
 use Rattle.seg_calls.specs.Calls.{entry_of, due_to, took_back, Fetches, Appends, MayCall}
 use Rattle.cacheless.specs.Facts.{Facts, facts_of}
 use Rattle.cacheless.specs.Session.{Session, Tally, first_of}
-use Rattle.cacheless.specs.Owed.{Owes, OwesFetch, OwesLook, owed_at_start, owed_after, owes_build, owes_accept}
+use Rattle.cacheless.specs.Owed.{Owes, OwesFetch, OwesLook, owed_at_start, owed_after, owes_build_scan, owes_accept}
 use Rattle.cacheless.specs.Sessions.{resumed, tally_by, placed_at, counted, ends_command}
 use Rattle.cacheless.specs.Plays.{MayPlay, MayPlayIn}
 use Rattle.cacheless.specs.MayEnter.{SuitsHistory}
@@ -236,10 +236,14 @@ module _ (scenario : Scenario) (old new : List Entry) (had has : ℕ → ℕ) (w
       rows_same : (scan : Purpose) → (facts_after old was event).rows scan ≡ (facts_of old was.id).rows scan
       rows_same scan = ap (λ t. elim t as (λ x. List Row) [ true ↦ answer_of old was.id scan | false ↦ (facts_of old was.id).rows scan ]) (brings.scans scan)
 
+-- a fetch of 32 messages after which no scan for a descriptor is owed
+abbrev pub is_full : List Entry → Backend → Rest → ℕ → Bool
+is_full old was rest count = (count == 32) && not (owes_build_scan (facts_after old was (events.Fetch count)) (placed_at (length old + 1) (was.finished + 1) (events.Fetch count) (session_at was rest)))
+
 -- a fetch of messages
 messages_bring : (scenario : Scenario) (old : List Entry) (was : Backend) (agrees : Agrees scenario old was) (count : ℕ) → is_lapped scenario.size old was.id ≡ false → was.phase ≡ phases.Fetching
     → let kept = kept_spared (fetched_by old was.id count) was.kept in
-    Brings scenario old was agrees.rest (events.Fetch count) (phase_fetched count) kept (record (tally_by (events.Fetch count) agrees.rest.tally) { full = agrees.rest.tally.full + one_if ((count == 32) && not (lacks_builds (record was { kept = kept }))) })
+    Brings scenario old was agrees.rest (events.Fetch count) (phase_fetched count) kept (record (tally_by (events.Fetch count) agrees.rest.tally) { full = agrees.rest.tally.full + one_if (is_full old was agrees.rest count) })
 messages_bring scenario old was agrees count served fetching = record {
   goes = record { session = λ _ _ _ _ _ _. refl; finished = λ s. same_finished s.left s; life = λ _. refl };
   plays = λ _ _ _ _. tt;
@@ -258,7 +262,7 @@ messages_bring scenario old was agrees count served fetching = record {
   fetches = refl;
   looks = refl;
   made = (refl, refl);
-  full = omega (arith, due_fetched count, counts_most (count == 32) (not (lacks_builds now)));
+  full = omega (arith, due_fetched count, counts_most (count == 32) (not (owes_build_scan (facts_after old was (events.Fetch count)) placed)));
   due = omega (arith, due_fetched count, one_at_most (count == 32));
 }
   where
@@ -280,16 +284,13 @@ messages_bring scenario old was agrees count served fetching = record {
     placed : Session
     placed = placed_at (length old + 1) (was.finished + 1) (events.Fetch count) (session_at was agrees.rest)
 
-    owes : owes_build (facts_after old was (events.Fetch count)) placed ≡ lacks_builds now
-    owes = owes_in (facts_after old was (events.Fetch count)) was placed now.kept usable (ap (λ t. t.left) same) (ap (λ t. t.opened) same) (accepting_opened was agrees.well (ap is_accepting fetching))
-
     tally : Tally
     tally = tally_by (events.Fetch count) agrees.rest.tally
 
-    counts : elim ((count == 32) && not (owes_build (facts_after old was (events.Fetch count)) placed)) as (λ x. Tally) [ true ↦ record tally { full = tally.full + 1 } | false ↦ tally ] ≡ record tally { full = agrees.rest.tally.full + one_if ((count == 32) && not (lacks_builds now)) }
-    counts = ap (λ t. elim ((count == 32) && not t) as (λ x. Tally) [ true ↦ record tally { full = tally.full + 1 } | false ↦ tally ]) owes ∙ full_more ((count == 32) && not (lacks_builds now)) tally
+    counts : elim (is_full old was agrees.rest count) as (λ x. Tally) [ true ↦ record tally { full = tally.full + 1 } | false ↦ tally ] ≡ record tally { full = agrees.rest.tally.full + one_if (is_full old was agrees.rest count) }
+    counts = full_more (is_full old was agrees.rest count) tally
 
-    noted : counted (facts_after old was (events.Fetch count)) (events.Fetch count) placed ≡ entry_noted (session_at was agrees.rest) (record tally { full = agrees.rest.tally.full + one_if ((count == 32) && not (lacks_builds now)) }) (length old + 1)
+    noted : counted (facts_after old was (events.Fetch count)) (events.Fetch count) placed ≡ entry_noted (session_at was agrees.rest) (record tally { full = agrees.rest.tally.full + one_if (is_full old was agrees.rest count) }) (length old + 1)
     noted = λ i. record (same i) { tally = counts i; locks = was.locks.items; judged = length old + 1; last = length old + 1 }
 
 -- a reset

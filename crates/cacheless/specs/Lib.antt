@@ -20,3 +20,10 @@ pub mod Played
 pub mod Told
 pub mod Judged
 pub mod OpenedReads
+pub mod Puts
+pub mod State
+pub mod SameItems
+pub mod May
+pub mod Endings
+pub mod Silently
+pub mod Holds

@@ -1,7 +1,7 @@
 -- What a backend has to do before its next act.
 use Rattle.std.specs.Prelude.{Bool, true, false, not, Option, Some, None, List, [], ◌∷◌, ◌++◌, ◌==◌, ◌&&◌, ◌||◌, if◌then◌else◌, map, filter, take, is_none}
 use Rattle.std.specs.List.{flat_map, list_any}
-use Rattle.base_types.specs.Scans.{same_scan, build_scans}
+use Rattle.base_types.specs.Scans.{same_scan, is_build_scan, build_scans}
 use Rattle.base_types.specs.declared.scan.Purpose.TheVariants as scans
 use Rattle.event_kinds.specs.declared.entry.Event.TheVariants as events
 use Rattle.ddl_effect.specs.Plans.{Plan, Do, Lookup, Column, Read, rests_on}
@@ -77,3 +77,7 @@ owes_build facts s = elim (outcome_of s.left) [ Badly ↦ false | other ↦ not 
 abbrev pub owes_accept : Facts → Option Command → Session → Bool
 owes_accept facts None s = not (is_empty (owed_after facts.last))
 owes_accept facts (Some command) s = not (is_empty (owed_at_start facts command s ++ owed_after facts.last)) || owes_build facts s
+
+-- a scan for a descriptor is owed: of one that is opened, or of the one that is opened next; none once the command has failed
+abbrev pub owes_build_scan : Facts → Session → Bool
+owes_build_scan facts s = list_any is_build_scan (scans_owed facts s)

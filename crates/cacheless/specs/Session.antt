@@ -12,7 +12,7 @@ pub record Finished : Type 0 where
   pub found : List (Option Oid)
   pub judged : ℕ
 
--- how many looks, scans and fetches the running command has made, how many locks it was granted, and after how many of its fetches of 32 messages no scan for an opened descriptor was owed
+-- how many looks, scans and fetches the running command has made, how many locks it was granted, and after how many of its fetches of 32 messages no scan for a descriptor was owed, of an opened one or of the one that is opened next
 pub record Tally : Type 0 where
   pub looks : ℕ
   pub scans : ℕ

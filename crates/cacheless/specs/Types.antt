@@ -1,5 +1,6 @@
 -- The types by which the crate's other definitions name what they speak of.
 pub use Rattle.base_types.specs.declared.ids.Oid.{Oid}
+pub use Rattle.base_types.specs.declared.ids.Xid.{Xid}
 pub use Rattle.base_types.specs.declared.mode.Mode.{Mode}
 pub use Rattle.base_types.specs.declared.mode.Mode.TheVariants.{AccessExclusive}
 pub use Rattle.base_types.specs.declared.kind.Kind.{Kind}
@@ -16,6 +17,9 @@ pub use Rattle.event_kinds.specs.declared.entry.Line.{Line}
 pub use Rattle.rel_desc.specs.declared.error.CommandError.{CommandError}
 pub use Rattle.rel_desc.specs.declared.answer.Answer.{Answer}
 pub use Rattle.rel_desc.specs.declared.answer.Shown.{Shown}
+pub use Rattle.row_visibility.specs.declared.clash.Clash.{Clash}
+pub use Rattle.inval_messages.specs.declared.message.Message.{Message}
 pub use Rattle.lock_modes.specs.declared.own_lock.OwnLock.{OwnLock}
 pub use Rattle.ddl_effect.specs.declared.draft.Draft.{Draft}
+pub use Rattle.ddl_effect.specs.declared.exec.Exec.{Exec}
 pub use Rattle.cacheless.specs.declared.opening.Opening.{Opening}

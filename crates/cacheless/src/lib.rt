@@ -1,5 +1,5 @@
 //! What the program may write for a script: the order in which backends do what their commands say,
-//! what each command answers, and the texts that follow.
+//! what each command answers, and the texts that follow; and how far a backend is in that, in code.
 //!
 //! How far a backend is, is a fold over its own entries: its session. What it may do next is a
 //! function of its session and of a few facts of its entries: what it has to do first (a look at its
@@ -11,8 +11,46 @@
 //! specs/ is to be read in this order: Facts, Locks, Session, Owed, Ends, Settled, Sessions, Plays,
 //! Protected, Lines, Schedule, Output. The worked examples hold of them by computation (proofs/).
 //! ActsDone, how far a command is by the rows that its acts gave, is for the proofs, here and above.
+//!
+//! A [`Progress`] is what these folds give of one backend, kept up to date entry by entry, and no more:
+//! its session, its running transaction and the messages of its writes, what its last entry asks for,
+//! and the scans that serve. [`Progress::may_play`] is exactly what the definitions allow next, a call
+//! `enter_..` takes any entry that the backend may leave, whoever chose it, and [`Progress::settle`]
+//! goes on as far as no entry is needed. Whoever makes entries (a backend of the program) and whoever
+//! reads them (a judge of a given history) go by the same calls:
+//!
+//! ```text
+//! let mut backend = Progress::new(alloc, 1, commands)?;
+//! backend.enter_start();
+//! backend.settle(alloc)?;
+//! if backend.may_play(next_oid, &Event::Look { yes: false }) {
+//!     backend.enter_look(false);
+//!     backend.settle(alloc)?;
+//! }
+//! ```
+//!
+//! The promise is in specs/Holds.antt: before an entry the code `Rests` in a history, after it `Holds`
+//! the session of the longer one, after `settle` it rests again. The history stands in the contracts
+//! alone. specs/State has what the code holds in the definitions' words, May what may come next by
+//! these, Silently what is done without an entry.
 #![tactic(auto)]
 
+mod begun;
+mod end;
+mod ends;
+mod enter;
+mod execute;
+mod kept_scan;
+mod may;
 mod opening;
+mod progress;
+mod read;
+mod scans;
+mod silent;
+mod write;
+mod writes;
 
+pub use kept_scan::KeptScan;
 pub use opening::Opening;
+pub use progress::{Counts, Due, OwnTransaction, Progress};
+pub use silent::Silent;

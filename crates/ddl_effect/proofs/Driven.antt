@@ -1,12 +1,13 @@
 -- A command that is given what the rows have for its want comes to the same.
-use Rattle.std.proofs.Common.{◌≡◌, ◌<◌, ◌≤◌, ℕ, List, refl, ap, arith}
-use Rattle.ddl_effect.specs.Types.{Row, Purpose, CommandError, Altering, Exec}
+use Rattle.std.proofs.Common.{◌≡◌, ◌<◌, ◌≤◌, ℕ, List, [], refl, ap, arith}
+use Rattle.ddl_effect.specs.Types.{Row, Purpose, CommandError, Altering, Search, Exec}
 use Rattle.ddl_effect.specs.declared.altering.Altering.TheVariants as alters
 use Rattle.ddl_effect.specs.declared.exec.Exec.TheVariants as stages
+use Rattle.ddl_effect.specs.declared.search.Search.TheVariants as searches
 use Rattle.ddl_effect.specs.declared.want.Want.TheVariants as wants
 use Rattle.ddl_effect.specs.Plans.{Plan, Done, Fails, Absent, Do, NotBuilt, Lookup, Open, Column, Read, Lock, Write, after_act}
 use Rattle.ddl_effect.specs.Effects.{effect_of, given_for}
-use Rattle.ddl_effect.specs.Stages.{want_of, plan_at, acts_left, alter_acts_left}
+use Rattle.ddl_effect.specs.Stages.{want_of, plan_at, plan_again, altering_at, altering_again, name_sought, acts_left, alter_acts_left, search_acts_left}
 
 pub effect_of-after : (rows : Purpose → List Row) (plan : Plan) (given : List Row) → (want_of plan ≡ wants.Write → ⊥) → given ≡ given_for rows (want_of plan)
     → effect_of rows (after_act given plan) ≡ effect_of rows plan
@@ -21,15 +22,20 @@ effect_of-after rows (Do (Column rel name) rest) given other is = ap (λ l. effe
 effect_of-after rows (Do (Read scan) rest) given other is = ap (λ l. effect_of rows (rest l)) is
 effect_of-after rows (Do (Lock rel mode) rest) given other is = ap (λ l. effect_of rows (rest l)) is
 
+searches_some : (search : Search) → 0 < search_acts_left search
+searches_some (searches.LockTable name mode) = omega arith
+searches_some search = omega arith
+
 -- one that hasn't come out has acts left
 pub acts_some : (exec : Exec) → (want_of (plan_at exec) ≡ wants.Done → ⊥) → ((error : CommandError) → want_of (plan_at exec) ≡ wants.Fails error → ⊥) → ((name : List ℕ) → want_of (plan_at exec) ≡ wants.Absent name → ⊥)
     → 0 < acts_left exec
 acts_some stages.Done done fails absent = absurd (done refl)
 acts_some (stages.Failing error) done fails absent = absurd (fails error refl)
-acts_some (stages.Missing name) done fails absent = absurd (absent name refl)
+acts_some (stages.Missing search) done fails absent = absurd (absent (name_sought search) refl)
+acts_some (stages.Finding search) done fails absent = searches_some search
 acts_some (stages.Altering alters.Done) done fails absent = absurd (done refl)
 acts_some (stages.Altering (alters.Failing error)) done fails absent = absurd (fails error refl)
-acts_some (stages.Altering (alters.Missing name)) done fails absent = absurd (absent name refl)
+acts_some (stages.Altering (alters.Missing name alteration)) done fails absent = absurd (absent name refl)
 acts_some (stages.Altering stage) done fails absent = omega arith
 acts_some stage done fails absent = omega arith
 
@@ -38,6 +44,33 @@ alters_few : (altering : Altering) → alter_acts_left altering ≤ 5
 alters_few alters.Done = omega arith
 alters_few stage = omega arith
 
+searches_few : (search : Search) → search_acts_left search ≤ 2
+searches_few (searches.LockTable name mode) = omega arith
+searches_few search = omega arith
+
 pub acts_few : (exec : Exec) → acts_left exec ≤ 5
+acts_few (stages.Finding search) = omega (arith, searches_few search)
 acts_few (stages.Altering altering) = alters_few altering
 acts_few stage = omega arith
+
+absent_name : (own name : List ℕ) → Absent own ≡ Absent name → own ≡ name
+absent_name own name is = ap (λ p. name_of p) is
+  where
+    name_of : Plan → List ℕ
+    name_of (Absent n) = n
+    name_of p = []
+
+-- a command whose search found no relation goes on with a search for that name
+abbrev pub Seeks : List ℕ → Plan → Type 0
+Seeks name (Do (Lookup own mode) rest) = own ≡ name
+Seeks name plan = ⊥
+
+alters_again : (altering : Altering) (name : List ℕ) → altering_at altering ≡ Absent name → Seeks name (altering_again altering)
+alters_again (alters.Missing own alteration) name is = absent_name own name is
+alters_again (alters.Finding own alteration) name is = absurd (cc)
+alters_again stage name is = absurd (cc)
+
+pub seeks_again : (exec : Exec) (name : List ℕ) → plan_at exec ≡ Absent name → Seeks name (plan_again exec)
+seeks_again (stages.Missing search) name is = absent_name (name_sought search) name is
+seeks_again (stages.Altering altering) name is = alters_again altering name is
+seeks_again stage name is = absurd (cc)

@@ -1,12 +1,13 @@
 -- The plan that is left at each stage of a command, and what it wants.
-use Rattle.std.specs.Prelude.{ℕ, Bool, true, false, [], ◌∷◌, ◌++◌}
+use Rattle.std.specs.Prelude.{ℕ, Bool, true, false, List, [], ◌∷◌, ◌++◌}
 use Rattle.base_types.specs.declared.command.Command.TheVariants as commands
 use Rattle.base_types.specs.declared.scan.Purpose.TheVariants as scans
 use Rattle.ddl_effect.specs.declared.alteration.Alteration.TheVariants as alterations
 use Rattle.ddl_effect.specs.declared.altering.Altering.TheVariants as alters
 use Rattle.ddl_effect.specs.declared.exec.Exec.TheVariants as stages
+use Rattle.ddl_effect.specs.declared.search.Search.TheVariants as searches
 use Rattle.ddl_effect.specs.declared.want.Want.TheVariants as wants
-use Rattle.ddl_effect.specs.Types.{Oid, Command, Mode, AccessShare, ShareUpdateExclusive, AccessExclusive, Table, Insert, Replace, Alteration, Altering, Exec, Want}
+use Rattle.ddl_effect.specs.Types.{Oid, Kind, Command, Mode, AccessShare, ShareUpdateExclusive, AccessExclusive, Table, Insert, Replace, Alteration, Altering, Search, Exec, Want}
 use Rattle.ddl_effect.specs.Plans.{Act, Lookup, Open, Column, Read, Lock, Write, Plan, Done, Fails, Absent, Do, NotBuilt}
 use Rattle.ddl_effect.specs.Commands.{looking_up, showing, showing_field, locking, opening, writing, altering, with_column, reading, changing, deleting, adding, add_column, dropping, drop_column, renaming, rename_column, targeting, set_statistics, filling, set_fillfactor}
 
@@ -37,7 +38,7 @@ altered (alterations.SetFillfactor fill) rel = set_fillfactor fill rel
 abbrev pub altering_at : Altering → Plan
 altering_at alters.Done = Done
 altering_at (alters.Failing error) = Fails error
-altering_at (alters.Missing name) = Absent name
+altering_at (alters.Missing name alteration) = Absent name
 altering_at (alters.Finding name alteration) = looking_up name (mode_of alteration) (altering name (altered alteration))
 altering_at (alters.Opening rel alteration) = opening rel Table (altered alteration rel)
 altering_at (alters.AddingColumn rel column col_type) = add_column column col_type rel
@@ -51,17 +52,44 @@ altering_at (alters.SettingFillfactor rel fill) = reading (scans.Class rel) (fil
 altering_at (alters.Inserting row) = changing (Insert row ∷ [])
 altering_at (alters.Replacing deleted row) = changing (deleting deleted ++ Replace row ∷ [])
 
+-- the name that a search looks for
+abbrev pub name_sought : Search → List ℕ
+name_sought (searches.Show name) = name
+name_sought (searches.ShowField name field) = name
+name_sought (searches.LockTable name mode) = name
+
+-- the mode in which a search locks the relation
+abbrev pub mode_sought : Search → Mode
+mode_sought (searches.Show name) = AccessShare
+mode_sought (searches.ShowField name field) = AccessShare
+mode_sought (searches.LockTable name mode) = mode
+
+-- what comes after a search that found a relation
+abbrev pub plan_found : Search → Oid → Kind → Plan
+plan_found (searches.Show name) = showing
+plan_found (searches.ShowField name field) = showing_field name field
+plan_found (searches.LockTable name mode) = locking name
+
 -- the plan that is left
 abbrev pub plan_at : Exec → Plan
 plan_at stages.Done = Done
 plan_at (stages.Failing error) = Fails error
-plan_at (stages.Missing name) = Absent name
-plan_at (stages.Finding name) = looking_up name AccessShare showing
-plan_at (stages.FindingField name field) = looking_up name AccessShare (showing_field name field)
-plan_at (stages.Locking name mode) = looking_up name mode (locking name)
+plan_at (stages.Missing search) = Absent (name_sought search)
+plan_at (stages.Finding search) = looking_up (name_sought search) (mode_sought search) (plan_found search)
 plan_at (stages.Opening rel kind) = opening rel kind Done
 plan_at (stages.Writing draft) = writing draft
 plan_at (stages.Altering altering) = altering_at altering
+
+-- the same, where a lookup that found no relation is made anew
+abbrev pub altering_again : Altering → Plan
+altering_again (alters.Missing name alteration) = altering_at (alters.Finding name alteration)
+altering_again altering = altering_at altering
+
+-- the plan that is left, where a search that found no relation is made anew
+abbrev pub plan_again : Exec → Plan
+plan_again (stages.Missing search) = plan_at (stages.Finding search)
+plan_again (stages.Altering altering) = altering_again altering
+plan_again exec = plan_at exec
 
 -- what an act wants
 abbrev pub want_of_act : Act → Want
@@ -96,11 +124,14 @@ alter_acts_left (alters.Inserting row) = 1
 alter_acts_left (alters.Replacing deleted row) = 1
 alter_acts_left stage = 0
 
+-- at most so many acts are left of a command that looks for a relation
+abbrev pub search_acts_left : Search → ℕ
+search_acts_left (searches.LockTable name mode) = 1
+search_acts_left search = 2
+
 -- at most so many acts are left
 abbrev pub acts_left : Exec → ℕ
-acts_left (stages.Finding name) = 2
-acts_left (stages.FindingField name field) = 2
-acts_left (stages.Locking name mode) = 1
+acts_left (stages.Finding search) = search_acts_left search
 acts_left (stages.Opening rel kind) = 1
 acts_left (stages.Writing draft) = 1
 acts_left (stages.Altering altering) = alter_acts_left altering

@@ -17,6 +17,7 @@ pub use Rattle.rel_desc.specs.declared.error.CommandError.{CommandError}
 pub use Rattle.ddl_effect.specs.declared.draft.Draft.{Draft}
 pub use Rattle.ddl_effect.specs.declared.alteration.Alteration.{Alteration}
 pub use Rattle.ddl_effect.specs.declared.altering.Altering.{Altering}
+pub use Rattle.ddl_effect.specs.declared.search.Search.{Search}
 pub use Rattle.ddl_effect.specs.declared.exec.Exec.{Exec}
 pub use Rattle.ddl_effect.specs.declared.want.Want.{Want}
 pub use Rattle.ddl_effect.specs.declared.facts.Facts.{Facts}

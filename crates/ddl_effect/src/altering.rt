@@ -1,7 +1,7 @@
-ghost use Rattle.std.specs.Prelude.{◌≡◌, ◌<◌, ◌∷◌, ◌++◌, [], false, IfOk, MatchOption};
-ghost use Rattle.ddl_effect.specs.Plans.{after_act};
+ghost use Rattle.std.specs.Prelude.{◌≡◌, ◌<◌, ◌∷◌, ◌++◌, ℕ, List, [], false, IfOk, MatchOption};
+ghost use Rattle.ddl_effect.specs.Plans.{Absent, after_act};
 ghost use Rattle.ddl_effect.specs.Commands.{plan_of, found as found_rows, altering, column_there, column_free, reading, adding, dropping, renaming, targeting, filling, changing, deleting, with_name, writing};
-ghost use Rattle.ddl_effect.specs.Stages.{alters_table, altered, altering_at, alter_acts_left, want_of};
+ghost use Rattle.ddl_effect.specs.Stages.{alters_table, altered, altering_at, altering_again, alter_acts_left, want_of};
 
 use crate::alteration::mode;
 use crate::altered_rows::{
@@ -24,7 +24,10 @@ pub enum Altering {
     /// It failed.
     Failing(CommandError),
     /// It failed: no relation has the name.
-    Missing(Name),
+    Missing {
+        name: Name,
+        alteration: Alteration,
+    },
     /// It looks for the table, and locks it.
     Finding {
         name: Name,
@@ -99,7 +102,7 @@ impl Altering {
         match self {
             Altering::Done => Want::Done,
             Altering::Failing(error) => Want::Fails(*error),
-            Altering::Missing(name) => Want::Absent(*name),
+            Altering::Missing { name, .. } => Want::Absent(*name),
             Altering::Finding { name, alteration } => Want::Lookup {
                 name: *name,
                 mode: mode(alteration),
@@ -131,6 +134,7 @@ impl Altering {
     pub(crate) fn after(self, rows: &[Row]) -> Altering
         ensures plan { altering_at result ≡ after_act rows.now (altering_at self) }
         ensures less { 0 < alter_acts_left self → alter_acts_left result < alter_acts_left self }
+        ensures again { (name : List ℕ) → 0 < alter_acts_left self → altering_at result ≡ Absent name → altering_again result ≡ altering_at self }
     {
         match self {
             Altering::Finding { name, alteration } => found(name, alteration, rows),
@@ -154,7 +158,17 @@ impl Altering {
             Altering::Inserting { .. } | Altering::Replacing { .. } | Altering::Done =>
                 Altering::Done,
             Altering::Failing(error) => Altering::Failing(error),
-            Altering::Missing(name) => Altering::Missing(name),
+            Altering::Missing { .. } => self,
+        }
+    }
+
+    /// Where the lookup found no relation, how far it is as it looks again; else what it is.
+    pub(crate) fn again(self) -> Altering
+        ensures { altering_at result ≡ altering_again self }
+    {
+        match self {
+            Altering::Missing { name, alteration } => Altering::Finding { name, alteration },
+            altering => altering,
         }
     }
 
@@ -254,6 +268,7 @@ fn draft_of(alloc: Global, changes: Listed<Change>) -> Draft
 fn found(name: Name, alteration: Alteration, rows: &[Row]) -> Altering
     ensures plan { altering_at result ≡ found_rows name (altering name (altered alteration)) rows.now }
     ensures left { alter_acts_left result < 5 }
+    ensures again { (absent : List ℕ) → altering_at result ≡ Absent absent → altering_again result ≡ altering_at (Altering.Finding name alteration) }
 {
     match rows.first() {
         Some(
@@ -267,7 +282,7 @@ fn found(name: Name, alteration: Alteration, rows: &[Row]) -> Altering
             alteration,
         },
         Some(Row::Class { .. }) => Altering::Failing(CommandError::NotTable { name }),
-        _ => Altering::Missing(name),
+        _ => Altering::Missing { name, alteration },
     }
 }
 
@@ -275,6 +290,7 @@ fn found(name: Name, alteration: Alteration, rows: &[Row]) -> Altering
 fn opened(rel: Oid, alteration: Alteration) -> Altering
     ensures plan { altering_at result ≡ altered alteration rel }
     ensures left { alter_acts_left result < 4 }
+    ensures there { (name : List ℕ) → altering_at result ≡ Absent name → ⊥ }
 {
     match alteration {
         Alteration::AddColumn { column, col_type } => Altering::AddingColumn {
@@ -307,6 +323,7 @@ fn opened(rel: Oid, alteration: Alteration) -> Altering
 fn not_there(rel: Oid, column: Name, col_type: ColType, rows: &[Row]) -> Altering
     ensures plan { altering_at result ≡ column_free column (reading (Purpose.Attribute rel) (adding rel column col_type)) rows.now }
     ensures left { alter_acts_left result < 3 }
+    ensures there { (name : List ℕ) → altering_at result ≡ Absent name → ⊥ }
 {
     if rows.is_empty() {
         Altering::NumberingColumn {
@@ -323,6 +340,7 @@ fn not_there(rel: Oid, column: Name, col_type: ColType, rows: &[Row]) -> Alterin
 fn numbered(rel: Oid, column: Name, col_type: ColType, columns: &[Row]) -> Altering
     ensures plan { altering_at result ≡ adding rel column col_type columns.now }
     ensures left { alter_acts_left result < 2 }
+    ensures there { (name : List ℕ) → altering_at result ≡ Absent name → ⊥ }
 {
     if columns.len() >= MOST_COLUMNS as usize {
         return Altering::Failing(CommandError::TooManyColumns);
@@ -342,6 +360,7 @@ fn numbered(rel: Oid, column: Name, col_type: ColType, columns: &[Row]) -> Alter
 fn to_drop(rel: Oid, column: Name, rows: &[Row]) -> Altering
     ensures plan { altering_at result ≡ column_there column (λ row. reading (Purpose.AttrDef rel) (dropping row)) rows.now }
     ensures left { alter_acts_left result < 3 }
+    ensures there { (name : List ℕ) → altering_at result ≡ Absent name → ⊥ }
 {
     match rows.first() {
         Some(row) => Altering::DroppingDefault { rel, row: *row },
@@ -353,6 +372,7 @@ fn to_drop(rel: Oid, column: Name, rows: &[Row]) -> Altering
 fn without_default(row: Row, defaults: &[Row]) -> Altering
     ensures plan { altering_at result ≡ dropping row defaults.now }
     ensures left { alter_acts_left result < 2 }
+    ensures there { (name : List ℕ) → altering_at result ≡ Absent name → ⊥ }
 {
     Altering::Replacing {
         deleted: default_of(column_number(&row), defaults),
@@ -364,6 +384,7 @@ fn without_default(row: Row, defaults: &[Row]) -> Altering
 fn to_rename(rel: Oid, column: Name, to: Name, rows: &[Row]) -> Altering
     ensures plan { altering_at result ≡ column_there column (renaming to rel) rows.now }
     ensures left { alter_acts_left result < 3 }
+    ensures there { (name : List ℕ) → altering_at result ≡ Absent name → ⊥ }
 {
     match rows.first() {
         Some(row) => Altering::RenamingTo { rel, row: *row, to },
@@ -375,6 +396,7 @@ fn to_rename(rel: Oid, column: Name, to: Name, rows: &[Row]) -> Altering
 fn named(row: Row, to: Name, rows: &[Row]) -> Altering
     ensures plan { altering_at result ≡ column_free to (changing (Change.Replace (with_name to row) ∷ [])) rows.now }
     ensures left { alter_acts_left result < 2 }
+    ensures there { (name : List ℕ) → altering_at result ≡ Absent name → ⊥ }
 {
     if rows.is_empty() {
         Altering::Replacing {
@@ -390,6 +412,7 @@ fn named(row: Row, to: Name, rows: &[Row]) -> Altering
 fn with_target(column: Name, stat: i32, rows: &[Row]) -> Altering
     ensures plan { altering_at result ≡ column_there column (targeting stat) rows.now }
     ensures left { alter_acts_left result < 2 }
+    ensures there { (name : List ℕ) → altering_at result ≡ Absent name → ⊥ }
 {
     match rows.first() {
         Some(row) => Altering::Replacing {
@@ -404,6 +427,7 @@ fn with_target(column: Name, stat: i32, rows: &[Row]) -> Altering
 fn with_fillfactor(fill: u32, rows: &[Row]) -> Altering
     ensures plan { altering_at result ≡ filling fill rows.now }
     ensures left { alter_acts_left result < 2 }
+    ensures there { (name : List ℕ) → altering_at result ≡ Absent name → ⊥ }
 {
     match rows.first() {
         Some(row) => Altering::Replacing {

@@ -1,12 +1,12 @@
-ghost use Rattle.std.specs.Prelude.{◌≡◌, ◌<◌, true, [], IfOk, MatchOption};
-ghost use Rattle.ddl_effect.specs.Plans.{is_built, after_act};
-ghost use Rattle.ddl_effect.specs.Commands.{plan_of, found as found_rows, locking, showing, showing_field, writing};
-ghost use Rattle.ddl_effect.specs.Stages.{plan_at, want_of, acts_left};
+ghost use Rattle.std.specs.Prelude.{◌≡◌, ◌<◌, ℕ, List, true, [], IfOk, MatchOption};
+ghost use Rattle.ddl_effect.specs.Plans.{Absent, is_built, after_act};
+ghost use Rattle.ddl_effect.specs.Commands.{plan_of, found as found_rows, writing};
+ghost use Rattle.ddl_effect.specs.Stages.{plan_at, plan_again, plan_found, name_sought, want_of, acts_left};
 
 use crate::altering::alteration_of;
 use crate::table::create_table;
-use crate::{Altering, Draft, Want};
-use base_types::{Command, Field, Kind, Mode, Name, NoMemory, Oid, Row, has_field};
+use crate::{Altering, Draft, Search, Want};
+use base_types::{Command, Kind, NoMemory, Oid, Row, has_field};
 use rel_desc::CommandError;
 use std::alloc::Global;
 
@@ -17,14 +17,10 @@ pub enum Exec {
     Done,
     /// It failed.
     Failing(CommandError),
-    /// It failed: no relation has the name.
-    Missing(Name),
-    /// `show T`: it looks for the relation.
-    Finding { name: Name },
-    /// `show T FIELD`: it looks for the relation, which has to have the field.
-    FindingField { name: Name, field: Field },
-    /// `lock table`: it looks for the table, and locks it.
-    Locking { name: Name, mode: Mode },
+    /// It failed: this search found no relation.
+    Missing(Search),
+    /// It looks for a relation.
+    Finding(Search),
     /// It opens the relation's descriptor.
     Opening { rel: Oid, kind: Kind },
     /// It writes.
@@ -41,18 +37,20 @@ impl Exec {
     {
         match command {
             Command::Begin | Command::Commit | Command::Rollback => Ok(Exec::Done),
-            Command::Show { name, field: None } => Ok(Exec::Finding { name: *name }),
+            Command::Show { name, field: None } => {
+                Ok(Exec::Finding(Search::Show { name: *name }))
+            }
             Command::Show {
                 name,
                 field: Some(field),
-            } => Ok(Exec::FindingField {
+            } => Ok(Exec::Finding(Search::ShowField {
                 name: *name,
                 field: *field,
-            }),
-            Command::LockTable { name, mode } => Ok(Exec::Locking {
+            })),
+            Command::LockTable { name, mode } => Ok(Exec::Finding(Search::LockTable {
                 name: *name,
                 mode: *mode,
-            }),
+            })),
             Command::CreateTable { name, columns } => {
                 create_table(alloc, *name, columns.as_slice())
             }
@@ -70,14 +68,10 @@ impl Exec {
         match self {
             Exec::Done => Want::Done,
             Exec::Failing(error) => Want::Fails(*error),
-            Exec::Missing(name) => Want::Absent(*name),
-            Exec::Finding { name } | Exec::FindingField { name, .. } => Want::Lookup {
-                name: *name,
-                mode: Mode::AccessShare,
-            },
-            Exec::Locking { name, mode } => Want::Lookup {
-                name: *name,
-                mode: *mode,
+            Exec::Missing(search) => Want::Absent(search.name()),
+            Exec::Finding(search) => Want::Lookup {
+                name: search.name(),
+                mode: search.mode(),
             },
             Exec::Opening { rel, kind } => Want::Open {
                 rel: *rel,
@@ -92,16 +86,26 @@ impl Exec {
     pub fn give(&mut self, rows: &[Row])
         ensures plan { plan_at self.new ≡ after_act rows.now (plan_at self.old) }
         ensures less { 0 < acts_left self.old → acts_left self.new < acts_left self.old }
+        ensures again { (name : List ℕ) → 0 < acts_left self.old → plan_at self.new ≡ Absent name → plan_again self.new ≡ plan_at self.old }
     {
         let next = match self {
-            Exec::Finding { name } => found(*name, rows),
-            Exec::FindingField { name, field } => found_field(*name, *field, rows),
-            Exec::Locking { name, .. } => locked(*name, rows),
+            Exec::Finding(search) => found(*search, rows),
             Exec::Opening { .. } | Exec::Writing(_) => Exec::Done,
             Exec::Altering(altering) => Exec::Altering(altering.after(rows)),
             Exec::Done | Exec::Failing(_) | Exec::Missing(_) => return,
         };
         *self = next;
+    }
+
+    /// Where its search found no relation, it makes that anew; any other command stays as it is.
+    pub fn search_again(&mut self)
+        ensures { plan_at self.new ≡ plan_again self.old }
+    {
+        match self {
+            Exec::Missing(search) => *self = Exec::Finding(*search),
+            Exec::Altering(altering) => *self = Exec::Altering(altering.again()),
+            _ => {}
+        }
     }
 
     /// The draft that it wants written, the command given up. Condition: it wants that.
@@ -117,50 +121,35 @@ impl Exec {
     }
 }
 
-// After the lookup of `show T`.
-fn found(name: Name, rows: &[Row]) -> Exec
-    ensures plan { plan_at result ≡ found_rows name showing rows.now }
-    ensures left { acts_left result < 2 }
+// After a search.
+fn found(search: Search, rows: &[Row]) -> Exec
+    ensures plan { plan_at result ≡ found_rows (name_sought search) (plan_found search) rows.now }
+    ensures left { acts_left result < acts_left (Exec.Finding search) }
+    ensures again { (name : List ℕ) → plan_at result ≡ Absent name → plan_again result ≡ plan_at (Exec.Finding search) }
 {
     match rows.first() {
-        Some(Row::Class { oid, kind, .. }) => Exec::Opening {
-            rel: *oid,
-            kind: *kind,
-        },
-        _ => Exec::Missing(name),
+        Some(Row::Class { oid, kind, .. }) => goes_on(search, *oid, *kind),
+        _ => Exec::Missing(search),
     }
 }
 
-// After the lookup of `show T FIELD`.
-fn found_field(name: Name, field: Field, rows: &[Row]) -> Exec
-    ensures plan { plan_at result ≡ found_rows name (showing_field name field) rows.now }
-    ensures left { acts_left result < 2 }
+// A search that found this relation.
+fn goes_on(search: Search, rel: Oid, kind: Kind) -> Exec
+    ensures plan { plan_at result ≡ plan_found search rel kind }
+    ensures left { acts_left result < acts_left (Exec.Finding search) }
+    ensures there { (name : List ℕ) → plan_at result ≡ Absent name → ⊥ }
 {
-    match rows.first() {
-        Some(Row::Class { kind, .. }) if !has_field(*kind, field) => {
-            Exec::Failing(CommandError::NoField { name, field })
+    match search {
+        Search::Show { .. } => Exec::Opening { rel, kind },
+        Search::ShowField { name, field } => {
+            if !has_field(kind, field) {
+                return Exec::Failing(CommandError::NoField { name, field });
+            }
+            Exec::Opening { rel, kind }
         }
-        Some(Row::Class { oid, kind, .. }) => Exec::Opening {
-            rel: *oid,
-            kind: *kind,
+        Search::LockTable { name, .. } => match kind {
+            Kind::Table => Exec::Done,
+            Kind::Index => Exec::Failing(CommandError::NotTable { name }),
         },
-        _ => Exec::Missing(name),
-    }
-}
-
-// After the lookup of `lock table`.
-fn locked(name: Name, rows: &[Row]) -> Exec
-    ensures plan { plan_at result ≡ found_rows name (locking name) rows.now }
-    ensures left { acts_left result < 1 }
-{
-    match rows.first() {
-        Some(
-            Row::Class {
-                kind: Kind::Table,
-                ..
-            },
-        ) => Exec::Done,
-        Some(Row::Class { .. }) => Exec::Failing(CommandError::NotTable { name }),
-        _ => Exec::Missing(name),
     }
 }

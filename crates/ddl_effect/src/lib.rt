@@ -17,6 +17,7 @@ mod altering;
 mod draft;
 mod exec;
 mod facts;
+mod search;
 mod table;
 mod want;
 
@@ -25,4 +26,5 @@ pub use altering::Altering;
 pub use draft::Draft;
 pub use exec::Exec;
 pub use facts::{EffectRefusal, Facts, effect};
+pub use search::Search;
 pub use want::Want;

@@ -1,0 +1,275 @@
+-- What a backend does without an entry.
+use Rattle.std.proofs.Common.{◌≡◌, ◌≤◌, ◌<◌, ◌+◌, ◌∙◌, ◌&&◌, ◌||◌, ◌==◌, ℕ, Bool, true, false, not, Option, Some, None, List, [], ◌∷◌, ◌++◌, refl, sym, ap, subst, length, drop, is_some, unwrap_or, slice_get, arith, if◌then◌else◌}
+use Rattle.std.specs.List.{AllByRecursion}
+use Rattle.std.proofs.lemmas.List.{length_push, append-nil}
+use Rattle.std.proofs.lemmas.Option.{slice_get_within}
+use Rattle.base_types.specs.Scans.{selects}
+use Rattle.base_types.specs.declared.row.Row.TheVariants as rows
+use Rattle.base_types.specs.declared.scan.Purpose.TheVariants as scans
+use Rattle.lock_modes.specs.Own.{has_lock}
+use Rattle.inval_messages.specs.Lists.{Written}
+use Rattle.ddl_effect.specs.Blocks.{Blocks}
+use Rattle.ddl_effect.specs.Plans.{Plan, Act, Done, Fails, Absent, Do, NotBuilt, Lookup, Open, Column, Read, Lock, Write, after_act}
+use Rattle.ddl_effect.specs.Stages.{plan_at, plan_again, acts_left, want_of, want_of_act}
+use Rattle.ddl_effect.specs.declared.want.Want.{Want}
+use Rattle.ddl_effect.specs.declared.want.Want.TheVariants as wants
+use Rattle.ddl_effect.proofs.Driven.{Seeks, seeks_again, acts_some}
+use Rattle.history_model.specs.Read.{is_scan_of, rows_by, rows_read}
+use Rattle.history_model.specs.Versions.{answer_of}
+use Rattle.history_model.proofs.Every.{every-weaker}
+use Rattle.history_model.proofs.Prefixes.{along-keeps}
+use Rattle.cacheless.specs.Types.{Mode, Row, Purpose, Command, CommandError, Scenario, Entry, Event, Opening, OwnLock, Exec}
+use Rattle.cacheless.specs.declared.progress.Counts.{Counts}
+use Rattle.cacheless.specs.declared.progress.Progress.{Progress}
+use Rattle.cacheless.specs.Facts.{Facts, facts_of}
+use Rattle.cacheless.specs.Locks.{is_locked}
+use Rattle.cacheless.specs.Session.{Session, outcome_of, is_settled, first_of, plan_first, refused_first}
+use Rattle.cacheless.specs.Settled.{next_session, blocks_after, finished_as, looked_up, if_locked, opened_by, sought_by, act_done, settled}
+use Rattle.cacheless.specs.Puts.{AreGivenBy, PutsOpened}
+use Rattle.cacheless.specs.State.{blocks_passed, lists_at, no_counts, is_kept, rows_kept, builds_missing, act_missing, scans_missing, is_absent, is_out, end_at, Rest, rest_of, session_at}
+use Rattle.cacheless.specs.May.{owes_nothing}
+use Rattle.cacheless.specs.Silently.{gives_at, gives_next, acts_on, is_ends, is_finished_at, rows_for, opened_for, Acts, Finishes}
+use Rattle.cacheless.specs.Holds.{NamedFit, FactsFit, Holds}
+use Rattle.cacheless.proofs.Settling.{settled-act, settled-finish, acted-out}
+use Rattle.cacheless.proofs.StillSeen.{given_seen}
+use Rattle.cacheless.proofs.Tests.{and_true, right_none, not_both}
+use Rattle.cacheless.proofs.Resting.{first_left, left_command, kept_rows, cond_none, read_made, named_made, Free, free_now, lacks_none, here, finished_same}
+use Rattle.cacheless.proofs.Putting.{puts_first}
+use Rattle.cacheless.proofs.EnteredLooks.{not_absent}
+
+-- the rows that a scan gave are such as it asks for
+rows_asked : (history : List Entry) (b : ℕ) (scan : Purpose) → AreGivenBy scan (rows_read history b scan)
+rows_asked history b scan = along-keeps (λ before given. AreGivenBy scan given) (λ before old e. if e.backend == b then rows_by before b scan e.event old else old) stays [] history tt
+  where
+    by_scan : (before : List Entry) (t : Bool) (given : List Row) → AreGivenBy scan given → AreGivenBy scan (elim t [ true ↦ answer_of before b scan | false ↦ given ])
+    by_scan before true given asked = every-weaker _ (λ row. selects scan row ≡ true) (λ row h. h.1) (answer_of before b scan) (given_seen before b scan)
+    by_scan before false given asked = asked
+
+    by_backend : (before : List Entry) (e : Entry) (t : Bool) (given : List Row) → AreGivenBy scan given → AreGivenBy scan (if t then rows_by before b scan e.event given else given)
+    by_backend before e true given asked = by_scan before (is_scan_of scan e.event) given asked
+    by_backend before e false given asked = asked
+
+    stays : (before : List Entry) (given : List Row) (e : Entry) → AreGivenBy scan given → AreGivenBy scan (if e.backend == b then rows_by before b scan e.event given else given)
+    stays before given e asked = by_backend before e (e.backend == b) given asked
+
+some_is : (a b : List Row) → Some a ≡ Some b → a ≡ b
+some_is a b is = ap (λ o. unwrap_or o a) is
+
+-- what an act gave that needs no entry: the rows of a column and of a scan for a descriptor are such as these scans ask for
+gave_asked : (seen : List Entry) (b : ℕ) (s : Progress) (act : Act) (plan : List Row → Plan) (gave : List Row) → FactsFit (facts_of seen b) s → plan_at s.exec ≡ Do act plan → act_missing s (Do act plan) ≡ [] → gives_at s act ≡ Some gave
+    → PutsOpened s.opened (Do act plan) → PutsOpened (s.opened ++ opened_by act) (plan gave)
+gave_asked seen b s (Lookup name mode) plan gave fits at none gives puts = subst (λ l. PutsOpened l (plan gave)) (sym (append-nil s.opened)) (puts gave)
+gave_asked seen b s (Open rel kind) plan gave fits at none gives puts = puts gave
+gave_asked seen b s (Column rel name) plan gave fits at none gives puts = subst (λ l. PutsOpened l (plan gave)) (sym (append-nil s.opened))
+    (puts gave (subst (AreGivenBy (scans.AttName rel name)) ((named_made (facts_of seen b) s (Do (Column rel name) plan) fits at (read_made s.read s.named (scans.AttName rel name) none)).0 ∙ some_is s.given.items gave gives) (rows_asked seen b (scans.AttName rel name))))
+gave_asked seen b s (Read scan) plan gave fits at none gives puts = subst (λ l. PutsOpened l (plan gave)) (sym (append-nil s.opened))
+    (puts gave (subst (AreGivenBy scan) (kept_rows (facts_of seen b).rows s.kept scan fits.kept (cond_none (is_kept s.kept scan) scan none) ∙ some_is (rows_kept s.kept scan) gave gives) (rows_asked seen b scan)))
+gave_asked seen b s (Lock rel mode) plan gave fits at none gives puts = subst (λ l. PutsOpened l (plan gave)) (sym (append-nil s.opened)) (puts gave)
+gave_asked seen b s (Write draft) plan gave fits at none gives puts = absurd (cc)
+
+-- what a search gave that found nothing is what the code holds
+missed_by : (facts : Facts) (s : Progress) (act : Act) (plan : List Row → Plan) (name : List ℕ) → FactsFit facts s → plan_at s.exec ≡ Do act plan → act_missing s (Do act plan) ≡ [] → Seeks name (Do act plan) → NamedFit facts (Absent name) s.given.items s.named
+missed_by facts s (Lookup own mode) plan name fits at none seeks = subst (λ n. (facts.rows (scans.RelName n) ≡ s.given.items) × (facts.usable (scans.RelName n) ≡ s.named)) seeks (named_made facts s (Do (Lookup own mode) plan) fits at (read_made s.read (s.named || is_locked s.locks.items mode s.given.items) (scans.RelName own) none))
+missed_by facts s (Open rel kind) plan name fits at none seeks = absurd seeks
+missed_by facts s (Column rel own) plan name fits at none seeks = absurd seeks
+missed_by facts s (Read scan) plan name fits at none seeks = absurd seeks
+missed_by facts s (Lock rel mode) plan name fits at none seeks = absurd seeks
+missed_by facts s (Write draft) plan name fits at none seeks = absurd seeks
+
+sought_is : (act : Act) (plan : List Row → Plan) (name : List ℕ) (r : Session) → Seeks name (Do act plan) → sought_by act r ≡ r.left
+sought_is (Lookup own mode) plan name r seeks = refl
+sought_is (Open rel kind) plan name r seeks = absurd seeks
+sought_is (Column rel own) plan name r seeks = absurd seeks
+sought_is (Read scan) plan name r seeks = absurd seeks
+sought_is (Lock rel mode) plan name r seeks = absurd seeks
+sought_is (Write draft) plan name r seeks = absurd seeks
+
+-- where a search has found nothing, its name is at hand
+absent_or : {X : Type 0} (p : Plan) → is_absent p ≡ true → ((name : List ℕ) → p ≡ Absent name → X) → X
+absent_or (Absent name) is go = go name refl
+absent_or Done is go = absurd (cc)
+absent_or (Fails error) is go = absurd (cc)
+absent_or (Do act rest) is go = absurd (cc)
+absent_or NotBuilt is go = absurd (cc)
+
+-- a finished command has come out
+pub out_of : (command : Command) (s : Progress) → is_finished_at command s ≡ true → is_out s ≡ true
+out_of command s is = (and_true (is_out s) (s.ended || is_ends (end_at s command)) (and_true (is_out s && (s.ended || is_ends (end_at s command))) (owes_nothing command s) is).0).0
+
+-- an act that needs no entry, whichever it is
+pub act_keeps : (scenario : Scenario) (seen : List Entry) (was : Progress) (exec : Exec) (opened : List Opening) (command : Command) (act : Act) (plan : List Row → Plan) (gave : List Row) → Holds scenario seen was → slice_get was.commands was.finished ≡ Some command
+    → owes_nothing command was ≡ true → plan_at was.exec ≡ Do act plan → gives_at was act ≡ Some gave → plan_at exec ≡ plan gave → ((name : List ℕ) → plan_at exec ≡ Absent name → plan_again exec ≡ plan_at was.exec) → opened ≡ was.opened ++ opened_by act
+    → Holds scenario seen (record was { exec = exec; opened = opened; read = false })
+act_keeps scenario seen was exec opened command act plan gave holds has owes at gives_it on again opens = record {
+  number = holds.number;
+  commands = holds.commands;
+  few = holds.few;
+  most = holds.most;
+  rest = rest_of (act_done act gave (plan gave) (session_at was holds.rest));
+  count = holds.count;
+  is = holds.is ∙ ap Some (
+      ap (λ l. settled facts l (session_at was holds.rest)) left
+      ∙ settled-act facts command (drop (was.finished + 1) was.commands) (session_at was holds.rest) act plan gave at free.first (here facts was holds.rest act plan holds.facts at free.scans ∙ gives_it)
+      ∙ ap (λ l. settled facts l (act_done act gave (plan gave) (session_at was holds.rest))) (sym left)
+      ∙ ap (settled facts (drop was.finished was.commands)) (λ i. record (act_done act gave (plan gave) (session_at was holds.rest)) { left = sym on i; opened = sym opens i })
+      );
+  facts = let f = holds.facts in record { running = f.running; lists = f.lists; owed = f.owed; usable = f.usable; kept = f.kept;
+    given = λ is. absent_or (plan_at exec) is (λ name missed. subst (λ p. NamedFit facts p was.given.items was.named) (sym missed) (missed_by facts was act plan name holds.facts at none (seeks name missed)));
+  };
+  counts = holds.counts;
+  order = holds.order;
+  sought = λ is. absent_or (plan_at exec) is (λ name missed. sought_is act plan name (session_at was holds.rest) (seeks name missed) ∙ sym (again name missed));
+  puts = subst (λ p. PutsOpened opened p) (sym on) (subst (λ l. PutsOpened l (plan gave)) (sym opens) (gave_asked seen was.id was act plan gave holds.facts at none gives_it (subst (PutsOpened was.opened) at holds.puts)));
+}
+  where
+    facts : Facts
+    facts = facts_of seen was.id
+
+    free : Free facts command was holds.rest
+    free = free_now facts command was holds.rest holds.facts owes
+
+    none : act_missing was (Do act plan) ≡ []
+    none = right_none (builds_missing was.kept was.opened) (act_missing was (Do act plan)) (lacks_none was act plan at free.scans)
+
+    seeks : (name : List ℕ) → plan_at exec ≡ Absent name → Seeks name (Do act plan)
+    seeks name missed = subst (Seeks name) (again name missed ∙ at) (seeks_again exec name missed)
+
+    left : drop was.finished was.commands ≡ command ∷ drop (was.finished + 1) was.commands
+    left = left_command was command has
+
+-- the state at the next command
+abbrev pub at_next : Progress → Exec → Bool → Blocks → List Opening → Progress
+at_next was exec blocked blocks opened = record was { finished = was.finished + 1; exec = exec; blocked = blocked; ended = false; blocks = blocks; read = false; opened = opened; tally = no_counts }
+
+-- a finished command is passed over
+pub finish_keeps : (scenario : Scenario) (seen : List Entry) (was : Progress) (exec : Exec) (blocked : Bool) (blocks : Blocks) (opened : List Opening) (command : Command) → Holds scenario seen was → slice_get was.commands was.finished ≡ Some command → is_finished_at command was ≡ true
+    → blocks ≡ blocks_passed (plan_at was.exec) (was.finished + 1) command was.blocks → opened ≡ []
+    → plan_at exec ≡ plan_first blocks (slice_get was.commands (was.finished + 1)) → blocked ≡ is_some (refused_first blocks (slice_get was.commands (was.finished + 1)))
+    → Holds scenario seen (at_next was exec blocked blocks opened)
+finish_keeps scenario seen was exec blocked blocks opened command holds has finished passes none on refuses = record {
+  number = holds.number;
+  commands = holds.commands;
+  few = holds.few;
+  most = omega (arith, slice_get_within was.commands was.finished command has);
+  rest = rest_of next;
+  count = length_push holds.rest.finished (finished_as (session_at was holds.rest)) ∙ ap (λ n. n + 1) holds.count;
+  is = holds.is ∙ ap Some (
+      ap (λ l. settled facts l (session_at was holds.rest)) (left_command was command has)
+      ∙ settled-finish facts command (drop (was.finished + 1) was.commands) (session_at was holds.rest) (acted-out facts command (session_at was holds.rest) (out_of command was finished)) (finished_same facts command was holds.rest holds.facts holds.count ∙ finished)
+      ∙ ap (settled facts (drop (was.finished + 1) was.commands)) same
+      );
+  facts = let f = holds.facts in record { running = f.running; lists = f.lists; owed = f.owed; usable = f.usable; kept = f.kept; given = λ is. absurd (not_both (is_absent (plan_at exec)) is found) };
+  counts = record { looks = omega arith; scans = omega arith; grants = omega arith; fetches = omega arith; full = omega arith };
+  order = every-weaker (λ (list : Written). list.command ≤ was.finished + 1) (λ (list : Written). list.command ≤ was.finished + 1 + 1) (λ list low. omega (arith, low)) (lists_at was) holds.order;
+  sought = λ is. absurd (not_both (is_absent (plan_at exec)) is found);
+  puts = subst (PutsOpened opened) (sym on) (puts_first opened blocks (slice_get was.commands (was.finished + 1)));
+}
+  where
+    facts : Facts
+    facts = facts_of seen was.id
+
+    found : is_absent (plan_at exec) ≡ false
+    found = ap is_absent on ∙ not_absent blocks (slice_get was.commands (was.finished + 1))
+
+    next : Session
+    next = next_session command (slice_get was.commands (was.finished + 1)) (session_at was holds.rest)
+
+    blocks_are : blocks_after command (session_at was holds.rest) ≡ blocks
+    blocks_are = ap (λ n. blocks_passed (plan_at was.exec) (n + 1) command was.blocks) holds.count ∙ sym passes
+
+    same : next_session command (first_of (drop (was.finished + 1) was.commands)) (session_at was holds.rest) ≡ session_at (at_next was exec blocked blocks opened) (rest_of next)
+    same = ap (λ o. next_session command o (session_at was holds.rest)) (first_left was.commands (was.finished + 1))
+        ∙ (λ i. record next {
+          blocks = blocks_are i;
+          left = (ap (λ b. plan_first b (slice_get was.commands (was.finished + 1))) blocks_are ∙ sym on) i;
+          blocked = (ap (λ b. is_some (refused_first b (slice_get was.commands (was.finished + 1)))) blocks_are ∙ sym refuses) i;
+          opened = sym none i;
+        })
+
+-- what an act gives is what the code gives it
+given_rows : (locks : List OwnLock) (mode : Mode) (given : List Row) → is_some (looked_up locks mode given) ≡ true → looked_up locks mode given ≡ Some given
+given_rows locks mode [] is = refl
+given_rows locks mode (rows.Class oid own kind fill ∷ more) is = by_lock (has_lock locks oid mode) is
+  where
+    by_lock : (t : Bool) → is_some (if_locked t (rows.Class oid own kind fill ∷ more)) ≡ true → if_locked t (rows.Class oid own kind fill ∷ more) ≡ Some (rows.Class oid own kind fill ∷ more)
+    by_lock true some = refl
+    by_lock false some = absurd (cc)
+given_rows locks mode (row ∷ more) is = refl
+
+lock_rows : (t : Bool) → is_some (if_locked t []) ≡ true → if_locked t [] ≡ Some []
+lock_rows true some = refl
+lock_rows false some = absurd (cc)
+
+gave_is : (s : Progress) (act : Act) (rest : List Row → Plan) → is_some (gives_at s act) ≡ true → gives_at s act ≡ Some (rows_for (want_of (Do act rest)) s.given.items s.kept)
+gave_is s (Lookup name mode) rest is = given_rows s.locks.items mode s.given.items is
+gave_is s (Open rel kind) rest is = refl
+gave_is s (Column rel name) rest is = refl
+gave_is s (Read scan) rest is = refl
+gave_is s (Lock rel mode) rest is = lock_rows (has_lock s.locks.items rel mode) is
+gave_is s (Write draft) rest is = absurd (cc)
+
+opened_is : (act : Act) (rest : List Row → Plan) → opened_for (want_of (Do act rest)) ≡ opened_by act
+opened_is (Lookup name mode) rest = refl
+opened_is (Open rel kind) rest = refl
+opened_is (Column rel name) rest = refl
+opened_is (Read scan) rest = refl
+opened_is (Lock rel mode) rest = refl
+opened_is (Write draft) rest = refl
+
+pub act_left : (exec : Exec) (act : Act) (rest : List Row → Plan) → plan_at exec ≡ Do act rest → 0 < acts_left exec
+act_left exec act rest at = acts_some exec (λ is. never_done act (sym (ap want_of at) ∙ is)) (λ error is. never_fails act error (sym (ap want_of at) ∙ is)) (λ name is. never_absent act name (sym (ap want_of at) ∙ is))
+  where
+    never_done : (a : Act) → want_of_act a ≡ wants.Done → ⊥
+    never_done (Lookup name mode) is = absurd (cc)
+    never_done a is = absurd (cc)
+
+    never_fails : (a : Act) (error : CommandError) → want_of_act a ≡ wants.Fails error → ⊥
+    never_fails (Lookup name mode) error is = absurd (cc)
+    never_fails a error is = absurd (cc)
+
+    never_absent : (a : Act) (name : List ℕ) → want_of_act a ≡ wants.Absent name → ⊥
+    never_absent (Lookup n mode) name is = absurd (cc)
+    never_absent a name is = absurd (cc)
+
+-- an act is left
+pub act_is_left : (s : Progress) → Acts s → 0 < acts_left s.exec
+act_is_left s acts = by_plan (plan_at s.exec) refl (and_true (owes_nothing acts.command s) (gives_next s (plan_at s.exec)) acts.acts).1
+  where
+    by_plan : (p : Plan) → plan_at s.exec ≡ p → gives_next s p ≡ true → 0 < acts_left s.exec
+    by_plan (Do act plan) at is = act_left s.exec act plan at
+    by_plan Done at is = absurd (cc)
+    by_plan (Fails error) at is = absurd (cc)
+    by_plan (Absent name) at is = absurd (cc)
+    by_plan NotBuilt at is = absurd (cc)
+
+-- the act that is done without an entry
+pub acted_keeps : (was : Progress) (exec : Exec) (opened : List Opening) (want : Want) (acts : Acts was) → want ≡ want_of (plan_at was.exec)
+    → plan_at exec ≡ after_act (rows_for want was.given.items was.kept) (plan_at was.exec) → ((name : List ℕ) → 0 < acts_left was.exec → plan_at exec ≡ Absent name → plan_again exec ≡ plan_at was.exec) → opened ≡ was.opened ++ opened_for want
+    → (scenario : Scenario) (seen : List Entry) → Holds scenario seen was → Holds scenario seen (record was { exec = exec; opened = opened; read = false })
+acted_keeps was exec opened want acts wants on again opens scenario seen holds = by_plan (plan_at was.exec) refl (and_true (owes_nothing acts.command was) (gives_next was (plan_at was.exec)) acts.acts)
+  where
+    by_plan : (p : Plan) → plan_at was.exec ≡ p → (owes_nothing acts.command was ≡ true) × (gives_next was (plan_at was.exec) ≡ true) → Holds scenario seen (record was { exec = exec; opened = opened; read = false })
+    by_plan (Do act plan) at parts =
+        let want_is : want ≡ want_of (Do act plan) = wants ∙ ap want_of at in
+        act_keeps scenario seen was exec opened acts.command act plan (rows_for (want_of (Do act plan)) was.given.items was.kept) holds acts.at parts.0 at
+        (gave_is was act plan (sym (ap (gives_next was) at) ∙ parts.1))
+        (on ∙ ap (after_act (rows_for want was.given.items was.kept)) at ∙ ap (λ w. plan (rows_for w was.given.items was.kept)) want_is)
+        (λ name. again name (act_is_left was acts))
+        (opens ∙ ap (λ w. was.opened ++ opened_for w) want_is ∙ ap (λ l. was.opened ++ l) (opened_is act plan))
+    by_plan Done at parts = absurd (let both : false ≡ true = sym (ap (gives_next was) at) ∙ parts.1 in cc)
+    by_plan (Fails error) at parts = absurd (let both : false ≡ true = sym (ap (gives_next was) at) ∙ parts.1 in cc)
+    by_plan (Absent name) at parts = absurd (let both : false ≡ true = sym (ap (gives_next was) at) ∙ parts.1 in cc)
+    by_plan NotBuilt at parts = absurd (let both : false ≡ true = sym (ap (gives_next was) at) ∙ parts.1 in cc)
+
+-- the code's step to the next command
+pub finish_code : (was : Progress) (exec : Exec) (blocked : Bool) (blocks : Blocks) (tally : Counts) (opened : List Opening) (commands : List Command) (command : Command) → Finishes was → slice_get was.commands was.finished ≡ Some command
+    → blocks ≡ blocks_passed (plan_at was.exec) (was.finished + 1) command was.blocks → commands ≡ was.commands → plan_at exec ≡ plan_first blocks (slice_get commands (was.finished + 1)) → blocked ≡ is_some (refused_first blocks (slice_get commands (was.finished + 1))) → tally ≡ no_counts → opened ≡ []
+    → (scenario : Scenario) (seen : List Entry) → Holds scenario seen was
+    → Holds scenario seen (record was { finished = was.finished + 1; exec = exec; blocked = blocked; ended = false; tally = tally; blocks = blocks; read = false; opened = opened })
+finish_code was exec blocked blocks tally opened commands command finishes at passes same on refuses fresh none scenario seen holds =
+    subst (Holds scenario seen) (λ i. record (at_next was exec blocked blocks opened) { tally = sym fresh i })
+    (finish_keeps scenario seen was exec blocked blocks opened command holds at (subst (λ c. is_finished_at c was ≡ true) one finishes.finished) passes none
+    (on ∙ ap (λ l. plan_first blocks (slice_get l (was.finished + 1))) same) (refuses ∙ ap (λ l. is_some (refused_first blocks (slice_get l (was.finished + 1)))) same))
+  where
+    one : finishes.command ≡ command
+    one = ap (λ o. unwrap_or o finishes.command) (sym finishes.at ∙ at)

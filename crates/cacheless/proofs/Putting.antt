@@ -1,0 +1,174 @@
+-- The writes of commands put no relation's row but that of a relation whose descriptor they have opened.
+use Rattle.std.proofs.Common.{◌≡◌, ◌∙◌, ◌==◌, ◌&&◌, ◌||◌, ℕ, Bool, true, false, Option, Some, None, List, [], ◌∷◌, ◌++◌, refl, sym, ap, subst, map, nat_le, nat_lt, not, int_lt, negsuc, pos, arith, length, is_some}
+use Rattle.std.specs.Prelude.{⊤, ℤ, zero, suc, ◌+◌, ◌-◌}
+use Rattle.std.specs.Int.{int_min}
+use Rattle.std.specs.List.{AllByRecursion, list_any, enumerate_from, find}
+use Rattle.std.proofs.Math.Bool.{and-false, or-true}
+use Rattle.std.proofs.lemmas.Bool.{eq-eqb, leb-true, false_from_ne_true}
+use Rattle.std.proofs.lemmas.List.Folds.{list_any-append}
+use Rattle.base_types.specs.Fields.{has_field}
+use Rattle.base_types.specs.Scans.{same_oid, selects}
+use Rattle.base_types.specs.declared.change.Change.{Change}
+use Rattle.base_types.specs.declared.change.Change.TheVariants.{Insert, Replace}
+use Rattle.base_types.specs.declared.col_type.ColType.{ColType}
+use Rattle.base_types.specs.declared.command.Command.TheVariants as commands
+use Rattle.base_types.specs.declared.command.NewColumn.{NewColumn}
+use Rattle.base_types.specs.declared.dropped.TheConstants.{MOST_COLUMNS}
+use Rattle.base_types.specs.declared.kind.Kind.TheVariants.{Table}
+use Rattle.base_types.specs.declared.row.Row.TheVariants as rows
+use Rattle.base_types.specs.declared.scan.Purpose.TheVariants as scans
+use Rattle.event_kinds.specs.declared.entry.Item.TheVariants as items
+use Rattle.rel_desc.specs.declared.error.CommandError.TheVariants as errors
+use Rattle.ddl_effect.specs.declared.alteration.Alteration.TheVariants as alterations
+use Rattle.ddl_effect.specs.declared.altering.Altering.TheVariants as alters
+use Rattle.ddl_effect.specs.declared.exec.Exec.TheVariants as stages
+use Rattle.ddl_effect.specs.declared.search.Search.TheVariants as searches
+use Rattle.ddl_effect.specs.Blocks.{Blocks, refused_by}
+use Rattle.ddl_effect.specs.Drawing.{drawn_oid, drawn_row, drawn_change}
+use Rattle.ddl_effect.specs.Plans.{Plan, Done, Fails, Absent, Do, NotBuilt, Column, Read}
+use Rattle.ddl_effect.specs.Commands.{plan_of, found, looking_up, if_passes, if_no_column, first_twice, writing, opening, showing, showing_field, is_table, locking, new_column, new_table, altering, column_there, with_column, column_free, without_column, reading, changing, adding, add_column, as_dropped, deleting, is_default_of, column_number, dropping, drop_column, with_name, renaming, rename_column, with_stat, most_stat, targeting, set_statistics, with_fill, filling, set_fillfactor}
+use Rattle.ddl_effect.specs.Stages.{plan_at, plan_again, altering_at, altering_again, altered, mode_of, name_sought, mode_sought, plan_found}
+use Rattle.ddl_effect.specs.declared.alteration.Alteration.{Alteration}
+use Rattle.ddl_effect.specs.declared.altering.Altering.{Altering}
+use Rattle.ddl_effect.specs.declared.search.Search.{Search}
+use Rattle.cacheless.specs.Types.{Oid, Mode, Kind, Field, Row, Purpose, Command, CommandError, Draft, Exec, Opening}
+use Rattle.history_model.specs.Changes.{item_of}
+use Rattle.history_model.proofs.Asking.{oid_eq}
+use Rattle.cacheless.specs.Puts.{is_opened, PutOpened, AreGivenBy, PutsOpened}
+use Rattle.cacheless.specs.Session.{none_open, plan_admitted, plan_first}
+
+puts_if_passes : (opened : List Opening) (passes : Bool) (error : CommandError) (plan : Plan) → PutsOpened opened plan → PutsOpened opened (if_passes passes error plan)
+puts_if_passes opened true error plan puts = puts
+puts_if_passes opened false error plan puts = tt
+
+puts_found : (opened : List Opening) (name : List ℕ) (rest : Oid → Kind → Plan) → ((rel : Oid) (kind : Kind) → PutsOpened opened (rest rel kind)) → (given : List Row) → PutsOpened opened (found name rest given)
+puts_found opened name rest puts [] = tt
+puts_found opened name rest puts (rows.Class oid own kind fill ∷ more) = puts oid kind
+puts_found opened name rest puts (row ∷ more) = tt
+
+-- a write that only adds rows, or puts none of a relation, puts no other relation's
+puts_inserting : (opened : List Opening) (row : Row) → PutsOpened opened (changing (Insert row ∷ []))
+puts_inserting opened row = (λ next. (tt, tt), λ given. tt)
+
+puts_replacing : (opened : List Opening) (deleted : Option Row) (row : Row) → ((next : ℕ) → PutOpened opened (items.Put (drawn_row next 0 row))) → PutsOpened opened (changing (deleting deleted ++ Replace row ∷ []))
+puts_replacing opened None row puts = (λ next. (puts next, tt), λ given. tt)
+puts_replacing opened (Some old) row puts = (λ next. (tt, (puts next, tt)), λ given. tt)
+
+-- a row that a scan of a column gives is a column's
+abbrev pub IsColumnRow : Row → Type 0
+IsColumnRow (rows.Att rel num own col_type stat live) = ⊤
+IsColumnRow row = ⊥
+
+column_row : (rel : Oid) (name : List ℕ) (row : Row) → selects (scans.AttName rel name) row ≡ true → IsColumnRow row
+column_row rel name (rows.Att of num own col_type stat live) asked = tt
+column_row rel name row asked = absurd (cc)
+
+puts_dropped : (opened : List Opening) (row : Row) → IsColumnRow row → (next : ℕ) → PutOpened opened (items.Put (drawn_row next 0 (as_dropped row)))
+puts_dropped opened (rows.Att rel num own col_type stat live) is next = tt
+puts_dropped opened row is next = absurd is
+
+puts_named : (opened : List Opening) (to : List ℕ) (row : Row) → IsColumnRow row → (next : ℕ) → PutOpened opened (items.Put (drawn_row next 0 (with_name to row)))
+puts_named opened to (rows.Att rel num own col_type stat live) is next = tt
+puts_named opened to row is next = absurd is
+
+puts_targeted : (opened : List Opening) (stat : ℤ) (row : Row) → IsColumnRow row → (next : ℕ) → PutOpened opened (items.Put (drawn_row next 0 (with_stat stat row)))
+puts_targeted opened stat (rows.Att rel num own col_type old live) is next = tt
+puts_targeted opened stat row is next = absurd is
+
+-- no new oid is drawn
+none_drawn : (next : ℕ) (oid : Oid) → drawn_oid next 0 oid ≡ oid
+none_drawn next oid = by_number oid.0 refl
+  where
+    none_below : (n : ℕ) → nat_le (suc n) 0 ≡ false
+    none_below n = false_from_ne_true (nat_le (suc n) 0) (λ is. absurd (omega (arith, leb-true (suc n) 0 is)))
+
+    by_number : (n : ℕ) → oid.0 ≡ n → drawn_oid next 0 oid ≡ oid
+    by_number zero is = ap (λ m. elim (nat_le 1 m && nat_le m 0) [ true ↦ record { 0 = next + oid.0 - 1 } | false ↦ oid ]) is
+    by_number (suc n) is = ap (λ m. elim (nat_le 1 m && nat_le m 0) [ true ↦ record { 0 = next + oid.0 - 1 } | false ↦ oid ]) is ∙ ap (λ t. elim (nat_le 1 (suc n) && t) [ true ↦ record { 0 = next + oid.0 - 1 } | false ↦ oid ]) (none_below n) ∙ ap (λ t. elim t [ true ↦ record { 0 = next + oid.0 - 1 } | false ↦ oid ]) (and-false (nat_le 1 (suc n)))
+
+-- the row that the scan of an open relation's row gives is that relation's
+puts_filled : (opened : List Opening) (rel : Oid) (fill : ℕ) (row : Row) → is_opened opened rel ≡ true → selects (scans.Class rel) row ≡ true → (next : ℕ) → PutOpened opened (items.Put (drawn_row next 0 (with_fill fill row)))
+puts_filled opened rel fill (rows.Class oid own kind old) opens asked next = ap (is_opened opened) (none_drawn next oid ∙ oid_eq oid rel asked) ∙ opens
+puts_filled opened rel fill row opens asked next = absurd (cc)
+
+puts_there : (opened : List Opening) (scan : Purpose) (column : List ℕ) (rest : Row → Plan) → ((row : Row) → selects scan row ≡ true → PutsOpened opened (rest row)) → (given : List Row) → AreGivenBy scan given → PutsOpened opened (column_there column rest given)
+puts_there opened scan column rest puts [] asked = tt
+puts_there opened scan column rest puts (row ∷ more) asked = puts row asked.0
+
+puts_free : (opened : List Opening) (column : List ℕ) (plan : Plan) → PutsOpened opened plan → (given : List Row) → PutsOpened opened (column_free column plan given)
+puts_free opened column plan puts [] = puts
+puts_free opened column plan puts (row ∷ more) = tt
+
+puts_filling : (opened : List Opening) (rel : Oid) (fill : ℕ) → is_opened opened rel ≡ true → (given : List Row) → AreGivenBy (scans.Class rel) given → PutsOpened opened (filling fill given)
+puts_filling opened rel fill opens [] asked = tt
+puts_filling opened rel fill opens (row ∷ more) asked = puts_replacing opened None (with_fill fill row) (puts_filled opened rel fill row opens asked.0)
+
+-- an alteration, once the table's descriptor is open
+pub puts_altered : (opened : List Opening) (alteration : Alteration) (rel : Oid) → is_opened opened rel ≡ true → PutsOpened opened (altered alteration rel)
+puts_altered opened (alterations.AddColumn column col_type) rel opens = λ given asked. puts_free opened column (reading (scans.Attribute rel) (adding rel column col_type))
+    (λ columns all. puts_if_passes opened (nat_lt (length columns) MOST_COLUMNS) errors.TooManyColumns (changing (Insert (rows.Att rel (length columns + 1) column col_type (negsuc 0) true) ∷ [])) (puts_inserting opened (rows.Att rel (length columns + 1) column col_type (negsuc 0) true))) given
+puts_altered opened (alterations.DropColumn column) rel opens = puts_there opened (scans.AttName rel column) column (λ row. reading (scans.AttrDef rel) (dropping row))
+    (λ row asked. λ defaults all. puts_replacing opened (find (is_default_of (column_number row)) defaults) (as_dropped row) (puts_dropped opened row (column_row rel column row asked)))
+puts_altered opened (alterations.RenameColumn column to) rel opens = puts_there opened (scans.AttName rel column) column (renaming to rel)
+    (λ row asked. λ given all. puts_free opened to (changing (Replace (with_name to row) ∷ [])) (puts_replacing opened None (with_name to row) (puts_named opened to row (column_row rel column row asked))) given)
+puts_altered opened (alterations.SetStatistics column stat) rel opens = puts_if_passes opened (not (int_lt stat (negsuc 0))) (errors.OutOfRange stat) (with_column rel column (targeting stat))
+    (puts_there opened (scans.AttName rel column) column (targeting stat) (λ row asked. puts_replacing opened None (with_stat (int_min stat most_stat) row) (puts_targeted opened (int_min stat most_stat) row (column_row rel column row asked))))
+puts_altered opened (alterations.SetFillfactor fill) rel opens = puts_if_passes opened (nat_le 10 fill && nat_le fill 100) (errors.OutOfRange (pos fill)) (reading (scans.Class rel) (filling fill)) (puts_filling opened rel fill opens)
+
+opened_last : (opened : List Opening) (rel : Oid) (kind : Kind) → is_opened (opened ++ record { rel = rel; kind = kind } ∷ []) rel ≡ true
+opened_last opened rel kind = list_any-append (λ o. same_oid o.rel rel) opened (record { rel = rel; kind = kind } ∷ []) ∙ ap (λ t. is_opened opened rel || (t || false)) (eq-eqb rel.0 rel.0 refl) ∙ or-true (is_opened opened rel)
+
+puts_altering : (opened : List Opening) (name : List ℕ) (alteration : Alteration) (rel : Oid) (kind : Kind) → PutsOpened opened (altering name (altered alteration) rel kind)
+puts_altering opened name alteration rel kind = puts_if_passes opened (is_table kind) (errors.NotTable name) (opening rel kind (altered alteration rel)) (λ given. puts_altered (opened ++ record { rel = rel; kind = kind } ∷ []) alteration rel (opened_last opened rel kind))
+
+-- a search for a relation, and what comes after it
+puts_found_by : (opened : List Opening) (search : Search) (rel : Oid) (kind : Kind) → PutsOpened opened (plan_found search rel kind)
+puts_found_by opened (searches.Show name) rel kind = λ given. tt
+puts_found_by opened (searches.ShowField name field) rel kind = puts_if_passes opened (has_field kind field) (errors.NoField name field) (opening rel kind Done) (λ given. tt)
+puts_found_by opened (searches.LockTable name mode) rel kind = puts_if_passes opened (is_table kind) (errors.NotTable name) Done tt
+
+pub puts_searching : (opened : List Opening) (search : Search) → PutsOpened opened (plan_at (stages.Finding search))
+puts_searching opened search = puts_found opened (name_sought search) (plan_found search) (puts_found_by opened search)
+
+pub puts_finding : (opened : List Opening) (name : List ℕ) (alteration : Alteration) → PutsOpened opened (altering_at (alters.Finding name alteration))
+puts_finding opened name alteration = puts_found opened name (altering name (altered alteration)) (puts_altering opened name alteration)
+
+-- so does a command whose search is made anew
+alters_again : (opened : List Opening) (altering : Altering) → PutsOpened opened (altering_at altering) → PutsOpened opened (altering_again altering)
+alters_again opened (alters.Missing name alteration) puts = puts_finding opened name alteration
+alters_again opened stage puts = puts
+
+pub puts_again : (opened : List Opening) (exec : Exec) → PutsOpened opened (plan_at exec) → PutsOpened opened (plan_again exec)
+puts_again opened (stages.Missing search) puts = puts_searching opened search
+puts_again opened (stages.Altering altering) puts = alters_again opened altering puts
+puts_again opened stage puts = puts
+
+-- and a command at its beginning
+puts_columns : (opened : List Opening) (next : ℕ) (columns : List (ℕ × NewColumn)) → AllByRecursion (PutOpened opened) (map item_of (map (drawn_change next 1) (map new_column columns)) ++ [])
+puts_columns opened next [] = tt
+puts_columns opened next ((num, column) ∷ columns) = (tt, puts_columns opened next columns)
+
+puts_creating : (opened : List Opening) (name : List ℕ) (columns : List NewColumn) (passes : Bool) (twice : Option (List ℕ)) → PutsOpened opened (if_passes passes errors.TooManyColumns (if_no_column twice (writing (new_table name columns))))
+puts_creating opened name columns false twice = tt
+puts_creating opened name columns true (Some column) = tt
+puts_creating opened name columns true None = (λ next. (tt, puts_columns opened next (enumerate_from 1 columns)), λ given. tt)
+
+puts_plan : (opened : List Opening) (command : Command) → PutsOpened opened (plan_of none_open command)
+puts_plan opened (commands.Show name None) = puts_searching opened (searches.Show name)
+puts_plan opened (commands.Show name (Some field)) = puts_searching opened (searches.ShowField name field)
+puts_plan opened (commands.LockTable name mode) = puts_searching opened (searches.LockTable name mode)
+puts_plan opened (commands.CreateTable name columns) = puts_creating opened name columns (nat_le (length columns) MOST_COLUMNS) (first_twice [] (map (λ c. c.name) columns))
+puts_plan opened (commands.AddColumn name column col_type) = puts_finding opened name (alterations.AddColumn column col_type)
+puts_plan opened (commands.DropColumn name column) = puts_finding opened name (alterations.DropColumn column)
+puts_plan opened (commands.RenameColumn name column to) = puts_finding opened name (alterations.RenameColumn column to)
+puts_plan opened (commands.SetStatistics name column stat) = puts_finding opened name (alterations.SetStatistics column stat)
+puts_plan opened (commands.SetFillfactor name fill) = puts_finding opened name (alterations.SetFillfactor fill)
+puts_plan opened command = tt
+
+pub puts_first : (opened : List Opening) (blocks : Blocks) (o : Option Command) → PutsOpened opened (plan_first blocks o)
+puts_first opened blocks None = tt
+puts_first opened blocks (Some command) = by_blocks (refused_by blocks command)
+  where
+    by_blocks : (error : Option CommandError) → PutsOpened opened (plan_admitted error command)
+    by_blocks None = puts_plan opened command
+    by_blocks (Some error) = tt

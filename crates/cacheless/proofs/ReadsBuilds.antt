@@ -1,0 +1,34 @@
+-- What each stage of a command keeps to.
+use Rattle.std.proofs.Common.{◌≡◌, true, refl}
+use Rattle.std.specs.Prelude.{⊤}
+use Rattle.base_types.specs.Scans.{is_build_scan}
+use Rattle.ddl_effect.specs.Plans.{Plan, Do, Read, NotBuilt}
+use Rattle.ddl_effect.specs.Stages.{plan_at, altering_at}
+use Rattle.ddl_effect.specs.declared.altering.Altering.{Altering}
+use Rattle.ddl_effect.specs.declared.altering.Altering.TheVariants as alters
+use Rattle.ddl_effect.specs.declared.exec.Exec.TheVariants as stages
+use Rattle.cacheless.specs.Types.{Exec}
+
+-- an act that only reads rows reads them of a descriptor
+abbrev pub ReadsBuilds : Plan → Type 0
+ReadsBuilds (Do (Read scan) rest) = is_build_scan scan ≡ true
+ReadsBuilds plan = ⊤
+
+alters_reads : (altering : Altering) → ReadsBuilds (altering_at altering)
+alters_reads (alters.NumberingColumn rel column col_type) = refl
+alters_reads (alters.DroppingDefault rel row) = refl
+alters_reads (alters.SettingFillfactor rel fill) = refl
+alters_reads stage = tt
+
+pub stage_reads : (exec : Exec) → ReadsBuilds (plan_at exec)
+stage_reads (stages.Altering altering) = alters_reads altering
+stage_reads stage = tt
+
+-- each is built
+alters_built : (altering : Altering) → altering_at altering ≡ NotBuilt → ⊥
+alters_built alters.Done is = absurd (cc)
+alters_built stage is = absurd (cc)
+
+pub stage_built : (exec : Exec) → plan_at exec ≡ NotBuilt → ⊥
+stage_built (stages.Altering altering) is = alters_built altering is
+stage_built stage is = absurd (cc)

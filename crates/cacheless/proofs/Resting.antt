@@ -1,0 +1,174 @@
+-- Where the code finds nothing to do without an entry, its session is settled.
+use Rattle.std.proofs.Common.{◌≡◌, ◌≤◌, ◌<◌, ◌+◌, ◌∙◌, ◌&&◌, ◌||◌, ◌⊎◌, inl, inr, ℕ, Bool, true, false, not, Option, Some, None, List, [], ◌∷◌, ◌++◌, refl, sym, ap, subst, length, drop, is_none, is_some, slice_get, arith, All, cond, suc, get_or, if◌then◌else◌}
+use Rattle.std.specs.Option.{option_map_or}
+use Rattle.std.specs.List.{find}
+use Rattle.std.proofs.lemmas.List.{drop_more, drop_all}
+use Rattle.std.proofs.lemmas.Option.{slice_get_cases, slice_get_within, get_or_from_slice_get}
+use Rattle.base_types.specs.Scans.{same_scan}
+use Rattle.base_types.specs.declared.scan.Purpose.TheVariants as scans
+use Rattle.base_types.proofs.SameScan.{same_scan-true}
+use Rattle.ddl_effect.specs.Plans.{Plan, Act, Done, Fails, Absent, Do, NotBuilt, Lookup, Open, Column, Read, Lock, Write}
+use Rattle.ddl_effect.specs.Stages.{plan_at}
+use Rattle.history_model.specs.Writes.{is_empty}
+use Rattle.cacheless.specs.Types.{Row, Purpose, Command, Scenario, Entry, Event}
+use Rattle.cacheless.specs.declared.kept_scan.KeptScan.{KeptScan}
+use Rattle.cacheless.specs.declared.progress.Progress.{Progress}
+use Rattle.cacheless.specs.Facts.{Facts, facts_of}
+use Rattle.cacheless.specs.Locks.{is_locked}
+use Rattle.cacheless.specs.Session.{Session, Badly, outcome_of, is_settled, first_of}
+use Rattle.cacheless.specs.Owed.{owed_at_start, owed_after, builds_owed, act_owed, owed_of}
+use Rattle.cacheless.specs.Ends.{End, Ends, Commits, TakesBack, end_left, end_of, next_of_end}
+use Rattle.cacheless.specs.Settled.{gives, looked_up, act_done, done_here, acted_on, acted, is_finished, settled}
+use Rattle.cacheless.specs.State.{owed_at, owed_first, running_of, rows_kept, is_kept, builds_missing, act_missing, scans_missing, is_absent, is_out, end_at, Rest, session_at}
+use Rattle.cacheless.specs.May.{lacks_any, owes_nothing}
+use Rattle.cacheless.specs.Silently.{gives_at, gives_next, acts_on, is_ends, is_finished_at, IsAtRest}
+use Rattle.cacheless.specs.Holds.{ReadRight, NamedFit, FactsFit, Holds, Rests}
+use Rattle.cacheless.proofs.Settling.{settled-waits}
+use Rattle.cacheless.proofs.ReadsBuilds.{stage_built}
+use Rattle.cacheless.proofs.Tests.{and_true, empty_is, right_none, not_true}
+use Rattle.cacheless.proofs.Same.{start_owed, builds_same, act_same, scans_same, lacks_any_is, owes_nothing_is, empty_append}
+use Rattle.cacheless.proofs.Ending.{end_same, left_none}
+
+-- the first command that is left is the running one
+pub first_left : (xs : List Command) (n : ℕ) → first_of (drop n xs) ≡ slice_get xs n
+first_left xs n = by_place (slice_get_cases xs n).1
+  where
+    by_place : ((x : Command) × (n < length xs) × (slice_get xs n ≡ Some x) × (get_or xs n x ≡ x)) ⊎ ((length xs ≤ n) × (slice_get xs n ≡ None)) → first_of (drop n xs) ≡ slice_get xs n
+    by_place (inl (x, within, at, get)) = ap first_of (drop_more xs n x within) ∙ ap Some get ∙ sym at
+    by_place (inr (past, none)) = ap first_of (drop_all n xs past) ∙ sym none
+
+pub left_command : (s : Progress) (command : Command) → slice_get s.commands s.finished ≡ Some command → drop s.finished s.commands ≡ command ∷ drop (s.finished + 1) s.commands
+left_command s command at = drop_more s.commands s.finished command (slice_get_within s.commands s.finished command at) ∙ ap (λ y. y ∷ drop (s.finished + 1) s.commands) (get_or_from_slice_get s.commands s.finished command command at)
+
+-- what is kept of a scan is what it gave
+pub kept_rows : (facts : Purpose → List Row) (kept : List KeptScan) (scan : Purpose) → All (ReadRight facts) kept → is_kept kept scan ≡ true → facts scan ≡ rows_kept kept scan
+kept_rows facts [] scan right is = absurd (cc)
+kept_rows facts (k ∷ kept) scan right is = by_same (kept_rows facts kept scan (λ i d within. right (suc i) d (omega (arith, within)))) (same_scan k.scan scan) refl is
+  where
+    by_same : (is_kept kept scan ≡ true → facts scan ≡ rows_kept kept scan) → (t : Bool) → same_scan k.scan scan ≡ t → (t || is_kept kept scan) ≡ true → facts scan ≡ option_map_or (λ k. k.rows) (cond t (Some k) (find (λ k. same_scan k.scan scan) kept)) []
+    by_same later true same any = ap facts (sym (same_scan-true k.scan scan same)) ∙ sym (right 0 k (omega arith)).rows_are
+    by_same later false other any = later any
+
+pub cond_none : (t : Bool) (scan : Purpose) → cond (not t) (scan ∷ []) [] ≡ [] → t ≡ true
+cond_none true scan none = refl
+cond_none false scan none = absurd (cc)
+
+-- a lookup that lacks no scan has made it
+pub read_made : (read served : Bool) (scan : Purpose) → (if read && served then [] else scan ∷ []) ≡ [] → read ≡ true
+read_made true served scan none = refl
+read_made false served scan none = absurd (cc)
+
+-- so what it gave is what the code holds
+pub named_made : (facts : Facts) (s : Progress) (p : Plan) → FactsFit facts s → plan_at s.exec ≡ p → s.read ≡ true → NamedFit facts p s.given.items s.named
+named_made facts s p fits at read = subst (λ q. NamedFit facts q s.given.items s.named) at (fits.given (ap (λ t. t || is_absent (plan_at s.exec)) read))
+
+-- an act that lacks no scan gives what the code works out
+pub gives_same : (facts : Facts) (s : Progress) (act : Act) (rest : List Row → Plan) → FactsFit facts s → plan_at s.exec ≡ Do act rest → act_missing s (Do act rest) ≡ [] → gives facts s.locks.items act ≡ gives_at s act
+gives_same facts s (Lookup name mode) rest fits at none = ap (looked_up s.locks.items mode) (named_made facts s (Do (Lookup name mode) rest) fits at (read_made s.read (s.named || is_locked s.locks.items mode s.given.items) (scans.RelName name) none)).0
+gives_same facts s (Open rel kind) rest fits at none = refl
+gives_same facts s (Column rel name) rest fits at none = ap Some (named_made facts s (Do (Column rel name) rest) fits at (read_made s.read s.named (scans.AttName rel name) none)).0
+gives_same facts s (Read scan) rest fits at none = ap Some (kept_rows facts.rows s.kept scan fits.kept (cond_none (is_kept s.kept scan) scan none))
+gives_same facts s (Lock rel mode) rest fits at none = refl
+gives_same facts s (Write draft) rest fits at none = refl
+
+-- nothing has to come first
+pub record Free (facts : Facts) (command : Command) (s : Progress) (rest : Rest) : Type 0 where
+  pub first : is_empty (owed_at_start facts command (session_at s rest) ++ owed_after facts.last) ≡ true
+  pub scans : scans_missing s ≡ []
+
+pub first_same : (facts : Facts) (command : Command) (s : Progress) (rest : Rest) → FactsFit facts s → is_empty (owed_at_start facts command (session_at s rest) ++ owed_after facts.last) ≡ (is_empty (owed_first s command) && is_empty (owed_at s.due))
+first_same facts command s rest fits = empty_append (owed_at_start facts command (session_at s rest)) (owed_after facts.last) ∙ ap (λ l. is_empty l && is_empty (owed_after facts.last)) (start_owed facts command s rest fits) ∙ ap (λ l. is_empty (owed_first s command) && is_empty l) fits.owed
+
+pub free_now : (facts : Facts) (command : Command) (s : Progress) (rest : Rest) → FactsFit facts s → owes_nothing command s ≡ true → Free facts command s rest
+free_now facts command s rest fits is = let parts = and_true (is_empty (owed_first s command) && is_empty (owed_at s.due)) (not (lacks_any s)) is in record {
+  first = first_same facts command s rest fits ∙ parts.0;
+  scans = empty_is (scans_missing s) (sym (lacks_any_is s) ∙ parts.1);
+}
+
+-- no scan is missing before an act: so none of the act is
+pub lacks_none : (s : Progress) (act : Act) (plan : List Row → Plan) → plan_at s.exec ≡ Do act plan → scans_missing s ≡ [] → builds_missing s.kept s.opened ++ act_missing s (Do act plan) ≡ []
+lacks_none s act plan at none = ap (λ p. elim (outcome_of p) as (λ x. List Purpose) [ Badly ↦ [] | other ↦ builds_missing s.kept s.opened ++ act_missing s p ]) (sym at) ∙ none
+
+-- then what it gives decides
+pub here : (facts : Facts) (s : Progress) (rest : Rest) (act : Act) (plan : List Row → Plan) → FactsFit facts s → plan_at s.exec ≡ Do act plan → scans_missing s ≡ [] → done_here facts (session_at s rest) act (Do act plan) ≡ gives_at s act
+here facts s rest act plan fits at none =
+    ap (λ l. elim (is_empty l) [ true ↦ gives facts s.locks.items act | false ↦ None ]) same
+    ∙ gives_same facts s act plan fits at (right_none (builds_missing s.kept s.opened) (act_missing s (Do act plan)) lacks)
+  where
+    lacks : builds_missing s.kept s.opened ++ act_missing s (Do act plan) ≡ []
+    lacks = lacks_none s act plan at none
+
+    same : builds_owed facts s.opened ++ act_owed facts s.locks.items s.read (Do act plan) ≡ []
+    same = ap (λ l. l ++ act_owed facts s.locks.items s.read (Do act plan)) (builds_same facts s fits)
+        ∙ ap (λ l. builds_missing s.kept s.opened ++ l) (ap (act_owed facts s.locks.items s.read) (sym at) ∙ act_same facts s fits ∙ ap (act_missing s) at) ∙ lacks
+
+-- the tests of a finished command
+over_same : (facts : Facts) (command : Command) (s : Progress) (r : Rest) → facts.running ≡ running_of s.running → length r.finished ≡ s.finished → is_none (end_left facts command (session_at s r)) ≡ (s.ended || is_ends (end_at s command))
+over_same facts command s r running count = by_ended s.ended
+  where
+    by_end : (end : End) → is_none (next_of_end facts end) ≡ is_ends end
+    by_end Ends = refl
+    by_end (Commits first) = refl
+    by_end (TakesBack from) = refl
+
+    by_ended : (t : Bool) → is_none (elim t as (λ x. Option Event) [ true ↦ None | false ↦ next_of_end facts (end_of facts command (session_at s r)) ]) ≡ (t || is_ends (end_at s command))
+    by_ended true = refl
+    by_ended false = ap (λ e. is_none (next_of_end facts e)) (end_same facts command s r running count) ∙ by_end (end_at s command)
+
+pub finished_same : (facts : Facts) (command : Command) (s : Progress) (r : Rest) → FactsFit facts s → length r.finished ≡ s.finished → is_finished facts command (session_at s r) ≡ is_finished_at command s
+finished_same facts command s r fits count =
+    ap (λ t. is_settled (outcome_of (plan_at s.exec)) && t && is_empty (owed_of facts command (session_at s r))) (over_same facts command s r fits.running count)
+    ∙ ap (λ t. is_settled (outcome_of (plan_at s.exec)) && (s.ended || is_ends (end_at s command)) && t) (owes_nothing_is facts command s r fits)
+
+none_of : (o : Option (List Row)) → is_some o ≡ false → o ≡ None
+none_of None is = refl
+none_of (Some x) is = absurd (cc)
+
+-- where the next act gives nothing yet, none is done
+stays_act : (facts : Facts) (command : Command) (s : Progress) (r : Rest) → FactsFit facts s → acts_on command s ≡ false → (p : Plan) → plan_at s.exec ≡ p → is_empty (owed_first s command) && is_empty (owed_at s.due) ≡ true → acted_on facts p (session_at s r) ≡ session_at s r
+stays_act facts command s r fits stays Done at free = refl
+stays_act facts command s r fits stays (Fails error) at free = refl
+stays_act facts command s r fits stays (Absent name) at free = refl
+stays_act facts command s r fits stays NotBuilt at free = refl
+stays_act facts command s r fits stays (Do act plan) at free = ap (λ o. elim o [ None ↦ session_at s r | Some given ↦ acted_on facts (plan given) (act_done act given (plan given) (session_at s r)) ]) (by_lacks (lacks_any s) refl)
+  where
+    owed : List Purpose
+    owed = builds_owed facts s.opened ++ act_owed facts s.locks.items s.read (Do act plan)
+
+    -- the scans that are owed before the act
+    owed_is : owed ≡ scans_missing s
+    owed_is = ap (λ p. elim (outcome_of p) as (λ x. List Purpose) [ Badly ↦ [] | other ↦ builds_owed facts s.opened ++ act_owed facts s.locks.items s.read p ]) (sym at) ∙ scans_same facts s r fits
+
+    by_lacks : (t : Bool) → lacks_any s ≡ t → done_here facts (session_at s r) act (Do act plan) ≡ None
+    by_lacks true is = ap (λ t. elim t as (λ x. Option (List Row)) [ true ↦ gives facts s.locks.items act | false ↦ None ]) (ap is_empty owed_is ∙ sym (lacks_any_is s) ∙ ap not is)
+    by_lacks false is = here facts s r act plan fits at (empty_is (scans_missing s) (sym (lacks_any_is s) ∙ ap not is))
+        ∙ none_of (gives_at s act) (sym (ap (λ p. gives_next s p) at) ∙ sym (ap (λ t. t && gives_next s (plan_at s.exec)) (ap (λ t. t && not (lacks_any s)) free ∙ ap not is)) ∙ stays)
+
+-- where no act is done here and the command isn't finished, nothing is left to settle
+pub rests_here : (scenario : Scenario) (seen : List Entry) (s : Progress) (command : Command) (holds : Holds scenario seen s) → slice_get s.commands s.finished ≡ Some command → acts_on command s ≡ false → is_finished_at command s ≡ false
+    → settled (facts_of seen s.id) (drop s.finished s.commands) (session_at s holds.rest) ≡ session_at s holds.rest
+rests_here scenario seen s command holds has stays unfinished =
+    ap (λ l. settled facts l (session_at s r)) (left_command s command has)
+    ∙ settled-waits facts command (drop (s.finished + 1) s.commands) (session_at s r) (by_first (is_empty (owed_at_start facts command (session_at s r) ++ owed_after facts.last)) refl) (finished_same facts command s r holds.facts holds.count ∙ unfinished)
+  where
+    facts : Facts
+    facts = facts_of seen s.id
+
+    r : Rest
+    r = holds.rest
+
+    by_first : (t : Bool) → is_empty (owed_at_start facts command (session_at s r) ++ owed_after facts.last) ≡ t → elim t as (λ x. Session) [ true ↦ acted_on facts (plan_at s.exec) (session_at s r) | false ↦ session_at s r ] ≡ session_at s r
+    by_first true is = stays_act facts command s r holds.facts stays (plan_at s.exec) refl (sym (first_same facts command s r holds.facts) ∙ is)
+    by_first false is = refl
+
+-- after the last command nothing is done without an entry
+pub rests_after_all : (scenario : Scenario) (seen : List Entry) (s : Progress) (holds : Holds scenario seen s) → slice_get s.commands s.finished ≡ None → settled (facts_of seen s.id) (drop s.finished s.commands) (session_at s holds.rest) ≡ session_at s holds.rest
+rests_after_all scenario seen s holds none = ap (λ l. settled (facts_of seen s.id) l (session_at s holds.rest)) (left_none s.commands s.finished none)
+
+-- where the code rests its session is settled
+pub settled_at_rest : (scenario : Scenario) (seen : List Entry) (s : Progress) (rests : Rests scenario seen s) → settled (facts_of seen s.id) (drop s.finished s.commands) (session_at s rests.holds.rest) ≡ session_at s rests.holds.rest
+settled_at_rest scenario seen s rests = by_command (slice_get s.commands s.finished) refl
+  where
+    by_command : (o : Option Command) → slice_get s.commands s.finished ≡ o → settled (facts_of seen s.id) (drop s.finished s.commands) (session_at s rests.holds.rest) ≡ session_at s rests.holds.rest
+    by_command None at = rests_after_all scenario seen s rests.holds at
+    by_command (Some command) at = let stays = rests.still command at in rests_here scenario seen s command rests.holds at stays.0 stays.1

@@ -1,0 +1,299 @@
+-- What the code works out of what it holds is what the definitions work out of the facts.
+use Rattle.std.proofs.Common.{◌≡◌, ◌+◌, ◌*◌, ◌∙◌, ◌==◌, ◌&&◌, ◌||◌, ℕ, Bool, true, false, not, Option, Some, None, List, [], ◌∷◌, ◌++◌, refl, sym, ap, subst, map, filter, is_none, is_some, length, if◌then◌else◌, cond, nat_lt, nat_le}
+use Rattle.std.specs.Option.{option_map_or}
+use Rattle.std.specs.List.{find, list_any, flat_map, AllByRecursion}
+use Rattle.std.proofs.Common.{take}
+use Rattle.std.proofs.Math.Bool.{or-false}
+use Rattle.std.proofs.lemmas.List.Folds.{list_any-append}
+use Rattle.base_types.specs.Scans.{same_scan, build_scans, is_build_scan}
+use Rattle.base_types.specs.declared.kind.Kind.TheVariants.{Table, Index}
+use Rattle.base_types.specs.declared.scan.Purpose.TheVariants as scans
+use Rattle.event_kinds.specs.declared.entry.Event.TheVariants as events
+use Rattle.ddl_effect.specs.Plans.{Plan, Do, Lookup, Open, Column, Read, Lock, Write}
+use Rattle.ddl_effect.specs.Stages.{plan_at}
+use Rattle.history_model.specs.Writes.{is_empty}
+use Rattle.cacheless.specs.Facts.{Facts}
+use Rattle.cacheless.specs.Locks.{is_locked}
+use Rattle.cacheless.specs.Session.{Session, Outcome, Unsettled, Well, Badly, outcome_of, number_of}
+use Rattle.cacheless.specs.Owed.{Owes, OwesLook, OwesFetch, OwesScan, owed_at_start, owed_after, unusable, builds_owed, act_owed, scans_owed, owed_of, act_next, scans_next, is_next_scan, owes_build, owes_build_scan, owes_accept}
+use Rattle.cacheless.specs.Plays.{started_in, has_looked, may_look}
+use Rattle.cacheless.specs.Types.{Kind, Oid, Command, Row, Purpose, Opening}
+use Rattle.cacheless.specs.declared.kept_scan.KeptScan.{KeptScan}
+use Rattle.cacheless.specs.declared.progress.OwnTransaction.{OwnTransaction}
+use Rattle.cacheless.specs.declared.progress.Progress.{Progress}
+use Rattle.cacheless.specs.State.{owed_at, one_if, running_of, is_kept, missing, builds_missing, act_missing, scans_missing, is_absent, lacks_builds, is_full, is_in_accept, begins_in, owed_first, Rest, session_at}
+use Rattle.cacheless.specs.May.{may_look_at, started_at, has_looked_at, is_first_missing, is_next_of_act, is_next_at, has_failed, lacks_opened, lacks_to_build, lacks_any, owes_nothing}
+use Rattle.cacheless.specs.Holds.{NamedFit, FactsFit}
+use Rattle.cacheless.proofs.ReadsBuilds.{ReadsBuilds, stage_reads}
+
+none_running : (own : Option OwnTransaction) → is_none (running_of own) ≡ is_none own
+none_running None = refl
+none_running (Some t) = refl
+
+-- what a command owes at its start
+pub start_owed : (facts : Facts) (command : Command) (s : Progress) (rest : Rest) → FactsFit facts s → owed_at_start facts command (session_at s rest) ≡ owed_first s command
+start_owed facts command s rest fits = ap (λ t. elim (begins_in s.blocks s.ended command && t) [ true ↦ OwesLook ∷ [] | false ↦ [] ]) (ap is_none fits.running ∙ none_running s.running)
+
+-- the scans that are owed are those that it misses
+pub unusable-missing : (facts : Facts) (kept : List KeptScan) → ((scan : Purpose) → is_build_scan scan ≡ true → facts.usable scan ≡ is_kept kept scan) → (kind : Kind) (rel : Oid)
+    → unusable facts (build_scans kind rel) ≡ missing kept (build_scans kind rel)
+unusable-missing facts kept usable Table rel =
+    rw (usable (scans.Class rel) refl, usable (scans.Attribute rel) refl, usable (scans.AttrDef rel) refl, usable (scans.Constraint rel) refl, usable (scans.Index rel) refl, usable (scans.Trigger rel) refl) refl
+unusable-missing facts kept usable Index rel = rw (usable (scans.Class rel) refl, usable (scans.IndexRow rel) refl) refl
+
+builds-missing : (facts : Facts) (kept : List KeptScan) → ((scan : Purpose) → is_build_scan scan ≡ true → facts.usable scan ≡ is_kept kept scan) → (opened : List Opening) → builds_owed facts opened ≡ builds_missing kept opened
+builds-missing facts kept usable [] = refl
+builds-missing facts kept usable (o ∷ opened) = ap (λ l. l ++ builds_owed facts opened) (unusable-missing facts kept usable o.kind o.rel) ∙ ap (λ l. missing kept (build_scans o.kind o.rel) ++ l) (builds-missing facts kept usable opened)
+
+pub builds_same : (facts : Facts) (s : Progress) → FactsFit facts s → builds_owed facts s.opened ≡ builds_missing s.kept s.opened
+builds_same facts s fits = builds-missing facts s.kept fits.usable s.opened
+
+-- whether the scan of a name or a column is to be made
+by_name : (read served serves : Bool) (scan : Purpose) → (read ≡ true → served ≡ serves) → (if read && served then [] else scan ∷ []) ≡ (if read && serves then [] else scan ∷ [])
+by_name true served serves scan same = ap (λ t. if t then [] else scan ∷ []) (same refl)
+by_name false served serves scan same = refl
+
+-- the scans that the next act lacks
+act-missing : (facts : Facts) (s : Progress) (p : Plan) → FactsFit facts s → ReadsBuilds p → (s.read ≡ true → NamedFit facts p s.given.items s.named) → act_owed facts s.locks.items s.read p ≡ act_missing s p
+act-missing facts s (Do (Lookup name mode) rest) fits reads named = by_name s.read (facts.usable (scans.RelName name) || is_locked s.locks.items mode (facts.rows (scans.RelName name))) (s.named || is_locked s.locks.items mode s.given.items) (scans.RelName name)
+    (λ read. ap (λ t. t || is_locked s.locks.items mode (facts.rows (scans.RelName name))) (named read).1 ∙ ap (λ l. s.named || is_locked s.locks.items mode l) (named read).0)
+act-missing facts s (Do (Open rel kind) rest) fits reads named = unusable-missing facts s.kept fits.usable kind rel
+act-missing facts s (Do (Column rel name) rest) fits reads named = by_name s.read (facts.usable (scans.AttName rel name)) s.named (scans.AttName rel name) (λ read. (named read).1)
+act-missing facts s (Do (Read scan) rest) fits reads named = ap (λ t. cond (not t) (scan ∷ []) []) (fits.usable scan reads)
+act-missing facts s (Do (Lock rel mode) rest) fits reads named = refl
+act-missing facts s (Do (Write draft) rest) fits reads named = refl
+act-missing facts s p fits reads named = refl
+
+pub act_same : (facts : Facts) (s : Progress) → FactsFit facts s → act_owed facts s.locks.items s.read (plan_at s.exec) ≡ act_missing s (plan_at s.exec)
+act_same facts s fits = act-missing facts s (plan_at s.exec) fits (stage_reads s.exec) (λ read. fits.given (ap (λ t. t || is_absent (plan_at s.exec)) read))
+
+pub scans_same : (facts : Facts) (s : Progress) (rest : Rest) → FactsFit facts s → scans_owed facts (session_at s rest) ≡ scans_missing s
+scans_same facts s rest fits = ap (λ l. elim (outcome_of (plan_at s.exec)) as (λ x. List Purpose) [ Badly ↦ [] | other ↦ l ])
+    (ap (λ l. l ++ act_owed facts s.locks.items s.read (plan_at s.exec)) (builds_same facts s fits) ∙ ap (λ l. builds_missing s.kept s.opened ++ l) (act_same facts s fits))
+
+-- its opened descriptors lack scans
+pub lacks_same : (facts : Facts) (s : Progress) (rest : Rest) → FactsFit facts s → owes_build facts (session_at s rest) ≡ lacks_builds s
+lacks_same facts s rest fits = ap (λ l. elim (outcome_of (plan_at s.exec)) as (λ x. Bool) [ Badly ↦ false | other ↦ not (is_empty l) ]) (builds_same facts s fits)
+
+-- a look may come
+pub look_same : (facts : Facts) (s : Progress) (rest : Rest) → FactsFit facts s → may_look facts (session_at s rest) ≡ may_look_at s
+look_same facts s rest fits = ap (λ l. elim l [ OwesFetch ∷ owed ↦ false | owed ↦ nat_le (s.tally.looks + 1) (s.tally.scans + s.tally.grants + 2 * s.tally.fetches + 3) ]) fits.owed
+
+-- there was a look for one more scan
+pub looked_same : (facts : Facts) (s : Progress) (rest : Rest) → FactsFit facts s → length rest.finished ≡ s.finished → has_looked facts (session_at s rest) ≡ has_looked_at s
+looked_same facts s rest fits count =
+    ap (λ n. nat_lt (s.tally.scans + s.tally.grants + n + s.tally.full) s.tally.looks)
+    (ap (λ o. option_map_or (λ t. elim (t.first == length rest.finished + 1) as (λ x. ℕ) [ true ↦ 1 | false ↦ 0 ]) o 0) fits.running ∙ same s.running)
+  where
+    one : (t : Bool) → elim t as (λ x. ℕ) [ true ↦ 1 | false ↦ 0 ] ≡ one_if t
+    one true = refl
+    one false = refl
+
+    same : (own : Option OwnTransaction) → option_map_or (λ t. elim (t.first == length rest.finished + 1) as (λ x. ℕ) [ true ↦ 1 | false ↦ 0 ]) (running_of own) 0 ≡ option_map_or (λ t. one_if (t.first == s.finished + 1)) own 0
+    same None = refl
+    same (Some t) = one (t.first == length rest.finished + 1) ∙ ap (λ n. one_if (t.first == n + 1)) count
+
+-- the first of the scans that pass
+any_first : (scan : Purpose) (p : Purpose → Bool) (l : List Purpose) → list_any (same_scan scan) (take 1 (filter p l)) ≡ option_map_or (same_scan scan) (find p l) false
+any_first scan p [] = refl
+any_first scan p (x ∷ l) = by_test (any_first scan p l) (p x)
+  where
+    by_test : list_any (same_scan scan) (take 1 (filter p l)) ≡ option_map_or (same_scan scan) (find p l) false → (t : Bool) → list_any (same_scan scan) (take 1 (cond t (x ∷ filter p l) (filter p l))) ≡ option_map_or (same_scan scan) (cond t (Some x) (find p l)) false
+    by_test more true = or-false (same_scan scan x)
+    by_test more false = more
+
+first_same : (facts : Facts) (kept : List KeptScan) (scan : Purpose) → ((d : Purpose) → is_build_scan d ≡ true → facts.usable d ≡ is_kept kept d) → (kind : Kind) (rel : Oid)
+    → list_any (same_scan scan) (take 1 (unusable facts (build_scans kind rel))) ≡ is_first_missing scan kept kind rel
+first_same facts kept scan usable kind rel = ap (λ l. list_any (same_scan scan) (take 1 l)) (unusable-missing facts kept usable kind rel) ∙ any_first scan (λ d. not (is_kept kept d)) (build_scans kind rel)
+
+opened_first : (facts : Facts) (kept : List KeptScan) (scan : Purpose) → ((d : Purpose) → is_build_scan d ≡ true → facts.usable d ≡ is_kept kept d) → (opened : List Opening)
+    → list_any (same_scan scan) (flat_map (λ o. take 1 (unusable facts (build_scans o.kind o.rel))) opened) ≡ list_any (λ o. is_first_missing scan kept o.kind o.rel) opened
+opened_first facts kept scan usable [] = refl
+opened_first facts kept scan usable (o ∷ opened) =
+    list_any-append (same_scan scan) (take 1 (unusable facts (build_scans o.kind o.rel))) (flat_map (λ p. take 1 (unusable facts (build_scans p.kind p.rel))) opened)
+    ∙ ap (λ t. t || list_any (same_scan scan) (flat_map (λ p. take 1 (unusable facts (build_scans p.kind p.rel))) opened)) (first_same facts kept scan usable o.kind o.rel)
+    ∙ ap (λ t. is_first_missing scan kept o.kind o.rel || t) (opened_first facts kept scan usable opened)
+
+one_taken : (scan x : Purpose) (t : Bool) → list_any (same_scan scan) (take 1 (if t then [] else x ∷ [])) ≡ (not t && same_scan scan x)
+one_taken scan x true = refl
+one_taken scan x false = or-false (same_scan scan x)
+
+act_first : (facts : Facts) (s : Progress) (scan : Purpose) (p : Plan) → FactsFit facts s → act_owed facts s.locks.items s.read p ≡ act_missing s p → list_any (same_scan scan) (act_next facts s.locks.items s.read p) ≡ is_next_of_act scan s p
+act_first facts s scan (Do (Lookup name mode) rest) fits same = ap (λ l. list_any (same_scan scan) (take 1 l)) same ∙ one_taken scan (scans.RelName name) (s.read && (s.named || is_locked s.locks.items mode s.given.items))
+act_first facts s scan (Do (Column rel name) rest) fits same = ap (λ l. list_any (same_scan scan) (take 1 l)) same ∙ one_taken scan (scans.AttName rel name) (s.read && s.named)
+act_first facts s scan (Do (Open rel kind) rest) fits same = first_same facts s.kept scan fits.usable kind rel
+act_first facts s scan (Do (Read d) rest) fits same = refl
+act_first facts s scan (Do (Lock rel mode) rest) fits same = refl
+act_first facts s scan (Do (Write draft) rest) fits same = refl
+act_first facts s scan p fits same = refl
+
+-- the scan may be made now
+pub next_same : (facts : Facts) (s : Progress) (rest : Rest) (scan : Purpose) → FactsFit facts s → is_next_scan scan facts (session_at s rest) ≡ is_next_at scan s
+next_same facts s rest scan fits = by_outcome (outcome_of (plan_at s.exec))
+  where
+    builds : List Purpose
+    builds = flat_map (λ o. take 1 (unusable facts (build_scans o.kind o.rel))) s.opened
+
+    acts : List Purpose
+    acts = act_next facts s.locks.items s.read (plan_at s.exec)
+
+    both : list_any (same_scan scan) (builds ++ acts) ≡ (list_any (λ o. is_first_missing scan s.kept o.kind o.rel) s.opened || is_next_of_act scan s (plan_at s.exec))
+    both = list_any-append (same_scan scan) builds acts ∙ ap (λ t. t || list_any (same_scan scan) acts) (opened_first facts s.kept scan fits.usable s.opened)
+        ∙ ap (λ t. list_any (λ o. is_first_missing scan s.kept o.kind o.rel) s.opened || t) (act_first facts s scan (plan_at s.exec) fits (act_same facts s fits))
+
+    by_outcome : (o : Outcome) → list_any (same_scan scan) (elim o as (λ x. List Purpose) [ Badly ↦ [] | other ↦ builds ++ acts ])
+        ≡ (not (elim o as (λ x. Bool) [ Badly ↦ true | other ↦ false ]) && (list_any (λ p. is_first_missing scan s.kept p.kind p.rel) s.opened || is_next_of_act scan s (plan_at s.exec)))
+    by_outcome Unsettled = both
+    by_outcome Well = both
+    by_outcome Badly = refl
+
+pub empty_append : {X : Type 0} (xs ys : List X) → is_empty (xs ++ ys) ≡ (is_empty xs && is_empty ys)
+empty_append [] ys = refl
+empty_append (x ∷ xs) ys = refl
+
+pub empty_map : {X Y : Type 0} (f : X → Y) (xs : List X) → is_empty (map f xs) ≡ is_empty xs
+empty_map f [] = refl
+empty_map f (x ∷ xs) = refl
+
+some_found : (p : Purpose → Bool) (l : List Purpose) → is_some (find p l) ≡ not (is_empty (filter p l))
+some_found p [] = refl
+some_found p (x ∷ l) = by_test (some_found p l) (p x)
+  where
+    by_test : is_some (find p l) ≡ not (is_empty (filter p l)) → (t : Bool) → is_some (cond t (Some x) (find p l)) ≡ not (is_empty (cond t (x ∷ filter p l) (filter p l)))
+    by_test more true = refl
+    by_test more false = more
+
+-- the test of the opened descriptors
+pub lacks_opened_is : (kept : List KeptScan) (opened : List Opening) → lacks_opened kept opened ≡ not (is_empty (builds_missing kept opened))
+lacks_opened_is kept [] = refl
+lacks_opened_is kept (o ∷ opened) =
+    by_test (is_some (find p (build_scans o.kind o.rel)))
+    ∙ ap (λ t. t || lacks_opened kept opened) (some_found p (build_scans o.kind o.rel))
+    ∙ ap (λ t. not (is_empty (missing kept (build_scans o.kind o.rel))) || t) (lacks_opened_is kept opened)
+    ∙ apart (is_empty (missing kept (build_scans o.kind o.rel))) (is_empty (builds_missing kept opened))
+    ∙ ap not (sym (empty_append (missing kept (build_scans o.kind o.rel)) (builds_missing kept opened)))
+  where
+    p : Purpose → Bool
+    p = λ scan. not (is_kept kept scan)
+
+    by_test : (t : Bool) → is_some (cond t (Some o) (find (λ q. is_some (find p (build_scans q.kind q.rel))) opened)) ≡ (t || lacks_opened kept opened)
+    by_test true = refl
+    by_test false = refl
+
+    apart : (a b : Bool) → (not a || not b) ≡ not (a && b)
+    apart true b = refl
+    apart false b = refl
+
+-- no scan is missing
+pub lacks_any_is : (s : Progress) → not (lacks_any s) ≡ is_empty (scans_missing s)
+lacks_any_is s = ap (λ t. not (not (has_failed s) && (t || not (is_empty (act_missing s (plan_at s.exec)))))) (lacks_opened_is s.kept s.opened) ∙ by_outcome (outcome_of (plan_at s.exec))
+  where
+    builds : List Purpose
+    builds = builds_missing s.kept s.opened
+
+    acts : List Purpose
+    acts = act_missing s (plan_at s.exec)
+
+    apart : (a b : Bool) → not (not a || not b) ≡ (a && b)
+    apart true true = refl
+    apart true false = refl
+    apart false b = refl
+
+    by_outcome : (o : Outcome) → not (not (elim o as (λ x. Bool) [ Badly ↦ true | other ↦ false ]) && (not (is_empty builds) || not (is_empty acts))) ≡ is_empty (elim o as (λ x. List Purpose) [ Badly ↦ [] | other ↦ builds ++ acts ])
+    by_outcome Unsettled = apart (is_empty builds) (is_empty acts) ∙ sym (empty_append builds acts)
+    by_outcome Well = apart (is_empty builds) (is_empty acts) ∙ sym (empty_append builds acts)
+    by_outcome Badly = refl
+
+-- nothing is owed
+pub owes_nothing_is : (facts : Facts) (command : Command) (s : Progress) (rest : Rest) → FactsFit facts s → is_empty (owed_of facts command (session_at s rest)) ≡ owes_nothing command s
+owes_nothing_is facts command s rest fits =
+    empty_append (owed_at_start facts command (session_at s rest) ++ owed_after facts.last) (map OwesScan (scans_owed facts (session_at s rest)))
+    ∙ ap (λ t. t && is_empty (map OwesScan (scans_owed facts (session_at s rest)))) (empty_append (owed_at_start facts command (session_at s rest)) (owed_after facts.last))
+    ∙ ap (λ l. is_empty l && is_empty (owed_after facts.last) && is_empty (map OwesScan (scans_owed facts (session_at s rest)))) (start_owed facts command s rest fits)
+    ∙ ap (λ l. is_empty (owed_first s command) && is_empty l && is_empty (map OwesScan (scans_owed facts (session_at s rest)))) fits.owed
+    ∙ ap (λ t. is_empty (owed_first s command) && is_empty (owed_at s.due) && t) (empty_map OwesScan (scans_owed facts (session_at s rest)) ∙ ap is_empty (scans_same facts s rest fits) ∙ sym (lacks_any_is s))
+
+-- the test of the opened descriptors, where the command hasn't failed
+pub lacks_builds_is : (s : Progress) → (not (has_failed s) && lacks_opened s.kept s.opened) ≡ lacks_builds s
+lacks_builds_is s = ap (λ t. not (has_failed s) && t) (lacks_opened_is s.kept s.opened) ∙ by_outcome (outcome_of (plan_at s.exec))
+  where
+    by_outcome : (o : Outcome) → (not (elim o as (λ x. Bool) [ Badly ↦ true | other ↦ false ]) && not (is_empty (builds_missing s.kept s.opened))) ≡ elim o as (λ x. Bool) [ Badly ↦ false | other ↦ not (is_empty (builds_missing s.kept s.opened)) ]
+    by_outcome Unsettled = refl
+    by_outcome Well = refl
+    by_outcome Badly = refl
+
+-- an accept of messages isn't over
+pub accept_same : (facts : Facts) (o : Option Command) (s : Progress) (rest : Rest) → FactsFit facts s → owes_accept facts o (session_at s rest) ≡ is_in_accept s o
+accept_same facts None s rest fits = ap (λ l. not (is_empty l)) fits.owed
+accept_same facts (Some command) s rest fits =
+    ap (λ t. not t || owes_build facts (session_at s rest)) (empty_append (owed_at_start facts command (session_at s rest)) (owed_after facts.last))
+    ∙ ap (λ l. not (is_empty l && is_empty (owed_after facts.last)) || owes_build facts (session_at s rest)) (start_owed facts command s rest fits)
+    ∙ ap (λ l. not (is_empty (owed_first s command) && is_empty l) || owes_build facts (session_at s rest)) fits.owed
+    ∙ apart (is_empty (owed_first s command)) (is_empty (owed_at s.due)) (owes_build facts (session_at s rest))
+    ∙ ap (λ t. not (is_empty (owed_first s command)) || not (is_empty (owed_at s.due)) || t) (lacks_same facts s rest fits)
+  where
+    apart : (a b c : Bool) → (not (a && b) || c) ≡ (not a || not b || c)
+    apart true b c = refl
+    apart false b c = refl
+
+-- a scan for a descriptor is owed
+pub full_same : (facts : Facts) (count : ℕ) (s : Progress) (rest : Rest) → FactsFit facts s → ((count == 32) && not (owes_build_scan facts (session_at s rest))) ≡ is_full count s
+full_same facts count s rest fits = ap (λ l. (count == 32) && not (list_any is_build_scan l)) (scans_same facts s rest fits)
+
+-- of scans for descriptors one passes a test
+any_found : (p : Purpose → Bool) (l : List Purpose) → AllByRecursion (λ d. is_build_scan d ≡ true) l → list_any is_build_scan (filter p l) ≡ is_some (find p l)
+any_found p [] builds = refl
+any_found p (x ∷ l) builds = by_test (any_found p l builds.1) (p x)
+  where
+    by_test : list_any is_build_scan (filter p l) ≡ is_some (find p l) → (t : Bool) → list_any is_build_scan (cond t (x ∷ filter p l) (filter p l)) ≡ is_some (cond t (Some x) (find p l))
+    by_test more true = ap (λ t. t || list_any is_build_scan (filter p l)) builds.0
+    by_test more false = more
+
+pub builds_of : (kind : Kind) (rel : Oid) → AllByRecursion (λ d. is_build_scan d ≡ true) (build_scans kind rel)
+builds_of Table rel = (refl, (refl, (refl, (refl, (refl, (refl, tt))))))
+builds_of Index rel = (refl, (refl, tt))
+
+opened_any : (kept : List KeptScan) (opened : List Opening) → list_any is_build_scan (builds_missing kept opened) ≡ lacks_opened kept opened
+opened_any kept [] = refl
+opened_any kept (o ∷ opened) =
+    list_any-append is_build_scan (missing kept (build_scans o.kind o.rel)) (builds_missing kept opened)
+    ∙ ap (λ t. t || list_any is_build_scan (builds_missing kept opened)) (any_found p (build_scans o.kind o.rel) (builds_of o.kind o.rel))
+    ∙ ap (λ t. is_some (find p (build_scans o.kind o.rel)) || t) (opened_any kept opened)
+    ∙ by_test (is_some (find p (build_scans o.kind o.rel)))
+  where
+    p : Purpose → Bool
+    p = λ scan. not (is_kept kept scan)
+
+    by_test : (t : Bool) → (t || lacks_opened kept opened) ≡ is_some (cond t (Some o) (find (λ q. is_some (find p (build_scans q.kind q.rel))) opened))
+    by_test true = refl
+    by_test false = refl
+
+no_build : (t : Bool) (scan : Purpose) → is_build_scan scan ≡ false → list_any is_build_scan (if t then [] else scan ∷ []) ≡ false
+no_build true scan other = refl
+no_build false scan other = ap (λ t. t || false) other
+
+act_any : (s : Progress) (p : Plan) → ReadsBuilds p → list_any is_build_scan (act_missing s p) ≡ lacks_to_build s p
+act_any s (Do (Lookup name mode) rest) reads = no_build (s.read && (s.named || is_locked s.locks.items mode s.given.items)) (scans.RelName name) refl
+act_any s (Do (Column rel name) rest) reads = no_build (s.read && s.named) (scans.AttName rel name) refl
+act_any s (Do (Open rel kind) rest) reads = any_found (λ scan. not (is_kept s.kept scan)) (build_scans kind rel) (builds_of kind rel)
+act_any s (Do (Read scan) rest) reads = by_test (is_kept s.kept scan)
+  where
+    by_test : (t : Bool) → list_any is_build_scan (cond (not t) (scan ∷ []) []) ≡ not t
+    by_test true = refl
+    by_test false = ap (λ t. t || false) reads
+act_any s (Do (Lock rel mode) rest) reads = refl
+act_any s (Do (Write draft) rest) reads = refl
+act_any s p reads = refl
+
+-- the test whether a scan for a descriptor is missing
+pub lacks_build_scan_is : (s : Progress) → (not (has_failed s) && (lacks_opened s.kept s.opened || lacks_to_build s (plan_at s.exec))) ≡ list_any is_build_scan (scans_missing s)
+lacks_build_scan_is s = by_outcome (outcome_of (plan_at s.exec))
+  where
+    both : (lacks_opened s.kept s.opened || lacks_to_build s (plan_at s.exec)) ≡ list_any is_build_scan (builds_missing s.kept s.opened ++ act_missing s (plan_at s.exec))
+    both = ap (λ t. t || lacks_to_build s (plan_at s.exec)) (sym (opened_any s.kept s.opened)) ∙ ap (λ t. list_any is_build_scan (builds_missing s.kept s.opened) || t) (sym (act_any s (plan_at s.exec) (stage_reads s.exec)))
+        ∙ sym (list_any-append is_build_scan (builds_missing s.kept s.opened) (act_missing s (plan_at s.exec)))
+
+    by_outcome : (o : Outcome) → (not (elim o as (λ x. Bool) [ Badly ↦ true | other ↦ false ]) && (lacks_opened s.kept s.opened || lacks_to_build s (plan_at s.exec))) ≡ list_any is_build_scan (elim o as (λ x. List Purpose) [ Badly ↦ [] | other ↦ builds_missing s.kept s.opened ++ act_missing s (plan_at s.exec) ])
+    by_outcome Unsettled = both
+    by_outcome Well = both
+    by_outcome Badly = refl

@@ -1,0 +1,7 @@
+use Rattle.std.proofs.Common.{◌∙◌, ap}
+use Rattle.cacheless.specs.State.{locks_accepted}
+use Rattle.cacheless.proofs.EntryCodes.{look_code}
+use Rattle.cacheless.proofs.progress.Progress.enter_look.Goals as goal
+
+pub returns : goal.returns
+returns c = record { holds = look_code _ _ _ _ _ c.running_from.ensures c.after_look-self.ensures (c.accept.ensures ∙ ap (λ t. locks_accepted t c.args.self.now.locks.items) c.is_in_acceptance-accepting.ensures) }

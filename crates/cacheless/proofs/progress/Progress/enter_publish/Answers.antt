@@ -1,0 +1,7 @@
+use Rattle.std.proofs.Common.{◌∙◌, ap}
+use Rattle.cacheless.specs.State.{locks_accepted}
+use Rattle.cacheless.proofs.EntryCodes.{publish_code}
+use Rattle.cacheless.proofs.progress.Progress.enter_publish.Goals as goal
+
+pub returns : goal.returns
+returns c = record { holds = publish_code _ _ _ _ c.running_from-own.ensures (c.accept.ensures ∙ ap (λ t. locks_accepted t c.args.self.now.locks.items) c.is_in_acceptance-accepting.ensures) }

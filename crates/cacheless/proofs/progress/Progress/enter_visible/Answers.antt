@@ -1,0 +1,7 @@
+use Rattle.std.proofs.Common.{◌∙◌, ap}
+use Rattle.cacheless.specs.State.{locks_accepted}
+use Rattle.cacheless.proofs.EntryCodes.{visible_code}
+use Rattle.cacheless.proofs.progress.Progress.enter_visible.Goals as goal
+
+pub returns : goal.returns
+returns c = record { holds = visible_code _ _ _ _ c.running_from.ensures (c.accept.ensures ∙ ap (λ t. locks_accepted t c.args.self.now.locks.items) c.is_in_acceptance-accepting.ensures) }

@@ -1,0 +1,11 @@
+use Rattle.std.proofs.Common.{◌≡◌, List}
+use Rattle.cacheless.specs.Types.{Scenario, Entry}
+use Rattle.cacheless.specs.Silently.{left_of}
+use Rattle.cacheless.specs.Holds.{Holds}
+use Rattle.cacheless.proofs.progress.Progress.settle.Given as goal
+
+abbrev pub invariant-settling : goal.invariant-settling
+invariant-settling l = ((scenario : Scenario) (seen : List Entry) → Holds scenario seen l.fn.self → Holds scenario seen l.self) × (l.self.commands ≡ l.fn.self.commands)
+
+abbrev pub decreases-settling : goal.decreases-settling
+decreases-settling l = left_of l.self

@@ -1,0 +1,85 @@
+-- What the code holds is the session of its backend in a history.
+use Rattle.std.specs.Prelude.{◌≡◌, ◌≤◌, ◌+◌, ◌++◌, ◌∷◌, ◌||◌, [], ℕ, Bool, true, List, length, drop, All, Some, ⊤}
+use Rattle.std.specs.List.{AllByRecursion}
+use Rattle.base_types.specs.Scans.{is_build_scan}
+use Rattle.base_types.specs.Scenario.{IsBackend}
+use Rattle.base_types.specs.declared.scan.Purpose.TheVariants as scans
+use Rattle.ddl_effect.specs.Plans.{Plan, Absent, Do, Lookup, Column}
+use Rattle.ddl_effect.specs.Commands.{commands_of}
+use Rattle.ddl_effect.specs.Stages.{plan_at, plan_again}
+use Rattle.cacheless.specs.Types.{Row, Purpose, Scenario, Entry, Event}
+use Rattle.cacheless.specs.declared.kept_scan.KeptScan.{KeptScan}
+use Rattle.cacheless.specs.declared.progress.Counts.{Counts}
+use Rattle.cacheless.specs.declared.progress.Progress.{Progress}
+use Rattle.cacheless.specs.Facts.{Facts, facts_of}
+use Rattle.cacheless.specs.Owed.{owed_after}
+use Rattle.cacheless.specs.Settled.{settled}
+use Rattle.cacheless.specs.Sessions.{session_of}
+use Rattle.cacheless.specs.Puts.{PutsOpened}
+use Rattle.cacheless.specs.State.{owed_at, running_of, lists_at, is_kept, is_absent, IsNew, Rest, session_at}
+use Rattle.cacheless.specs.Silently.{IsAtRest}
+
+-- what is kept of a scan is what the last such scan gave
+pub record ReadRight (rows : Purpose → List Row) (k : KeptScan) : Type 0 where
+  pub build : is_build_scan k.scan ≡ true
+  pub rows_are : k.rows ≡ rows k.scan
+
+-- what the scan of a name or a column gave is what the code holds of it, and it knows whether that serves still
+abbrev pub NamedFit : Facts → Plan → List Row → Bool → Type 0
+NamedFit facts (Do (Lookup name mode) rest) given named = (facts.rows (scans.RelName name) ≡ given) × (facts.usable (scans.RelName name) ≡ named)
+NamedFit facts (Do (Column rel name) rest) given named = (facts.rows (scans.AttName rel name) ≡ given) × (facts.usable (scans.AttName rel name) ≡ named)
+NamedFit facts (Absent name) given named = (facts.rows (scans.RelName name) ≡ given) × (facts.usable (scans.RelName name) ≡ named)
+NamedFit facts plan given named = ⊤
+
+-- the facts of the backend's entries are what the code holds
+pub record FactsFit (facts : Facts) (s : Progress) : Type 0 where
+  pub running : facts.running ≡ running_of s.running
+  pub lists : facts.lists ≡ lists_at s
+  pub owed : owed_after facts.last ≡ owed_at s.due
+  pub usable : (scan : Purpose) → is_build_scan scan ≡ true → facts.usable scan ≡ is_kept s.kept scan
+  pub kept : All (ReadRight facts.rows) s.kept
+  pub given : (s.read || is_absent (plan_at s.exec)) ≡ true → NamedFit facts (plan_at s.exec) s.given.items s.named
+
+-- the running command has made so many entries at most
+pub record CountsFit (c : Counts) (entries : ℕ) : Type 0 where
+  pub looks : c.looks ≤ entries
+  pub scans : c.scans ≤ entries
+  pub grants : c.grants ≤ entries
+  pub fetches : c.fetches ≤ entries
+  pub full : c.full ≤ c.fetches
+
+-- what the code holds is the session of its backend in a history, before or after it went on without entries
+pub record Holds (scenario : Scenario) (seen : List Entry) (s : Progress) : Type 0 where
+  pub number : IsBackend scenario.backends s.id
+  pub commands : s.commands ≡ commands_of scenario s.id
+  pub few : length s.commands ≤ 20000
+  pub most : s.finished ≤ length s.commands
+  pub rest : Rest
+  pub count : length rest.finished ≡ s.finished
+  pub is : session_of scenario seen s.id ≡ Some (settled (facts_of seen s.id) (drop s.finished s.commands) (session_at s rest))
+  pub facts : FactsFit (facts_of seen s.id) s
+  pub counts : CountsFit s.tally (length seen)
+  pub order : AllByRecursion (λ list. list.command ≤ s.finished + 1) (lists_at s)
+  pub sought : is_absent (plan_at s.exec) ≡ true → rest.sought ≡ plan_again s.exec
+  pub puts : PutsOpened s.opened (plan_at s.exec)
+
+-- the same where nothing is left to be done without an entry
+pub record Rests (scenario : Scenario) (seen : List Entry) (s : Progress) : Type 0 where
+  pub holds : Holds scenario seen s
+  pub still : IsAtRest s
+
+-- a backend that hasn't started
+pub record HasNotStarted (scenario : Scenario) (seen : List Entry) (s : Progress) : Type 0 where
+  pub number : IsBackend scenario.backends s.id
+  pub commands : s.commands ≡ commands_of scenario s.id
+  pub few : length s.commands ≤ 20000
+  pub new : IsNew s.id s.commands s
+  pub facts : FactsFit (facts_of seen s.id) s
+
+-- the entry of a backend and a command
+abbrev pub entry_of : ℕ → ℕ → Event → Entry
+entry_of b c event = record { backend = b; command = c; event = event }
+
+-- the history with an entry of the backend
+abbrev pub with_own : List Entry → Progress → Event → List Entry
+with_own seen s event = seen ++ entry_of s.id (s.finished + 1) event ∷ []

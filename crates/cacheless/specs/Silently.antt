@@ -1,0 +1,81 @@
+-- What a backend does without an entry, by what the code holds.
+use Rattle.std.specs.Prelude.{◌≡◌, ℕ, Bool, true, false, Option, Some, None, List, [], ◌∷◌, ◌&&◌, ◌||◌, ◌+◌, ◌-◌, ◌*◌, is_some, slice_get, length}
+use Rattle.lock_modes.specs.Own.{has_lock}
+use Rattle.ddl_effect.specs.Plans.{Plan, Act, Do, Lookup, Open, Column, Read, Lock, Write}
+use Rattle.ddl_effect.specs.Stages.{plan_at, acts_left}
+use Rattle.ddl_effect.specs.declared.want.Want.{Want}
+use Rattle.ddl_effect.specs.declared.want.Want.TheVariants as wants
+use Rattle.cacheless.specs.Types.{Row, Command, Opening}
+use Rattle.cacheless.specs.declared.kept_scan.KeptScan.{KeptScan}
+use Rattle.cacheless.specs.declared.progress.Progress.{Progress}
+use Rattle.cacheless.specs.declared.silent.Silent.{Silent}
+use Rattle.cacheless.specs.declared.silent.Silent.TheVariants as silents
+use Rattle.cacheless.specs.Ends.{End, Ends}
+use Rattle.cacheless.specs.Settled.{if_locked, looked_up}
+use Rattle.cacheless.specs.State.{rows_kept, is_out, end_at}
+use Rattle.cacheless.specs.May.{owes_nothing}
+
+-- what an act gives that needs no entry
+abbrev pub gives_at : Progress → Act → Option (List Row)
+gives_at s (Lookup name mode) = looked_up s.locks.items mode s.given.items
+gives_at s (Open rel kind) = Some []
+gives_at s (Column rel name) = Some s.given.items
+gives_at s (Read scan) = Some (rows_kept s.kept scan)
+gives_at s (Lock rel mode) = if_locked (has_lock s.locks.items rel mode) []
+gives_at s (Write draft) = None
+
+-- the next act gives rows, if nothing has to come before it
+abbrev pub gives_next : Progress → Plan → Bool
+gives_next s (Do act rest) = is_some (gives_at s act)
+gives_next s plan = false
+
+-- the next act is done without an entry
+abbrev pub acts_on : Command → Progress → Bool
+acts_on command s = owes_nothing command s && gives_next s (plan_at s.exec)
+
+-- an end without an entry
+abbrev pub is_ends : End → Bool
+is_ends Ends = true
+is_ends end = false
+
+-- the command is finished
+abbrev pub is_finished_at : Command → Progress → Bool
+is_finished_at command s = is_out s && (s.ended || is_ends (end_at s command)) && owes_nothing command s
+
+-- the rows that are given to an act
+abbrev pub rows_for : Want → List Row → List KeptScan → List Row
+rows_for (wants.Read scan) given kept = rows_kept kept scan
+rows_for (wants.Open rel kind) given kept = []
+rows_for (wants.Lock rel mode) given kept = []
+rows_for want given kept = given
+
+-- the descriptor that an act opens
+abbrev pub opened_for : Want → List Opening
+opened_for (wants.Open rel kind) = record { rel = rel; kind = kind } ∷ []
+opened_for want = []
+
+-- nothing is done without an entry
+abbrev pub IsAtRest : Progress → Type 0
+IsAtRest s = (command : Command) → slice_get s.commands s.finished ≡ Some command → (acts_on command s ≡ false) × (is_finished_at command s ≡ false)
+
+-- a command whose next act is done without an entry
+pub record Acts (s : Progress) : Type 0 where
+  pub command : Command
+  pub at : slice_get s.commands s.finished ≡ Some command
+  pub acts : acts_on command s ≡ true
+
+-- a command that is finished
+pub record Finishes (s : Progress) : Type 0 where
+  pub command : Command
+  pub at : slice_get s.commands s.finished ≡ Some command
+  pub finished : is_finished_at command s ≡ true
+
+-- what a backend does without an entry
+abbrev pub IsSilentOf : Progress → Silent → Type 0
+IsSilentOf s silents.Act = Acts s
+IsSilentOf s silents.Finish = Finishes s
+IsSilentOf s silents.Rest = IsAtRest s
+
+-- how much a backend has left to do without an entry, at most
+abbrev pub left_of : Progress → ℕ
+left_of s = 6 * (length s.commands - s.finished) + acts_left s.exec

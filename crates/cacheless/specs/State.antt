@@ -1,0 +1,297 @@
+-- What the code holds of a backend, in the words of the definitions.
+use Rattle.std.specs.Prelude.{◌≡◌, ℕ, Bool, true, false, not, Option, Some, None, List, [], ◌∷◌, ◌++◌, ◌+◌, ◌==◌, ◌&&◌, ◌||◌, map, filter, if◌then◌else◌, is_none, is_some, unwrap_or, slice_get, nat_lt}
+use Rattle.std.specs.Option.{option_map, option_map_or}
+use Rattle.std.specs.List.{find, list_any, flat_map}
+use Rattle.base_types.specs.Scans.{same_scan, is_build_scan, build_scans}
+use Rattle.base_types.specs.declared.scan.Purpose.TheVariants as scans
+use Rattle.base_types.specs.declared.command.Command.TheVariants as commands
+use Rattle.event_kinds.specs.declared.entry.Event.TheVariants as events
+use Rattle.rel_desc.specs.declared.error.CommandError.TheVariants as errors
+use Rattle.row_visibility.specs.declared.clash.Clash.TheVariants as clashes
+use Rattle.lock_modes.specs.Own.{cleared, new_lock}
+use Rattle.inval_messages.specs.Lists.{Written, has_write_from, unsent_after}
+use Rattle.inval_messages.specs.Messages.{is_spared}
+use Rattle.command_lists.specs.Lists.{all_lists, no_lists}
+use Rattle.ddl_effect.specs.Plans.{Plan, Absent, Do, Lookup, Column, rests_on}
+use Rattle.ddl_effect.specs.Blocks.{Block, Outside, Inside, Failed, Blocks, no_block, ends_block, refused_by, innermost, blocks_well, blocks_badly}
+use Rattle.ddl_effect.specs.Stages.{plan_at, plan_again}
+use Rattle.ddl_effect.specs.declared.exec.Exec.TheVariants as stages
+use Rattle.history_model.specs.Writes.{is_empty}
+use Rattle.history_model.specs.Sent.{cats_by, rels_by}
+use Rattle.history_model.specs.Transactions.{Running}
+use Rattle.cacheless.specs.Types.{Oid, Message, Row, Purpose, Command, CommandError, Clash, Item, Entry, Event, Opening, OwnLock}
+use Rattle.cacheless.specs.Session.{Session, Finished, Tally, Badly, Well, Unsettled, outcome_of, is_settled, plan_first, refused_first}
+use Rattle.cacheless.specs.Locks.{is_locked}
+use Rattle.cacheless.specs.Owed.{Owes, OwesLook, OwesFetch}
+use Rattle.cacheless.specs.Ends.{End, Ends, Commits, TakesBack}
+use Rattle.cacheless.specs.declared.kept_scan.KeptScan.{KeptScan}
+use Rattle.cacheless.specs.declared.progress.Due.{Due}
+use Rattle.cacheless.specs.declared.progress.Due.TheVariants as dues
+use Rattle.cacheless.specs.declared.progress.OwnTransaction.{OwnTransaction}
+use Rattle.cacheless.specs.declared.progress.Counts.{Counts}
+use Rattle.cacheless.specs.declared.progress.Progress.{Progress}
+
+-- what has to come right after the last entry
+abbrev pub owed_at : Due → List Owes
+owed_at dues.Nothing = []
+owed_at dues.Look = OwesLook ∷ []
+owed_at dues.Fetch = OwesFetch ∷ []
+
+-- what is due after a look
+abbrev pub due_looked : Bool → Due
+due_looked true = dues.Fetch
+due_looked false = dues.Nothing
+
+-- what is due after a fetch: where it gave the most messages that one gives, more may wait
+abbrev pub due_fetched : ℕ → Due
+due_fetched count = elim (count == 32) [ true ↦ dues.Look | false ↦ dues.Nothing ]
+
+-- 1 where a test holds
+abbrev pub one_if : Bool → ℕ
+one_if true = 1
+one_if false = 0
+
+-- nothing is counted
+abbrev pub no_counts : Counts
+no_counts = record { looks = 0; scans = 0; grants = 0; fetches = 0; full = 0 }
+
+-- the running transaction
+abbrev pub running_of : Option OwnTransaction → Option Running
+running_of own = option_map (λ t. record { first = t.first; xid = option_map (λ x. x.0) t.xid; published = t.published; visible = t.visible }) own
+
+-- the transaction of an entry: the running one, or else one that begins with this command
+abbrev pub begun_own : ℕ → Option OwnTransaction → OwnTransaction
+begun_own number own = unwrap_or own (record { first = number; xid = None; published = 0; visible = false })
+
+-- the transaction after a release, if it goes on
+abbrev pub released_own : ℕ → OwnTransaction → Option OwnTransaction
+released_own from own = if own.first == from then None else Some own
+
+-- a release ends the transaction
+abbrev pub ends_own : ℕ → Option OwnTransaction → Bool
+ends_own from own = option_map_or (λ t. t.first == from) own false
+
+-- the transaction is committed, and its locks are still held
+abbrev pub is_visible_at : Progress → Bool
+is_visible_at s = option_map_or (λ t. t.visible) s.running false
+
+-- how many messages of the transaction are published
+abbrev pub published_at : Progress → ℕ
+published_at s = option_map_or (λ t. t.published) s.running 0
+
+-- the Xid of the transaction, or 0
+abbrev pub xid_at : Progress → ℕ
+xid_at s = option_map_or (λ t. option_map_or (λ x. x.0) t.xid 0) s.running 0
+
+-- the writes that weren't taken back
+abbrev pub lists_at : Progress → List Written
+lists_at s = all_lists s.lists.lists
+
+-- the lists after a release
+abbrev pub lists_left : Bool → List Written → List Written
+lists_left ended lists = elim ended [ true ↦ [] | false ↦ lists ]
+
+-- the messages that are to be published next
+abbrev pub unsent_at : Progress → List Message
+unsent_at s = unsent_after (published_at s) (lists_at s)
+
+-- a write of this command or a later one wasn't taken back
+abbrev pub has_write_since : ℕ → Progress → Bool
+has_write_since from s = has_write_from from (lists_at s)
+
+-- the scan is kept
+abbrev pub is_kept : List KeptScan → Purpose → Bool
+is_kept kept scan = list_any (λ k. same_scan k.scan scan) kept
+
+-- the rows that are kept of a scan
+abbrev pub rows_kept : List KeptScan → Purpose → List Row
+rows_kept kept scan = option_map_or (λ k. k.rows) (find (λ k. same_scan k.scan scan) kept) []
+
+-- what is kept once messages are executed: what none of them covers
+abbrev pub kept_spared : List Message → List KeptScan → List KeptScan
+kept_spared messages kept = filter (λ k. is_spared k.scan messages) kept
+
+-- whether the scan of the name or the column on which the plan rests, or with which a search found no relation, serves after messages
+abbrev pub named_spared : List Message → Plan → Bool → Bool
+named_spared messages (Do (Lookup name mode) rest) named = named && is_spared (scans.RelName name) messages
+named_spared messages (Do (Column rel name) rest) named = named && is_spared (scans.AttName rel name) messages
+named_spared messages (Absent name) named = named && is_spared (scans.RelName name) messages
+named_spared messages plan named = named
+
+-- those of these scans that aren't kept
+abbrev pub missing : List KeptScan → List Purpose → List Purpose
+missing kept wanted = filter (λ scan. not (is_kept kept scan)) wanted
+
+-- the scans that the opened descriptors lack
+abbrev pub builds_missing : List KeptScan → List Opening → List Purpose
+builds_missing kept opened = flat_map (λ o. missing kept (build_scans o.kind o.rel)) opened
+
+-- the scans that the next act lacks: that of a name or of a column serves while nothing took it away, and a name's on while the relation is locked
+abbrev pub act_missing : Progress → Plan → List Purpose
+act_missing s (Do (Lookup name mode) rest) = if s.read && (s.named || is_locked s.locks.items mode s.given.items) then [] else scans.RelName name ∷ []
+act_missing s (Do (Column rel name) rest) = if s.read && s.named then [] else scans.AttName rel name ∷ []
+act_missing s (Do act rest) = missing s.kept (rests_on act)
+act_missing s plan = []
+
+-- the scans that come before the next act: none once the command has failed
+abbrev pub scans_missing : Progress → List Purpose
+scans_missing s = elim (outcome_of (plan_at s.exec)) [ Badly ↦ [] | other ↦ builds_missing s.kept s.opened ++ act_missing s (plan_at s.exec) ]
+
+-- a search has found no relation
+abbrev pub is_absent : Plan → Bool
+is_absent (Absent name) = true
+is_absent plan = false
+
+-- the running command has come out
+abbrev pub is_out : Progress → Bool
+is_out s = is_settled (outcome_of (plan_at s.exec))
+
+-- its opened descriptors lack scans, which messages took away, and it hasn't failed
+abbrev pub lacks_builds : Progress → Bool
+lacks_builds s = elim (outcome_of (plan_at s.exec)) [ Badly ↦ false | other ↦ not (is_empty (builds_missing s.kept s.opened)) ]
+
+-- a fetch of so many messages asks for a look that counts for no scan
+abbrev pub is_full : ℕ → Progress → Bool
+is_full count s = (count == 32) && not (list_any is_build_scan (scans_missing s))
+
+-- the command begins a transaction: outside blocks, where it doesn't end blocks and needs none
+abbrev pub begins_in : Blocks → Bool → Command → Bool
+begins_in blocks ended command = elim blocks.block [ Outside ↦ not (ends_block command) && not ended && is_none (refused_by no_block command) | block ↦ false ]
+
+-- a look is owed at the start of a transaction
+abbrev pub owed_first : Progress → Command → List Owes
+owed_first s command = elim (begins_in s.blocks s.ended command && is_none s.running) [ true ↦ OwesLook ∷ [] | false ↦ [] ]
+
+-- an accept of messages isn't over: a look, a fetch, or a scan for an opened descriptor of the running command is owed
+abbrev pub is_in_accept : Progress → Option Command → Bool
+is_in_accept s None = not (is_empty (owed_at s.due))
+is_in_accept s (Some command) = not (is_empty (owed_first s command)) || not (is_empty (owed_at s.due)) || lacks_builds s
+
+-- the locks after an entry: where no accept is left to end they are clear
+abbrev pub locks_accepted : Bool → List OwnLock → List OwnLock
+locks_accepted accepting locks = elim accepting [ true ↦ locks | false ↦ map cleared locks ]
+
+-- the lock on the relation that a write made, if it made one
+abbrev pub locks_made : ℕ → Oid → ℕ → List OwnLock
+locks_made new_oids rel command = elim (nat_lt 0 new_oids) [ true ↦ new_lock rel command ∷ [] | false ↦ [] ]
+
+-- the locks after a write
+abbrev pub locks_written : ℕ → Oid → ℕ → List OwnLock → List OwnLock
+locks_written new_oids rel command locks = locks ++ locks_made new_oids rel command
+
+-- all messages of a write in the order of its changes
+abbrev pub messages_in : List Entry → ℕ → List Item → List Message
+messages_in before b items = flat_map (λ item. cats_by before b item ++ rels_by before b item) items
+
+-- the running transaction as a whole is taken back
+abbrev pub end_of_running : Option OwnTransaction → End
+end_of_running own = option_map_or (λ t. TakesBack t.first) own Ends
+
+-- the end of a block
+abbrev pub end_in_block : Option OwnTransaction → Block → Bool → End
+end_in_block own Outside commits = Ends
+end_in_block own Inside true = option_map_or (λ t. Commits t.first) own Ends
+end_in_block own Inside false = end_of_running own
+end_in_block own Failed commits = end_of_running own
+
+-- the end of a command that came out well
+abbrev pub end_in_well : Progress → Command → End
+end_in_well s commands.Begin = Ends
+end_in_well s commands.Commit = end_in_block s.running s.blocks.block true
+end_in_well s commands.Rollback = end_in_block s.running s.blocks.block false
+end_in_well s command = elim s.blocks.block [ Outside ↦ Commits (s.finished + 1) | block ↦ Ends ]
+
+-- the end of a command that failed
+abbrev pub end_in_badly : Progress → End
+end_in_badly s = elim s.blocked [ true ↦ Ends | false ↦ TakesBack (innermost (s.finished + 1) s.blocks.levels) ]
+
+-- the end of the running command
+abbrev pub end_at : Progress → Command → End
+end_at s command = elim (outcome_of (plan_at s.exec)) [ Well ↦ end_in_well s command | Badly ↦ end_in_badly s | Unsettled ↦ Ends ]
+
+-- the blocks after a command of this number, by what is left of its plan
+abbrev pub blocks_passed : Plan → ℕ → Command → Blocks → Blocks
+blocks_passed plan number command blocks = elim (outcome_of plan) [ Well ↦ blocks_well number command blocks | outcome ↦ blocks_badly blocks ]
+
+-- the event of a write that is refused
+abbrev pub clash_event : List ℕ → Clash → Event
+clash_event name (clashes.Row rel) = events.ClashRow name rel
+clash_event name (clashes.Running xid) = events.ClashRunning name xid
+
+-- the error with which it ends its command
+abbrev pub error_of : List ℕ → Clash → CommandError
+error_of name (clashes.Row rel) = errors.RelationExists name
+error_of name (clashes.Running xid) = errors.NameInUse name xid
+
+-- an entry showed an error, which ends the command
+abbrev pub failed_with : CommandError → Progress → Progress
+failed_with error s = record s { exec = stages.Failing error; due = dues.Nothing; running = Some (begun_own (s.finished + 1) s.running) }
+
+-- the same, with all locks clear
+pub record FailsWith (error : CommandError) (old new : Progress) : Type 0 where
+  pub locks : new.locks.items ≡ map cleared old.locks.items
+  pub is : new ≡ record (failed_with error old) { locks = new.locks }
+
+-- nothing changes but for the room for more locks
+pub record IsLockedIn (locks : List OwnLock) (old new : Progress) : Type 0 where
+  pub locks_are : new.locks.items ≡ locks
+  pub is : new ≡ record old { locks = new.locks }
+
+-- a search that found no relation is made anew, by the rows that its scan gave
+pub record SearchesAgain (old new : Progress) : Type 0 where
+  pub plan : plan_at new.exec ≡ plan_again old.exec
+  pub is : new ≡ record old { exec = new.exec; read = old.read || is_absent (plan_at old.exec) }
+
+-- a backend of this number with these commands, before it has started
+pub record IsNew (id : ℕ) (all : List Command) (s : Progress) : Type 0 where
+  pub number : s.id ≡ id
+  pub commands_are : s.commands ≡ all
+  pub finished : s.finished ≡ 0
+  pub plan : plan_at s.exec ≡ plan_first no_block (slice_get all 0)
+  pub blocked : s.blocked ≡ is_some (refused_first no_block (slice_get all 0))
+  pub ended : s.ended ≡ false
+  pub tally : s.tally ≡ no_counts
+  pub due : s.due ≡ dues.Nothing
+  pub blocks : s.blocks ≡ no_block
+  pub running : s.running ≡ None
+  pub lists : s.lists.lists ≡ no_lists
+  pub read : s.read ≡ false
+  pub opened : s.opened ≡ []
+  pub locks : s.locks.items ≡ []
+  pub kept : s.kept ≡ []
+
+-- what the code doesn't hold of its session
+pub record Rest : Type 0 where
+  pub finished : List Finished
+  pub refused : Option CommandError
+  pub found : List (Option Oid)
+  pub sought : Plan
+  pub judged : ℕ
+  pub last : ℕ
+
+-- that of a session
+abbrev pub rest_of : Session → Rest
+rest_of s = record { finished = s.finished; refused = s.refused; found = s.found; sought = s.sought; judged = s.judged; last = s.last }
+
+-- the tally that the code holds
+abbrev pub tally_at : Counts → Tally
+tally_at c = record { looks = c.looks; scans = c.scans; grants = c.grants; fetches = c.fetches; full = c.full }
+
+-- the session of a backend: what it holds, and the rest
+abbrev pub session_at : Progress → Rest → Session
+session_at s rest = record {
+  blocks = s.blocks;
+  finished = rest.finished;
+  left = plan_at s.exec;
+  refused = rest.refused;
+  blocked = s.blocked;
+  opened = s.opened;
+  read = s.read;
+  found = rest.found;
+  sought = rest.sought;
+  ended = s.ended;
+  tally = tally_at s.tally;
+  locks = s.locks.items;
+  judged = rest.judged;
+  last = rest.last;
+}

@@ -1,0 +1,114 @@
+// What the entries of a command's end make of it.
+
+ghost use Rattle.std.specs.Prelude.{◌≡◌, ◌≤◌, ◌<◌, ◌+◌, ◌^◌, true, false, Some};
+ghost use Rattle.base_types.specs.Scenario.{Scenario};
+ghost use Rattle.event_kinds.specs.declared.entry.Entry.{Entry};
+ghost use Rattle.cacheless.specs.State.{begun_own, released_own, ends_own, lists_left};
+ghost use Rattle.command_lists.specs.Lists.{all_lists};
+
+use crate::enter::{accept, running_from};
+use crate::execute::{execute, serves_still};
+use crate::{Due, OwnTransaction, Progress};
+use base_types::Xid;
+use command_lists::InvalLists;
+use event_kinds::Event;
+use std::alloc::Global;
+
+impl Progress {
+    ghost use Rattle.std.specs.Prelude.{List};
+    ghost use Rattle.cacheless.specs.State.{published_at};
+    ghost use Rattle.cacheless.specs.Holds.{Holds, Rests, with_own};
+
+    /// Its transaction is committed (`ProcArrayEndTransaction` in
+    /// `src/backend/storage/ipc/procarray.c`).
+    pub fn enter_visible(&mut self, xid: Xid)
+        requires few { self.old.finished ≤ 20000 }
+        ensures holds { (scenario : Scenario) (seen : List Entry) → Rests scenario seen self.old → Holds scenario (with_own seen self.old (Event.Visible xid)) self.new }
+    {
+        let _xid = xid;
+        self.running = Some(OwnTransaction {
+            visible: true,
+            ..running_from(self.finished + 1, self.running)
+        });
+        self.due = Due::Nothing;
+        let accepting = self.is_in_acceptance();
+        accept(&mut self.locks, accepting);
+    }
+
+    /// It published its next messages, so many of them (`SIInsertDataEntries` in
+    /// `src/backend/storage/ipc/sinvaladt.c`). Condition: all that it has published can be counted.
+    pub fn enter_publish(&mut self, count: u32)
+        requires few { self.old.finished ≤ 20000 }
+        requires fits { published_at self.old + count < 2 ^ 64 }
+        ensures holds { (scenario : Scenario) (seen : List Entry) → Rests scenario seen self.old → Holds scenario (with_own seen self.old (Event.Publish count)) self.new }
+    {
+        let own = running_from(self.finished + 1, self.running);
+        self.running = Some(OwnTransaction {
+            published: own.published + count as usize,
+            ..own
+        });
+        self.due = Due::Nothing;
+        let accepting = self.is_in_acceptance();
+        accept(&mut self.locks, accepting);
+    }
+
+    /// What it wrote from this command on is taken back: what its messages cover doesn't serve any more,
+    /// and nobody else hears of them (`AtEOXact_Inval` and `AtEOSubXact_Inval` in
+    /// `src/backend/utils/cache/inval.c`).
+    pub fn enter_gone(&mut self, alloc: Global, from: u32)
+        requires few { self.old.finished ≤ 20000 }
+        ensures holds { (scenario : Scenario) (seen : List Entry) → Rests scenario seen self.old → Holds scenario (with_own seen self.old (Event.Gone from)) self.new }
+    {
+        self.running = Some(running_from(self.finished + 1, self.running));
+        execute(alloc, &mut self.kept, self.lists.cats_from(from));
+        execute(alloc, &mut self.kept, self.lists.rels_from(from));
+        self.named = serves_still(self.named, &self.exec, self.lists.cats_from(from));
+        self.named = serves_still(self.named, &self.exec, self.lists.rels_from(from));
+        self.lists.abort_from(from);
+        self.due = Due::Nothing;
+        let accepting = self.is_in_acceptance();
+        accept(&mut self.locks, accepting);
+    }
+
+    /// It released the locks that it was granted in commands of this number and above; where that is
+    /// the first command of its transaction, the transaction ends (`LockReleaseAll` in
+    /// `src/backend/storage/lmgr/lock.c`).
+    pub fn enter_release(&mut self, from: u32)
+        requires few { self.old.finished ≤ 20000 }
+        ensures holds { (scenario : Scenario) (seen : List Entry) → Rests scenario seen self.old → Holds scenario (with_own seen self.old (Event.Release from)) self.new }
+    {
+        clear_if(&mut self.lists, is_first(from, self.running));
+        self.running = released(from, running_from(self.finished + 1, self.running));
+        self.locks.release(from);
+        self.ended = true;
+        self.due = Due::Nothing;
+        let accepting = self.is_in_acceptance();
+        accept(&mut self.locks, accepting);
+    }
+}
+
+// Whether the command is the first of the transaction, if one runs.
+fn is_first(from: u32, running: Option<OwnTransaction>) -> bool
+    ensures { result ≡ ends_own from running }
+{
+    match running {
+        Some(own) => own.first == from,
+        None => false,
+    }
+}
+
+// The transaction after the release of the locks of these commands, if it goes on.
+fn released(from: u32, own: OwnTransaction) -> Option<OwnTransaction>
+    ensures { result ≡ released_own from own }
+{
+    if own.first == from { None } else { Some(own) }
+}
+
+// Takes away all lists where the transaction has ended.
+fn clear_if(lists: &mut InvalLists, ended: bool)
+    ensures { all_lists lists.new.lists ≡ lists_left ended (all_lists lists.old.lists) }
+{
+    if ended {
+        lists.clear();
+    }
+}

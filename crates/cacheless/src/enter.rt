@@ -1,0 +1,182 @@
+// What the entries make of it that begin and end a session, and those of an accept of messages
+// (`AcceptInvalidationMessages` in `src/backend/utils/cache/inval.c`, `ReceiveSharedInvalidMessages` in
+// `src/backend/storage/ipc/sinval.c`).
+
+ghost use Rattle.std.specs.Prelude.{◌≡◌, ◌≤◌, ◌++◌, ◌∷◌, [], Some, length, slice_get};
+ghost use Rattle.base_types.specs.Scenario.{Scenario};
+ghost use Rattle.event_kinds.specs.declared.entry.Entry.{Entry};
+ghost use Rattle.history_model.specs.Log.{fetched_by};
+ghost use Rattle.cacheless.specs.State.{begun_own, due_looked, due_fetched, locks_accepted};
+
+use crate::execute::{execute, serves_still};
+use crate::{Due, OwnTransaction, Progress};
+use base_types::{Command, Listed};
+use ddl_effect::Want;
+use event_kinds::Event;
+use inval_messages::Message;
+use lock_modes::OwnLocks;
+use std::alloc::Global;
+
+// The most messages that one fetch gives.
+const MOST_FETCHED: usize = 32;
+
+impl Progress {
+    ghost use Rattle.std.specs.Prelude.{List, ℕ, ◌||◌};
+    ghost use Rattle.ddl_effect.specs.Stages.{plan_at};
+    ghost use Rattle.ddl_effect.specs.declared.exec.Exec.{Exec};
+    ghost use Rattle.cacheless.specs.State.{is_absent as has_missed, is_in_accept, is_full as counts_full, one_if, SearchesAgain};
+    ghost use Rattle.cacheless.specs.May.{HasRoom};
+    ghost use Rattle.cacheless.specs.Holds.{HasNotStarted, Holds, Rests, entry_of, with_own};
+
+    /// It has started (`SharedInvalBackendInit` in `src/backend/storage/ipc/sinvaladt.c`).
+    pub fn enter_start(&mut self)
+        ensures holds { (scenario : Scenario) (seen : List Entry) → HasNotStarted scenario seen self.old → Holds scenario (seen ++ entry_of self.old.id 0 Event.Start ∷ []) self.new }
+    {
+        self.running = None;
+        self.due = Due::Nothing;
+    }
+
+    /// It has stopped (`CleanupInvalidationState` in `src/backend/storage/ipc/sinvaladt.c`).
+    pub fn enter_stop(&mut self)
+        requires few { self.old.finished ≤ 20000 }
+        ensures holds { (scenario : Scenario) (seen : List Entry) → Rests scenario seen self.old → Holds scenario (with_own seen self.old Event.Stop) self.new }
+    {
+        self.due = Due::Nothing;
+        let accepting = self.is_in_acceptance();
+        accept(&mut self.locks, accepting);
+    }
+
+    /// It has looked whether messages wait for it (`AcceptInvalidationMessages` in
+    /// `src/backend/utils/cache/inval.c`). Condition: its counts are small enough to be summed.
+    pub fn enter_look(&mut self, some_wait: bool)
+        requires few { self.old.finished ≤ 20000 }
+        requires room { HasRoom self.old }
+        ensures holds { (scenario : Scenario) (seen : List Entry) → Rests scenario seen self.old → Holds scenario (with_own seen self.old (Event.Look some_wait)) self.new }
+    {
+        self.running = Some(running_from(self.finished + 1, self.running));
+        self.due = after_look(some_wait);
+        self.tally.looks += 1;
+        let accepting = self.is_in_acceptance();
+        accept(&mut self.locks, accepting);
+    }
+
+    /// It took these messages from the queue: what they cover doesn't serve any more, and a search that
+    /// found no relation is made anew. Condition: its counts are small enough to be summed.
+    pub fn enter_fetch(&mut self, alloc: Global, messages: &[Message])
+        requires few { self.old.finished ≤ 20000 }
+        requires room { HasRoom self.old }
+        ensures holds { (scenario : Scenario) (seen : List Entry) → Rests scenario seen self.old → messages.now ≡ fetched_by seen self.old.id (length messages.now) → Holds scenario (with_own seen self.old (Event.Fetch (length messages.now))) self.new }
+    {
+        self.running = Some(running_from(self.finished + 1, self.running));
+        execute(alloc, &mut self.kept, messages);
+        self.named = serves_still(self.named, &self.exec, messages);
+        self.due = after_fetch(messages.len());
+        self.search_again();
+        self.tally.fetches += 1;
+        self.tally.full += self.full_of(messages.len());
+        let accepting = self.is_in_acceptance();
+        accept(&mut self.locks, accepting);
+    }
+
+    /// It was told to reset all that it caches: nothing that it has read serves any more
+    /// (`InvalidateSystemCaches` in `src/backend/utils/cache/inval.c`, `RelationCacheInvalidate` in
+    /// `src/backend/utils/cache/relcache.c`). Condition: its counts are small enough to be summed.
+    pub fn enter_reset(&mut self, alloc: Global)
+        requires few { self.old.finished ≤ 20000 }
+        requires room { HasRoom self.old }
+        ensures holds { (scenario : Scenario) (seen : List Entry) → Rests scenario seen self.old → Holds scenario (with_own seen self.old Event.FetchReset) self.new }
+    {
+        self.running = Some(running_from(self.finished + 1, self.running));
+        self.kept = Listed::new(alloc);
+        self.named = false;
+        self.due = Due::Nothing;
+        self.search_again();
+        self.tally.fetches += 1;
+        let accepting = self.is_in_acceptance();
+        accept(&mut self.locks, accepting);
+    }
+
+    // Where a search found no relation it is made anew, by the rows that its scan gave.
+    fn search_again(&mut self)
+        ensures { SearchesAgain self.old self.new }
+    {
+        self.read = self.read || self.is_absent();
+        self.exec.search_again();
+    }
+
+    // Whether a search found no relation.
+    fn is_absent(&self) -> bool
+        ensures { result ≡ has_missed (plan_at self.now.exec) }
+    {
+        matches!(self.exec.next(), Want::Absent(_))
+    }
+
+    // 1 for a fetch of 32 messages after which no scan for a descriptor is owed: the look that it asks
+    // for counts for no scan.
+    fn full_of(&self, count: usize) -> u64
+        ensures is { result ≡ one_if (counts_full count self.now) }
+        ensures most { result ≤ 1 }
+    {
+        if count == MOST_FETCHED && !self.lacks_build_scan() {
+            1
+        } else {
+            0
+        }
+    }
+
+    // Whether an accept of messages isn't over.
+    pub(crate) fn is_in_acceptance(&self) -> bool
+        ensures { result ≡ is_in_accept self.now (slice_get self.now.commands self.now.finished) }
+    {
+        match self.commands.as_slice().get(self.finished as usize) {
+            Some(command) => self.is_accepting(command),
+            None => !self.is_past_accept(),
+        }
+    }
+
+    // Whether one isn't over in this command.
+    fn is_accepting(&self, command: &Command) -> bool
+        ensures { result ≡ is_in_accept self.now (Some command.now) }
+    {
+        self.owes_first_look(command) || !self.is_past_accept() || self.lacks_builds()
+    }
+}
+
+// What comes after a look.
+fn after_look(some_wait: bool) -> Due
+    ensures { result ≡ due_looked some_wait }
+{
+    if some_wait { Due::Fetch } else { Due::Nothing }
+}
+
+// What comes after a fetch of so many messages.
+fn after_fetch(count: usize) -> Due
+    ensures { result ≡ due_fetched count }
+{
+    if count == MOST_FETCHED {
+        Due::Look
+    } else {
+        Due::Nothing
+    }
+}
+
+// Makes the locks clear where an acceptance is over.
+pub(crate) fn accept(locks: &mut OwnLocks, accepting: bool)
+    ensures { locks.new.items ≡ locks_accepted accepting locks.old.items }
+{
+    if !accepting {
+        locks.clear_all();
+    }
+}
+
+// The running transaction, or one that begins with this command.
+pub(crate) fn running_from(number: u32, running: Option<OwnTransaction>) -> OwnTransaction
+    ensures { result ≡ begun_own number running }
+{
+    running.unwrap_or(OwnTransaction {
+        first: number,
+        xid: None,
+        published: 0,
+        visible: false,
+    })
+}

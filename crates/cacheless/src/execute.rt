@@ -1,0 +1,104 @@
+// What messages take away of what a backend has read.
+
+ghost use Rattle.std.specs.Prelude.{◌≡◌, not};
+ghost use Rattle.std.specs.List.{list_any};
+ghost use Rattle.inval_messages.specs.Messages.{covers, is_for_cache as is_of_cache, message_for, same_message};
+ghost use Rattle.ddl_effect.specs.Stages.{plan_at};
+ghost use Rattle.cacheless.specs.State.{kept_spared as spared, named_spared};
+
+use crate::KeptScan;
+use base_types::{CacheId, Key, KeyPart, Listed, Purpose, key_hash};
+use ddl_effect::{Exec, Want};
+use inval_messages::Message;
+use std::alloc::Global;
+use std::mem::replace;
+
+// Executes messages: what they cover isn't kept any more (`LocalExecuteInvalidationMessage` in
+// `src/backend/utils/cache/inval.c`, `RelationCacheInvalidateEntry` in
+// `src/backend/utils/cache/relcache.c`).
+pub(crate) fn execute(alloc: Global, kept: &mut Listed<KeptScan>, messages: &[Message])
+    ensures { kept.new ≡ spared messages.now kept.old }
+{
+    let mut scans = replace(kept, Listed::new(alloc)).into_vec();
+    scans.retain(|k: &KeptScan| !is_covered(messages, &k.scan));
+    *kept = Listed::from_vec(scans);
+}
+
+// Whether the scan of the name or the column on which the next act rests, or with which a lookup found
+// nothing, serves still after messages.
+pub(crate) fn serves_still(named: bool, exec: &Exec, messages: &[Message]) -> bool
+    ensures { result ≡ named_spared messages.now (plan_at exec.now) named }
+{
+    match exec.next() {
+        Want::Lookup { name, .. } | Want::Absent(name) => {
+            named && !is_covered(messages, &Purpose::RelName(name))
+        }
+        Want::Column { rel, name } => named && !is_covered(messages, &Purpose::AttName(rel, name)),
+        _ => named,
+    }
+}
+
+// Whether one of the messages covers the scan.
+pub(crate) fn is_covered(messages: &[Message], scan: &Purpose) -> bool
+    ensures { result ≡ list_any (covers scan.now) messages.now }
+{
+    match scan {
+        Purpose::AttList(_) => is_any_for(messages, CacheId::AttName),
+        Purpose::RelName(name) => is_among(
+            messages,
+            cat_message(CacheId::RelName, &Key::new(&[KeyPart::Name(*name)])),
+        ),
+        Purpose::RelOid(rel) => is_among(
+            messages,
+            cat_message(CacheId::RelOid, &Key::new(&[KeyPart::Oid(*rel)])),
+        ),
+        Purpose::AttName(rel, name) => is_among(
+            messages,
+            cat_message(
+                CacheId::AttName,
+                &Key::new(&[KeyPart::Oid(*rel), KeyPart::Name(*name)]),
+            ),
+        ),
+        Purpose::Class(rel)
+        | Purpose::Attribute(rel)
+        | Purpose::AttrDef(rel)
+        | Purpose::Constraint(rel)
+        | Purpose::Index(rel)
+        | Purpose::Trigger(rel)
+        | Purpose::IndexRow(rel) => is_among(messages, Message::Rel { rel: *rel }),
+    }
+}
+
+// The message for the key of a catalog cache.
+fn cat_message(cache: CacheId, key: &Key) -> Message
+    ensures { result ≡ message_for cache key.now }
+{
+    Message::Cat {
+        cache,
+        hash: key_hash(cache, key),
+    }
+}
+
+// Whether the message is one of these.
+fn is_among(messages: &[Message], message: Message) -> bool
+    ensures { result ≡ list_any (λ m. same_message m message) messages.now }
+{
+    messages.iter().any(|other| other.is_same(message))
+}
+
+// Whether one of the messages is for the cache.
+fn is_any_for(messages: &[Message], cache: CacheId) -> bool
+    ensures { result ≡ list_any (is_of_cache cache) messages.now }
+{
+    messages.iter().any(|message| is_for(message, cache))
+}
+
+// Whether the message is for the cache.
+fn is_for(message: &Message, cache: CacheId) -> bool
+    ensures { result ≡ is_of_cache cache message.now }
+{
+    match message {
+        Message::Cat { cache: own, .. } => own.number() == cache.number(),
+        Message::Rel { .. } => false,
+    }
+}

@@ -1,0 +1,346 @@
+// What may come next.
+
+ghost use Rattle.std.specs.Prelude.{◌≡◌, ◌&&◌, ◌||◌, ◌≤◌, not, slice_get};
+ghost use Rattle.std.specs.List.{list_any};
+ghost use Rattle.base_types.specs.Modes.{same_mode as modes_match};
+ghost use Rattle.base_types.specs.Scans.{is_build_scan};
+ghost use Rattle.ddl_effect.specs.Stages.{plan_at, want_of};
+ghost use Rattle.ddl_effect.specs.Blocks.{ends_block as does_end_block};
+ghost use Rattle.cacheless.specs.May.{is_first_missing as is_first, names_relation as names};
+
+use crate::scans::{first_lacking, first_missing, has_kept};
+use crate::writes::{gives_name, writes_items};
+use crate::{Due, KeptScan, Progress};
+use base_types::{Command, Kind, Mode, Name, Oid, Purpose, Row, same_scan};
+use ddl_effect::Want;
+use event_kinds::{Event, Item};
+
+impl Progress {
+    ghost use Rattle.std.specs.Prelude.{List, ℕ};
+    ghost use Rattle.base_types.specs.Scenario.{Scenario};
+    ghost use Rattle.event_kinds.specs.declared.entry.Entry.{Entry};
+    ghost use Rattle.history_model.specs.Writes.{is_empty as none_in};
+    ghost use Rattle.cacheless.specs.Facts.{facts_of};
+    ghost use Rattle.cacheless.specs.Locks.{is_locked};
+    ghost use Rattle.cacheless.specs.Plays.{MayPlayIn};
+    ghost use Rattle.cacheless.specs.State.{owed_at, owed_first, act_missing, scans_missing, lacks_builds, session_at};
+    ghost use Rattle.cacheless.specs.Holds.{Holds};
+    ghost use Rattle.cacheless.specs.May.{HasRoom, may_look_at, started_at, has_looked_at, has_failed as failed, lacks_opened, lacks_any, lacks_to_build, is_next_of_act, is_next_at, owes_nothing as nothing_owed, is_lock_at, may_scan_at, may_lock_at, may_write_at, may_clash_at, may_play_at, may_last_at, may_play_now, Decides};
+
+    /// Whether the event may come next, where the next new oid is this one: exactly where the
+    /// definitions allow it, in each history of which this is the session. Condition: its counts are
+    /// small enough to be summed.
+    pub fn may_play(&self, next_oid: u32, event: &Event) -> bool
+        requires few { self.now.finished ≤ 20000 }
+        requires room { HasRoom self.now }
+        ensures now { result ≡ may_play_now next_oid self.now event.now }
+        ensures decides { (scenario : Scenario) (seen : List Entry) (holds : Holds scenario seen self.now) → Decides (MayPlayIn next_oid (facts_of seen self.now.id) (slice_get self.now.commands self.now.finished) (session_at self.now holds.rest) event.now) result }
+    {
+        match self.commands.as_slice().get(self.finished as usize) {
+            Some(command) => self.may_play_in(next_oid, command, event),
+            None => self.may_last(event),
+        }
+    }
+
+    // Whether the event may come next in this command.
+    fn may_play_in(&self, next_oid: u32, command: &Command, event: &Event) -> bool
+        requires few { self.now.finished ≤ 20000 }
+        requires room { HasRoom self.now }
+        ensures { result ≡ may_play_at next_oid command.now self.now event.now }
+    {
+        match event {
+            Event::Look { .. } => self.may_look(),
+            Event::Fetch { .. } | Event::FetchReset => true,
+            Event::Scan { purpose, .. } => self.may_scan(purpose),
+            Event::LockOk { rel, mode } | Event::LockHeld { rel, mode, .. } => {
+                self.may_lock(command, *rel, *mode)
+            }
+            Event::Write { items, .. } => self.may_write(next_oid, command, items.as_slice()),
+            Event::ClashRow { name, .. } | Event::ClashRunning { name, .. } => {
+                self.may_clash(next_oid, command, *name)
+            }
+            Event::Visible { .. }
+            | Event::Publish { .. }
+            | Event::Gone { .. }
+            | Event::Release { .. } => self.may_end(command, event),
+            Event::Start | Event::Unlock { .. } | Event::Fail | Event::Stop => false,
+        }
+    }
+
+    // Whether the event may come next after the last command.
+    fn may_last(&self, event: &Event) -> bool
+        requires room { HasRoom self.now }
+        ensures { result ≡ may_last_at self.now event.now }
+    {
+        match event {
+            Event::Look { .. } => self.running.is_some() && self.may_look(),
+            Event::Fetch { .. } | Event::FetchReset => true,
+            Event::Gone { .. } | Event::Release { .. } => self.may_end_last(event),
+            Event::Stop => self.running.is_none(),
+            _ => false,
+        }
+    }
+
+    // Whether a look may come next.
+    fn may_look(&self) -> bool
+        requires room { HasRoom self.now }
+        ensures { result ≡ may_look_at self.now }
+    {
+        match self.due {
+            Due::Fetch => false,
+            _ => {
+                self.tally.looks + 1
+                    <= self.tally.scans + self.tally.grants + 2 * self.tally.fetches + 3
+            }
+        }
+    }
+
+    // Whether there was a look for one more scan.
+    fn has_looked(&self) -> bool
+        requires few { self.now.finished ≤ 20000 }
+        requires room { HasRoom self.now }
+        ensures { result ≡ has_looked_at self.now }
+    {
+        self.tally.scans + self.tally.grants + self.started() + self.tally.full < self.tally.looks
+    }
+
+    // 1 if the running transaction started in the running command.
+    fn started(&self) -> u64
+        requires few { self.now.finished ≤ 20000 }
+        ensures is { result ≡ started_at self.now }
+        ensures most { result ≤ 1 }
+    {
+        match self.running {
+            Some(t) if t.first == self.finished + 1 => 1,
+            _ => 0,
+        }
+    }
+
+    // Whether the scan may come next.
+    fn may_scan(&self, scan: &Purpose) -> bool
+        requires few { self.now.finished ≤ 20000 }
+        requires room { HasRoom self.now }
+        ensures { result ≡ may_scan_at scan.now self.now }
+    {
+        self.is_past_accept() && self.is_next(scan) && self.has_looked()
+    }
+
+    // Whether no look and no fetch is owed in an accept of messages.
+    pub(crate) fn is_past_accept(&self) -> bool
+        ensures { result ≡ none_in (owed_at self.now.due) }
+    {
+        matches!(self.due, Due::Nothing)
+    }
+
+    // Whether the scan is the first that an opened descriptor or the next act lacks.
+    fn is_next(&self, scan: &Purpose) -> bool
+        ensures { result ≡ is_next_at scan.now self.now }
+    {
+        !self.has_failed() && (self.is_next_build(scan) || self.is_next_of(scan, &self.exec.next()))
+    }
+
+    // Whether the scan is the first that an opened descriptor lacks.
+    fn is_next_build(&self, scan: &Purpose) -> bool
+        ensures { result ≡ list_any (λ o. is_first scan.now self.now.kept o.kind o.rel) self.now.opened }
+    {
+        self.opened
+            .as_slice()
+            .iter()
+            .any(|o| is_first_missing(scan, self.kept.as_slice(), o.kind, o.rel))
+    }
+
+    // Whether the scan is the first that the next act lacks.
+    fn is_next_of(&self, scan: &Purpose, want: &Want) -> bool
+        requires want { want_of (plan_at self.now.exec) ≡ want.now }
+        ensures { result ≡ is_next_of_act scan.now self.now (plan_at self.now.exec) }
+    {
+        match want {
+            Want::Lookup { name, mode } => {
+                !(self.read && (self.named || self.is_found_locked(*mode)))
+                    && same_scan(scan, &Purpose::RelName(*name))
+            }
+            Want::Column { rel, name } => {
+                !(self.read && self.named) && same_scan(scan, &Purpose::AttName(*rel, *name))
+            }
+            Want::Open { rel, kind } => is_first_missing(scan, self.kept.as_slice(), *kind, *rel),
+            _ => false,
+        }
+    }
+
+    // Whether the lock, granted or refused, may come next.
+    fn may_lock(&self, command: &Command, rel: Oid, mode: Mode) -> bool
+        ensures { result ≡ may_lock_at command.now rel mode self.now }
+    {
+        self.owes_nothing(command) && self.is_lock(rel, mode)
+    }
+
+    // Whether the next act asks for this lock.
+    fn is_lock(&self, rel: Oid, mode: Mode) -> bool
+        ensures { result ≡ is_lock_at self.now (plan_at self.now.exec) rel mode }
+    {
+        match self.exec.next() {
+            Want::Lookup { mode: wanted, .. } => {
+                names_relation(rel, self.given.as_slice()) && same_mode(mode, wanted)
+            }
+            Want::Lock {
+                rel: other,
+                mode: wanted,
+            } => rel.0 == other.0 && same_mode(mode, wanted),
+            _ => false,
+        }
+    }
+
+    // Whether a write of these items may come next.
+    fn may_write(&self, next_oid: u32, command: &Command, items: &[Item]) -> bool
+        ensures { result ≡ may_write_at next_oid command.now items.now self.now }
+    {
+        self.owes_nothing(command) && writes_items(&self.exec, next_oid, items)
+    }
+
+    // Whether a write that is refused for this name may come next.
+    fn may_clash(&self, next_oid: u32, command: &Command, name: Name) -> bool
+        ensures { result ≡ may_clash_at next_oid command.now name self.now }
+    {
+        self.owes_nothing(command)
+            && gives_name(&self.exec, next_oid, self.kept.as_slice(), name)
+    }
+
+    // Whether nothing has to come before the next act.
+    pub(crate) fn owes_nothing(&self, command: &Command) -> bool
+        ensures { result ≡ nothing_owed command.now self.now }
+    {
+        !self.owes_first_look(command) && self.is_past_accept() && !self.lacks_scan()
+    }
+
+    // Whether the look at the start of its transaction is owed.
+    pub(crate) fn owes_first_look(&self, command: &Command) -> bool
+        ensures { not result ≡ none_in (owed_first self.now command.now) }
+    {
+        !self.blocks.is_open()
+            && !ends_block(command)
+            && !self.ended
+            && self.blocks.admit(command).is_ok()
+            && self.running.is_none()
+    }
+
+    // Whether a scan has to come before the next act.
+    fn lacks_scan(&self) -> bool
+        ensures { result ≡ lacks_any self.now }
+    {
+        !self.has_failed() && (self.lacks_build() || self.act_lacks(&self.exec.next()))
+    }
+
+    // Whether a scan for a descriptor has to come before the next act: of an opened one, or of the one
+    // that is opened next.
+    pub(crate) fn lacks_build_scan(&self) -> bool
+        ensures { result ≡ list_any is_build_scan (scans_missing self.now) }
+    {
+        self.lacks_a_build()
+    }
+
+    // The same, as it is tested.
+    fn lacks_a_build(&self) -> bool
+        ensures { result ≡ (not (failed self.now) && (lacks_opened self.now.kept self.now.opened || lacks_to_build self.now (plan_at self.now.exec))) }
+    {
+        !self.has_failed() && (self.lacks_build() || self.act_lacks_build())
+    }
+
+    // Whether an opened descriptor lacks a scan.
+    fn lacks_build(&self) -> bool
+        ensures { result ≡ lacks_opened self.now.kept self.now.opened }
+    {
+        first_lacking(self.kept.as_slice(), self.opened.as_slice()).is_some()
+    }
+
+    // Whether an opened descriptor lacks a scan, in a command that hasn't failed.
+    pub(crate) fn lacks_builds(&self) -> bool
+        ensures { result ≡ lacks_builds self.now }
+    {
+        self.lacks_serving()
+    }
+
+    // The same, as it is tested.
+    fn lacks_serving(&self) -> bool
+        ensures { result ≡ (not (failed self.now) && lacks_opened self.now.kept self.now.opened) }
+    {
+        !self.has_failed() && self.lacks_build()
+    }
+
+    // Whether the command has failed.
+    fn has_failed(&self) -> bool
+        ensures { result ≡ failed self.now }
+    {
+        matches!(self.exec.next(), Want::Fails(_) | Want::Absent(_))
+    }
+
+    // Whether the next act lacks a scan for a descriptor.
+    fn act_lacks_build(&self) -> bool
+        ensures { result ≡ lacks_to_build self.now (plan_at self.now.exec) }
+    {
+        match self.exec.next() {
+            Want::Open { rel, kind } => first_missing(self.kept.as_slice(), kind, rel).is_some(),
+            Want::Read(scan) => !has_kept(self.kept.as_slice(), &scan),
+            _ => false,
+        }
+    }
+
+    // Whether the next act lacks a scan.
+    fn act_lacks(&self, want: &Want) -> bool
+        requires want { want_of (plan_at self.now.exec) ≡ want.now }
+        ensures { not result ≡ none_in (act_missing self.now (plan_at self.now.exec)) }
+    {
+        match want {
+            Want::Lookup { mode, .. } => !(self.read && (self.named || self.is_found_locked(*mode))),
+            Want::Column { .. } => !(self.read && self.named),
+            Want::Open { rel, kind } => {
+                first_missing(self.kept.as_slice(), *kind, *rel).is_some()
+            }
+            Want::Read(scan) => !has_kept(self.kept.as_slice(), scan),
+            _ => false,
+        }
+    }
+
+    // Whether the relation that the lookup's rows name is locked in the mode.
+    fn is_found_locked(&self, mode: Mode) -> bool
+        ensures { result ≡ is_locked self.now.locks.items mode self.now.given.items }
+    {
+        match self.given.first() {
+            Some(Row::Class { oid, .. }) => self.locks.state(*oid, mode).is_some(),
+            _ => false,
+        }
+    }
+}
+
+// Whether the scan is the first that a descriptor lacks.
+fn is_first_missing(scan: &Purpose, kept: &[KeptScan], kind: Kind, rel: Oid) -> bool
+    ensures { result ≡ is_first scan.now kept.now kind rel }
+{
+    match first_missing(kept, kind, rel) {
+        Some(first) => same_scan(scan, &first),
+        None => false,
+    }
+}
+
+// Whether the first row is that of the relation.
+fn names_relation(rel: Oid, given: &[Row]) -> bool
+    ensures { result ≡ names rel given.now }
+{
+    match given.first() {
+        Some(Row::Class { oid, .. }) => rel.0 == oid.0,
+        _ => false,
+    }
+}
+
+// Whether two modes are one.
+fn same_mode(a: Mode, b: Mode) -> bool
+    ensures { result ≡ modes_match a b }
+{
+    a.number() == b.number()
+}
+
+// Whether the command ends a block.
+fn ends_block(command: &Command) -> bool
+    ensures { result ≡ does_end_block command.now }
+{
+    matches!(command, Command::Commit | Command::Rollback)
+}

@@ -1,0 +1,129 @@
+ghost use Rattle.std.specs.Prelude.{◌≡◌, ◌≤◌, [], true, All, IfOk, length};
+ghost use Rattle.base_types.specs.Scenario.{Scenario, IsBackend};
+ghost use Rattle.ddl_effect.specs.Commands.{commands_of};
+ghost use Rattle.cacheless.specs.Runs.{runs};
+ghost use Rattle.cacheless.specs.State.{IsNew};
+ghost use Rattle.cacheless.specs.Holds.{HasNotStarted};
+
+use crate::begun::begun;
+use crate::{KeptScan, Opening};
+use base_types::{Command, Listed, NoMemory, Row, Xid};
+use command_lists::InvalLists;
+use ddl_effect::Exec;
+use lock_modes::OwnLocks;
+use std::alloc::Global;
+use txn_blocks::TxnBlocks;
+
+/// The transaction that a backend runs.
+#[derive(Clone, Copy)]
+pub struct OwnTransaction {
+    /// Its first command.
+    pub first: u32,
+    /// Its Xid, once it has written.
+    pub xid: Option<Xid>,
+    /// How many of its messages are published.
+    pub published: usize,
+    /// Whether it is committed, and holds its locks still.
+    pub visible: bool,
+}
+
+/// What has to come right after the last entry of a backend.
+#[derive(Clone, Copy)]
+pub enum Due {
+    Nothing,
+    /// It was granted a lock, or fetched as many messages as one fetch gives.
+    Look,
+    /// Its look said that messages wait.
+    Fetch,
+}
+
+/// How many looks, scans and fetches the running command has made, how many locks it was granted, and
+/// after how many of its fetches of 32 messages no scan for a descriptor was owed.
+#[derive(Clone, Copy)]
+pub struct Counts {
+    pub looks: u64,
+    pub scans: u64,
+    pub grants: u64,
+    pub fetches: u64,
+    pub full: u64,
+}
+
+impl Counts {
+    ghost use Rattle.cacheless.specs.State.{no_counts};
+
+    // Nothing is counted.
+    pub(crate) fn none() -> Counts
+        ensures { result ≡ no_counts }
+    {
+        Counts {
+            looks: 0,
+            scans: 0,
+            grants: 0,
+            fetches: 0,
+            full: 0,
+        }
+    }
+}
+
+/// How far a backend is in its commands: what the definitions' session and the facts of its own
+/// entries hold of it. It changes by the calls of this crate alone.
+#[derive(Drop)]
+pub struct Progress {
+    pub id: u32,
+    pub commands: Listed<Command>,
+    pub finished: u32,
+    // the running command: what is left of it, whether the blocks refused it, whether the release of
+    // its end is made, and what it has done so far
+    pub exec: Exec,
+    pub blocked: bool,
+    pub ended: bool,
+    pub tally: Counts,
+    pub due: Due,
+    // the blocks before it, the transaction, and the messages of its writes that weren't taken back
+    pub blocks: TxnBlocks,
+    pub running: Option<OwnTransaction>,
+    pub lists: InvalLists,
+    // whether the scan of the name or the column on which the next act rests is made, whether nothing
+    // has taken it away since, and what it gave, in the entry of this number
+    pub read: bool,
+    pub named: bool,
+    pub given: Vec<Row>,
+    pub given_at: u64,
+    // the descriptors that it has opened
+    pub opened: Listed<Opening>,
+    pub locks: OwnLocks,
+    // the scans for descriptors that serve
+    pub kept: Listed<KeptScan>,
+}
+
+impl Progress {
+    /// The backend of this number with its commands in order, before it has started.
+    pub fn new(alloc: Global, id: u32, commands: Listed<Command>) -> Result<Progress, NoMemory>
+        requires built { All (λ command. runs command ≡ true) commands }
+        ensures new { IfOk result (λ s. IsNew id commands s) }
+        ensures waits { IfOk result (λ s. (scenario : Scenario) → IsBackend scenario.backends id → commands ≡ commands_of scenario id → length commands ≤ 20000 → HasNotStarted scenario [] s) }
+    {
+        let blocks = TxnBlocks::new();
+        let first = begun(alloc, &blocks, commands.as_slice(), 0)?;
+        Ok(Progress {
+            id,
+            commands,
+            finished: 0,
+            exec: first.exec,
+            blocked: first.blocked,
+            ended: false,
+            tally: Counts::none(),
+            due: Due::Nothing,
+            blocks,
+            running: None,
+            lists: InvalLists::new(alloc),
+            read: false,
+            named: false,
+            given: Vec::new(alloc),
+            given_at: 0,
+            opened: Listed::new(alloc),
+            locks: OwnLocks::new(alloc),
+            kept: Listed::new(alloc),
+        })
+    }
+}

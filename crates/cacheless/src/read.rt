@@ -1,0 +1,141 @@
+// What scans and locks make of it.
+
+ghost use Rattle.std.specs.Prelude.{◌≡◌, ◌≤◌, ◌<◌, true, false, OnOk};
+ghost use Rattle.base_types.specs.Scenario.{Scenario};
+ghost use Rattle.event_kinds.specs.declared.entry.Entry.{Entry};
+ghost use Rattle.lock_modes.specs.Own.{has_lock};
+ghost use Rattle.history_model.specs.Versions.{answer_of};
+
+use crate::enter::{accept, running_from};
+use crate::{Due, KeptScan, Progress};
+use base_types::{Listed, Mode, NoMemory, Oid, Purpose, Row, same_scan};
+use ddl_effect::{Exec, Want};
+use event_kinds::Event;
+use rel_desc::CommandError;
+
+impl Progress {
+    ghost use Rattle.std.specs.Prelude.{List, ℕ};
+    ghost use Rattle.ddl_effect.specs.Stages.{plan_at};
+    ghost use Rattle.cacheless.specs.Sessions.{is_wanted as is_wanted_by};
+    ghost use Rattle.cacheless.specs.State.{FailsWith, IsLockedIn};
+    ghost use Rattle.cacheless.specs.May.{HasRoom, is_next_at};
+    ghost use Rattle.cacheless.specs.Holds.{Holds, Rests, with_own};
+
+    /// A scan gave it these rows, in the entry of this number. Conditions: it is the first that an
+    /// opened descriptor or the next act lacks, and the counts are small enough to be summed. Out of
+    /// memory, it may not be used any more.
+    pub fn enter_scan(&mut self, scan: &Purpose, rows: Vec<Row>, at: u64) -> Result<(), NoMemory>
+        requires few { self.old.finished ≤ 20000 }
+        requires room { HasRoom self.old }
+        requires next { is_next_at scan.now self.old ≡ true }
+        ensures holds { OnOk result ((scenario : Scenario) (seen : List Entry) (count : ℕ) → Rests scenario seen self.old → rows.items ≡ answer_of seen self.old.id scan.now → Holds scenario (with_own seen self.old (Event.Scan scan.now count)) self.new) }
+    {
+        if self.is_wanted(scan) {
+            self.enter_named(scan, rows, at);
+            return Ok(());
+        }
+        self.enter_build(scan, rows, at)
+    }
+
+    // The scan of the name or the column on which the next act rests.
+    fn enter_named(&mut self, scan: &Purpose, rows: Vec<Row>, at: u64)
+        requires few { self.old.finished ≤ 20000 }
+        requires room { HasRoom self.old }
+        requires wanted { is_wanted_by scan.now (plan_at self.old.exec) ≡ true }
+        ensures holds { (scenario : Scenario) (seen : List Entry) (count : ℕ) → Rests scenario seen self.old → rows.items ≡ answer_of seen self.old.id scan.now → Holds scenario (with_own seen self.old (Event.Scan scan.now count)) self.new }
+    {
+        let _scan = *scan;
+        self.running = Some(running_from(self.finished + 1, self.running));
+        self.due = Due::Nothing;
+        self.tally.scans += 1;
+        self.read = true;
+        self.named = true;
+        self.given_at = at;
+        let accepting = self.is_in_acceptance();
+        accept(&mut self.locks, accepting);
+        self.given = rows;
+    }
+
+    // A scan for a descriptor.
+    fn enter_build(&mut self, scan: &Purpose, rows: Vec<Row>, at: u64) -> Result<(), NoMemory>
+        requires few { self.old.finished ≤ 20000 }
+        requires room { HasRoom self.old }
+        requires next { is_next_at scan.now self.old ≡ true }
+        requires other { is_wanted_by scan.now (plan_at self.old.exec) ≡ false }
+        ensures holds { OnOk result ((scenario : Scenario) (seen : List Entry) (count : ℕ) → Rests scenario seen self.old → rows.items ≡ answer_of seen self.old.id scan.now → Holds scenario (with_own seen self.old (Event.Scan scan.now count)) self.new) }
+    {
+        let made = KeptScan {
+            scan: *scan,
+            rows: Listed::from_vec(rows),
+            at,
+        };
+        self.kept.push(made)?;
+        self.running = Some(running_from(self.finished + 1, self.running));
+        self.due = Due::Nothing;
+        self.tally.scans += 1;
+        let accepting = self.is_in_acceptance();
+        accept(&mut self.locks, accepting);
+        Ok(())
+    }
+
+    // Whether the next act looks a name or a column up by this scan.
+    fn is_wanted(&self, scan: &Purpose) -> bool
+        ensures { result ≡ is_wanted_by scan.now (plan_at self.now.exec) }
+    {
+        match self.exec.next() {
+            Want::Lookup { name, .. } => same_scan(scan, &Purpose::RelName(name)),
+            Want::Column { rel, name } => same_scan(scan, &Purpose::AttName(rel, name)),
+            _ => false,
+        }
+    }
+
+    /// Makes room for one more lock. Out of memory, nothing changes.
+    pub fn reserve_lock(&mut self) -> Result<(), NoMemory>
+        ensures same { IsLockedIn self.old.locks.items self.old self.new }
+        ensures ok { OnOk result (0 < self.new.locks.room) }
+        ensures rests { (scenario : Scenario) (seen : List Entry) → Rests scenario seen self.old → Rests scenario seen self.new }
+    {
+        self.locks.reserve()
+    }
+
+    /// It was granted a lock. Conditions: there is room for it, it doesn't hold it, and its counts are
+    /// small enough to be summed.
+    pub fn enter_lock(&mut self, rel: Oid, mode: Mode)
+        requires few { self.old.finished ≤ 20000 }
+        requires room { HasRoom self.old }
+        requires place { 0 < self.old.locks.room }
+        requires new { has_lock self.old.locks.items rel mode ≡ false }
+        ensures holds { (scenario : Scenario) (seen : List Entry) → Rests scenario seen self.old → Holds scenario (with_own seen self.old (Event.LockOk rel mode)) self.new }
+    {
+        self.running = Some(running_from(self.finished + 1, self.running));
+        self.due = Due::Look;
+        self.tally.grants += 1;
+        self.locks.add(rel, mode, self.finished + 1);
+    }
+
+    /// It was refused a lock, which ends its command: this is the first other holder of a mode that
+    /// conflicts, and that mode.
+    pub fn enter_refused(&mut self, rel: Oid, mode: Mode, holder: u32, held: Mode)
+        requires few { self.old.finished ≤ 20000 }
+        ensures holds { (scenario : Scenario) (seen : List Entry) → Rests scenario seen self.old → Holds scenario (with_own seen self.old (Event.LockHeld rel mode holder held)) self.new }
+    {
+        let _mode = mode;
+        let error = CommandError::Locked {
+            rel,
+            holder,
+            mode: held,
+        };
+        self.fail(error);
+    }
+
+    // An entry showed this error, which ends the command.
+    pub(crate) fn fail(&mut self, error: CommandError)
+        requires few { self.old.finished ≤ 20000 }
+        ensures { FailsWith error self.old self.new }
+    {
+        self.running = Some(running_from(self.finished + 1, self.running));
+        self.due = Due::Nothing;
+        self.exec = Exec::Failing(error);
+        self.locks.clear_all();
+    }
+}

@@ -1,0 +1,210 @@
+// What a backend does without an entry.
+
+ghost use Rattle.std.specs.Prelude.{◌≡◌, ◌≤◌, ◌<◌, [], true, All, OnOk, is_some, slice_get, length};
+ghost use Rattle.std.specs.List.{find};
+ghost use Rattle.std.specs.Option.{option_copied};
+ghost use Rattle.base_types.specs.Scans.{same_scan as same_scan_as};
+ghost use Rattle.ddl_effect.specs.Stages.{plan_at, want_of};
+ghost use Rattle.cacheless.specs.Runs.{runs};
+ghost use Rattle.cacheless.specs.State.{blocks_passed, rows_kept as kept_rows};
+ghost use Rattle.cacheless.specs.Silently.{rows_for as gives_rows};
+
+use crate::begun::begun;
+use crate::{Counts, KeptScan, Opening, Progress};
+use base_types::{Command, Kind, Listed, NoMemory, Oid, Purpose, Row, same_scan};
+use ddl_effect::{Exec, Want};
+use std::alloc::Global;
+use txn_blocks::TxnBlocks;
+
+/// What a backend does without an entry: the next act of its command, or the end of it, or nothing.
+#[derive(Clone, Copy)]
+pub enum Silent {
+    Act,
+    Finish,
+    Rest,
+}
+
+impl Progress {
+    ghost use Rattle.std.specs.Prelude.{List};
+    ghost use Rattle.base_types.specs.Scenario.{Scenario};
+    ghost use Rattle.event_kinds.specs.declared.entry.Entry.{Entry};
+    ghost use Rattle.cacheless.specs.State.{is_out as has_come_out, end_at};
+    ghost use Rattle.cacheless.specs.Silently.{opened_for, gives_next, acts_on, is_finished_at, Acts, Finishes, IsSilentOf, left_of};
+    ghost use Rattle.cacheless.specs.Holds.{Holds, Rests};
+
+    /// Goes on as far as it can without an entry. Out of memory, it may not be used any more.
+    pub fn settle(&mut self, alloc: Global) -> Result<(), NoMemory>
+        requires built { All (λ command. runs command ≡ true) self.old.commands }
+        requires few { length self.old.commands ≤ 20000 }
+        ensures rests { OnOk result ((scenario : Scenario) (seen : List Entry) → Holds scenario seen self.old → Rests scenario seen self.new) }
+        ensures same { OnOk result (self.new.commands ≡ self.old.commands) }
+    {
+        'settling: loop {
+            match self.silent() {
+                Silent::Act => self.act()?,
+                Silent::Finish => self.finish(alloc)?,
+                Silent::Rest => return Ok(()),
+            }
+        }
+    }
+
+    // What it does without an entry.
+    fn silent(&self) -> Silent
+        requires few { length self.now.commands ≤ 20000 }
+        ensures { IsSilentOf self.now result }
+    {
+        let Some(command) = self.commands.as_slice().get(self.finished as usize) else {
+            return Silent::Rest;
+        };
+        if self.acts(command) {
+            return Silent::Act;
+        }
+        if self.is_finished(command) {
+            return Silent::Finish;
+        }
+        Silent::Rest
+    }
+
+    // Whether its next act is done without an entry.
+    fn acts(&self, command: &Command) -> bool
+        ensures { result ≡ acts_on command.now self.now }
+    {
+        self.owes_nothing(command) && self.gives()
+    }
+
+    // Whether its next act gives rows, if nothing has to come before it.
+    fn gives(&self) -> bool
+        ensures { result ≡ gives_next self.now (plan_at self.now.exec) }
+    {
+        match self.exec.next() {
+            Want::Lookup { mode, .. } => match self.given.first() {
+                Some(Row::Class { oid, .. }) => self.locks.state(*oid, mode).is_some(),
+                _ => true,
+            },
+            Want::Lock { rel, mode } => self.locks.state(rel, mode).is_some(),
+            Want::Open { .. } | Want::Column { .. } | Want::Read(_) => true,
+            _ => false,
+        }
+    }
+
+    // Whether the command is finished.
+    fn is_finished(&self, command: &Command) -> bool
+        requires few { self.now.finished ≤ 20000 }
+        ensures { result ≡ is_finished_at command.now self.now }
+    {
+        self.is_out() && (self.ended || self.ends_silently(command)) && self.owes_nothing(command)
+    }
+
+    // Whether the command has come out.
+    fn is_out(&self) -> bool
+        ensures { result ≡ has_come_out self.now }
+    {
+        matches!(self.exec.next(), Want::Done | Want::Fails(_) | Want::Absent(_))
+    }
+
+    // It does its next act.
+    fn act(&mut self) -> Result<(), NoMemory>
+        requires acts { Acts self.old }
+        ensures keeps { OnOk result ((scenario : Scenario) (seen : List Entry) → Holds scenario seen self.old → Holds scenario seen self.new) }
+        ensures less { OnOk result (left_of self.new < left_of self.old) }
+        ensures same { OnOk result (self.new.commands ≡ self.old.commands) }
+    {
+        match self.exec.next() {
+            Want::Open { rel, kind } => self.open(rel, kind),
+            _ => {
+                self.find();
+                Ok(())
+            }
+        }
+    }
+
+    // It opens a descriptor.
+    fn open(&mut self, rel: Oid, kind: Kind) -> Result<(), NoMemory>
+        requires acts { Acts self.old }
+        requires opens { want_of (plan_at self.old.exec) ≡ Want.Open rel kind }
+        ensures keeps { OnOk result ((scenario : Scenario) (seen : List Entry) → Holds scenario seen self.old → Holds scenario seen self.new) }
+        ensures less { OnOk result (left_of self.new < left_of self.old) }
+        ensures same { OnOk result (self.new.commands ≡ self.old.commands) }
+    {
+        self.opened.push(Opening { rel, kind })?;
+        self.exec.give(&[]);
+        self.read = false;
+        Ok(())
+    }
+
+    // It goes on by rows that are there.
+    fn find(&mut self)
+        requires acts { Acts self.old }
+        requires other { opened_for (want_of (plan_at self.old.exec)) ≡ [] }
+        ensures keeps { (scenario : Scenario) (seen : List Entry) → Holds scenario seen self.old → Holds scenario seen self.new }
+        ensures less { left_of self.new < left_of self.old }
+        ensures same { self.new.commands ≡ self.old.commands }
+    {
+        let want = self.exec.next();
+        self.exec.give(rows_for(&want, self.given.as_slice(), self.kept.as_slice()));
+        self.read = false;
+    }
+
+    // It passes to its next command.
+    fn finish(&mut self, alloc: Global) -> Result<(), NoMemory>
+        requires built { All (λ command. runs command ≡ true) self.old.commands }
+        requires few { length self.old.commands ≤ 20000 }
+        requires finishes { Finishes self.old }
+        ensures keeps { OnOk result ((scenario : Scenario) (seen : List Entry) → Holds scenario seen self.old → Holds scenario seen self.new) }
+        ensures less { OnOk result (left_of self.new < left_of self.old) }
+        ensures same { OnOk result (self.new.commands ≡ self.old.commands) }
+    {
+        let number = self.finished + 1;
+        let Some(command) = self.commands.as_slice().get(self.finished as usize) else {
+            unreachable!()
+        };
+        pass(&mut self.blocks, &self.exec, number, command);
+        let next = begun(alloc, &self.blocks, self.commands.as_slice(), number)?;
+        self.finished = number;
+        self.exec = next.exec;
+        self.blocked = next.blocked;
+        self.ended = false;
+        self.tally = Counts::none();
+        self.read = false;
+        self.opened = Listed::new(alloc);
+        Ok(())
+    }
+}
+
+// The command of this number has come out.
+fn pass(blocks: &mut TxnBlocks, exec: &Exec, number: u32, command: &Command)
+    ensures { blocks.new ≡ blocks_passed (plan_at exec.now) number command.now blocks.old }
+{
+    match exec.next() {
+        Want::Done => blocks.ended_well(number, command),
+        _ => blocks.fail(),
+    }
+}
+
+// The rows that are given to an act.
+fn rows_for<'a>(want: &Want, given: &'a [Row], kept: &'a [KeptScan]) -> &'a [Row]
+    ensures { result.now ≡ gives_rows want.now given.now kept.now }
+{
+    match want {
+        Want::Read(scan) => rows_kept(kept, *scan),
+        Want::Open { .. } | Want::Lock { .. } => &[],
+        _ => given,
+    }
+}
+
+// The rows that are kept of a scan.
+pub(crate) fn rows_kept(kept: &[KeptScan], scan: Purpose) -> &[Row]
+    ensures { result.now ≡ kept_rows kept.now scan }
+{
+    match scan_kept(kept, scan) {
+        Some(k) => k.rows.as_slice(),
+        None => &[],
+    }
+}
+
+// The scan that is kept for a purpose.
+fn scan_kept(kept: &[KeptScan], scan: Purpose) -> Option<&KeptScan>
+    ensures { option_copied result ≡ find (λ k. same_scan_as k.scan scan) kept.now }
+{
+    kept.iter().find(|k| same_scan(&k.scan, &scan))
+}

@@ -1,0 +1,120 @@
+// What writes make of it, and those that are refused.
+
+ghost use Rattle.std.specs.Prelude.{◌≡◌, ◌≤◌, ◌<◌, ◌++◌, ◌∷◌, ◌+◌, [], false, Some, OnOk};
+ghost use Rattle.std.specs.List.{AllByRecursion, flat_map};
+ghost use Rattle.base_types.specs.Scenario.{Scenario};
+ghost use Rattle.base_types.specs.declared.mode.Mode.TheVariants.{AccessExclusive};
+ghost use Rattle.event_kinds.specs.declared.entry.Entry.{Entry};
+ghost use Rattle.event_kinds.specs.declared.entry.Item.{Item};
+ghost use Rattle.lock_modes.specs.Own.{has_lock};
+ghost use Rattle.command_lists.specs.Lists.{all_lists, new_list, with_messages};
+ghost use Rattle.cacheless.specs.Locks.{locked_by};
+ghost use Rattle.cacheless.specs.State.{locks_made, locks_written, messages_in, clash_event, error_of};
+
+use crate::enter::{accept, running_from};
+use crate::execute::execute;
+use crate::{Due, OwnTransaction, Progress};
+use base_types::{Listed, Name, NoMemory, Oid, Xid};
+use command_lists::InvalLists;
+use event_kinds::Event;
+use inval_messages::Message;
+use lock_modes::OwnLocks;
+use rel_desc::CommandError;
+use row_visibility::Clash;
+use std::alloc::Global;
+
+impl Progress {
+    ghost use Rattle.std.specs.Prelude.{List, ℕ};
+    ghost use Rattle.ddl_effect.specs.Stages.{plan_at, want_of};
+    ghost use Rattle.ddl_effect.specs.declared.want.Want.TheVariants as wants;
+    ghost use Rattle.cacheless.specs.State.{lists_at};
+    ghost use Rattle.cacheless.specs.Holds.{Holds, Rests, with_own};
+
+    /// It wrote: these are the messages of its changes in their order, so many new oids were drawn, of
+    /// which this is the first, and its transaction has this Xid. A new relation's oid is the first new
+    /// one, and it is locked. Conditions: its command wants to write, its lists are of no later command,
+    /// there is room for a lock, and a new relation isn't locked. Out of memory, it may not be used any
+    /// more.
+    pub fn enter_write(
+        &mut self,
+        alloc: Global,
+        xid: Xid,
+        messages: &[Message],
+        new_oids: u32,
+        first: Oid,
+    ) -> Result<(), NoMemory>
+        requires few { self.old.finished ≤ 20000 }
+        requires wants { want_of (plan_at self.old.exec) ≡ wants.Write }
+        requires order { AllByRecursion (λ list. list.command ≤ self.old.finished + 1) (lists_at self.old) }
+        requires place { 0 < self.old.locks.room }
+        requires new { 0 < new_oids → has_lock self.old.locks.items first AccessExclusive ≡ false }
+        ensures holds { OnOk result ((scenario : Scenario) (seen : List Entry) (items : List Item) → Rests scenario seen self.old → messages.now ≡ messages_in seen self.old.id items → flat_map (locked_by (self.old.finished + 1)) items ≡ locks_made new_oids first (self.old.finished + 1) → Holds scenario (with_own seen self.old (Event.Write xid items)) self.new) }
+    {
+        let command = self.finished + 1;
+        register(&mut self.lists, command, messages)?;
+        execute(alloc, &mut self.kept, messages);
+        lock_new(&mut self.locks, new_oids, first, command);
+        self.running = Some(with_xid(running_from(command, self.running), xid));
+        self.due = Due::Nothing;
+        self.exec.give(&[]);
+        self.opened = Listed::new(alloc);
+        self.read = false;
+        let accepting = self.is_in_acceptance();
+        accept(&mut self.locks, accepting);
+        Ok(())
+    }
+
+    /// Its write was refused, which ends its command: the new name is taken.
+    pub fn enter_clash(&mut self, name: Name, clash: Clash)
+        requires few { self.old.finished ≤ 20000 }
+        ensures holds { (scenario : Scenario) (seen : List Entry) → Rests scenario seen self.old → Holds scenario (with_own seen self.old (clash_event name clash)) self.new }
+    {
+        self.fail(clash_error(name, clash));
+    }
+}
+
+// The lock on the relation that a write made, if it made one.
+fn lock_new(locks: &mut OwnLocks, new_oids: u32, first: Oid, command: u32)
+    requires room { 0 < locks.old.room }
+    requires new { 0 < new_oids → has_lock locks.old.items first AccessExclusive ≡ false }
+    ensures { locks.new.items ≡ locks_written new_oids first command locks.old.items }
+{
+    if new_oids > 0 {
+        locks.add_new(first, command);
+    }
+}
+
+// The messages of a command's write go to its list, which is done with them.
+fn register(lists: &mut InvalLists, command: u32, messages: &[Message]) -> Result<(), NoMemory>
+    requires order { AllByRecursion (λ list. list.command ≤ command) (all_lists lists.old.lists) }
+    ensures lists { OnOk result (all_lists lists.new.lists ≡ all_lists lists.old.lists ++ with_messages messages.now (new_list command) ∷ []) }
+{
+    lists.end_command();
+    lists.reserve(messages.len() + 1)?;
+    lists.begin_command(command);
+    for message in messages {
+        lists.register(command, *message);
+    }
+    lists.end_command();
+    Ok(())
+}
+
+// The transaction, once it has written.
+fn with_xid(own: OwnTransaction, xid: Xid) -> OwnTransaction
+    ensures { result ≡ record own { xid = Some xid } }
+{
+    OwnTransaction {
+        xid: Some(xid),
+        ..own
+    }
+}
+
+// The error with which a name that is taken ends a command.
+fn clash_error(name: Name, clash: Clash) -> CommandError
+    ensures { result ≡ error_of name clash }
+{
+    match clash {
+        Clash::Row(_) => CommandError::RelationExists { name },
+        Clash::Running(xid) => CommandError::NameInUse { name, xid },
+    }
+}
