@@ -61,3 +61,5 @@ pub mod EnteredEnds
 pub mod EntryCodes
 pub mod Registering
 pub mod Passing
+pub mod Others
+pub mod Matching

@@ -57,7 +57,7 @@ impl Progress {
             }
             Event::Write { items, .. } => self.may_write(next_oid, command, items.as_slice()),
             Event::ClashRow { name, .. } | Event::ClashRunning { name, .. } => {
-                self.may_clash(next_oid, command, *name)
+                self.may_clash(command, *name)
             }
             Event::Visible { .. }
             | Event::Publish { .. }
@@ -198,11 +198,10 @@ impl Progress {
     }
 
     // Whether a write that is refused for this name may come next.
-    fn may_clash(&self, next_oid: u32, command: &Command, name: Name) -> bool
-        ensures { result ≡ may_clash_at next_oid command.now name self.now }
+    fn may_clash(&self, command: &Command, name: Name) -> bool
+        ensures { result ≡ may_clash_at command.now name self.now }
     {
-        self.owes_nothing(command)
-            && gives_name(&self.exec, next_oid, self.kept.as_slice(), name)
+        self.owes_nothing(command) && gives_name(&self.exec, self.kept.as_slice(), name)
     }
 
     // Whether nothing has to come before the next act.
