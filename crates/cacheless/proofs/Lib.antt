@@ -63,3 +63,4 @@ pub mod Registering
 pub mod Passing
 pub mod Others
 pub mod Matching
+pub mod SameRows

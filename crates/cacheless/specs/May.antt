@@ -25,11 +25,6 @@ use Rattle.cacheless.specs.Plays.{drafted}
 use Rattle.cacheless.specs.SameItems.{same_items}
 use Rattle.cacheless.specs.State.{owed_at, owed_first, one_if, is_kept, rows_kept, act_missing, is_visible_at, unsent_at, xid_at, has_write_since, end_at}
 
--- the answer of a test decides what is so
-pub record Decides (P : Type 0) (t : Bool) : Type 0 where
-  pub yes : t ≡ true → P
-  pub no : P → t ≡ true
-
 -- the counts are small enough to be summed
 abbrev pub HasRoom : Progress → Type 0
 HasRoom s = (nat_lt s.tally.looks 1152921504606846976 ≡ true) × (nat_lt s.tally.scans 1152921504606846976 ≡ true) × (nat_lt s.tally.grants 1152921504606846976 ≡ true) × (nat_lt s.tally.fetches 1152921504606846976 ≡ true) × (nat_lt s.tally.full 1152921504606846976 ≡ true)
