@@ -80,3 +80,6 @@ pub mod EnteredEnds
 pub mod EntryCodes
 pub mod Registering
 pub mod Passing
+pub mod Others
+pub mod Matching
+pub mod SameRows

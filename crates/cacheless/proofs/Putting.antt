@@ -17,14 +17,13 @@ use Rattle.base_types.specs.declared.dropped.TheConstants.{MOST_COLUMNS}
 use Rattle.base_types.specs.declared.kind.Kind.TheVariants.{Table}
 use Rattle.base_types.specs.declared.row.Row.TheVariants as rows
 use Rattle.base_types.specs.declared.scan.Purpose.TheVariants as scans
-use Rattle.event_kinds.specs.declared.entry.Item.TheVariants as items
 use Rattle.rel_desc.specs.declared.error.CommandError.TheVariants as errors
 use Rattle.ddl_effect.specs.declared.alteration.Alteration.TheVariants as alterations
 use Rattle.ddl_effect.specs.declared.altering.Altering.TheVariants as alters
 use Rattle.ddl_effect.specs.declared.exec.Exec.TheVariants as stages
 use Rattle.ddl_effect.specs.declared.search.Search.TheVariants as searches
 use Rattle.ddl_effect.specs.Blocks.{Blocks, refused_by}
-use Rattle.ddl_effect.specs.Drawing.{drawn_oid, drawn_row, drawn_change}
+use Rattle.ddl_effect.specs.Drawing.{drawn_oid}
 use Rattle.ddl_effect.specs.Plans.{Plan, Done, Fails, Absent, Do, NotBuilt, Column, Read}
 use Rattle.ddl_effect.specs.Commands.{plan_of, found, looking_up, if_passes, if_no_column, first_twice, writing, opening, showing, showing_field, is_table, locking, new_column, new_table, altering, column_there, with_column, column_free, without_column, reading, changing, adding, add_column, as_dropped, deleting, is_default_of, column_number, dropping, drop_column, with_name, renaming, rename_column, with_stat, most_stat, targeting, set_statistics, with_fill, filling, set_fillfactor}
 use Rattle.ddl_effect.specs.Stages.{plan_at, plan_again, altering_at, altering_again, altered, mode_of, name_sought, mode_sought, plan_found}
@@ -32,7 +31,6 @@ use Rattle.ddl_effect.specs.declared.alteration.Alteration.{Alteration}
 use Rattle.ddl_effect.specs.declared.altering.Altering.{Altering}
 use Rattle.ddl_effect.specs.declared.search.Search.{Search}
 use Rattle.cacheless.specs.Types.{Oid, Mode, Kind, Field, Row, Purpose, Command, CommandError, Draft, Exec, Opening}
-use Rattle.history_model.specs.Changes.{item_of}
 use Rattle.history_model.proofs.Asking.{oid_eq}
 use Rattle.cacheless.specs.Puts.{is_opened, PutOpened, AreGivenBy, PutsOpened}
 use Rattle.cacheless.specs.Session.{none_open, plan_admitted, plan_first}
@@ -48,11 +46,11 @@ puts_found opened name rest puts (row ∷ more) = tt
 
 -- a write that only adds rows, or puts none of a relation, puts no other relation's
 puts_inserting : (opened : List Opening) (row : Row) → PutsOpened opened (changing (Insert row ∷ []))
-puts_inserting opened row = (λ next. (tt, tt), λ given. tt)
+puts_inserting opened row = ((tt, tt), λ given. tt)
 
-puts_replacing : (opened : List Opening) (deleted : Option Row) (row : Row) → ((next : ℕ) → PutOpened opened (items.Put (drawn_row next 0 row))) → PutsOpened opened (changing (deleting deleted ++ Replace row ∷ []))
-puts_replacing opened None row puts = (λ next. (puts next, tt), λ given. tt)
-puts_replacing opened (Some old) row puts = (λ next. (tt, (puts next, tt)), λ given. tt)
+puts_replacing : (opened : List Opening) (deleted : Option Row) (row : Row) → PutOpened opened 0 (Replace row) → PutsOpened opened (changing (deleting deleted ++ Replace row ∷ []))
+puts_replacing opened None row puts = ((puts, tt), λ given. tt)
+puts_replacing opened (Some old) row puts = ((tt, (puts, tt)), λ given. tt)
 
 -- a row that a scan of a column gives is a column's
 abbrev pub IsColumnRow : Row → Type 0
@@ -63,17 +61,17 @@ column_row : (rel : Oid) (name : List ℕ) (row : Row) → selects (scans.AttNam
 column_row rel name (rows.Att of num own col_type stat live) asked = tt
 column_row rel name row asked = absurd (cc)
 
-puts_dropped : (opened : List Opening) (row : Row) → IsColumnRow row → (next : ℕ) → PutOpened opened (items.Put (drawn_row next 0 (as_dropped row)))
-puts_dropped opened (rows.Att rel num own col_type stat live) is next = tt
-puts_dropped opened row is next = absurd is
+puts_dropped : (opened : List Opening) (row : Row) → IsColumnRow row → PutOpened opened 0 (Replace (as_dropped row))
+puts_dropped opened (rows.Att rel num own col_type stat live) is = tt
+puts_dropped opened row is = absurd is
 
-puts_named : (opened : List Opening) (to : List ℕ) (row : Row) → IsColumnRow row → (next : ℕ) → PutOpened opened (items.Put (drawn_row next 0 (with_name to row)))
-puts_named opened to (rows.Att rel num own col_type stat live) is next = tt
-puts_named opened to row is next = absurd is
+puts_named : (opened : List Opening) (to : List ℕ) (row : Row) → IsColumnRow row → PutOpened opened 0 (Replace (with_name to row))
+puts_named opened to (rows.Att rel num own col_type stat live) is = tt
+puts_named opened to row is = absurd is
 
-puts_targeted : (opened : List Opening) (stat : ℤ) (row : Row) → IsColumnRow row → (next : ℕ) → PutOpened opened (items.Put (drawn_row next 0 (with_stat stat row)))
-puts_targeted opened stat (rows.Att rel num own col_type old live) is next = tt
-puts_targeted opened stat row is next = absurd is
+puts_targeted : (opened : List Opening) (stat : ℤ) (row : Row) → IsColumnRow row → PutOpened opened 0 (Replace (with_stat stat row))
+puts_targeted opened stat (rows.Att rel num own col_type old live) is = tt
+puts_targeted opened stat row is = absurd is
 
 -- no new oid is drawn
 none_drawn : (next : ℕ) (oid : Oid) → drawn_oid next 0 oid ≡ oid
@@ -87,9 +85,9 @@ none_drawn next oid = by_number oid.0 refl
     by_number (suc n) is = ap (λ m. elim (nat_le 1 m && nat_le m 0) [ true ↦ record { 0 = next + oid.0 - 1 } | false ↦ oid ]) is ∙ ap (λ t. elim (nat_le 1 (suc n) && t) [ true ↦ record { 0 = next + oid.0 - 1 } | false ↦ oid ]) (none_below n) ∙ ap (λ t. elim t [ true ↦ record { 0 = next + oid.0 - 1 } | false ↦ oid ]) (and-false (nat_le 1 (suc n)))
 
 -- the row that the scan of an open relation's row gives is that relation's
-puts_filled : (opened : List Opening) (rel : Oid) (fill : ℕ) (row : Row) → is_opened opened rel ≡ true → selects (scans.Class rel) row ≡ true → (next : ℕ) → PutOpened opened (items.Put (drawn_row next 0 (with_fill fill row)))
-puts_filled opened rel fill (rows.Class oid own kind old) opens asked next = ap (is_opened opened) (none_drawn next oid ∙ oid_eq oid rel asked) ∙ opens
-puts_filled opened rel fill row opens asked next = absurd (cc)
+puts_filled : (opened : List Opening) (rel : Oid) (fill : ℕ) (row : Row) → is_opened opened rel ≡ true → selects (scans.Class rel) row ≡ true → PutOpened opened 0 (Replace (with_fill fill row))
+puts_filled opened rel fill (rows.Class oid own kind old) opens asked = (ap (is_opened opened) (oid_eq oid rel asked) ∙ opens, λ next. none_drawn next oid)
+puts_filled opened rel fill row opens asked = absurd (cc)
 
 puts_there : (opened : List Opening) (scan : Purpose) (column : List ℕ) (rest : Row → Plan) → ((row : Row) → selects scan row ≡ true → PutsOpened opened (rest row)) → (given : List Row) → AreGivenBy scan given → PutsOpened opened (column_there column rest given)
 puts_there opened scan column rest puts [] asked = tt
@@ -144,14 +142,14 @@ puts_again opened (stages.Altering altering) puts = alters_again opened altering
 puts_again opened stage puts = puts
 
 -- and a command at its beginning
-puts_columns : (opened : List Opening) (next : ℕ) (columns : List (ℕ × NewColumn)) → AllByRecursion (PutOpened opened) (map item_of (map (drawn_change next 1) (map new_column columns)) ++ [])
-puts_columns opened next [] = tt
-puts_columns opened next ((num, column) ∷ columns) = (tt, puts_columns opened next columns)
+puts_columns : (opened : List Opening) (columns : List (ℕ × NewColumn)) → AllByRecursion (PutOpened opened 1) (map new_column columns)
+puts_columns opened [] = tt
+puts_columns opened ((num, column) ∷ columns) = (tt, puts_columns opened columns)
 
 puts_creating : (opened : List Opening) (name : List ℕ) (columns : List NewColumn) (passes : Bool) (twice : Option (List ℕ)) → PutsOpened opened (if_passes passes errors.TooManyColumns (if_no_column twice (writing (new_table name columns))))
 puts_creating opened name columns false twice = tt
 puts_creating opened name columns true (Some column) = tt
-puts_creating opened name columns true None = (λ next. (tt, puts_columns opened next (enumerate_from 1 columns)), λ given. tt)
+puts_creating opened name columns true None = ((tt, puts_columns opened (enumerate_from 1 columns)), λ given. tt)
 
 puts_plan : (opened : List Opening) (command : Command) → PutsOpened opened (plan_of none_open command)
 puts_plan opened (commands.Show name None) = puts_searching opened (searches.Show name)

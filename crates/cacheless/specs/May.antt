@@ -8,7 +8,8 @@ use Rattle.base_types.specs.Scans.{same_oid, same_scan, build_scans}
 use Rattle.base_types.specs.declared.row.Row.TheVariants as rows
 use Rattle.base_types.specs.declared.scan.Purpose.TheVariants as scans
 use Rattle.event_kinds.specs.declared.entry.Event.TheVariants as events
-use Rattle.event_kinds.specs.declared.entry.Item.TheVariants as items
+use Rattle.base_types.specs.declared.change.Change.{Change}
+use Rattle.base_types.specs.declared.change.Change.TheVariants as changes
 use Rattle.ddl_effect.specs.Plans.{Plan, Do, Lookup, Open, Column, Read, Lock, Write}
 use Rattle.ddl_effect.specs.Stages.{plan_at}
 use Rattle.history_model.specs.Names.{has_name}
@@ -23,11 +24,6 @@ use Rattle.cacheless.specs.Ends.{End, Ends, Commits, TakesBack}
 use Rattle.cacheless.specs.Plays.{drafted}
 use Rattle.cacheless.specs.SameItems.{same_items}
 use Rattle.cacheless.specs.State.{owed_at, owed_first, one_if, is_kept, rows_kept, act_missing, is_visible_at, unsent_at, xid_at, has_write_since, end_at}
-
--- the answer of a test decides what is so
-pub record Decides (P : Type 0) (t : Bool) : Type 0 where
-  pub yes : t ≡ true → P
-  pub no : P → t ≡ true
 
 -- the counts are small enough to be summed
 abbrev pub HasRoom : Progress → Type 0
@@ -98,16 +94,16 @@ abbrev pub is_write_at : ℕ → List Item → Plan → Bool
 is_write_at next written (Do (Write draft) rest) = same_items written (drafted next draft)
 is_write_at next written plan = false
 
--- the new name that an item gives a relation, if it gives one: none where the row that is kept of it has it already
-abbrev pub names_at : List KeptScan → Item → List (List ℕ)
-names_at kept (items.Add (rows.Class oid name kind fill)) = name ∷ []
-names_at kept (items.Put (rows.Class oid name kind fill)) = if list_any (has_name name) (rows_kept kept (scans.Class oid)) then [] else name ∷ []
-names_at kept item = []
+-- the new name that a change gives a relation, if it gives one: none where the row that is kept of it has it already
+abbrev pub names_by : List KeptScan → Change → List (List ℕ)
+names_by kept (changes.Insert (rows.Class oid name kind fill)) = name ∷ []
+names_by kept (changes.Replace (rows.Class oid name kind fill)) = if list_any (has_name name) (rows_kept kept (scans.Class oid)) then [] else name ∷ []
+names_by kept change = []
 
 -- the next act writes a relation of this name
-abbrev pub is_clash_at : ℕ → List KeptScan → List ℕ → Plan → Bool
-is_clash_at next kept name (Do (Write draft) rest) = list_any (bytes_eq name) (flat_map (names_at kept) (drafted next draft))
-is_clash_at next kept name plan = false
+abbrev pub is_clash_at : List KeptScan → List ℕ → Plan → Bool
+is_clash_at kept name (Do (Write draft) rest) = list_any (bytes_eq name) (flat_map (names_by kept) draft.changes)
+is_clash_at kept name plan = false
 
 -- the scan may come next
 abbrev pub may_scan_at : Purpose → Progress → Bool
@@ -122,8 +118,8 @@ abbrev pub may_write_at : ℕ → Command → List Item → Progress → Bool
 may_write_at next command written s = owes_nothing command s && is_write_at next written (plan_at s.exec)
 
 -- a write that is refused for this name may come next
-abbrev pub may_clash_at : ℕ → Command → List ℕ → Progress → Bool
-may_clash_at next command name s = owes_nothing command s && is_clash_at next s.kept name (plan_at s.exec)
+abbrev pub may_clash_at : Command → List ℕ → Progress → Bool
+may_clash_at command name s = owes_nothing command s && is_clash_at s.kept name (plan_at s.exec)
 
 -- the event is the release of these commands
 abbrev pub releases : ℕ → Event → Bool
@@ -182,8 +178,8 @@ may_play_at next command s (events.Scan scan count) = may_scan_at scan s
 may_play_at next command s (events.LockOk rel mode) = may_lock_at command rel mode s
 may_play_at next command s (events.LockHeld rel mode holder held) = may_lock_at command rel mode s
 may_play_at next command s (events.Write xid written) = may_write_at next command written s
-may_play_at next command s (events.ClashRow name rel) = may_clash_at next command name s
-may_play_at next command s (events.ClashRunning name xid) = may_clash_at next command name s
+may_play_at next command s (events.ClashRow name rel) = may_clash_at command name s
+may_play_at next command s (events.ClashRunning name xid) = may_clash_at command name s
 may_play_at next command s (events.Visible xid) = may_end_at command s (events.Visible xid)
 may_play_at next command s (events.Publish count) = may_end_at command s (events.Publish count)
 may_play_at next command s (events.Gone from) = may_end_at command s (events.Gone from)

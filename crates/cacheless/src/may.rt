@@ -25,7 +25,8 @@ impl Progress {
     ghost use Rattle.cacheless.specs.Plays.{MayPlayIn};
     ghost use Rattle.cacheless.specs.State.{owed_at, owed_first, act_missing, scans_missing, lacks_builds, session_at};
     ghost use Rattle.cacheless.specs.Holds.{Holds};
-    ghost use Rattle.cacheless.specs.May.{HasRoom, may_look_at, started_at, has_looked_at, has_failed as failed, lacks_opened, lacks_any, lacks_to_build, is_next_of_act, is_next_at, owes_nothing as nothing_owed, is_lock_at, may_scan_at, may_lock_at, may_write_at, may_clash_at, may_play_at, may_last_at, may_play_now, Decides};
+    ghost use Rattle.cacheless.specs.May.{HasRoom, may_look_at, started_at, has_looked_at, has_failed as failed, lacks_opened, lacks_any, lacks_to_build, is_next_of_act, is_next_at, owes_nothing as nothing_owed, is_lock_at, may_scan_at, may_lock_at, may_write_at, may_clash_at, may_play_at, may_last_at, may_play_now};
+    ghost use Rattle.std.specs.Bool.{Decides};
 
     /// Whether the event may come next, where the next new oid is this one: exactly where the
     /// definitions allow it, in each history of which this is the session. Condition: its counts are
@@ -34,7 +35,7 @@ impl Progress {
         requires few { self.now.finished ≤ 20000 }
         requires room { HasRoom self.now }
         ensures now { result ≡ may_play_now next_oid self.now event.now }
-        ensures decides { (scenario : Scenario) (seen : List Entry) (holds : Holds scenario seen self.now) → Decides (MayPlayIn next_oid (facts_of seen self.now.id) (slice_get self.now.commands self.now.finished) (session_at self.now holds.rest) event.now) result }
+        ensures decides { (scenario : Scenario) (seen : List Entry) (holds : Holds scenario seen self.now) → Decides result (MayPlayIn next_oid (facts_of seen self.now.id) (slice_get self.now.commands self.now.finished) (session_at self.now holds.rest) event.now) }
     {
         match self.commands.as_slice().get(self.finished as usize) {
             Some(command) => self.may_play_in(next_oid, command, event),
@@ -57,7 +58,7 @@ impl Progress {
             }
             Event::Write { items, .. } => self.may_write(next_oid, command, items.as_slice()),
             Event::ClashRow { name, .. } | Event::ClashRunning { name, .. } => {
-                self.may_clash(next_oid, command, *name)
+                self.may_clash(command, *name)
             }
             Event::Visible { .. }
             | Event::Publish { .. }
@@ -198,11 +199,10 @@ impl Progress {
     }
 
     // Whether a write that is refused for this name may come next.
-    fn may_clash(&self, next_oid: u32, command: &Command, name: Name) -> bool
-        ensures { result ≡ may_clash_at next_oid command.now name self.now }
+    fn may_clash(&self, command: &Command, name: Name) -> bool
+        ensures { result ≡ may_clash_at command.now name self.now }
     {
-        self.owes_nothing(command)
-            && gives_name(&self.exec, next_oid, self.kept.as_slice(), name)
+        self.owes_nothing(command) && gives_name(&self.exec, self.kept.as_slice(), name)
     }
 
     // Whether nothing has to come before the next act.

@@ -1,19 +1,18 @@
 // Whether a write is the one that a command wants, by the draft that it has.
 
 ghost use Rattle.std.specs.Prelude.{◌≡◌, ◌++◌, ◌∷◌, [], length, map, ◌==◌};
-ghost use Rattle.std.specs.List.{list_any};
-ghost use Rattle.std.specs.Option.{option_map, option_eq};
+ghost use Rattle.std.specs.List.{list_any, flat_map};
+ghost use Rattle.std.specs.Option.{option_eq};
 ghost use Rattle.std.specs.Str.{bytes_eq};
 ghost use Rattle.base_types.specs.Scans.{same_oid as oids_match};
-ghost use Rattle.ddl_effect.specs.Commands.{deleting};
 ghost use Rattle.ddl_effect.specs.Drawing.{drawn_oid, drawn_row, drawn_change};
-ghost use Rattle.ddl_effect.specs.Stages.{plan_at};
-ghost use Rattle.history_model.specs.Changes.{item_of};
+ghost use Rattle.ddl_effect.specs.Stages.{plan_at, altering_at};
+ghost use Rattle.history_model.specs.Changes.{item_of, items_of};
 ghost use Rattle.history_model.specs.Covered.{same_row as rows_match, same_demand as demands_match};
 ghost use Rattle.history_model.specs.Names.{has_name as is_named};
 ghost use Rattle.cacheless.specs.Plays.{drafted};
 ghost use Rattle.cacheless.specs.SameItems.{same_item as items_match, same_items as all_match, changes_match, forced_match, IsOther};
-ghost use Rattle.cacheless.specs.May.{is_write_at, is_clash_at, names_at};
+ghost use Rattle.cacheless.specs.May.{is_write_at, is_clash_at, names_by};
 
 use crate::KeptScan;
 use crate::silent::rows_kept;
@@ -27,10 +26,7 @@ pub(crate) fn writes_items(exec: &Exec, next: u32, items: &[Item]) -> bool
 {
     match exec {
         Exec::Writing(draft) => writes_draft(draft, next, items),
-        Exec::Altering(Altering::Inserting { row }) => is_insertion(items, row),
-        Exec::Altering(Altering::Replacing { deleted, row }) => {
-            is_replacement(items, deleted.as_ref(), row)
-        }
+        Exec::Altering(altering) => writes_row(altering, next, items),
         _ => false,
     }
 }
@@ -39,13 +35,54 @@ pub(crate) fn writes_items(exec: &Exec, next: u32, items: &[Item]) -> bool
 fn writes_draft(draft: &Draft, next: u32, items: &[Item]) -> bool
     ensures { result ≡ all_match items.now (drafted next draft.now) }
 {
-    let changes = draft.changes.as_slice();
-    let forced = draft.forced.as_slice();
+    are_drafted(
+        items,
+        draft.changes.as_slice(),
+        draft.forced.as_slice(),
+        next,
+        draft.new_oids,
+    )
+}
+
+// Whether an alteration writes these items.
+fn writes_row(altering: &Altering, next: u32, items: &[Item]) -> bool
+    ensures { result ≡ is_write_at next items.now (altering_at altering.now) }
+{
+    match altering {
+        Altering::Inserting { row } => are_drafted(items, &[Change::Insert(*row)], &[], next, 0),
+        Altering::Replacing { deleted: None, row } => {
+            are_drafted(items, &[Change::Replace(*row)], &[], next, 0)
+        }
+        Altering::Replacing {
+            deleted: Some(old),
+            row,
+        } => are_drafted(
+            items,
+            &[Change::Delete(old.key()), Change::Replace(*row)],
+            &[],
+            next,
+            0,
+        ),
+        _ => false,
+    }
+}
+
+// Whether these are the items of changes, in which an oid from 1 to `new_oids` means a new one, and of
+// the relations that are forced to send a message.
+fn are_drafted(
+    items: &[Item],
+    changes: &[Change],
+    forced: &[Oid],
+    next: u32,
+    new_oids: u32,
+) -> bool
+    ensures { result ≡ all_match items.now (items_of (map (drawn_change next new_oids) changes.now) forced.now) }
+{
     if items.len() < changes.len() {
         return false;
     }
-    let (changed, others) = items.split_at(changes.len());
-    are_changes(changed, changes, next, draft.new_oids) && are_forced(others, forced)
+    are_changes(&items[..changes.len()], changes, next, new_oids)
+        && are_forced(&items[changes.len()..], forced)
 }
 
 // Whether these are the items of changes, as many, in which an oid from 1 to `new_oids` means a new one.
@@ -95,29 +132,6 @@ fn is_forced(item: &Item, rel: Oid) -> bool
 {
     match item {
         Item::Force(other) => other.0 == rel.0,
-        _ => false,
-    }
-}
-
-// Whether the items are the insertion of this row alone.
-fn is_insertion(items: &[Item], row: &Row) -> bool
-    ensures { result ≡ all_match items.now (Item.Add row.now ∷ []) }
-{
-    match items {
-        [Item::Add(added)] => is_drawn(added, row, 0, 0),
-        _ => false,
-    }
-}
-
-// Whether the items are the deletion of a row, if one is deleted, and the replacement by this row.
-fn is_replacement(items: &[Item], deleted: Option<&Row>, row: &Row) -> bool
-    ensures { result ≡ all_match items.now (map item_of (deleting (option_map (λ old. old.now) deleted.entry) ++ Change.Replace row.now ∷ [])) }
-{
-    match (items, deleted) {
-        ([Item::Put(put)], None) => is_drawn(put, row, 0, 0),
-        ([Item::Remove(key), Item::Put(put)], Some(old)) => {
-            key.is(&old.key()) && is_drawn(put, row, 0, 0)
-        }
         _ => false,
     }
 }
@@ -247,53 +261,53 @@ fn same_name(a: &Name, b: &Name) -> bool
     a.as_bytes() == b.as_bytes()
 }
 
-// Whether the next act writes a relation of this new name, where the next new oid is this one.
-pub(crate) fn gives_name(exec: &Exec, next: u32, kept: &[KeptScan], name: Name) -> bool
-    ensures { result ≡ is_clash_at next kept.now name (plan_at exec.now) }
+// Whether the next act writes a relation of this new name.
+pub(crate) fn gives_name(exec: &Exec, kept: &[KeptScan], name: Name) -> bool
+    ensures { result ≡ is_clash_at kept.now name (plan_at exec.now) }
 {
     match exec {
-        Exec::Writing(draft) => draft
-            .changes
-            .as_slice()
-            .iter()
-            .any(|change| change_gives(change, next, draft.new_oids, kept, name)),
-        Exec::Altering(Altering::Inserting { row }) => inserts_name(row, name),
-        Exec::Altering(Altering::Replacing { row, .. }) => puts_name(row, kept, name),
+        Exec::Writing(draft) => draft_gives(draft, kept, name),
+        Exec::Altering(altering) => alteration_gives(altering, kept, name),
         _ => false,
     }
 }
 
-// Whether a change gives a relation this new name.
-fn change_gives(change: &Change, next: u32, new_oids: u32, kept: &[KeptScan], name: Name) -> bool
-    ensures { result ≡ list_any (bytes_eq name) (names_at kept.now (item_of (drawn_change next new_oids change.now))) }
+// Whether a draft gives a relation this new name.
+fn draft_gives(draft: &Draft, kept: &[KeptScan], name: Name) -> bool
+    ensures { result ≡ list_any (bytes_eq name) (flat_map (names_by kept.now) draft.now.changes) }
 {
-    match change {
-        Change::Insert(row) => inserts_name(row, name),
-        Change::Replace(row) => match drawn_class(row, next, new_oids) {
-            Some(drawn) => puts_name(&drawn, kept, name),
-            None => false,
-        },
-        Change::Delete(_) => false,
+    any_gives(draft.changes.as_slice(), kept, name)
+}
+
+// Whether one of the changes gives a relation this new name.
+fn any_gives(changes: &[Change], kept: &[KeptScan], name: Name) -> bool
+    ensures { result ≡ list_any (λ change. list_any (bytes_eq name) (names_by kept.now change)) changes.now }
+{
+    changes.iter().any(|change| change_gives(change, kept, name))
+}
+
+// Whether an alteration gives a relation this new name.
+fn alteration_gives(altering: &Altering, kept: &[KeptScan], name: Name) -> bool
+    ensures { result ≡ is_clash_at kept.now name (altering_at altering.now) }
+{
+    match altering {
+        Altering::Inserting { row } => change_gives(&Change::Insert(*row), kept, name),
+        Altering::Replacing { row, .. } => change_gives(&Change::Replace(*row), kept, name),
+        _ => false,
     }
 }
 
-// The row of a relation with its new oid, if that isn't too great to be drawn.
-fn drawn_class(row: &Row, next: u32, new_oids: u32) -> Option<Row> {
-    match row {
-        Row::Class { oid, name, kind, fill } => {
-            let drawn = if oid.0 >= 1 && oid.0 <= new_oids {
-                next.checked_add(oid.0 - 1)?
-            } else {
-                oid.0
-            };
-            Some(Row::Class {
-                oid: Oid(drawn),
-                name: *name,
-                kind: *kind,
-                fill: *fill,
-            })
+// Whether a change gives a relation this new name: a row that is put gives none which the row that is
+// kept of it has already.
+fn change_gives(change: &Change, kept: &[KeptScan], name: Name) -> bool
+    ensures { result ≡ list_any (bytes_eq name) (names_by kept.now change.now) }
+{
+    match change {
+        Change::Insert(Row::Class { name: own, .. }) => same_name(&name, own),
+        Change::Replace(Row::Class { oid, name: own, .. }) => {
+            same_name(&name, own) && !has_name(rows_kept(kept, Purpose::Class(*oid)), own)
         }
-        _ => None,
+        _ => false,
     }
 }
 
@@ -305,26 +319,4 @@ fn has_name(given: &[Row], name: &Name) -> bool
         Row::Class { name: own, .. } => same_name(own, name),
         _ => false,
     })
-}
-
-// Whether a new row gives a relation this name.
-fn inserts_name(row: &Row, name: Name) -> bool
-    ensures { result ≡ list_any (bytes_eq name) (names_at [] (Item.Add row.now)) }
-{
-    match row {
-        Row::Class { name: own, .. } => same_name(&name, own),
-        _ => false,
-    }
-}
-
-// Whether a row gives a relation this name, which the row that was read of it hasn't.
-fn puts_name(row: &Row, kept: &[KeptScan], name: Name) -> bool
-    ensures { result ≡ list_any (bytes_eq name) (names_at kept.now (Item.Put row.now)) }
-{
-    match row {
-        Row::Class { oid, name: own, .. } => {
-            same_name(&name, own) && !has_name(rows_kept(kept, Purpose::Class(*oid)), own)
-        }
-        _ => false,
-    }
 }
