@@ -1,5 +1,5 @@
 -- What an alteration of a table writes may be written, and keeps tables.
-use Rattle.std.proofs.Common.{◌≡◌, ◌∙◌, ◌+◌, ◌-◌, ◌⊎◌, inl, inr, ℕ, zero, suc, ℤ, negsuc, Bool, true, false, Option, Some, None, List, [], ◌∷◌, ◌++◌, ◌||◌, ◌&&◌, refl, sym, ap, subst, map, length, not, nat_le, append-nil}
+use Rattle.std.proofs.Common.{◌≡◌, ◌∙◌, ◌+◌, ◌-◌, ◌⊎◌, inl, inr, ℕ, zero, suc, ℤ, negsuc, Bool, true, false, Option, Some, None, List, [], ◌∷◌, ◌++◌, ◌||◌, ◌&&◌, refl, sym, ap, subst, map, length, not, nat_le, append-nil, ◌<◌, arith}
 use Rattle.std.specs.Prelude.{⊤, if◌then◌else◌}
 use Rattle.std.specs.Int.{int_min}
 use Rattle.std.specs.List.{AllByRecursion, find, flat_map, list_any}
@@ -78,6 +78,7 @@ pub record MayAlter (before : List Entry) (b count : ℕ) (items : List Item) : 
   pub keeps : KeepsTables before b items
   pub nameless : new_names before b items ≡ []
   pub lockless : (c : ℕ) → flat_map (locked_by c) items ≡ []
+  pub some : 0 < length items
 
 -- the items of a draft are such
 abbrev pub MayBeWritten : List Entry → ℕ → Draft → Type 0
@@ -107,6 +108,7 @@ replaced before b rel old new r = by_items before b (Replace new ∷ []) (record
   keeps = record { stay = refl; names = (name_kept before b rel old new r, tt); columns = refl };
   nameless = ap (λ l. l ++ []) (none_named before b rel old new r);
   lockless = λ c. refl;
+  some = omega arith;
 })
 
 -- the row that replaces that of a column has its key, is of its table, and gives no relation a name
@@ -173,6 +175,7 @@ added_fits before b relations column col_type draft writes has numbered = subst 
   keeps = record { stay = refl; names = (tt, tt); columns = ap (λ t. t && true) (next_number count is_there (of numbered.last)) };
   nameless = refl;
   lockless = λ c. refl;
+  some = omega arith;
 }))
   where
     count : ℕ
@@ -215,6 +218,7 @@ dropped_fits before b relations column draft sound writes has = subst (MayBeWrit
       keeps = record { stay = refl; names = (tt, (name_kept before b rel writes.row new r, tt)); columns = refl };
       nameless = (λ i. new_name (was i) None ++ (none_named before b rel writes.row new r i ++ []));
       lockless = λ c. refl;
+      some = omega arith;
     })
       where
         of_table : own ≡ rel

@@ -55,6 +55,7 @@ pub mod Releases
 pub mod NextOnCourse
 pub mod NextKeeps
 pub mod AllowedHistories
+pub mod WritesChange
 pub mod Economical
 pub mod ReadPlaces
 pub mod OpenedOne

@@ -1,5 +1,5 @@
 -- What a command is about to write, a new table or an alteration of one, may be written.
-use Rattle.std.proofs.Common.{◌≡◌, ◌∙◌, ◌⊎◌, inl, inr, ℕ, Bool, true, false, Option, Some, None, List, [], ◌∷◌, ◌++◌, refl, sym, ap, subst, map, length, nat_le}
+use Rattle.std.proofs.Common.{◌≡◌, ◌∙◌, ◌⊎◌, inl, inr, ℕ, Bool, true, false, Option, Some, None, List, [], ◌∷◌, ◌++◌, refl, sym, ap, subst, map, length, nat_le, ◌<◌, arith}
 use Rattle.std.specs.List.{list_any, flat_map}
 use Rattle.std.specs.Str.{bytes_eq}
 use Rattle.std.proofs.lemmas.List.{append-nil}
@@ -32,9 +32,10 @@ use Rattle.cacheless.specs.Types.{Oid, Mode, Kind, Row, Command, CommandError, D
 use Rattle.cacheless.proofs.FitToWrite.{IsFit}
 use Rattle.cacheless.proofs.NewTable.{new_table_fits, new_table_locks, new_table_names}
 
--- a draft may be written, but for its names and that its command has written nothing yet; it keeps tables; the names that the history sees in it are those of its plan; and it takes the lock of the relation that it makes, if it makes one
+-- a draft may be written, but for its names and that its command has written nothing yet; it changes something; it keeps tables; the names that the history sees in it are those of its plan; and it takes the lock of the relation that it makes, if it makes one
 pub record WriteFits (history : List Entry) (b c : ℕ) (facts : Facts) (draft : Draft) : Type 0 where
   pub fit : IsFit history b draft.new_oids (drafted (next_oid history) draft)
+  pub some : 0 < length (drafted (next_oid history) draft)
   pub keeps : KeepsTables history b (drafted (next_oid history) draft)
   pub names : (name : List ℕ) → list_any (bytes_eq name) (new_names history b (drafted (next_oid history) draft)) ≡ true → list_any (bytes_eq name) (flat_map (names_of facts) (drafted (next_oid history) draft)) ≡ true
   pub locks : (rel : Oid) (locks : List OwnLock) → rel.0 ≡ next_oid history → locks ++ flat_map (locked_by c) (drafted (next_oid history) draft) ≡ locks_written draft.new_oids rel c locks
@@ -43,6 +44,7 @@ pub record WriteFits (history : List Entry) (b c : ℕ) (facts : Facts) (draft :
 table_fits : (history : List Entry) (b c : ℕ) (facts : Facts) (draft : Draft) → IsSound history → IsTableDraft draft → WriteFits history b c facts draft
 table_fits history b c facts draft sound table = record {
   fit = new_table_fits history b draft sound table;
+  some = subst (λ d. 0 < length (drafted (next_oid history) d)) (sym table.is) (omega arith);
   keeps = subst (λ d. KeepsTables history b (drafted (next_oid history) d)) (sym table.is) (tables.new_table_keeps history b table.name table.columns);
   names = λ name is. ap (list_any (bytes_eq name)) (sym (new_table_names history b facts draft table)) ∙ is;
   locks = λ rel locks first.
@@ -54,6 +56,7 @@ table_fits history b c facts draft sound table = record {
 rows_fit : (history : List Entry) (b c : ℕ) (facts : Facts) (draft : Draft) → IsRowsDraft draft → MayBeWritten history b draft → WriteFits history b c facts draft
 rows_fit history b c facts draft drawn may = record {
   fit = may.fit;
+  some = may.some;
   keeps = may.keeps;
   names = λ name is. absurd (let no : false ≡ true = sym (ap (list_any (bytes_eq name)) may.nameless) ∙ is in cc no);
   locks = λ rel locks first. ap (λ l. locks ++ l) (may.lockless c) ∙ append-nil locks ∙ sym (ap (λ d. locks_written d.new_oids rel c locks) drawn.is);

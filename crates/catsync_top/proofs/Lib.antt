@@ -1,3 +1,4 @@
 pub mod Words
 pub mod NotBuilt
 pub mod Running
+pub mod Readable

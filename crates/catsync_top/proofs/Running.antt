@@ -13,6 +13,8 @@ use Rattle.walk_run.specs.Built.{is_built}
 use Rattle.walk_run.specs.Sessions.{AreSessions}
 use Rattle.out_text.specs.Typed.{IsTyped, IsLine}
 use Rattle.out_text.proofs.OneHistory.{spells_only}
+use Rattle.cacheless.proofs.WritesChange.{allowed_changes}
+use Rattle.catsync_top.proofs.Readable.{all_read}
 use Rattle.catsync_top.specs.Top.{Ran}
 
 -- a script that was read and can be walked, and an output for it that was written, whose entries and lines are typed
@@ -29,7 +31,7 @@ has_run left rest taken now Writes items input output reading built answers sess
   output = output;
   is = is;
   sound = sound;
-  entries = entries;
+  entries = all_read is.history entries (allowed_changes reading.script is.history is.allowed);
   answers = lines;
   only = spells_only output is.history (lines_of reading.script is.history) is.text_is entries lines;
   are = subst (AreSessions reading.script is.history (lines_of reading.script is.history)) (sym handed) (subst (λ l. AreSessions reading.script is.history l backends) as_defined have);
