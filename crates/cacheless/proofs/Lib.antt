@@ -84,3 +84,4 @@ pub mod Passing
 pub mod Others
 pub mod Matching
 pub mod SameRows
+pub mod Deciding

@@ -37,6 +37,15 @@ impl Progress {
         ensures now { result ≡ may_play_now next_oid self.now event.now }
         ensures decides { (scenario : Scenario) (seen : List Entry) (holds : Holds scenario seen self.now) → Decides result (MayPlayIn next_oid (facts_of seen self.now.id) (slice_get self.now.commands self.now.finished) (session_at self.now holds.rest) event.now) }
     {
+        self.may_now(next_oid, event)
+    }
+
+    // The same, by what it holds.
+    fn may_now(&self, next_oid: u32, event: &Event) -> bool
+        requires few { self.now.finished ≤ 20000 }
+        requires room { HasRoom self.now }
+        ensures { result ≡ may_play_now next_oid self.now event.now }
+    {
         match self.commands.as_slice().get(self.finished as usize) {
             Some(command) => self.may_play_in(next_oid, command, event),
             None => self.may_last(event),
