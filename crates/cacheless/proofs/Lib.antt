@@ -62,3 +62,4 @@ pub mod ToldAnswers
 pub mod JudgedLines
 pub mod OpenedReads
 pub mod ToldAlike
+pub mod KeptTells
