@@ -85,3 +85,4 @@ pub mod Others
 pub mod Matching
 pub mod SameRows
 pub mod Deciding
+pub mod KeptTells

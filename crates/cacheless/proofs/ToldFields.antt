@@ -40,7 +40,7 @@ field_among P Index rel fields.Valid has all = all.1.0
 field_among P Index rel field has all = absurd (cc)
 
 -- where none is owed, each is usable
-none_unusable : (facts : Facts) (wanted : List Purpose) → unusable facts wanted ≡ [] → AllByRecursion (λ scan. facts.usable scan ≡ true) wanted
+pub none_unusable : (facts : Facts) (wanted : List Purpose) → unusable facts wanted ≡ [] → AllByRecursion (λ scan. facts.usable scan ≡ true) wanted
 none_unusable facts [] none = tt
 none_unusable facts (scan ∷ wanted) none = by_first (facts.usable scan) refl none (none_unusable facts wanted)
   where
