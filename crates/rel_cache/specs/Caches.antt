@@ -3,7 +3,7 @@ use Rattle.std.specs.Prelude.{◌≡◌, ◌≢◌, ◌&&◌, ℕ, ◌<◌, ◌�
 use Rattle.std.specs.Option.{option_map, option_and_then, option_map_or}
 use Rattle.indexmap.specs.IndexMap.{get, keys, index_map_len}
 use Rattle.base_types.specs.declared.ids.Oid.{Oid}
-use Rattle.pin_pool.specs.Pools.{entry_of}
+use Rattle.pin_pool.specs.Pools.{entry_of, HasGone}
 use Rattle.pin_pool.specs.declared.pool.Pool.{Pool}
 use Rattle.pin_pool.specs.declared.reference.Ref.{Ref}
 use Rattle.rel_cache.specs.Descriptors.{Held, told}
@@ -23,6 +23,10 @@ module _ {D : Type 0} where
   -- the relation's descriptor is held under the reference
   abbrev pub HeldUnder : RelCache D → Oid → Ref → Type 0
   HeldUnder cache rel r = option_map (λ h. h.at) (held_of cache rel) ≡ Some r
+
+  -- the reference was given by the cache, and its descriptor has gone
+  abbrev pub HasGoneFrom : RelCache D → Ref → Type 0
+  HasGoneFrom cache r = HasGone cache.descriptors r
 
   -- this is held of the relation now, and of every other what was
   pub record ChangesHeld (old new : RelCache D) (rel : Oid) (held : Option (Held D)) : Type 0 where
