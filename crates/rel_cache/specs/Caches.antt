@@ -17,7 +17,7 @@ module _ {D : Type 0} where
   held_at pool place = option_map (λ e. record { at = place.at; value = e.value.value; pins = e.pins; valid = place.valid }) (entry_of pool place.at)
 
   -- the descriptor of a relation
-  abbrev pub held_of : RelCache D → Oid → Option (Held D)
+  unfoldable pub held_of : RelCache D → Oid → Option (Held D)
   held_of cache rel = option_and_then (held_at cache.descriptors) (get nat_eq cache.index rel.0)
 
   -- the relation's descriptor is held under the reference

@@ -22,6 +22,7 @@ pub struct RelCache<D> {
     ghost placed: { ArePlaced descriptors index },
 }
 
+#[tactic(auto, unfolding(crate::specs::Caches::held_of))]
 impl<D: Drop> RelCache<D> {
     ghost use Rattle.rel_cache.specs.Descriptors.{Held, opened, need, new_held, opened_once, closed_once, renewed, told};
     ghost use Rattle.rel_cache.specs.Caches.{held_of, HeldUnder, HasGoneFrom, ChangesHeld, awaits, AreTold, relation_at};

@@ -1,10 +1,12 @@
 use Rattle.std.proofs.Common.{◌≡◌, Some, None, nat_eq, sym, subst}
 use Rattle.indexmap.specs.IndexMap.{get}
+use Rattle.rel_cache.specs.Caches.{held_of}
 use Rattle.rel_cache.proofs.Agreeing.{stands}
 use Rattle.rel_cache.proofs.Calls.{own_relation, mark_under, not_there}
 use Rattle.rel_cache.proofs.rel_cache.RelCache.is_valid.Goals as goal
 
 pub unreachable-requires : goal.unreachable-requires
+unfolding held_of
 unreachable-requires g c =
     let cache = c.args.self.now in
     let rel = c.requires.0.0 in
@@ -13,6 +15,7 @@ unreachable-requires g c =
     not_there cache.descriptors cache.index rel c.args.r.now s (subst (λ n. get nat_eq cache.index n ≡ None) own (sym c.in_default.ensures.value))
 
 pub returns : goal.returns
+unfolding held_of
 returns g c = λ rel under.
     let cache = c.args.self.now in
     let s = stands cache.descriptors cache.index rel.0 c.args.r.now cache.indexed under in
