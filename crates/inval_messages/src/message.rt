@@ -34,7 +34,9 @@ impl Message {
 
 impl Default for Message {
     /// The message that fills a place of a buffer which holds no message yet: for no relation's oid.
-    fn default() -> Message {
+    fn default() -> Message
+        ensures { result ≡ Message.Rel (record { 0 = 0 }) }
+    {
         Message::Rel { rel: Oid(0) }
     }
 }

@@ -28,9 +28,10 @@ impl<T> Pool<T> {
     ghost use Rattle.pin_pool.specs.Entries.{new_entry, pinned, with_value, unpinned, marked, value_at_unpin, value_at_mark};
     ghost use Rattle.pin_pool.specs.Pools.{entry_of, HasGone, IsSame, Changes};
 
-    /// No entries, which takes no memory.
+    /// No entries, and none has gone, which takes no memory.
     pub fn new(alloc: Global) -> Pool<T>
-        ensures { (r : _) → entry_of result r ≡ None }
+        ensures none { (r : _) → entry_of result r ≡ None }
+        ensures gone { (r : _) → HasGone result r → ⊥ }
     {
         Pool {
             places: Slab::new(alloc),
@@ -162,6 +163,7 @@ impl<T> Pool<T> {
         requires { IsSome (entry_of self.old r.now) }
         ensures value { option_map (λ e. e.value) (entry_of self.old r.now) ≡ Some result }
         ensures entry { Changes self.old self.new r.now None }
+        ensures vacant { slice_index self.old.generations.items r.now.place < 4294967295 → slot_at self.new.places r.now.place ≡ None }
     {
         if self.generations[r.place] < u32::MAX {
             return self.places.remove(r.place).into_value();

@@ -8,7 +8,7 @@ use Rattle.pin_pool.specs.Pools.{entry_of, Changes}
 use Rattle.pin_pool.specs.declared.pool.Pool.{Pool}
 use Rattle.pin_pool.specs.declared.reference.Ref.{Ref}
 use Rattle.rel_cache.specs.Descriptors.{Held, opened_once, closed_once, renewed, told, new_held}
-use Rattle.rel_cache.specs.Named.{AreIndexed, ArePlaced, with_mark}
+use Rattle.rel_cache.specs.Named.{whose, AreIndexed, ArePlaced, with_mark}
 use Rattle.rel_cache.specs.Caches.{held_at}
 use Rattle.rel_cache.specs.declared.kept.Kept.{Kept}
 use Rattle.rel_cache.specs.declared.kept.Place.{Place}
@@ -24,6 +24,28 @@ module _ {D S : Type 0} where
       → option_and_then (held_at pool) (get nat_eq index rel) ≡ Some (record { at = r; value = s.entry.value.value; pins = s.entry.pins; valid = s.place.valid })
   held_under pool index rel r s =
       held_there pool index rel s.place s.entry s.there (ap (entry_of pool) s.at ∙ s.is) ∙ ap (λ a. Some (record { at = a; value = s.entry.value.value; pins = s.entry.pins; valid = s.place.valid })) s.at
+
+  -- nothing stands under a reference that names nothing
+  pub unnamed_under : (pool : Pool (Kept D)) (index : IndexMap ℕ Place S) (rel : ℕ) (r : Ref) → Stands pool index rel r → entry_of pool r ≡ None → ⊥
+  unnamed_under pool index rel r s unnamed = some_none s.entry (sym s.is ∙ unnamed)
+
+  -- what stands under a reference is of one relation
+  pub one_relation : (pool : Pool (Kept D)) (index : IndexMap ℕ Place S) (rel other : ℕ) (r : Ref) → Stands pool index rel r → Stands pool index other r → other ≡ rel
+  one_relation pool index rel other r s t =
+      let same : Some t.entry ≡ Some s.entry = sym t.is ∙ s.is in
+      let entries : t.entry ≡ s.entry = cc in
+      ap (λ p. p.0) (sym t.own ∙ ap whose entries ∙ s.own)
+
+  -- the relation has a place then
+  pub not_there : (pool : Pool (Kept D)) (index : IndexMap ℕ Place S) (rel : ℕ) (r : Ref) → Stands pool index rel r → get nat_eq index rel ≡ None → ⊥
+  not_there pool index rel r s none = some_none s.place (sym s.there ∙ none)
+
+  -- its mark is the one at the relation's place
+  pub mark_under : (pool : Pool (Kept D)) (index : IndexMap ℕ Place S) (rel : ℕ) (r : Ref) (place : Place) → Stands pool index rel r → get nat_eq index rel ≡ Some place → option_map (λ h. h.valid) (option_and_then (held_at pool) (get nat_eq index rel)) ≡ Some place.valid
+  mark_under pool index rel r place s found =
+      let same : Some s.place ≡ Some place = sym s.there ∙ found in
+      let places : s.place ≡ place = cc in
+      ap (option_map (λ (h : Held D). h.valid)) (held_under pool index rel r s) ∙ ap (λ p. Some p.valid) places
 
   -- the value under a reference is the relation's
   pub own_relation : (pool : Pool (Kept D)) (index : IndexMap ℕ Place S) (rel : ℕ) (r : Ref) (v : Kept D) → Stands pool index rel r → option_map (λ e. e.value) (entry_of pool r) ≡ Some v → v.rel.0 ≡ rel

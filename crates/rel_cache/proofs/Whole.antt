@@ -22,6 +22,7 @@ at_some P o x is holds = subst (λ o. IfSome o P) is holds
 
 module _ {D : Type 0} where
   pub changes : (old new : RelCache D) (rel : Oid) (held : Option (Held D)) → Leaves old.descriptors new.descriptors old.index new.index rel.0 held → ChangesHeld old new rel held
+  unfolding held_of
   changes old new rel held leaves = record { at = leaves.at; others = λ other differs. leaves.others other.0 (λ same. differs (by_number other rel same)) }
 
   -- one more place is told, and what is held is still told alike
@@ -37,10 +38,12 @@ module _ {D : Type 0} where
 
   -- where all places are told, what is held is what was, told
   pub told_whole : (cache : RelCache D) (was : Oid → Option (Held D)) → AreTold cache 0 → ((r : Oid) → option_and_then told (held_of cache r) ≡ option_and_then told (was r)) → (r : Oid) → held_of cache r ≡ option_and_then told (was r)
+  unfolding held_of
   told_whole cache was all same r = sym (told_all cache.descriptors cache.index all r.0) ∙ same r
 
   -- a relation that awaits a build has its place
   waiting_place : (cache : RelCache D) (above : Option Oid) (rel : Oid) → IsTrue (awaits cache above rel) → (k : ℕ) × (k < index_map_len cache.index) × (relation_at cache k ≡ rel)
+  unfolding held_of
   waiting_place cache above rel is = by (get nat_eq cache.index rel.0) refl
     where
       by : (o : Option Place) → get nat_eq cache.index rel.0 ≡ o → (k : ℕ) × (k < index_map_len cache.index) × (relation_at cache k ≡ rel)
@@ -105,6 +108,7 @@ module _ {D : Type 0} where
   -- whether the relation at a place awaits a build
   pub awaits_there : (cache : RelCache D) (above : Option Oid) (i rel n : ℕ) (place : Place) → slice_get cache.index.entries i ≡ Some (rel, place) → get nat_eq cache.index rel ≡ Some place → option_map (λ e. e.pins) (entry_of cache.descriptors place.at) ≡ Some n
       → awaits cache above (relation_at cache i) ≡ (option_map_or (λ other. nat_lt other.0 rel) above true && (not place.valid && nat_lt 0 n))
+  unfolding held_of
   awaits_there cache above i rel n place at found pins =
       let e = mapped_from (λ e. e.pins) (entry_of cache.descriptors place.at) n pins in
       let held = held_there cache.descriptors cache.index rel place e.0 found e.1 in

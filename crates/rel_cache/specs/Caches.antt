@@ -3,7 +3,7 @@ use Rattle.std.specs.Prelude.{◌≡◌, ◌≢◌, ◌&&◌, ℕ, ◌<◌, ◌�
 use Rattle.std.specs.Option.{option_map, option_and_then, option_map_or}
 use Rattle.indexmap.specs.IndexMap.{get, keys, index_map_len}
 use Rattle.base_types.specs.declared.ids.Oid.{Oid}
-use Rattle.pin_pool.specs.Pools.{entry_of}
+use Rattle.pin_pool.specs.Pools.{entry_of, HasGone}
 use Rattle.pin_pool.specs.declared.pool.Pool.{Pool}
 use Rattle.pin_pool.specs.declared.reference.Ref.{Ref}
 use Rattle.rel_cache.specs.Descriptors.{Held, told}
@@ -17,12 +17,16 @@ module _ {D : Type 0} where
   held_at pool place = option_map (λ e. record { at = place.at; value = e.value.value; pins = e.pins; valid = place.valid }) (entry_of pool place.at)
 
   -- the descriptor of a relation
-  abbrev pub held_of : RelCache D → Oid → Option (Held D)
+  unfoldable pub held_of : RelCache D → Oid → Option (Held D)
   held_of cache rel = option_and_then (held_at cache.descriptors) (get nat_eq cache.index rel.0)
 
   -- the relation's descriptor is held under the reference
   abbrev pub HeldUnder : RelCache D → Oid → Ref → Type 0
   HeldUnder cache rel r = option_map (λ h. h.at) (held_of cache rel) ≡ Some r
+
+  -- the reference was given by the cache, and its descriptor has gone
+  abbrev pub HasGoneFrom : RelCache D → Ref → Type 0
+  HasGoneFrom cache r = HasGone cache.descriptors r
 
   -- this is held of the relation now, and of every other what was
   pub record ChangesHeld (old new : RelCache D) (rel : Oid) (held : Option (Held D)) : Type 0 where

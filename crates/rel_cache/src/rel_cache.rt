@@ -22,9 +22,10 @@ pub struct RelCache<D> {
     ghost placed: { ArePlaced descriptors index },
 }
 
+#[tactic(auto, unfolding(crate::specs::Caches::held_of))]
 impl<D: Drop> RelCache<D> {
     ghost use Rattle.rel_cache.specs.Descriptors.{Held, opened, need, new_held, opened_once, closed_once, renewed, told};
-    ghost use Rattle.rel_cache.specs.Caches.{held_of, HeldUnder, ChangesHeld, awaits, AreTold, relation_at};
+    ghost use Rattle.rel_cache.specs.Caches.{held_of, HeldUnder, HasGoneFrom, ChangesHeld, awaits, AreTold, relation_at};
 
     /// No descriptors, which takes no memory.
     pub fn new(alloc: Global) -> RelCache<D>
@@ -67,12 +68,26 @@ impl<D: Drop> RelCache<D> {
         let _ = self.descriptors.unpin(&r);
     }
 
-    /// The descriptor under a reference. Condition: one is held under it.
+    /// The descriptor under a reference, which is of one relation alone. Condition: one is held under it.
     pub fn get(&self, r: &Ref) -> &D
         requires { (rel : _) × HeldUnder self.now rel r.now }
-        ensures { (rel : _) → HeldUnder self.now rel r.now → option_map (λ h. h.value) (held_of self.now rel) ≡ Some result.now }
+        ensures value { (rel : _) → HeldUnder self.now rel r.now → option_map (λ h. h.value) (held_of self.now rel) ≡ Some result.now }
+        ensures one { (rel : _) → (other : _) → HeldUnder self.now rel r.now → HeldUnder self.now other r.now → other ≡ rel }
     {
         &self.descriptors.get(r).value
+    }
+
+    /// Whether nothing has made the descriptor under a reference out of date (`rd_isvalid` of a relation in
+    /// `src/include/utils/rel.h`). Condition: one is held under it.
+    pub fn is_valid(&self, r: &Ref) -> bool
+        requires { (rel : _) × HeldUnder self.now rel r.now }
+        ensures { (rel : _) → HeldUnder self.now rel r.now → option_map (λ h. h.valid) (held_of self.now rel) ≡ Some result }
+    {
+        let rel = self.descriptors.get(r).rel;
+        let Some(place) = self.index.get(&rel.0) else {
+            unreachable!()
+        };
+        place.valid
     }
 
     /// A message for a relation (`RelationCacheInvalidateEntry` and `RelationFlushRelation` in
@@ -178,10 +193,12 @@ impl<D: Drop> RelCache<D> {
     }
 
     /// Keeps a descriptor of a relation, with one pin (`RelationBuildDesc` with `insertIt` in
-    /// `src/backend/utils/cache/relcache.c`). Out of memory, it comes back and the cache is as it was.
-    /// Condition: none of the relation is held.
+    /// `src/backend/utils/cache/relcache.c`), under a reference that was never given before. Out of memory,
+    /// it comes back and the cache is as it was. Condition: none of the relation is held.
     pub fn insert(&mut self, rel: Oid, value: D) -> Result<Ref, Back<D>>
         requires { held_of self.old rel ≡ None }
+        ensures unnamed { IfOk result (λ r. (other : _) → HeldUnder self.old other r → ⊥) }
+        ensures fresh { IfOk result (λ r. HasGoneFrom self.old r → ⊥) }
         ensures held { IfOk result (λ r. ChangesHeld self.old self.new rel (Some (new_held r value))) }
         ensures back { IfErr result (λ back. back.value ≡ value) }
         ensures same { OnErr result ((other : _) → held_of self.new other ≡ held_of self.old other) }

@@ -1,10 +1,12 @@
 use Rattle.std.proofs.Common.{refl}
+use Rattle.rel_cache.specs.Caches.{held_of}
 use Rattle.rel_cache.proofs.Agreeing.{stands}
 use Rattle.rel_cache.proofs.Calls.{closing}
 use Rattle.rel_cache.proofs.Whole.{changes}
 use Rattle.rel_cache.proofs.rel_cache.RelCache.close.Goals as goal
 
 pub invariant_of-self : goal.invariant_of-self
+unfolding held_of
 invariant_of-self g c =
     let cache = c.args.self.now in
     let s = stands cache.descriptors cache.index c.requires.0.0 c.args.r cache.indexed c.requires.1 in
@@ -12,6 +14,7 @@ invariant_of-self g c =
     record { indexed = l.indexed; placed = l.placed }
 
 pub returns : goal.returns
+unfolding held_of
 returns g c = λ rel under.
     let cache = c.args.self.now in
     let s = stands cache.descriptors cache.index rel.0 c.args.r cache.indexed under in

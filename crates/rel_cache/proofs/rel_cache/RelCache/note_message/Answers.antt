@@ -9,12 +9,14 @@ use Rattle.rel_cache.proofs.Whole.{by_number}
 use Rattle.rel_cache.proofs.rel_cache.RelCache.note_message.Goals as goal
 
 pub returns-clause-result : goal.returns-clause-result
+unfolding held_of
 returns-clause-result g c =
     let cache = c.args.self.now in
     let at : slice_index (keys cache.index) c.in-Some.place ≡ c.args.rel.0 = sym (eqb-true c.args.rel.0 (slice_index (keys cache.index) c.in-Some.place) (position-Some (nat_eq c.args.rel.0) (keys cache.index) c.in-Some.place 0 (sym c.in-Some.ensures.index)).1) in
     c.note_at.ensures.result ∙ ap (λ o. need (held_of cache o)) (by_number (relation_at cache c.in-Some.place) c.args.rel at)
 
 pub returns-clause-held : goal.returns-clause-held
+unfolding held_of
 returns-clause-held g c =
     let cache = c.args.self.now in
     let at : slice_index (keys cache.index) c.in-Some.place ≡ c.args.rel.0 = sym (eqb-true c.args.rel.0 (slice_index (keys cache.index) c.in-Some.place) (position-Some (nat_eq c.args.rel.0) (keys cache.index) c.in-Some.place 0 (sym c.in-Some.ensures.index)).1) in

@@ -4,12 +4,15 @@ use Rattle.rel_cache.proofs.Whole.{told_alike, told_whole}
 use Rattle.rel_cache.proofs.rel_cache.RelCache.note_reset.Goals as goal
 
 pub loop-place-init : goal.loop-place-init
+unfolding held_of
 loop-place-init g c = record { within = omega (arith, c.len-place.ensures.len); settled = λ k from within. absurd (omega (arith, from, within, c.len-place.ensures.len)); alike = λ r. refl }
 
 pub note_at-requires : goal.note_at-requires
+unfolding held_of
 note_at-requires g c = omega (arith, c.loop-place.invariant.within, c.loop-place-test.true)
 
 pub loop-place-preserved : goal.loop-place-preserved
+unfolding held_of
 loop-place-preserved g c = record {
   within = c.note_at.ensures.within;
   settled = c.note_at.ensures.told (λ k from within. c.loop-place.invariant.settled k (omega (arith, from, c.loop-place-test.true)) within);
@@ -17,4 +20,5 @@ loop-place-preserved g c = record {
 }
 
 pub returns : goal.returns
+unfolding held_of
 returns g c = told_whole c.loop-place.self (held_of c.args.self.now) (λ k from within. c.loop-place.invariant.settled k (omega (arith, c.loop-place-test.false)) within) c.loop-place.invariant.alike

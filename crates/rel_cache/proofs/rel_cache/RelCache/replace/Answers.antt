@@ -1,6 +1,7 @@
 use Rattle.std.proofs.Common.{◌≡◌, ◌≢◌, ℕ, nat_eq, true, subst}
 use Rattle.std.specs.Option.{option_map}
 use Rattle.indexmap.specs.IndexMap.{get}
+use Rattle.rel_cache.specs.Caches.{held_of}
 use Rattle.rel_cache.specs.Named.{with_mark}
 use Rattle.rel_cache.proofs.Agreeing.{stands}
 use Rattle.rel_cache.proofs.Calls.{renewing, own_relation}
@@ -8,6 +9,7 @@ use Rattle.rel_cache.proofs.Whole.{changes}
 use Rattle.rel_cache.proofs.rel_cache.RelCache.replace.Goals as goal
 
 pub invariant_of-self : goal.invariant_of-self
+unfolding held_of
 invariant_of-self g c =
     let cache = c.args.self.now in
     let rel = c.requires.0.0 in
@@ -19,6 +21,7 @@ invariant_of-self g c =
     record { indexed = l.indexed; placed = l.placed }
 
 pub returns-clause-held : goal.returns-clause-held
+unfolding held_of
 returns-clause-held g c = λ rel under.
     let cache = c.args.self.now in
     let after = c.set_valid.new.index in
