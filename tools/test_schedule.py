@@ -18,7 +18,7 @@ from catsync_tools.items import Answered, Count, Made, Stopped
 from catsync_tools.program import Program, Run
 from catsync_tools.runner import Runner
 from catsync_tools.sources import read_source
-from catsync_tools.spellings import respelled
+from catsync_tools.spellings import respelled, without_comment
 
 EXAMPLES = sorted(glob.glob(os.path.join(TOP, "examples", "*.script")))
 RACES = sorted(glob.glob(os.path.join(TOP, "examples", "races", "*.script")))
@@ -43,9 +43,14 @@ SPELLINGS = (
     ("create table public.t (a int, b timestamp with time zone)", "create table t (a int, b timestamptz)"),
     ("alter table t add constraint k foreign key (a) references public.u (b)",
      "alter table t add constraint k foreign key (a) references u (b)"),
-    ("show t -- why", "show t"), ("show t;-- why", "show t;"), ("show t --", "show t"), ("lock t -- caf\u00e9 /* */",
-                                                                 "lock table t in access exclusive mode"),
-    ("show t/* a */columns", "show t columns"), ("create table t (a int4) --b", "create table t (a int4)"),
+)
+
+COMMENTS = (
+    ("1: show t -- why", "1: show t"), ("1: show t;-- why", "1: show t;"), ("1: show t --", "1: show t"),
+    ("1: show t -- caf\u00e9 /* */", "1: show t"), ("1: show t/* a */columns", "1: show t columns"),
+    ("1: create table t (a int4) --b", "1: create table t (a int4)"), ("backends 2 -- two", "backends 2"),
+    ("1: alter table t alter column a set default --1", None), ("1: alter table t add constraint k check (a<--1)", None),
+    ("1: alter table t add constraint k check (a --1)", None), ("1: show t--", None),
 )
 
 # What has to stay as it is: forms of the grammar, and what no rule knows.
@@ -71,6 +76,16 @@ class Spellings(unittest.TestCase):
                 self.assertEqual(respelled(" " + written).split(), form.split())
                 self.assertEqual(respelled(" " + form), " " + form)
 
+    def test_comments(self):
+        """They are taken off, but not where `--` is the command's own."""
+        for written, bare in COMMENTS:
+            with self.subTest(written):
+                self.assertEqual(without_comment(written), written if bare is None else bare)
+        given = (b"backends 1 -- one\n1: begin /* caf\xe9 */\nsteps 1 -- a step\nsteps 1*2\n/* all */\nexpect 1.1 ok -- sure\n"
+                 b"end -- here\n")
+        self.assertEqual(counted_script(read_source(given), None),
+                         b"backends 1\n1: begin\nsteps 1\nsteps 1*2\n\n-- expect 1.1 ok\nend\n")
+
     def test_what_is_kept(self):
         """All else stays."""
         for written in KEPT:
@@ -95,9 +110,9 @@ class Spellings(unittest.TestCase):
         self.assertEqual(script.lines, [b"-- c", b"backends 1", b"1: begin", b"-- expect 1.2 ok", b"1: commit"])
 
     def test_commands(self):
-        """The texts of commands, as they are written."""
+        """The texts of commands, as they are written but for a comment."""
         source = read_source(b"backends 2\nsetup 2: show t;\n1: LOCK t -- x\n2: show u\nend\n")
-        self.assertEqual(source.commands, {(2, 1): "show t;", (1, 1): "LOCK t -- x", (2, 2): "show u"})
+        self.assertEqual(source.commands, {(2, 1): "show t;", (1, 1): "LOCK t", (2, 2): "show u"})
 
 
 class Items(unittest.TestCase):

@@ -18,7 +18,7 @@ from .expected import Expectation, check_expectation, read_expectation
 from .faults import Fault
 from .items import Answered, Count, Item, check_item, read_items
 from .scripts import Script
-from .spellings import respelled, words_of
+from .spellings import respelled, without_comment, words_of
 
 OTHER, COMMAND, STEPS, EXPECT = "other", "command", "steps", "expect"
 
@@ -69,9 +69,12 @@ class Reader:
 
     def read(self, line):
         """One more line, without its line feed."""
-        text = line.decode("latin-1")
-        text = text[:-1] if text.endswith("\r") else text
+        written = line.decode("latin-1")
+        written = written[:-1] if written.endswith("\r") else written
+        text = written if written.lstrip(" \t").startswith("--") else without_comment(written)
         words = words_of(text)
+        if text != written:
+            line = text.encode("latin-1")
         if self.source.tail:
             if words and not words[0].startswith("--"):
                 raise Fault("line %d: only blank lines and comments may follow the 'end' line" % self.number)

@@ -1,4 +1,4 @@
-"""Commands in PostgreSQL's usual spellings, and with a comment behind them, in the forms that the grammar has."""
+"""Commands in PostgreSQL's usual spellings, in the forms that the grammar has; and comments behind a line."""
 import re
 
 NAME = "[a-z_][a-z0-9_]*"
@@ -38,9 +38,10 @@ _DEFAULT = re.compile(r"[ \t]set[ \t]+default[ \t]*$", re.IGNORECASE)
 
 
 def without_comment(text):
-    """A command without the comment that follows it. Within parentheses, and where a default's word is due, `--` is the
+    """A line without the comment that follows it. Within parentheses, and where a default's word is due, `--` is the
     command's own."""
-    text = _REMARK.sub(" ", text)
+    if _REMARK.search(text):
+        text = _REMARK.sub(" ", text).rstrip()
     depth = 0
     for at, letter in enumerate(text):
         depth += (letter == "(") - (letter == ")")
@@ -77,7 +78,6 @@ def in_forms(text):
 
 def respelled(text):
     """A command in the grammar's forms; as it is where it has one, or none that is known."""
-    text = without_comment(text)
     plain = _SCHEMA.sub("", _QUOTED.sub(r"\1", text))
     tokens = tokens_of(plain)
     if tokens[-1:] == [";"]:
