@@ -12,7 +12,7 @@ import sys
 TOP = os.path.dirname(os.path.dirname(os.path.abspath(__file__)))
 PAGE = os.path.join(TOP, "docs", "DEFINITIONS.md")
 CITES = re.compile(r"^\s*(?:pub |ghost )?use Rattle\.(\w+)\.specs\.(\w+)\b", re.MULTILINE)
-COUNT = re.compile(r"these ([\d,]+) of the ([\d,]+) lines")
+COUNT = re.compile(r"these ([\d,]+) lines")
 
 
 def text_of(*parts):
@@ -33,15 +33,6 @@ def cited():
     return {key: lines for key, lines in found.items() if key[1] not in ("Types", "Events")}
 
 
-def lines_of_all():
-    count = 0
-    for crate in os.listdir(os.path.join(TOP, "crates")):
-        folder = os.path.join(TOP, "crates", crate, "specs")
-        for name in os.listdir(folder) if os.path.isdir(folder) else ():
-            count += text_of(crate, "specs", name).count("\n")
-    return count
-
-
 def row_of(crate, listed, modules):
     """The modules of a row, in the order in which they are listed."""
     order = [name for name in re.findall(r"[A-Z]\w*", listed) if (crate, name) in modules]
@@ -59,8 +50,7 @@ def mended(page):
         return "| %s | %s |" % (match[1], row_of(match[1], match[2], modules))
 
     after = re.sub(r"^\| (\w+) \| ([A-Z]\w* \d[^|]*) \|", row, after, flags=re.MULTILINE)
-    counts = "these {:,} of the {:,} lines".format(sum(modules.values()), lines_of_all())
-    after = COUNT.sub(counts, after, count=1)
+    after = COUNT.sub("these {:,} lines".format(sum(modules.values())), after, count=1)
     lacking = sorted({crate for crate, _ in modules} - listed)
     return before + "## What must be read" + after, lacking
 

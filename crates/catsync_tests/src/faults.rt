@@ -1,4 +1,5 @@
 use crate::ends::{Calls, STEADY, source_of};
+use crate::scripts::COMMANDS;
 use base_types::NoMemory;
 use edge_io::read_all;
 use fault_hints::{KeptSource, hint, unbuilt_command};
@@ -56,6 +57,21 @@ fn is_hint(
 fn faulty_lines_have_hints(rt: HostRuntime) -> Result<(), Fail> {
     for (script, line, cause, text) in HINTS {
         assert!(rt; is_hint(rt.alloc(), script, line, cause, text)?, "{text}");
+    }
+    Ok(())
+}
+
+// Whether no word of a command is said to be wrong.
+fn has_no_hint(alloc: Global, command: &str) -> Result<bool, NoMemory> {
+    let script = format!(in alloc; "backends 1\n1: {command}\nend\n")?;
+    is_hint(alloc, script.as_bytes(), 2, ScriptCause::BadCommand, "")
+}
+
+// The hints know each form of a command.
+#[test]
+fn commands_of_each_form_have_no_hint(rt: HostRuntime) -> Result<(), Fail> {
+    for (command, _) in COMMANDS {
+        assert!(rt; has_no_hint(rt.alloc(), command)?, "{command}");
     }
     Ok(())
 }

@@ -54,7 +54,7 @@ fn rule(cause: ScriptCause) -> &'static str {
 }
 
 // Commands as they may be given, and as they are written.
-const COMMANDS: [(&str, &str); 36] = [
+pub(crate) const COMMANDS: [(&str, &str); 36] = [
     ("begin", "begin"),
     ("COMMIT ;", "commit"),
     ("rollback;", "rollback"),
