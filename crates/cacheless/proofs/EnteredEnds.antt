@@ -40,7 +40,11 @@ visible_holds scenario old was xid locks rests items = own_holds scenario old wa
   session = refl;
   facts = let f = rests.holds.facts in record {
     running = ap (λ o. Some (record (begun (was.finished + 1) o) { visible = true })) f.running ∙ runs_shown (was.finished + 1) was.running;
-    lists = f.lists; owed = refl; usable = f.usable; kept = f.kept; given = f.given;
+    lists = f.lists;
+    owed = refl;
+    usable = f.usable;
+    kept = f.kept;
+    given = f.given;
   };
   counts = counts_stay rests.holds.counts;
   order = rests.holds.order;
@@ -64,7 +68,11 @@ publish_holds scenario old was count locks rests items = own_holds scenario old 
   session = refl;
   facts = let f = rests.holds.facts in record {
     running = ap (λ o. Some (record (begun (was.finished + 1) o) { published = (begun (was.finished + 1) o).published + count })) f.running ∙ runs_sent (was.finished + 1) count was.running;
-    lists = f.lists; owed = refl; usable = f.usable; kept = f.kept; given = f.given;
+    lists = f.lists;
+    owed = refl;
+    usable = f.usable;
+    kept = f.kept;
+    given = f.given;
   };
   counts = counts_stay rests.holds.counts;
   order = rests.holds.order;
@@ -171,7 +179,10 @@ release_holds scenario old was from lists held locks rests left stay items = own
   facts = let f = rests.holds.facts in record {
     running = ap (λ o. after_release from (begun (was.finished + 1) o)) f.running ∙ release_begun from (was.finished + 1) was.running;
     lists = ap (λ o. lists_left (ends_transaction from o) (facts_of old was.id).lists) f.running ∙ ap (λ t. lists_left t (facts_of old was.id).lists) (ends_same from was.running) ∙ ap (lists_left (ends_own from was.running)) f.lists ∙ sym left;
-    owed = refl; usable = f.usable; kept = f.kept; given = f.given;
+    owed = refl;
+    usable = f.usable;
+    kept = f.kept;
+    given = f.given;
   };
   counts = counts_stay rests.holds.counts;
   order = subst (AllByRecursion (λ (list : Written). list.command ≤ was.finished + 1)) (sym left) (left_low (ends_own from was.running));

@@ -39,7 +39,11 @@ granted_holds scenario old was rel mode locks rests items = own_holds scenario o
   session = λ i. record (noted_after old was (events.LockOk rel mode) rests.holds.rest) { locks = sym items i };
   facts = let f = rests.holds.facts in record {
     running = ap (λ o. Some (begun (was.finished + 1) o)) f.running ∙ runs_begun (was.finished + 1) was.running;
-    lists = f.lists; owed = refl; usable = f.usable; kept = f.kept; given = f.given;
+    lists = f.lists;
+    owed = refl;
+    usable = f.usable;
+    kept = f.kept;
+    given = f.given;
   };
   counts = let c = rests.holds.counts in record { looks = omega (arith, c.looks); scans = omega (arith, c.scans); grants = omega (arith, c.grants); fetches = omega (arith, c.fetches); full = c.full };
   order = rests.holds.order;

@@ -45,7 +45,11 @@ look_holds scenario old was some_wait locks rests items = own_holds scenario old
   session = refl;
   facts = let f = rests.holds.facts in record {
     running = ap (λ o. Some (begun (was.finished + 1) o)) f.running ∙ runs_begun (was.finished + 1) was.running;
-    lists = f.lists; owed = owed_looked some_wait; usable = f.usable; kept = f.kept; given = f.given;
+    lists = f.lists;
+    owed = owed_looked some_wait;
+    usable = f.usable;
+    kept = f.kept;
+    given = f.given;
   };
   counts = let c = rests.holds.counts in record { looks = omega (arith, c.looks); scans = omega (arith, c.scans); grants = omega (arith, c.grants); fetches = omega (arith, c.fetches); full = c.full };
   order = rests.holds.order;

@@ -176,8 +176,11 @@ built_holds scenario old was scan count given at kept locks rests lacking are pu
     owed = refl;
     usable = λ other build. ap (λ t. same_scan scan other || t) (f.usable other build) ∙ swapped (same_scan scan other) (is_kept was.kept other) ∙ sym (list_any-append (λ k. same_scan k.scan other) was.kept (made ∷ [])) ∙ ap (λ l. is_kept l other) (sym pushed);
     kept = subst (All (ReadRight after.rows)) (sym pushed) (All-push (ReadRight after.rows) was.kept made
-        (λ i d within. let k = f.kept i d within in record { build = k.build; rows_are = k.rows_are ∙ sym (rows_by-others old was.id scan (get_or was.kept i d).scan count ((facts_of old was.id).rows (get_or was.kept i d).scan)
-            (other_scan (get_or was.kept i d).scan scan (none_at (λ k. same_scan k.scan scan) was.kept i d within unkept))) })
+        (λ i d within. let k = f.kept i d within in record {
+          build = k.build;
+          rows_are = k.rows_are ∙ sym (rows_by-others old was.id scan (get_or was.kept i d).scan count ((facts_of old was.id).rows (get_or was.kept i d).scan)
+              (other_scan (get_or was.kept i d).scan scan (none_at (λ k. same_scan k.scan scan) was.kept i d within unkept)));
+        })
         (record { build = lacking.1; rows_are = are ∙ sym (rows_by-own old was.id scan scan count ((facts_of old was.id).rows scan) (same_scan-itself scan)) }));
     given = λ read. named_as_before old was scan count (plan_at was.exec) lacking.1 (f.given read);
   };

@@ -128,7 +128,7 @@ pub write_code : (was : Progress) (xid : Xid) (messages : List Message) (new_oid
 write_code was xid messages new_oids first own lists kept exec opened_none locked locks begins wants_it pushed keeps goes none held accepts scenario seen items rests are makes =
     subst (Holds scenario (with_own seen was (events.Write xid items))) (λ i. record (wrote was xid (sym keeps i) lists exec locks) { running = Some (sym begins i); opened = sym none i })
     (write_holds scenario seen was xid items messages new_oids first lists exec locked locks rests wants_it are makes pushed goes held
-        (accepts ∙ (λ i. locks_accepted (is_in_accept (record was { lists = lists; kept = keeps i; running = Some own; due = dues.Nothing; exec = exec; opened = none i; read = false; locks = locked }) (slice_get was.commands was.finished)) locked.items)))
+    (accepts ∙ (λ i. locks_accepted (is_in_accept (record was { lists = lists; kept = keeps i; running = Some own; due = dues.Nothing; exec = exec; opened = none i; read = false; locks = locked }) (slice_get was.commands was.finished)) locked.items)))
 
 pub visible_code : (was : Progress) (xid : Xid) (own : OwnTransaction) (locks : Roomy OwnLock) → own ≡ begun_own (was.finished + 1) was.running
     → locks.items ≡ locks_accepted (is_in_accept (record was { running = Some (record own { visible = true }); due = dues.Nothing }) (slice_get was.commands was.finished)) was.locks.items
@@ -151,7 +151,7 @@ pub gone_code : (was : Progress) (from : ℕ) (own : OwnTransaction) (cats rels 
 gone_code was from own cats rels cats_again rels_again kept_first kept named_first named lists locks begins cats_are rels_are cats_same rels_same first keeps named_one names before items scenario seen rests =
     subst (Holds scenario (with_own seen was (events.Gone from))) (λ i. record (taken_back was cats rels lists) { running = Some (sym begins i); kept = sym kept_is i; named = sym named_is i; locks = locks })
     (gone_holds scenario seen was from cats rels lists locks rests cats_are rels_are before
-        (items ∙ (λ i. locks_accepted (is_in_accept (record was { running = Some own; kept = kept_is i; named = named_is i; lists = lists; due = dues.Nothing }) (slice_get was.commands was.finished)) was.locks.items)))
+    (items ∙ (λ i. locks_accepted (is_in_accept (record was { running = Some own; kept = kept_is i; named = named_is i; lists = lists; due = dues.Nothing }) (slice_get was.commands was.finished)) was.locks.items)))
   where
     kept_is : kept ≡ kept_spared rels (kept_spared cats was.kept)
     kept_is = keeps ∙ ap (kept_spared rels) first
@@ -167,7 +167,7 @@ pub release_code : (was : Progress) (from : ℕ) (first : Bool) (begun : OwnTran
 release_code was from first begun own lists held locks ends begins is left stay items scenario seen rests =
     subst (Holds scenario (with_own seen was (events.Release from))) (λ i. record (let_go was from lists locks) { running = sym own_is i })
     (release_holds scenario seen was from lists held locks rests (left ∙ ap (λ t. lists_left t (lists_at was)) ends) stay
-        (items ∙ (λ i. locks_accepted (is_in_accept (record was { lists = lists; running = own_is i; locks = held; ended = true; due = dues.Nothing }) (slice_get was.commands was.finished)) held.items)))
+    (items ∙ (λ i. locks_accepted (is_in_accept (record was { lists = lists; running = own_is i; locks = held; ended = true; due = dues.Nothing }) (slice_get was.commands was.finished)) held.items)))
   where
     own_is : own ≡ released_own from (begun_own (was.finished + 1) was.running)
     own_is = is ∙ ap (released_own from) begins

@@ -113,7 +113,12 @@ act_keeps scenario seen was exec opened command act plan gave holds has owes at 
       ∙ ap (λ l. settled facts l (act_done act gave (plan gave) (session_at was holds.rest))) (sym left)
       ∙ ap (settled facts (drop was.finished was.commands)) (λ i. record (act_done act gave (plan gave) (session_at was holds.rest)) { left = sym on i; opened = sym opens i })
       );
-  facts = let f = holds.facts in record { running = f.running; lists = f.lists; owed = f.owed; usable = f.usable; kept = f.kept;
+  facts = let f = holds.facts in record {
+    running = f.running;
+    lists = f.lists;
+    owed = f.owed;
+    usable = f.usable;
+    kept = f.kept;
     given = λ is. absent_or (plan_at exec) is (λ name missed. subst (λ p. NamedFit facts p was.given.items was.named) (sym missed) (missed_by facts was act plan name holds.facts at none (seeks name missed)));
   };
   counts = holds.counts;

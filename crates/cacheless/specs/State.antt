@@ -19,6 +19,7 @@ use Rattle.ddl_effect.specs.declared.exec.Exec.TheVariants as stages
 use Rattle.history_model.specs.Writes.{is_empty}
 use Rattle.history_model.specs.Sent.{cats_by, rels_by}
 use Rattle.history_model.specs.Transactions.{Running}
+pub use Rattle.cacheless.specs.OnCourse.{is_absent}
 use Rattle.cacheless.specs.Types.{Oid, Message, Row, Purpose, Command, CommandError, Clash, Item, Entry, Event, Opening, OwnLock}
 use Rattle.cacheless.specs.Session.{Session, Finished, Tally, Badly, Well, Unsettled, outcome_of, is_settled, plan_first, refused_first}
 use Rattle.cacheless.specs.Locks.{is_locked}
@@ -136,11 +137,6 @@ act_missing s plan = []
 -- the scans that come before the next act: none once the command has failed
 abbrev pub scans_missing : Progress → List Purpose
 scans_missing s = elim (outcome_of (plan_at s.exec)) [ Badly ↦ [] | other ↦ builds_missing s.kept s.opened ++ act_missing s (plan_at s.exec) ]
-
--- a search has found no relation
-abbrev pub is_absent : Plan → Bool
-is_absent (Absent name) = true
-is_absent plan = false
 
 -- the running command has come out
 abbrev pub is_out : Progress → Bool

@@ -20,9 +20,9 @@ impl Search {
         ensures { result ≡ name_sought self.now }
     {
         match self {
-            Search::Show { name } | Search::ShowField { name, .. } | Search::LockTable { name, .. } => {
-                *name
-            }
+            Search::Show { name }
+            | Search::ShowField { name, .. }
+            | Search::LockTable { name, .. } => { *name }
         }
     }
 
