@@ -11,9 +11,10 @@ use Rattle.history_model.specs.Versions.{answer_of}
 use Rattle.history_model.proofs.Accounted.{usable_accounted, usable_read}
 use Rattle.history_model.proofs.Every.{every-weaker, every-both}
 use Rattle.backend_core.specs.Types.{Purpose, Scenario, Entry, KeptScan, Life, Backend}
-use Rattle.backend_core.specs.declared.phase.Life.TheVariants as lives
-use Rattle.backend_core.specs.State.{is_kept}
-use Rattle.backend_core.specs.Agrees.{ReadRight, KeptAt, HasNotJoined, AwaitsEntry, HasLeft, Stands}
+use Rattle.cacheless.specs.Holds.{ReadRight}
+use Rattle.cacheless.specs.State.{is_kept}
+use Rattle.backend_core.specs.declared.life.Life.TheVariants as lives
+use Rattle.backend_core.specs.Agrees.{KeptAt, HasNotJoined, AwaitsEntry, HasLeft, Stands}
 use Rattle.backend_core.specs.Coherent.{IsCoherentScan, IsCoherent}
 use Rattle.cacheless.proofs.ReadPlaces.{read_at_place}
 
@@ -45,15 +46,11 @@ all_coherent seen b kept sound usable right at = All-from_recursion (IsCoherentS
     Held : KeptScan → Type 0
     Held k = (is_kept kept k.scan ≡ true) × (KeptAt seen b k × ReadRight (rows_read seen b) k)
 
--- that of a backend that has left
-pub left_coherent : (scenario : Scenario) (seen : List Entry) (s : Backend) → IsSound seen → HasLeft scenario seen s → IsCoherent seen s
-left_coherent scenario seen s sound left = all_coherent seen s.id s.kept sound left.usable left.right left.kept
-
 -- where it stands in a sound history, its caches are coherent with it: right after a step of its own, and after any entry of another
 pub stands_coherent : (scenario : Scenario) (seen : List Entry) (s : Backend) → IsSound seen → Stands scenario seen s → IsCoherent seen s
 stands_coherent scenario seen s sound stands = by_life s.life stands
   where
     by_life : (l : Life) → elim l as (λ x. Type 0) [ lives.Unstarted ↦ HasNotJoined scenario seen s | lives.Alive ↦ AwaitsEntry scenario seen s | lives.Stopped ↦ HasLeft scenario seen s ] → IsCoherent seen s
-    by_life lives.Unstarted before = subst (λ (l : List KeptScan). All (IsCoherentScan seen s.id) l) (sym before.new.kept) (All-nil (IsCoherentScan seen s.id))
-    by_life lives.Alive awaits = all_coherent seen s.id s.kept sound awaits.agrees.facts.usable awaits.agrees.facts.kept awaits.agrees.kept
-    by_life lives.Stopped left = left_coherent scenario seen s sound left
+    by_life lives.Unstarted before = subst (λ (l : List KeptScan). All (IsCoherentScan seen s.progress.id) l) (sym before.new.progress.kept) (All-nil (IsCoherentScan seen s.progress.id))
+    by_life lives.Alive waits = all_coherent seen s.progress.id s.progress.kept sound waits.rests.holds.facts.usable waits.rests.holds.facts.kept waits.keeps.kept
+    by_life lives.Stopped left = all_coherent seen s.progress.id s.progress.kept sound left.holds.facts.usable left.holds.facts.kept left.kept

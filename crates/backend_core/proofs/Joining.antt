@@ -1,42 +1,47 @@
 -- A backend joins.
-use Rattle.std.proofs.Common.{◌≡◌, ◌≤◌, ◌+◌, ◌∙◌, ◌∷◌, ◌++◌, ◌==◌, inl, inr, ℕ, true, not, Some, List, [], refl, sym, ap, subst, length, map, drop, All, is_some, slice_get, arith}
-use Rattle.std.specs.Option.{option_map_or}
+use Rattle.std.proofs.Common.{◌≡◌, ◌≤◌, ◌+◌, ◌∙◌, ◌∷◌, ◌++◌, ◌==◌, inl, inr, ℕ, true, false, not, Option, Some, None, List, [], refl, sym, ap, subst, length, map, drop, All, is_some, slice_get, arith}
 use Rattle.std.proofs.lemmas.Bool.{eq-eqb, both_ways}
 use Rattle.std.proofs.lemmas.List.{length_push}
 use Rattle.std.proofs.lemmas.List.Elements.{All-nil}
 use Rattle.event_kinds.specs.declared.entry.Event.TheVariants as events
-use Rattle.lock_modes.specs.Own.{cleared}
-use Rattle.cacheless.specs.Runs.{runs}
-use Rattle.ddl_effect.specs.Blocks.{no_block, is_open, innermost}
-use Rattle.history_model.specs.Legal.{FollowsVisible, FollowsGone}
-use Rattle.history_model.specs.Lives.{FollowsLife}
+use Rattle.ddl_effect.specs.Blocks.{no_block}
+use Rattle.ddl_effect.specs.Commands.{commands_of}
+use Rattle.ddl_effect.specs.Plans.{Plan, Absent, Do, Lookup}
+use Rattle.ddl_effect.specs.Stages.{plan_at}
 use Rattle.inval_messages.specs.Lists.{has_write_from}
-use Rattle.command_lists.specs.Lists.{all_lists}
-use Rattle.history_model.specs.Transactions.{is_visible}
+use Rattle.std.specs.Option.{option_map_or}
+use Rattle.history_model.specs.Legal.{FollowsVisible, FollowsGone}
+use Rattle.history_model.specs.Lives.{FollowsLife, life_of, last_event_of}
+use Rattle.history_model.specs.Transactions.{Running, is_visible}
 use Rattle.history_model.specs.Writes.{is_empty}
-use Rattle.history_model.proofs.Reading.{life_of-own}
+use Rattle.history_model.proofs.Reading.{life_of-own, last_event_of-own}
 use Rattle.seg_calls.specs.Calls.{entry_of, MayCall, Appends}
-use Rattle.cacheless.specs.Facts.{facts_of, facts_by}
-use Rattle.cacheless.specs.Session.{Session, first_of, at_command, plan_first, refused_first}
-use Rattle.cacheless.specs.Plays.{IsNext, MayPlayAt}
-use Rattle.cacheless.specs.Settled.{settled}
-use Rattle.cacheless.proofs.Reading.{facts_of-own, session_of-own}
-use Rattle.backend_core.specs.Types.{Command, Scenario, Entry, KeptScan, Backend}
-use Rattle.backend_core.specs.declared.phase.Life.TheVariants as lives
-use Rattle.backend_core.specs.State.{owed_at, is_accepting, looks_due, is_taken_back, is_ended, one_if, running_in, is_kept, rest_of}
-use Rattle.backend_core.specs.Agrees.{IsPlayed, ReadRight, FactsFit, RunsBy, EndFits, Well, KeptAt, IsNew, HasNotJoined, ReadsOpened}
-use Rattle.backend_core.specs.Steps.{AgreesNow, MakesEntry, Enters}
+use Rattle.cacheless.specs.Facts.{Facts, facts_of, facts_by}
+use Rattle.cacheless.specs.Holds.{HasStarted}
+use Rattle.cacheless.specs.Lines.{lines_from}
+use Rattle.cacheless.specs.OnCourse.{is_over, EntersCourse}
+use Rattle.cacheless.specs.Owed.{owed_after}
+use Rattle.cacheless.specs.Plays.{started_in, MayPlayAt}
+use Rattle.cacheless.specs.Runs.{runs}
+use Rattle.cacheless.specs.Session.{Session, first_of, at_command}
+use Rattle.cacheless.specs.State.{is_absent, session_at}
+use Rattle.cacheless.proofs.EnteredLooks.{not_absent}
+use Rattle.cacheless.proofs.Resting.{first_left}
+use Rattle.cacheless.proofs.Reading.{facts_of-own}
+use Rattle.cacheless.proofs.SettledCourse.{begins_on_course}
+use Rattle.cacheless.proofs.StaysOnCourse.{has_written-quiet}
+use Rattle.backend_core.specs.Types.{Command, Scenario, Entry, KeptScan, Progress, Backend}
+use Rattle.backend_core.specs.declared.life.Life.TheVariants as lives
+use Rattle.backend_core.specs.Agrees.{IsPlayed, KeptAt, PlaceFits, AgreesNow, HasNotJoined}
+use Rattle.backend_core.specs.Fits.{looks_due, IsPast, Fits}
+use Rattle.backend_core.specs.Steps.{MakesEntry, Enters}
+use Rattle.backend_core.proofs.Own.{appended_makes}
 use Rattle.backend_core.proofs.Played.{IsPlayed-more}
-use Rattle.backend_core.proofs.Stepping.{appended_makes}
-use Rattle.cacheless.proofs.OpenedReads.{reads_first}
-use Rattle.backend_core.proofs.Carry.{has_written-quiet, no_answer}
-use Rattle.backend_core.proofs.Ending.{fits_unless, built_at}
-use Rattle.backend_core.proofs.Beginning.{Begins, past_at, plain_at, starts_at, command_at}
 
 -- it may be entered
-pub join_call : (scenario : Scenario) (seen : List Entry) (s : Backend) → HasNotJoined scenario seen s → MayCall scenario seen (entry_of s.id 0 events.Start)
+pub join_call : (scenario : Scenario) (seen : List Entry) (s : Backend) → HasNotJoined scenario seen s → MayCall scenario seen (entry_of s.progress.id 0 events.Start)
 join_call scenario seen s before = record {
-  backend = before.number;
+  backend = before.waits.number;
   number = omega arith;
   follows = record {
     life = subst (λ l. FollowsLife l 0 events.Start) (sym before.life) refl;
@@ -46,121 +51,94 @@ join_call scenario seen s before = record {
   };
 }
 
-first_is : (commands : List Command) → first_of commands ≡ slice_get commands 0
-first_is [] = refl
-first_is (command ∷ commands) = refl
-
--- it has joined
-abbrev pub joined : Backend → Backend
-joined s = record s { life = lives.Alive }
-
--- a new backend is at the beginning of its first command
-new_begins : (s : Backend) → IsNew s s.id s.commands → Begins (joined s)
-new_begins s new = record {
-  plan = new.exec ∙ ap (λ b. plan_first b (slice_get s.commands 0)) (sym new.blocks) ∙ ap (λ n. plan_first s.blocks (slice_get s.commands n)) (sym new.finished);
-  blocked = new.blocked ∙ ap (λ b. is_some (refused_first b (slice_get s.commands 0))) (sym new.blocks) ∙ ap (λ n. is_some (refused_first s.blocks (slice_get s.commands n))) (sym new.finished);
-}
-
--- what the code keeps from then on
-new_well : (s : Backend) → All (λ command. runs command ≡ true) s.commands → length s.commands ≤ 20000 → IsNew s s.id s.commands → Well (joined s)
-new_well s built few new = record {
-  built = built;
-  few = few;
-  most = omega (arith, new.finished);
-  opened = inl new.opened;
-  blocked = begins.blocked;
-  refused = λ _. begins.plan;
-  plain = plain_at (joined s) begins new.opened;
-  opens = subst (λ b. is_open b ≡ not (is_empty b.levels)) (sym new.blocks) refl;
-  levels = subst (λ b. innermost (s.finished + 1) b.levels ≤ s.finished + 1) (sym new.blocks) (omega arith);
-  first = subst (λ o. option_map_or (λ t. t.first) o 0 ≤ s.finished + 1) (sym new.running) (omega arith);
-  transaction = fits_unless (joined s) s.phase (subst (λ b. RunsBy (joined s) b.block) (sym new.blocks) (inl new.running)) (ap is_ended new.phase);
-  ended = ap (λ l. l.running) new.lists;
-  written = λ some. absurd (both_ways _ (ap (λ l. has_write_from 0 (all_lists l)) new.lists) some);
-  end = subst (EndFits (joined s)) (sym new.phase) tt;
-  answered = λ _ _. inl new.phase;
-  come_out = λ some. absurd (both_ways _ (ap (λ o. is_some o) new.answer) some);
-  past = past_at (joined s) begins new.opened;
-  free = λ some. absurd (both_ways _ (ap (λ o. is_some o) new.answer) some);
-  starts = starts_at (joined s) begins built new.read;
-  accepting = λ is. absurd (both_ways _ (ap is_accepting new.phase) is);
-  clear = inr (ap (map cleared) new.locks ∙ sym new.locks);
-  reads = subst (ReadsOpened s.opened) (sym begins.plan) (subst (λ l. ReadsOpened l (plan_first s.blocks (slice_get s.commands s.finished))) (sym new.opened) (reads_first s.blocks (slice_get s.commands s.finished) (λ command at. built_at s.commands s.finished command built at)));
-  last = λ read. absurd (cc (read, new.read));
+-- what its choice keeps from then on
+fits_first : (facts : Facts) (o : Option Command) (at : ℕ) → facts.running ≡ None → facts.lists ≡ [] → facts.last ≡ Some events.Start → Fits facts o (at_command no_block [] [] at o) false false
+fits_first facts o at runs lists last = record {
+  looks = λ _. record { enough = omega (arith, none, ap (λ l. looks_due (owed_after l)) last); within = omega (arith, none, ap (λ l. looks_due (owed_after l)) last) };
+  transaction = inl runs;
+  first = omega (arith, ap (λ r. option_map_or (λ (t : Running). t.first) r 0) runs);
+  opens = refl;
+  levels = omega arith;
+  blocked = refl;
+  refused = λ is. refl;
+  written = λ is. absurd (both_ways _ (ap (has_write_from 0) lists) is);
+  visible = λ is. absurd (both_ways _ (ap (λ r. is_visible r) runs) is);
+  taken = λ from is. absurd (let both : Some events.Start ≡ Some (events.Gone from) = sym last ∙ is in cc both);
+  over = λ c here ended. absurd (cc ended);
+  accepts = λ owes. absurd (both_ways _ owes (ap (λ l. is_empty (owed_after l)) last));
+  past = λ none. subst (λ x. IsPast facts (at_command no_block [] [] at x)) (sym none) (record { out = refl; opened = refl; free = ap owed_after last });
 }
   where
-    begins : Begins (joined s)
-    begins = new_begins s new
+    none : started_in 1 facts ≡ 0
+    none = ap (λ r. option_map_or (λ (t : Running). elim (t.first == 1) as (λ x. ℕ) [ true ↦ 1 | false ↦ 0 ]) r 0) runs
 
--- the facts of a backend whose only entry is its start
-new_facts : (old : List Entry) (s : Backend) → IsNew s s.id s.commands → FactsFit (facts_by old s.id 0 events.Start (facts_of [] s.id)) (joined s)
-new_facts old s new = record {
-  running = sym (ap (running_in s.phase) new.running);
-  lists = sym (ap all_lists new.lists);
-  owed = sym (ap owed_at new.phase);
-  took = sym (ap is_taken_back new.phase);
-  taken = λ from is. absurd (cc (is, new.phase));
-  usable = λ scan build. sym (ap (λ l. is_kept l scan) new.kept);
-  kept = subst (λ (l : List KeptScan). All (ReadRight (facts_by old s.id 0 events.Start (facts_of [] s.id)).rows) l) (sym new.kept) (All-nil (ReadRight (facts_by old s.id 0 events.Start (facts_of [] s.id)).rows));
-  given = λ read. absurd (both_ways _ new.read read);
-}
+-- a plan that has read nothing rests on no place
+place_first : (seen : List Entry) (b : ℕ) (plan : Plan) (at : ℕ) → is_absent plan ≡ false → PlaceFits seen b plan false at
+place_first seen b (Absent name) at there = absurd (cc there)
+place_first seen b (Do (Lookup name mode) rest) at there = tt
+place_first seen b plan at there = tt
 
 -- the state after it
-pub join_enters : (scenario : Scenario) (old new : List Entry) (had has : ℕ → ℕ) (was : Backend) → HasNotJoined scenario old was → IsPlayed scenario old → Appends old new had has (entry_of was.id 0 events.Start) → Enters scenario old new had has was (joined was)
-join_enters scenario old new had has was before played appends = record {
+pub join_enters : (scenario : Scenario) (old new : List Entry) (had has : ℕ → ℕ) (was : Backend) (p : Progress) → HasNotJoined scenario old was → IsPlayed scenario old → HasStarted scenario old was.progress p → p.kept ≡ was.progress.kept
+    → Appends old new had has (entry_of was.progress.id 0 events.Start) → Enters scenario old new had has was (record was { progress = p; life = lives.Alive })
+join_enters scenario old new had has was p before played started kept appends = record {
   makes = makes;
-  id = refl;
+  id = started.moves.id;
   agrees = subst (λ h. AgreesNow scenario h now) (sym appends.entries) (record {
     played = IsPlayed-more scenario old e played makes.may;
-    agrees = record {
-      number = before.number;
-      commands = before.commands;
+    keeps = record {
       alive = refl;
-      rest = rest_of first;
-      count = sym before.new.finished;
-      is = session_of-own scenario old e was.id own
-          ∙ ap (λ l. Some (settled (facts_by old was.id 0 events.Start (facts_of old was.id)) l (at_command no_block [] [] (length old + 1) (first_of l)))) (sym before.commands)
-          ∙ ap (λ f. Some (settled f was.commands first)) (sym (facts_of-own old e was.id own))
-          ∙ (λ i. Some (settled (facts_of (old ++ e ∷ []) was.id) (drop (sym before.new.finished i) was.commands) (record first {
-            blocks = sym before.new.blocks i;
-            left = (ap (plan_first no_block) (first_is was.commands) ∙ sym before.new.exec) i;
-            blocked = (ap (λ o. is_some (refused_first no_block o)) (first_is was.commands) ∙ sym before.new.blocked) i;
-            opened = sym before.new.opened i;
-            read = sym before.new.read i;
-            ended = sym (ap is_ended before.new.phase) i;
-            locks = sym before.new.locks i;
-          })));
-      facts = subst (λ f. FactsFit f now) (sym (facts_of-own old e was.id own ∙ ap (facts_by old was.id 0 events.Start) before.facts)) (new_facts old was before.new);
-      tally = λ _. record {
-        enough = omega (arith, ap looks_due before.new.phase, ap (λ o. option_map_or (λ t. one_if (t.first == was.finished + 1)) o 0) before.new.running, ap one_if before.new.looked, ap one_if before.new.looked_to_build);
-        within = omega (arith, ap looks_due before.new.phase, ap (λ o. option_map_or (λ t. one_if (t.first == was.finished + 1)) o 0) before.new.running, ap one_if before.new.looked, ap one_if before.new.looked_to_build);
-      };
-      life = record { last = 0; alive = life_of-own old e was.id own; most = omega arith };
-      well = new_well was before.built before.few before.new;
-      command = command_at (old ++ e ∷ []) now (rest_of first) (new_begins was before.new) before.built refused refl before.new.opened before.new.read (λ c _. has_written-quiet old e was.id c refl ∙ before.unwritten c);
-      kept = subst (λ (l : List KeptScan). All (KeptAt (old ++ e ∷ []) was.id) l) (sym before.new.kept) (All-nil (KeptAt (old ++ e ∷ []) was.id));
-      places = record { finished = All-nil _; judged = omega (arith, length_push old e); last = omega (arith, length_push old e) };
-      answer = no_answer scenario (old ++ e ∷ []) now (rest_of first) (ap (λ o. is_some o) before.new.answer);
-      lines = before.new.lines;
+      life = record { last = 0; alive = ap (life_of (old ++ e ∷ [])) started.moves.id ∙ life_of-own old e b own; most = omega arith };
+      built = subst (All (λ c. runs c ≡ true)) (sym started.moves.commands) before.built;
+      kept = subst (λ (l : List KeptScan). All (KeptAt (old ++ e ∷ []) p.id) l) (sym (kept ∙ before.new.progress.kept)) (All-nil (KeptAt (old ++ e ∷ []) p.id));
+      given_at = subst (λ r. PlaceFits (old ++ e ∷ []) p.id (plan_at p.exec) r p.given_at) (sym (ap (λ (s : Session). s.read) started.session))
+          (place_first (old ++ e ∷ []) p.id (plan_at p.exec) p.given_at (ap is_absent (ap (λ (s : Session). s.left) started.session) ∙ not_absent no_block (slice_get was.progress.commands 0)));
     };
-    now = record { last = sym (length_push old e); judged = λ _ _. sym (length_push old e) };
+    holds = started.holds;
+    course = subst (λ k. EntersCourse scenario (old ++ e ∷ []) k (session_at p started.holds.rest)) (sym started.moves.id) (subst (EntersCourse scenario (old ++ e ∷ []) b) (sym (started.session ∙ ap (at_command no_block [] [] (length old + 1)) first_is))
+        (begins_on_course scenario (old ++ e ∷ []) b no_block [] [] (length old + 1) (commands_of scenario b) refl (λ n after. has_written-quiet old e b n refl ∙ before.unwritten n) refl));
+    fits = subst (λ f. Fits f (slice_get p.commands p.finished) (session_at p started.holds.rest) was.looked was.looked_to_build) (sym facts_are)
+        (subst (λ x. Fits facts (slice_get p.commands p.finished) x was.looked was.looked_to_build) (sym started.session)
+        (subst (λ o. Fits facts o (at_command no_block [] [] (length old + 1) (slice_get was.progress.commands 0)) was.looked was.looked_to_build) (sym first_command)
+        (subst (λ t. Fits facts (slice_get was.progress.commands 0) (at_command no_block [] [] (length old + 1) (slice_get was.progress.commands 0)) was.looked t) (sym before.new.looked_to_build)
+        (subst (λ t. Fits facts (slice_get was.progress.commands 0) (at_command no_block [] [] (length old + 1) (slice_get was.progress.commands 0)) t false) (sym before.new.looked)
+        (fits_first facts (slice_get was.progress.commands 0) (length old + 1) refl (ap (λ f. f.lists) before.facts) refl)))));
+    tells = record {
+      lines = before.new.lines ∙ sym (ap (λ l. lines_from scenario (old ++ e ∷ []) p.id 1 l p.commands) (ap (λ (s : Session). s.finished) started.session));
+      answer = λ text command told at. absurd (let both : None ≡ Some text = sym before.new.answer ∙ told in cc both);
+      out = λ some. absurd (both_ways _ (ap (λ o. is_some o) before.new.answer) some);
+    };
+    here = λ command at none. record {
+      judged = omega (arith, length_push old e, ap (λ (s : Session). s.judged) started.session);
+      stands = (λ i. is_over (last_event_of (old ++ e ∷ []) (started.moves.id i)) (started.session i)) ∙ ap (λ o. is_over o (at_command no_block [] [] (length old + 1) (slice_get was.progress.commands 0))) (last_event_of-own old e b own);
+    };
+    last = omega (arith, length_push old e, ap (λ (s : Session). s.last) started.session);
   });
 }
   where
+    b : ℕ
+    b = was.progress.id
+
     e : Entry
-    e = entry_of was.id 0 events.Start
+    e = entry_of was.progress.id 0 events.Start
 
     now : Backend
-    now = joined was
+    now = record was { progress = p; life = lives.Alive }
 
-    makes : MakesEntry scenario old new had has was.id
-    makes = appended_makes scenario old new had has e (before.number, subst (λ o. MayPlayAt scenario old was.id o 0 events.Start) (sym before.session) tt) (record { needed = tt; truly = tt; tables = tt; queue = tt }) appends
+    own : (e.backend == b) ≡ true
+    own = eq-eqb b b refl
 
-    own : (e.backend == was.id) ≡ true
-    own = eq-eqb was.id was.id refl
+    facts : Facts
+    facts = facts_by old b 0 events.Start (facts_of old b)
 
-    first : Session
-    first = at_command no_block [] [] (length old + 1) (first_of was.commands)
+    facts_are : facts_of (old ++ e ∷ []) p.id ≡ facts
+    facts_are = ap (facts_of (old ++ e ∷ [])) started.moves.id ∙ facts_of-own old e b own
 
-    refused : refused_first no_block (first_of was.commands) ≡ refused_first was.blocks (slice_get was.commands was.finished)
-    refused = ap (refused_first no_block) (first_is was.commands) ∙ ap (λ b. refused_first b (slice_get was.commands 0)) (sym before.new.blocks) ∙ ap (λ n. refused_first was.blocks (slice_get was.commands n)) (sym before.new.finished)
+    first_command : slice_get p.commands p.finished ≡ slice_get was.progress.commands 0
+    first_command = ap (λ l. slice_get l p.finished) started.moves.commands ∙ ap (slice_get was.progress.commands) (started.moves.finished ∙ before.new.progress.finished)
+
+    first_is : slice_get was.progress.commands 0 ≡ first_of (commands_of scenario b)
+    first_is = sym (first_left was.progress.commands 0) ∙ ap first_of before.waits.commands
+
+    makes : MakesEntry scenario old new had has b
+    makes = appended_makes scenario old new had has e (before.waits.number, subst (λ o. MayPlayAt scenario old b o 0 events.Start) (sym before.session) tt) (record { needed = tt; truly = tt; tables = tt; queue = tt }) appends

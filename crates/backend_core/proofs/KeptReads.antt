@@ -5,8 +5,8 @@ use Rattle.base_types.specs.Scans.{same_scan, build_scans}
 use Rattle.base_types.proofs.SameScan.{same_scan-true}
 use Rattle.cacheless.specs.OpenedReads.{is_of_opened}
 use Rattle.cacheless.proofs.SilentActs.{both_empty}
+use Rattle.cacheless.specs.State.{is_kept, missing, builds_missing}
 use Rattle.backend_core.specs.Types.{Purpose, Opening, KeptScan}
-use Rattle.backend_core.specs.State.{is_kept, missing, builds_missing}
 
 -- where the scans of a descriptor are there, each is
 kept_among : (kept : List KeptScan) (scan : Purpose) (wanted : List Purpose) → missing kept wanted ≡ [] → list_any (same_scan scan) wanted ≡ true → is_kept kept scan ≡ true

@@ -1,174 +1,256 @@
 -- What a backend does next.
-use Rattle.std.proofs.Common.{◌≡◌, ◌∙◌, ℕ, Bool, true, false, not, ◌&&◌, ◌==◌, Option, Some, None, List, [], ◌∷◌, ◌++◌, cond, refl, sym, ap, subst, length, take, filter, is_none, is_some, slice_get, ◌⊎◌, inl, inr, arith}
-use Rattle.std.specs.Prelude.{nat_le}
-use Rattle.std.specs.List.{find}
-use Rattle.std.proofs.lemmas.List.Concat.{flat_map-append}
-use Rattle.std.proofs.lemmas.Bool.{le-leb, eqb-true}
+use Rattle.std.proofs.Common.{◌≡◌, ◌≢◌, ◌∙◌, ℕ, Bool, true, false, not, ◌&&◌, ◌||◌, ◌==◌, Option, Some, None, List, [], ◌∷◌, ◌++◌, cond, refl, sym, ap, subst, append_assoc, length, take, is_none, is_some, slice_get, ◌⊎◌, inl, inr, if◌then◌else◌}
+use Rattle.std.specs.List.{find, list_any, AllByRecursion}
 use Rattle.std.specs.Option.{option_map_or}
-use Rattle.base_types.specs.Scans.{build_scans}
+use Rattle.std.proofs.lemmas.Bool.{both_ways}
+use Rattle.std.proofs.lemmas.List.{append-nil}
+use Rattle.base_types.specs.Scans.{same_scan, is_build_scan, build_scans}
+use Rattle.base_types.specs.declared.kind.Kind.TheVariants.{Table, Index}
+use Rattle.base_types.specs.declared.row.Row.TheVariants as rows
 use Rattle.base_types.specs.declared.scan.Purpose.TheVariants as scans
-use Rattle.ddl_effect.specs.Plans.{Plan, Do, Lookup, Open, Read}
+use Rattle.base_types.proofs.SameScan.{same_scan-itself}
+use Rattle.event_kinds.specs.declared.entry.Event.TheVariants as events
+use Rattle.ddl_effect.specs.Blocks.{Inside, Blocks}
+use Rattle.ddl_effect.specs.Commands.{plan_of, commands_of}
+use Rattle.ddl_effect.specs.Plans.{Plan, Act, Done, Fails, Absent, NotBuilt, Do, Lookup, Open, Column, Read, Lock, Write, after_act}
 use Rattle.ddl_effect.specs.Stages.{plan_at, want_of}
 use Rattle.ddl_effect.specs.declared.want.Want.TheVariants as wants
-use Rattle.inval_messages.specs.Lists.{Written, has_write_from, unsent_after}
-use Rattle.history_model.proofs.Every.{any-weaker}
-use Rattle.cacheless.specs.Ends.{Ends, Commits, TakesBack}
-use Rattle.cacheless.specs.Owed.{OwesLook}
-use Rattle.backend_core.specs.Types.{Oid, Mode, Kind, Row, Purpose, Message, Command, Xid, OwnTransaction, Opening, KeptScan, Backend}
-use Rattle.backend_core.specs.declared.phase.Phase.TheVariants as phases
-use Rattle.backend_core.specs.State.{is_kept, missing, builds_missing, is_out, begins_in, end_at, has_write_since, lists_at, published_at, unlocked_of, HasCommand}
-use Rattle.backend_core.specs.Agrees.{ReadsOpened, Well}
-use Rattle.backend_core.specs.Steps.{OwesLookNow, IsWorking, NextLookUp, NextBuild, ForOpened, ForOpening, NextLock, NextFind, NextOpen, NextCommit, NextRelease, AfterCommit, WithoutWrite, NextFinish}
+use Rattle.history_model.specs.Writes.{is_empty}
+use Rattle.cacheless.specs.declared.progress.Due.TheVariants as dues
+use Rattle.cacheless.specs.ActsDone.{after_given, reached, made_first, made_in, opening_by}
+use Rattle.cacheless.specs.Ends.{End, Ends, Commits, TakesBack}
+use Rattle.cacheless.specs.May.{owes_no_end, has_failed, is_first_missing, is_next_of_act, is_next_at, lacks_opened, lacks_any, owes_nothing, may_lock_at, may_end_at, is_next_sent, is_next_of_commit, is_next_of_back, is_next_of_end}
+use Rattle.cacheless.specs.OnCourse.{Way, Begun, Wrote, Unbuilt, Over, FollowsPlan, IsOnCourse, AllOnCourse}
+use Rattle.cacheless.specs.OpenedReads.{ReadsOpened}
+use Rattle.cacheless.specs.Runs.{runs}
+use Rattle.cacheless.specs.Settled.{opened_by}
+use Rattle.cacheless.specs.Session.{Session, Outcome, Unsettled, Well, Badly, none_open, outcome_of, is_settled}
+use Rattle.cacheless.specs.Silently.{gives_at, gives_next, acts_on, is_ends, is_finished_at, IsAtRest}
+use Rattle.cacheless.specs.State.{owed_at, owed_first, is_kept, builds_missing, act_missing, is_out, end_at, end_of_running, is_visible_at, has_write_since, unsent_at}
+use Rattle.cacheless.proofs.OpenedReads.{reads_out, reads_first, reads_after}
+use Rattle.cacheless.proofs.ReadsBuilds.{stage_built}
+use Rattle.cacheless.proofs.SilentActs.{empty_list}
+use Rattle.cacheless.proofs.Tests.{and_true, both_true, not_both}
+use Rattle.backend_core.specs.Types.{Oid, Mode, Kind, Message, Row, Purpose, Command, CommandError, Opening, KeptScan, Scenario, Entry, Next, Progress, Backend}
+use Rattle.backend_core.specs.declared.next.Next.TheVariants as nexts
+use Rattle.backend_core.specs.Agrees.{IsPlayed, command_at, AwaitsEntry}
+use Rattle.backend_core.specs.Steps.{IsFree, OwesLookNow, IsScanNext, IsLockNext, IsWriteNext, EndsNext, InCommand, AfterAll, end_event, IsNextOf, ComesOfCommit, ComesOfBack}
+use Rattle.backend_core.specs.Words.{lacking_first, build_first, unlocked_of}
 use Rattle.backend_core.proofs.KeptReads.{kept_opened}
+use Rattle.backend_core.proofs.Own.{waiting, waiting_course}
 
--- the plan that wants a lookup
-wants_lookup : (p : Plan) (name : List ℕ) (mode : Mode) → want_of p ≡ wants.Lookup name mode → (rest : List Row → Plan) × (p ≡ Do (Lookup name mode) rest)
-wants_lookup (Do (Lookup n m) rest) name mode is = let name_is : n ≡ name = cc in let mode_is : m ≡ mode = cc in (rest, λ i. Do (Lookup (name_is i) (mode_is i)) rest)
-wants_lookup p name mode is = absurd (cc)
-
-wants_open : (p : Plan) (rel : Oid) (kind : Kind) → want_of p ≡ wants.Open rel kind → (rest : List Row → Plan) × (p ≡ Do (Open rel kind) rest)
-wants_open (Do (Open r k) rest) rel kind is = let rel_is : r ≡ rel = cc in let kind_is : k ≡ kind = cc in (rest, λ i. Do (Open (rel_is i) (kind_is i)) rest)
-wants_open p rel kind is = absurd (cc)
-
-wants_read : (p : Plan) (scan : Purpose) → want_of p ≡ wants.Read scan → (rest : List Row → Plan) × (p ≡ Do (Read scan) rest)
-wants_read (Do (Read s) rest) scan is = let scan_is : s ≡ scan = cc in (rest, λ i. Do (Read (scan_is i)) rest)
-wants_read p scan is = absurd (cc)
-
-module _ (s : Backend) (whole : builds_missing s.kept s.opened ≡ []) where
-  pub next_look_up : (name : List ℕ) (mode : Mode) → want_of (plan_at s.exec) ≡ wants.Lookup name mode → s.read ≡ false → NextLookUp s (scans.RelName name)
-  next_look_up name mode is unread = let at = wants_lookup (plan_at s.exec) name mode is in record { act = Lookup name mode; rest = at.0; at = at.1; by = refl; unread = unread; whole = whole }
-
-  pub next_lock : (name : List ℕ) (mode : Mode) (rel : Oid) → want_of (plan_at s.exec) ≡ wants.Lookup name mode → s.read ≡ true → unlocked_of s.locks.items mode s.given.items ≡ Some rel → NextLock s rel mode
-  next_lock name mode rel is read unlocked = let at = wants_lookup (plan_at s.exec) name mode is in record { name = name; rest = at.0; at = at.1; read = read; unlocked = unlocked; whole = whole }
-
-  pub next_find : (name : List ℕ) (mode : Mode) → want_of (plan_at s.exec) ≡ wants.Lookup name mode → s.read ≡ true → unlocked_of s.locks.items mode s.given.items ≡ None → NextFind s
-  next_find name mode is read locked = let at = wants_lookup (plan_at s.exec) name mode is in record { act = Lookup name mode; rest = at.0; at = at.1; here = (read, locked); whole = whole }
-
-  pub next_read : (scan : Purpose) → Well s → want_of (plan_at s.exec) ≡ wants.Read scan → NextFind s
-  next_read scan well is =
-      let at = wants_read (plan_at s.exec) scan is in
-      record { act = Read scan; rest = at.0; at = at.1; here = kept_opened s.kept scan s.opened whole (subst (ReadsOpened s.opened) at.1 well.reads).0; whole = whole }
-
-find_first : {X : Type 0} (p : X → Bool) (xs : List X) (y : X) → find p xs ≡ Some y → (more : List X) × (filter p xs ≡ y ∷ more)
-find_first {X = X} p [] y h = absurd (cc)
-find_first {X = X} p (x ∷ xs) y h = elim (p x) as (λ t. p x ≡ t → (more : List X) × (filter p (x ∷ xs) ≡ y ∷ more)) [
-  | true ↦ λ e. let same : x ≡ y = cc (simp e at h) in (filter p xs, simp e (ap (λ z. z ∷ filter p xs) same))
-  | false ↦ λ e. let more = find_first p xs y (simp e at h) in (more.0, simp e more.1)
-] refl
-
-find_none : {X : Type 0} (p : X → Bool) (xs : List X) → find p xs ≡ None → filter p xs ≡ []
-find_none p [] h = refl
-find_none p (x ∷ xs) h = elim (p x) as (λ t. p x ≡ t → filter p (x ∷ xs) ≡ []) [
-  | true ↦ λ e. absurd (cc (simp e at h))
-  | false ↦ λ e. simp e (find_none p xs (simp e at h))
-] refl
-
--- the first of some scans
-first_one : (l : List Purpose) (scan : Purpose) → slice_get l 0 ≡ Some scan → (more : List Purpose) × (l ≡ scan ∷ more)
-first_one [] scan is = absurd (cc)
-first_one (x ∷ xs) scan is = let same : x ≡ scan = cc is in (xs, ap (λ y. y ∷ xs) same)
-
-pub none_first : (l : List Purpose) → slice_get l 0 ≡ None → l ≡ []
-none_first [] is = refl
-none_first (x ∷ xs) is = absurd (cc)
-
--- a descriptor more
-pub builds_push : (kept : List KeptScan) (opened : List Opening) (o : Opening) → builds_missing kept opened ≡ [] → missing kept (build_scans o.kind o.rel) ≡ [] → builds_missing kept (opened ++ o ∷ []) ≡ []
-builds_push kept opened o builds none = flat_map-append (λ (p : Opening). missing kept (build_scans p.kind p.rel)) opened (o ∷ []) ∙ ap (λ l. l ++ (missing kept (build_scans o.kind o.rel) ++ [])) builds ∙ ap (λ l. l ++ []) none
-
--- the first of the opened descriptors that lacks a scan has the first that is missing
-pub lacking_some : (kept : List KeptScan) (opened : List Opening) (o : Opening) → find (λ p. is_some (find (λ d. not (is_kept kept d)) (build_scans p.kind p.rel))) opened ≡ Some o
-    → find (λ d. not (is_kept kept d)) (build_scans o.kind o.rel) ≡ slice_get (builds_missing kept opened) 0
-lacking_some kept [] o is = absurd (cc)
-lacking_some kept (p ∷ opened) o is = by_first (lacking_some kept opened o) (find (λ d. not (is_kept kept d)) (build_scans p.kind p.rel)) refl is
+-- a failure of memory ends nothing
+fail_ends : (p : Progress) (end : End) → is_next_of_end p events.Fail end ≡ true → ⊥
+fail_ends p Ends is = cc is
+fail_ends p (Commits first) is = by_written (has_write_since first p) is
   where
-    rest : Option Opening
-    rest = find (λ q. is_some (find (λ d. not (is_kept kept d)) (build_scans q.kind q.rel))) opened
+    by_visible : (t : Bool) → elim t as (λ x. Bool) [ true ↦ is_next_sent first (unsent_at p) events.Fail | false ↦ false ] ≡ true → ⊥
+    by_visible true next = by_unsent (unsent_at p) next
+      where
+        by_unsent : (l : List Message) → is_next_sent first l events.Fail ≡ true → ⊥
+        by_unsent [] none = cc none
+        by_unsent (m ∷ l) none = cc none
+    by_visible false next = cc next
 
-    by_first : (rest ≡ Some o → find (λ d. not (is_kept kept d)) (build_scans o.kind o.rel) ≡ slice_get (builds_missing kept opened) 0) → (f : Option Purpose) → find (λ d. not (is_kept kept d)) (build_scans p.kind p.rel) ≡ f → cond (is_some f) (Some p) rest ≡ Some o
-        → find (λ d. not (is_kept kept d)) (build_scans o.kind o.rel) ≡ slice_get (missing kept (build_scans p.kind p.rel) ++ builds_missing kept opened) 0
-    by_first later None here there = later there ∙ sym (ap (λ l. slice_get (l ++ builds_missing kept opened) 0) (find_none (λ d. not (is_kept kept d)) (build_scans p.kind p.rel) here))
-    by_first later (Some scan) here there =
-        let same : p ≡ o = cc there in
-        ap (λ q. find (λ d. not (is_kept kept d)) (build_scans q.kind q.rel)) (sym same) ∙ here
-        ∙ sym (ap (λ l. slice_get (l ++ builds_missing kept opened) 0) (find_first (λ d. not (is_kept kept d)) (build_scans p.kind p.rel) scan here).1)
-
-pub lacking_none : (kept : List KeptScan) (opened : List Opening) → find (λ p. is_some (find (λ d. not (is_kept kept d)) (build_scans p.kind p.rel))) opened ≡ None → None ≡ slice_get (builds_missing kept opened) 0
-lacking_none kept [] is = refl
-lacking_none kept (p ∷ opened) is = by_first (lacking_none kept opened) (find (λ d. not (is_kept kept d)) (build_scans p.kind p.rel)) refl is
+    by_written : (t : Bool) → elim t as (λ x. Bool) [ true ↦ elim (is_visible_at p) as (λ x. Bool) [ true ↦ is_next_sent first (unsent_at p) events.Fail | false ↦ false ] | false ↦ false ] ≡ true → ⊥
+    by_written true next = by_visible (is_visible_at p) next
+    by_written false next = cc next
+fail_ends p (TakesBack from) is = by_written (has_write_since from p) is
   where
-    rest : Option Opening
-    rest = find (λ q. is_some (find (λ d. not (is_kept kept d)) (build_scans q.kind q.rel))) opened
+    by_written : (t : Bool) → elim t as (λ x. Bool) [ true ↦ false | false ↦ false ] ≡ true → ⊥
+    by_written true next = cc next
+    by_written false next = cc next
 
-    by_first : (rest ≡ None → None ≡ slice_get (builds_missing kept opened) 0) → (f : Option Purpose) → find (λ d. not (is_kept kept d)) (build_scans p.kind p.rel) ≡ f → cond (is_some f) (Some p) rest ≡ None
-        → None ≡ slice_get (missing kept (build_scans p.kind p.rel) ++ builds_missing kept opened) 0
-    by_first later None here there = later there ∙ sym (ap (λ l. slice_get (l ++ builds_missing kept opened) 0) (find_none (λ d. not (is_kept kept d)) (build_scans p.kind p.rel) here))
-    by_first later (Some scan) here there = absurd (cc there)
+no_end : (p : Progress) → EndsNext p events.Fail → ⊥
+no_end p (InCommand command free out may) = fail_ends p (end_at p command) (and_true _ (is_next_of_end p events.Fail (end_at p command)) may).1
+no_end p (AfterAll past comes) = fail_ends p (end_of_running p.running) comes
 
-pub next_rebuild : (s : Backend) (scan : Purpose) → is_out s ≡ false → slice_get (builds_missing s.kept s.opened) 0 ≡ Some scan → NextBuild s scan
-next_rebuild s scan inside first = let some = first_one (builds_missing s.kept s.opened) scan first in ForOpened some.0 inside some.1
+-- an end's entry comes next
+pub ends_next : (s : Backend) (next : Next) → EndsNext s.progress (end_event s.progress next) → IsNextOf s next
+ends_next s nexts.Look ends = absurd (no_end s.progress ends)
+ends_next s (nexts.LookBeforeScan builds) ends = absurd (no_end s.progress ends)
+ends_next s nexts.Fetch ends = absurd (no_end s.progress ends)
+ends_next s (nexts.Scan scan builds) ends = absurd (no_end s.progress ends)
+ends_next s (nexts.Lock rel mode) ends = absurd (no_end s.progress ends)
+ends_next s nexts.Write ends = absurd (no_end s.progress ends)
+ends_next s nexts.Leave ends = absurd (no_end s.progress ends)
+ends_next s (nexts.Commit xid) ends = ends
+ends_next s nexts.Publish ends = ends
+ends_next s (nexts.TakeBack from) ends = ends
+ends_next s (nexts.Release from) ends = ends
 
-pub next_build : (s : Backend) (rel : Oid) (kind : Kind) (scan : Purpose) → builds_missing s.kept s.opened ≡ [] → want_of (plan_at s.exec) ≡ wants.Open rel kind → find (λ d. not (is_kept s.kept d)) (build_scans kind rel) ≡ Some scan → NextBuild s scan
-next_build s rel kind scan whole is found =
-    let at = wants_open (plan_at s.exec) rel kind is in
-    let first = find_first (λ d. not (is_kept s.kept d)) (build_scans kind rel) scan found in
-    ForOpening rel kind at.0 first.0 at.1 whole first.1
+-- after the last command
+pub after_all : (s : Backend) (next : Next) (first : ℕ) → slice_get s.progress.commands s.progress.finished ≡ None → end_of_running s.progress.running ≡ TakesBack first → ComesOfBack first s.progress next → IsNextOf s next
+after_all s next first past end comes = ends_next s next (AfterAll past (ap (is_next_of_end s.progress (end_event s.progress next)) end ∙ comes))
 
-pub next_open : (s : Backend) (rel : Oid) (kind : Kind) → builds_missing s.kept s.opened ≡ [] → want_of (plan_at s.exec) ≡ wants.Open rel kind → find (λ d. not (is_kept s.kept d)) (build_scans kind rel) ≡ None → NextOpen s rel kind
-next_open s rel kind whole is none = let at = wants_open (plan_at s.exec) rel kind is in record { rest = at.0; at = at.1; none = find_none (λ d. not (is_kept s.kept d)) (build_scans kind rel) none; whole = whole }
+-- in a command that has come out and owes nothing, at rest
+pub out_owes : (p : Progress) (command : Command) → IsFree p command → lacks_any p ≡ false → owes_nothing command p ≡ true
+out_owes p command free lacks = λ i. is_empty (free.first i) && is_empty (owed_at (free.due i)) && not (lacks i)
 
--- the running command is the one at this place
-pub the_command : (s : Backend) (has : HasCommand s) (command : Command) → slice_get s.commands s.finished ≡ Some command → has.command ≡ command
-the_command s has command at = let both : Some has.command ≡ Some command = sym has.at ∙ at in cc
+-- its end is still to be made
+pub end_is : (p : Progress) (command : Command) (end : End) → IsAtRest p → IsFree p command → is_out p ≡ true → lacks_any p ≡ false → end_at p command ≡ end → (p.ended ≡ false) × (is_ends end ≡ false)
+end_is p command end still free out lacks is = by_tests p.ended (is_ends end) refl refl unfinished
+  where
+    unfinished : (is_out p && (p.ended || is_ends end) && owes_nothing command p) ≡ false
+    unfinished = ap (λ e. is_out p && (p.ended || is_ends e) && owes_nothing command p) (sym is) ∙ (still command free.at).1
 
-pub working : (s : Backend) (command : Command) → slice_get s.commands s.finished ≡ Some command → s.phase ≡ phases.Working → (begins_in s.blocks s.phase command && is_none s.running) ≡ false → IsWorking s
-working s command at phase free = record { has = record { command = command; at = at }; phase = phase; free = ap (λ t. elim t [ true ↦ OwesLook ∷ [] | false ↦ [] ]) free }
+    by_tests : (x y : Bool) → p.ended ≡ x → is_ends end ≡ y → (is_out p && (p.ended || is_ends end) && owes_nothing command p) ≡ false → (p.ended ≡ false) × (is_ends end ≡ false)
+    by_tests false false a b none = (a, b)
+    by_tests true y a b none = absurd (not_both _ (both_true (is_out p && (p.ended || is_ends end)) (owes_nothing command p) (both_true (is_out p) (p.ended || is_ends end) out (ap (λ t. t || is_ends end) a)) (out_owes p command free lacks)) none)
+    by_tests false true a b none = absurd (not_both _ (both_true (is_out p && (p.ended || is_ends end)) (owes_nothing command p) (both_true (is_out p) (p.ended || is_ends end) out (λ i. a i || b i)) (out_owes p command free lacks)) none)
 
-pub owes_look : (s : Backend) (command : Command) → slice_get s.commands s.finished ≡ Some command → s.phase ≡ phases.Working → (begins_in s.blocks s.phase command && is_none s.running) ≡ true → OwesLookNow s
-owes_look s command at phase owes = (record { command = command; at = at }, inl (λ none. absurd (let both : OwesLook ∷ [] ≡ [] = sym (ap (λ t. elim t [ true ↦ OwesLook ∷ [] | false ↦ [] ]) owes) ∙ none in cc), phase))
+pub commits_next : (s : Backend) (command : Command) (next : Next) (first : ℕ) → IsAtRest s.progress → IsFree s.progress command → is_out s.progress ≡ true → lacks_any s.progress ≡ false → end_at s.progress command ≡ Commits first → ComesOfCommit first s.progress next → IsNextOf s next
+commits_next s command next first still free out lacks end comes = ends_next s next (InCommand command free out (both_true _ (is_next_of_end s.progress (end_event s.progress next) (end_at s.progress command))
+    (both_true (not s.progress.ended) (owes_no_end command s.progress (end_at s.progress command)) (ap not (end_is s.progress command (Commits first) still free out lacks end).0) (ap (owes_no_end command s.progress) end ∙ out_owes s.progress command free lacks))
+    (ap (is_next_of_end s.progress (end_event s.progress next)) end ∙ comes)))
 
-take_none : (messages : List Message) → (length (take 64 messages) == 0) ≡ true → messages ≡ []
-take_none [] none = refl
-take_none (m ∷ messages) none = absurd (omega (arith, eqb-true (length (take 64 (m ∷ messages))) 0 none))
+pub takes_back_next : (s : Backend) (command : Command) (next : Next) (from : ℕ) → IsAtRest s.progress → IsFree s.progress command → is_out s.progress ≡ true → lacks_any s.progress ≡ false → end_at s.progress command ≡ TakesBack from → ComesOfBack from s.progress next → IsNextOf s next
+takes_back_next s command next from still free out lacks end comes = ends_next s next (InCommand command free out (both_true _ (is_next_of_end s.progress (end_event s.progress next) (end_at s.progress command))
+    (both_true (not s.progress.ended) (owes_no_end command s.progress (end_at s.progress command)) (ap not (end_is s.progress command (TakesBack from) still free out lacks end).0) (ap (owes_no_end command s.progress) end ∙ ap (λ d. is_empty (owed_at d)) free.due))
+    (ap (is_next_of_end s.progress (end_event s.progress next)) end ∙ comes)))
 
-first_running : (own : Option OwnTransaction) (t : OwnTransaction) → own ≡ Some t → option_map_or (λ o. Some o.first) own None ≡ Some t.first
-first_running own t is = ap (λ o. option_map_or (λ (x : OwnTransaction). Some x.first) o None) is
+-- the plans of commands read what they have opened, however far they are
+reads_reached : (gave : List (List Row)) (opened : List Opening) (plan : Plan) → ReadsOpened opened plan → ReadsOpened (opened ++ made_in opening_by gave plan) (reached gave plan)
+reads_reached [] opened plan reads = subst (λ o. ReadsOpened o plan) (sym (append-nil opened)) reads
+reads_reached (given ∷ gave) opened plan reads = by_plan plan reads
+  where
+    on : (act : Act) (rest : List Row → Plan) → ReadsOpened opened (Do act rest) → ReadsOpened (opened ++ (opened_by act ++ made_in opening_by gave (rest given))) (reached gave (rest given))
+    on act rest has = subst (λ o. ReadsOpened o (reached gave (rest given))) (append_assoc opened (opened_by act) (made_in opening_by gave (rest given)))
+        (reads_reached gave (opened ++ opened_by act) (rest given) (reads_after opened act rest given (opened ++ opened_by act) (rest given) has refl refl))
 
--- where nothing is left to be published, the release comes next
-pub releases_shown : (s : Backend) (published : ℕ) (next : List Message) (own : OwnTransaction) → s.phase ≡ phases.Visible published → next ≡ take 64 (unsent_after published (lists_at s)) → (length next == 0) ≡ true → s.running ≡ Some own → NextRelease s own.first
-releases_shown s published next own is are none runs =
-    AfterCommit published is (ap (λ p. unsent_after (published_at p) (lists_at s)) is ∙ take_none (unsent_after published (lists_at s)) (ap (λ l. length l == 0) (sym are) ∙ none)) (first_running s.running own runs)
+    by_plan : (p : Plan) → ReadsOpened opened p → ReadsOpened (opened ++ made_in opening_by (given ∷ gave) p) (reached (given ∷ gave) p)
+    by_plan (Do (Write draft) rest) has = reads_reached gave opened (Do (Write draft) rest) has
+    by_plan (Do (Lookup name mode) rest) has = on (Lookup name mode) rest has
+    by_plan (Do (Open rel kind) rest) has = on (Open rel kind) rest has
+    by_plan (Do (Column rel name) rest) has = on (Column rel name) rest has
+    by_plan (Do (Read scan) rest) has = on (Read scan) rest has
+    by_plan (Do (Lock rel mode) rest) has = on (Lock rel mode) rest has
+    by_plan Done has = reads_reached gave opened Done tt
+    by_plan (Fails error) has = reads_reached gave opened (Fails error) tt
+    by_plan (Absent name) has = reads_reached gave opened (Absent name) tt
+    by_plan NotBuilt has = reads_reached gave opened NotBuilt tt
 
-pub finishes_now : (s : Backend) (command : Command) → slice_get s.commands s.finished ≡ Some command → IsWorking s → is_some s.answer ≡ true → end_at s command ≡ Ends → NextFinish s
-finishes_now s command at work answered end = record {
-  has = work.has;
-  answered = λ none. absurd (let both : false ≡ true = sym (ap is_some none) ∙ answered in cc);
-  ended = inr (work.phase, work.free, ap (end_at s) (the_command s work.has command at) ∙ end);
+pub reads_now : (scenario : Scenario) (seen : List Entry) (s : Backend) → AwaitsEntry scenario seen s → AllOnCourse scenario seen → ReadsOpened s.progress.opened (plan_at s.progress.exec)
+reads_now scenario seen s waits courses = by_command (command_at s) refl
+  where
+    on : IsOnCourse scenario seen s.progress.id (waiting waits)
+    on = waiting_course scenario seen s waits courses
+
+    first : (command : Command) → runs command ≡ true → ReadsOpened [] (plan_of none_open command)
+    first command runs_it = reads_first (record { block = Inside; levels = [] }) (Some command) (λ c is. let one : command ≡ c = cc is in subst (λ x. runs x ≡ true) one runs_it)
+
+    by_way : (command : Command) → Way seen s.progress.id (waiting waits) command → ReadsOpened s.progress.opened (plan_at s.progress.exec)
+    by_way command (Begun way) = subst (ReadsOpened s.progress.opened) (sym way.plan) (subst (λ o. ReadsOpened o (reached way.gave (plan_of none_open command))) (sym way.opened) (reads_reached way.gave [] (plan_of none_open command) (first command way.runs)))
+    by_way command (Wrote w) = subst (ReadsOpened s.progress.opened) (sym w.plan) tt
+    by_way command (Unbuilt w) = subst (ReadsOpened s.progress.opened) (sym w.plan) tt
+    by_way command (Over w) = reads_out s.progress.opened (plan_at s.progress.exec) w.out
+
+    by_refused : (command : Command) → FollowsPlan seen s.progress.id (waiting waits) command → (o : Option CommandError) → (waiting waits).refused ≡ o → ReadsOpened s.progress.opened (plan_at s.progress.exec)
+    by_refused command follows None is = by_way command (follows.way is)
+    by_refused command follows (Some error) is = subst (ReadsOpened s.progress.opened) (sym (follows.refused error is)) tt
+
+    by_command : (o : Option Command) → command_at s ≡ o → ReadsOpened s.progress.opened (plan_at s.progress.exec)
+    by_command None at = reads_out s.progress.opened (plan_at s.progress.exec) (waits.fits.past at).out
+    by_command (Some command) at = by_refused command (on.follows command (ap (slice_get (commands_of scenario s.progress.id)) waits.rests.holds.count ∙ ap (λ l. slice_get l s.progress.finished) (sym waits.rests.holds.commands) ∙ at)) (waiting waits).refused refl
+
+-- what is found of a list is as all its elements are
+find_all : {X : Type 0} (P : X → Type 0) (p : X → Bool) (xs : List X) (x : X) → AllByRecursion P xs → find p xs ≡ Some x → P x
+find_all P p [] x all is = absurd (cc is)
+find_all P p (y ∷ xs) x all is = by_test (p y) is (find_all P p xs x all.1)
+  where
+    by_test : (t : Bool) → cond t (Some y) (find p xs) ≡ Some x → (find p xs ≡ Some x → P x) → P x
+    by_test true one more = let same : y ≡ x = cc one in subst P same all.0
+    by_test false later more = more later
+
+each_builds : (kind : Kind) (rel : Oid) → AllByRecursion (λ d. is_build_scan d ≡ true) (build_scans kind rel)
+each_builds Table rel = (refl, (refl, (refl, (refl, (refl, (refl, tt))))))
+each_builds Index rel = (refl, (refl, tt))
+
+-- a scan that a descriptor lacks
+pub record IsBuildNext (kept : List KeptScan) (opened : List Opening) (scan : Purpose) : Type 0 where
+  pub lacks : lacks_opened kept opened ≡ true
+  pub first : list_any (λ o. is_first_missing scan kept o.kind o.rel) opened ≡ true
+  pub build : is_build_scan scan ≡ true
+
+pub build_some : (kept : List KeptScan) (opened : List Opening) (scan : Purpose) → build_first kept opened ≡ Some scan → IsBuildNext kept opened scan
+build_some kept [] scan is = absurd (cc is)
+build_some kept (o ∷ opened) scan is = by_first (find (λ d. not (is_kept kept d)) (build_scans o.kind o.rel)) refl is (build_some kept opened scan)
+  where
+    Goal : Bool → Bool → Type 0
+    Goal lacks first = (lacks ≡ true) × (first ≡ true) × (is_build_scan scan ≡ true)
+
+    by_first : (f : Option Purpose) → find (λ d. not (is_kept kept d)) (build_scans o.kind o.rel) ≡ f
+        → elim (cond (is_some f) (Some o) (lacking_first kept opened)) as (λ x. Option Purpose) [ Some q ↦ find (λ d. not (is_kept kept d)) (build_scans q.kind q.rel) | None ↦ None ] ≡ Some scan
+        → (build_first kept opened ≡ Some scan → IsBuildNext kept opened scan) → IsBuildNext kept (o ∷ opened) scan
+    by_first (Some x) at one more = let same : x ≡ scan = (let both : Some x ≡ Some scan = sym at ∙ one in cc both) in record {
+      lacks = ap (λ f. is_some (cond (is_some f) (Some o) (lacking_first kept opened))) at;
+      first = ap (λ f. option_map_or (same_scan scan) f false || list_any (λ q. is_first_missing scan kept q.kind q.rel) opened) (at ∙ ap Some same) ∙ ap (λ t. t || list_any (λ q. is_first_missing scan kept q.kind q.rel) opened) (same_scan-itself scan);
+      build = find_all (λ d. is_build_scan d ≡ true) (λ d. not (is_kept kept d)) (build_scans o.kind o.rel) scan (each_builds o.kind o.rel) (at ∙ ap Some same);
+    }
+    by_first None at one more = let later = more one in record {
+      lacks = ap (λ f. is_some (cond (is_some f) (Some o) (lacking_first kept opened))) at ∙ later.lacks;
+      first = ap (λ f. option_map_or (same_scan scan) f false || list_any (λ q. is_first_missing scan kept q.kind q.rel) opened) at ∙ later.first;
+      build = later.build;
+    }
+
+-- where no scan is found none is lacked
+pub build_none : (kept : List KeptScan) (opened : List Opening) → build_first kept opened ≡ None → lacks_opened kept opened ≡ false
+build_none kept [] is = refl
+build_none kept (o ∷ opened) is = by_first (find (λ d. not (is_kept kept d)) (build_scans o.kind o.rel)) refl is (build_none kept opened)
+  where
+    by_first : (f : Option Purpose) → find (λ d. not (is_kept kept d)) (build_scans o.kind o.rel) ≡ f
+        → elim (cond (is_some f) (Some o) (lacking_first kept opened)) as (λ x. Option Purpose) [ Some q ↦ find (λ d. not (is_kept kept d)) (build_scans q.kind q.rel) | None ↦ None ] ≡ None
+        → (build_first kept opened ≡ None → lacks_opened kept opened ≡ false) → lacks_opened kept (o ∷ opened) ≡ false
+    by_first (Some x) at one more = absurd (let both : Some x ≡ None = sym at ∙ one in cc both)
+    by_first None at one more = ap (λ f. is_some (cond (is_some f) (Some o) (lacking_first kept opened))) at ∙ more one
+
+-- it comes next in a command that hasn't failed
+pub build_next : (p : Progress) (command : Command) (scan : Purpose) → IsFree p command → has_failed p ≡ false → build_first p.kept p.opened ≡ Some scan → IsScanNext p scan true
+build_next p command scan free goes is = record {
+  command = command;
+  free = free;
+  lacks = λ i. not (goes i) && (next.lacks i || not (is_empty (act_missing p (plan_at p.exec))));
+  next = λ i. not (goes i) && (next.first i || is_next_of_act scan p (plan_at p.exec));
+  kind = next.build;
 }
+  where
+    next : IsBuildNext p.kept p.opened scan
+    next = build_some p.kept p.opened scan is
 
-pub releases_now : (s : Backend) (command : Command) (from : ℕ) → slice_get s.commands s.finished ≡ Some command → IsWorking s → is_some s.answer ≡ true → has_write_since from s ≡ false
-    → (end_at s command ≡ Commits from) ⊎ (end_at s command ≡ TakesBack from) → NextRelease s from
-releases_now s command from at work answered none end = WithoutWrite work answered (subst (λ c. (end_at s c ≡ Commits from) ⊎ (end_at s c ≡ TakesBack from)) (sym (the_command s work.has command at)) end) none
+-- a command that has failed has come out, and lacks nothing
+pub failed_out : (p : Progress) → has_failed p ≡ true → (is_out p ≡ true) × (lacks_any p ≡ false)
+failed_out p failed = (by_outcome (outcome_of (plan_at p.exec)) failed, ap (λ t. not t && (lacks_opened p.kept p.opened || not (is_empty (act_missing p (plan_at p.exec))))) failed)
+  where
+    by_outcome : (o : Outcome) → elim o as (λ x. Bool) [ Badly ↦ true | other ↦ false ] ≡ true → is_settled o ≡ true
+    by_outcome Badly is = refl
+    by_outcome Well is = absurd (cc is)
+    by_outcome Unsettled is = absurd (cc is)
 
--- a write of some command is one of a command from 0 on
-pub write_from_first : (from : ℕ) (lists : List Written) → has_write_from from lists ≡ true → has_write_from 0 lists ≡ true
-write_from_first from lists is = any-weaker (λ w. nat_le from w.command) (λ w. nat_le 0 w.command) (λ w at. le-leb 0 w.command (omega arith)) lists is
+-- where its last entry asks for nothing and no first look is owed
+pub is_free : (p : Progress) (command : Command) (owes : Bool) → slice_get p.commands p.finished ≡ Some command → p.due ≡ dues.Nothing → not owes ≡ is_empty (owed_first p command) → owes ≡ false → IsFree p command
+is_free p command owes at due is none = record { at = at; due = due; first = empty_list (owed_first p command) (sym is ∙ ap not none) }
 
-has_xid : (s : Backend) (from : ℕ) → Well s → has_write_since from s ≡ true → option_map_or (λ t. is_some t.xid) s.running false ≡ true
-has_xid s from well written = well.written (write_from_first from (lists_at s) written)
+pub look_first : (p : Progress) (command : Command) (owes : Bool) → slice_get p.commands p.finished ≡ Some command → p.due ≡ dues.Nothing → not owes ≡ is_empty (owed_first p command) → owes ≡ true → OwesLookNow p
+look_first p command owes at due is some = record { command = command; at = at; owes = inr (due, λ none. absurd (both_ways _ (sym is ∙ ap not some) (ap (λ l. is_empty l) none))) }
 
--- a transaction that has written has its Xid
-pub not_without_xid : (s : Backend) (from : ℕ) (own : OwnTransaction) → Well s → has_write_since from s ≡ true → s.running ≡ Some own → own.xid ≡ None → ⊥
-not_without_xid s from own well written runs none =
-    let both : true ≡ false = sym (has_xid s from well written) ∙ ap (λ o. option_map_or (λ (t : OwnTransaction). is_some t.xid) o false) runs ∙ ap (λ (o : Option Xid). is_some o) none in absurd (cc)
+-- a command whose plan is done
+pub done_out : (p : Progress) → want_of (plan_at p.exec) ≡ wants.Done → has_failed p ≡ false → lacks_opened p.kept p.opened ≡ false → (is_out p ≡ true) × (lacks_any p ≡ false)
+done_out p want goes whole = by_plan (plan_at p.exec) refl want
+  where
+    by_plan : (q : Plan) → plan_at p.exec ≡ q → want_of q ≡ wants.Done → (is_out p ≡ true) × (lacks_any p ≡ false)
+    by_plan Done at is = (ap (λ x. is_settled (outcome_of x)) at, λ i. not (goes i) && (whole i || not (is_empty (act_missing p (at i)))))
+    by_plan NotBuilt at is = absurd (stage_built p.exec at)
+    by_plan (Fails error) at is = absurd (cc is)
+    by_plan (Absent name) at is = absurd (cc is)
+    by_plan (Do (Lookup name mode) rest) at is = absurd (cc is)
+    by_plan (Do act rest) at is = absurd (cc is)
 
-pub commits_now : (s : Backend) (command : Command) (first : ℕ) (own : OwnTransaction) (xid : Xid) → slice_get s.commands s.finished ≡ Some command → IsWorking s → is_some s.answer ≡ true → has_write_since first s ≡ true
-    → end_at s command ≡ Commits first → s.running ≡ Some own → own.xid ≡ Some xid → NextCommit s xid.0
-commits_now s command first own xid at work answered written end runs has = record {
-  working = work;
-  answered = answered;
-  first = first;
-  end = ap (end_at s) (the_command s work.has command at) ∙ end;
-  written = written;
-  xid_is = ap (λ o. option_map_or (λ (t : OwnTransaction). option_map_or (λ x. Some x.0) t.xid None) o None) runs ∙ ap (λ o. option_map_or (λ (x : Xid). Some x.0) o None) has;
-}
+-- a write comes next where no descriptor lacks a scan
+pub write_next : (p : Progress) (command : Command) → IsFree p command → want_of (plan_at p.exec) ≡ wants.Write → has_failed p ≡ false → lacks_opened p.kept p.opened ≡ false → IsWriteNext p
+write_next p command free want goes whole = record { command = command; free = free; owes = out_owes p command free (by_plan (plan_at p.exec) refl want); wants = want }
+  where
+    by_plan : (q : Plan) → plan_at p.exec ≡ q → want_of q ≡ wants.Write → lacks_any p ≡ false
+    by_plan (Do (Write draft) rest) at is = λ i. not (goes i) && (whole i || not (is_empty (act_missing p (at i))))
+    by_plan (Do (Lookup name mode) rest) at is = absurd (cc is)
+    by_plan (Do act rest) at is = absurd (cc is)
+    by_plan q at is = absurd (cc is)

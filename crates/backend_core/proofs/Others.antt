@@ -1,89 +1,99 @@
 -- Another backend's entry changes nothing of where a backend is.
-use Rattle.std.proofs.Common.{◌≡◌, ◌≤◌, ◌∙◌, false, Some, List, [], ◌∷◌, ◌++◌, ◌==◌, sym, ap, subst, length, drop, All, refl, arith}
+use Rattle.std.proofs.Common.{◌≡◌, ◌∙◌, ◌==◌, ℕ, Bool, true, false, Option, Some, None, List, [], ◌∷◌, ◌++◌, sym, ap, subst, length, drop, All, get_or, refl}
 use Rattle.std.specs.Option.{option_map_or}
-use Rattle.std.proofs.lemmas.List.{length_push}
 use Rattle.base_types.specs.Scenario.{Scenario}
+use Rattle.base_types.specs.declared.scan.Purpose.TheVariants as scans
+use Rattle.ddl_effect.specs.Plans.{Plan, Absent, Do, Lookup}
+use Rattle.ddl_effect.specs.Stages.{plan_at}
 use Rattle.ddl_effect.specs.Commands.{commands_of}
 use Rattle.history_model.specs.Orderly.{MayComeNext}
-use Rattle.history_model.proofs.Reading.{life_of-other}
-use Rattle.cacheless.specs.Session.{Finished}
-use Rattle.cacheless.specs.Settled.{settled}
+use Rattle.history_model.specs.Read.{place_read}
+use Rattle.history_model.proofs.Reading.{life_of-other, place_read-other}
+use Rattle.cacheless.specs.Facts.{facts_of}
+use Rattle.cacheless.specs.Lines.{lines_from, lines_of_backend}
+use Rattle.cacheless.specs.Session.{Session}
+use Rattle.cacheless.specs.Sessions.{session_of}
+use Rattle.cacheless.specs.Settled.{finished_as}
+use Rattle.cacheless.specs.State.{session_at}
 use Rattle.cacheless.specs.TableWrites.{WritesTables}
+use Rattle.cacheless.proofs.JudgedLines.{session_placed, finished_lines-more, line_stays}
+use Rattle.cacheless.proofs.Others.{holds-other, rests-other, not_started-other}
 use Rattle.cacheless.proofs.Reading.{facts_of-other, session_of-other}
-use Rattle.backend_core.specs.Types.{Entry, Life, Backend}
-use Rattle.backend_core.specs.declared.phase.Life.TheVariants as lives
-use Rattle.backend_core.specs.State.{session_at}
-use Rattle.backend_core.specs.Agrees.{IsPlayed, ReadRight, FactsFit, Agrees, AwaitsEntry, HasNotJoined, HasLeft, Stands}
-use Rattle.backend_core.proofs.Stepping.{lines-more}
-use Rattle.backend_core.proofs.Carry.{MayCome, may_come, Leaves, other_leaves, has_written-other, kept-other, command-more, answer-more}
+use Rattle.cacheless.proofs.StaysOnCourse.{has_written-other}
+use Rattle.backend_core.specs.Types.{Entry, KeptScan, Life, Backend}
+use Rattle.backend_core.specs.declared.life.Life.TheVariants as lives
+use Rattle.backend_core.specs.Agrees.{IsPlayed, KeptAt, PlaceFits, Keeps, command_at, AwaitsEntry, HasNotJoined, HasLeft, Stands}
+use Rattle.backend_core.specs.Fits.{Fits}
+use Rattle.backend_core.proofs.Own.{waiting, waiting_is}
 
-places-more : (seen : List Entry) (e : Entry) (finished : List Finished) → All (λ f. f.judged ≤ length seen) finished → All (λ f. f.judged ≤ length (seen ++ e ∷ [])) finished
-places-more seen e finished places = λ i d within. omega (arith, places i d within, length_push seen e)
+-- the places of the scans that are kept
+kept-other : (history : List Entry) (e : Entry) (b : ℕ) (kept : List KeptScan) → (e.backend == b) ≡ false → All (KeptAt history b) kept → All (KeptAt (history ++ e ∷ []) b) kept
+kept-other history e b kept other fits = λ i d within. place_read-other history e b (get_or kept i d).scan other ∙ fits i d within
 
-agrees-other : (scenario : Scenario) (seen : List Entry) (e : Entry) (s : Backend) → (e.backend == s.id) ≡ false → MayCome seen e → Agrees scenario seen s → Agrees scenario (seen ++ e ∷ []) s
-agrees-other scenario seen e s other may agrees = record {
-  number = agrees.number;
-  commands = agrees.commands;
-  alive = agrees.alive;
-  rest = agrees.rest;
-  count = agrees.count;
-  is = session_of-other scenario seen e s.id other ∙ agrees.is ∙ ap (λ f. Some (settled f (drop s.finished s.commands) (session_at s agrees.rest))) (sym (facts_of-other seen e s.id other));
-  facts = subst (λ f. FactsFit f s) (sym (facts_of-other seen e s.id other)) agrees.facts;
-  tally = agrees.tally;
-  life = record { last = agrees.life.last; alive = life_of-other seen e s.id other ∙ agrees.life.alive; most = agrees.life.most };
-  well = agrees.well;
-  command = command-more seen e s s agrees.rest agrees.rest (record { id = refl; commands = refl; finished = refl; answer = refl; plan = refl; opened = refl; block = refl; refused = refl; found = refl }) (record { read = refl; given = refl; given_at = refl })
-      leaves.writes leaves.places leaves.relations agrees.command;
-  kept = kept-other seen e s.id s.kept other agrees.kept;
-  places = record { finished = places-more seen e agrees.rest.finished agrees.places.finished; judged = omega (arith, agrees.places.judged, length_push seen e); last = omega (arith, agrees.places.last, length_push seen e) };
-  answer = answer-more scenario seen e s s agrees.rest agrees.rest (record { id = refl; commands = refl; finished = refl; answer = refl; plan = refl; opened = refl; block = refl; refused = refl; found = refl }) refl agrees.places.judged agrees.answer;
-  lines = agrees.lines ∙ sym (lines-more scenario seen e s.id 1 agrees.rest.finished s.commands agrees.places.finished);
-}
-  where
-    leaves : Leaves seen e s.id
-    leaves = other_leaves seen e s.id may other
+-- that of a lookup's scan
+place-other : (history : List Entry) (e : Entry) (b : ℕ) (plan : Plan) (read : Bool) (at : ℕ) → (e.backend == b) ≡ false → PlaceFits history b plan read at → PlaceFits (history ++ e ∷ []) b plan read at
+place-other history e b (Do (Lookup name mode) rest) true at other fits = place_read-other history e b (scans.RelName name) other ∙ fits
+place-other history e b (Do (Lookup name mode) rest) false at other fits = tt
+place-other history e b (Do act rest) read at other fits = tt
+place-other history e b (Absent name) read at other fits = place_read-other history e b (scans.RelName name) other ∙ fits
+place-other history e b plan read at other fits = tt
 
-awaits-other : (scenario : Scenario) (seen : List Entry) (e : Entry) (s : Backend) → (e.backend == s.id) ≡ false → MayCome seen e → AwaitsEntry scenario seen s → AwaitsEntry scenario (seen ++ e ∷ []) s
-unfolding agrees-other
-awaits-other scenario seen e s other may awaits = record {
-  agrees = agrees-other scenario seen e s other may awaits.agrees;
-  waits = ap (λ f. settled f (drop s.finished s.commands) (session_at s awaits.agrees.rest)) (facts_of-other seen e s.id other) ∙ awaits.waits;
-  ready = awaits.ready;
+awaits-other : (scenario : Scenario) (seen : List Entry) (e : Entry) (s : Backend) → (e.backend == s.progress.id) ≡ false → AwaitsEntry scenario seen s → AwaitsEntry scenario (seen ++ e ∷ []) s
+unfolding rests-other holds-other
+awaits-other scenario seen e s other waits = record {
+  keeps = let k = waits.keeps in record {
+    alive = k.alive;
+    life = record { last = k.life.last; alive = life_of-other seen e s.progress.id other ∙ k.life.alive; most = k.life.most };
+    built = k.built;
+    kept = kept-other seen e s.progress.id s.progress.kept other k.kept;
+    given_at = place-other seen e s.progress.id (plan_at s.progress.exec) s.progress.read s.progress.given_at other k.given_at;
+  };
+  rests = rests-other scenario seen e s.progress other waits.rests;
+  fits = subst (λ f. Fits f (command_at s) (waiting waits) s.looked s.looked_to_build) (sym (facts_of-other seen e s.progress.id other)) waits.fits;
+  tells = record {
+    lines = waits.tells.lines ∙ ap (lines_from scenario seen s.progress.id 1 (waiting waits).finished) waits.rests.holds.commands ∙ sym (finished_lines-more scenario seen e s.progress.id (waiting waits) (waiting_is scenario seen s waits))
+        ∙ ap (lines_from scenario (seen ++ e ∷ []) s.progress.id 1 (waiting waits).finished) (sym waits.rests.holds.commands);
+    answer = λ text command told at. waits.tells.answer text command told at
+        ∙ sym (line_stays scenario seen e s.progress.id _ (waiting waits) (waiting waits) command (session_placed scenario seen s.progress.id (waiting waits) (waiting_is scenario seen s waits)).judged refl);
+    out = waits.tells.out;
+  };
+  answered = waits.answered;
 }
 
 -- a backend that hasn't joined still has no entry
-not_joined-other : (scenario : Scenario) (seen : List Entry) (e : Entry) (s : Backend) → (e.backend == s.id) ≡ false → HasNotJoined scenario seen s → HasNotJoined scenario (seen ++ e ∷ []) s
+not_joined-other : (scenario : Scenario) (seen : List Entry) (e : Entry) (s : Backend) → (e.backend == s.progress.id) ≡ false → HasNotJoined scenario seen s → HasNotJoined scenario (seen ++ e ∷ []) s
 not_joined-other scenario seen e s other before = record {
-  number = before.number;
-  commands = before.commands;
+  waits = not_started-other scenario seen e s.progress other before.waits;
   built = before.built;
-  few = before.few;
   new = before.new;
-  session = session_of-other scenario seen e s.id other ∙ before.session;
-  facts = facts_of-other seen e s.id other ∙ before.facts;
-  life = life_of-other seen e s.id other ∙ before.life;
-  unwritten = λ c. has_written-other seen e s.id c other ∙ before.unwritten c;
+  session = session_of-other scenario seen e s.progress.id other ∙ before.session;
+  facts = facts_of-other seen e s.progress.id other ∙ before.facts;
+  life = life_of-other seen e s.progress.id other ∙ before.life;
+  unwritten = λ c. has_written-other seen e s.progress.id c other ∙ before.unwritten c;
 }
 
-left-other : (scenario : Scenario) (seen : List Entry) (e : Entry) (s : Backend) → (e.backend == s.id) ≡ false → HasLeft scenario seen s → HasLeft scenario (seen ++ e ∷ []) s
+-- the lines of a backend stay, with another's entry
+lines-other : (scenario : Scenario) (seen : List Entry) (e : Entry) (b : ℕ) → (e.backend == b) ≡ false → lines_of_backend scenario (seen ++ e ∷ []) b ≡ lines_of_backend scenario seen b
+lines-other scenario seen e b other = ap (λ o. lines_from scenario (seen ++ e ∷ []) b 1 (option_map_or (λ s. s.finished) o []) (commands_of scenario b)) (session_of-other scenario seen e b other) ∙ by_session (session_of scenario seen b) refl
+  where
+    by_session : (o : Option Session) → session_of scenario seen b ≡ o → lines_from scenario (seen ++ e ∷ []) b 1 (option_map_or (λ s. s.finished) o []) (commands_of scenario b) ≡ lines_from scenario seen b 1 (option_map_or (λ s. s.finished) o []) (commands_of scenario b)
+    by_session None is = refl
+    by_session (Some s) is = finished_lines-more scenario seen e b s is
+
+left-other : (scenario : Scenario) (seen : List Entry) (e : Entry) (s : Backend) → (e.backend == s.progress.id) ≡ false → HasLeft scenario seen s → HasLeft scenario (seen ++ e ∷ []) s
 left-other scenario seen e s other left = record {
-  number = left.number;
-  usable = λ scan build. ap (λ f. f.usable scan) (facts_of-other seen e s.id other) ∙ left.usable scan build;
-  right = subst (λ f. All (ReadRight f.rows) s.kept) (sym (facts_of-other seen e s.id other)) left.right;
-  kept = kept-other seen e s.id s.kept other left.kept;
-  life = life_of-other seen e s.id other ∙ left.life;
-  finished = left.finished;
-  are = ap (λ o. option_map_or (λ now. now.finished) o []) (session_of-other scenario seen e s.id other) ∙ left.are;
-  places = places-more seen e left.finished left.places;
-  lines = left.lines ∙ sym (lines-more scenario seen e s.id 1 left.finished (commands_of scenario s.id) left.places);
+  holds = holds-other scenario seen e s.progress other left.holds;
+  kept = kept-other seen e s.progress.id s.progress.kept other left.kept;
+  life = life_of-other seen e s.progress.id other ∙ left.life;
+  lines = left.lines ∙ sym (lines-other scenario seen e s.progress.id other);
 }
 
 -- where a backend is it stays, with another's entry
-pub Stands-other : (scenario : Scenario) (seen : List Entry) (e : Entry) (s : Backend) → (e.backend == s.id) ≡ false → IsPlayed scenario seen → MayComeNext seen e → WritesTables seen e → Stands scenario seen s → Stands scenario (seen ++ e ∷ []) s
+pub Stands-other : (scenario : Scenario) (seen : List Entry) (e : Entry) (s : Backend) → (e.backend == s.progress.id) ≡ false → IsPlayed scenario seen → MayComeNext seen e → WritesTables seen e → Stands scenario seen s → Stands scenario (seen ++ e ∷ []) s
 Stands-other scenario seen e s other played comes keeps stands = by_life s.life stands
   where
     by_life : (l : Life) → elim l as (λ x. Type 0) [ lives.Unstarted ↦ HasNotJoined scenario seen s | lives.Alive ↦ AwaitsEntry scenario seen s | lives.Stopped ↦ HasLeft scenario seen s ]
         → elim l as (λ x. Type 0) [ lives.Unstarted ↦ HasNotJoined scenario (seen ++ e ∷ []) s | lives.Alive ↦ AwaitsEntry scenario (seen ++ e ∷ []) s | lives.Stopped ↦ HasLeft scenario (seen ++ e ∷ []) s ]
     by_life lives.Unstarted before = not_joined-other scenario seen e s other before
-    by_life lives.Alive awaits = awaits-other scenario seen e s other (may_come scenario seen e played comes keeps) awaits
+    by_life lives.Alive waits = awaits-other scenario seen e s other waits
     by_life lives.Stopped left = left-other scenario seen e s other left

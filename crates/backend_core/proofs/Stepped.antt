@@ -1,54 +1,36 @@
 -- A step: an entry, and then what needs none.
 use Rattle.std.proofs.Common.{◌≡◌, ◌∙◌, ℕ, Bool, true, false, not, List, Result, Ok, Err, OnOk, OnErr, sym, ap, subst}
-use Rattle.backend_core.specs.Types.{Scenario, Entry, Next, Backend}
-use Rattle.backend_core.specs.declared.phase.Life.TheVariants as lives
+use Rattle.backend_core.specs.Types.{Scenario, Entry, Backend}
+use Rattle.backend_core.specs.declared.life.Life.TheVariants as lives
 use Rattle.backend_core.specs.Agrees.{IsPlayed, AwaitsEntry, HasNotJoined, HasLeft, Stands}
-use Rattle.backend_core.specs.Steps.{AgreesNow, MakesEntry, Enters, Steps, IsRefused, After, IsNextOf, makes_entry}
+use Rattle.backend_core.specs.Steps.{MakesEntry, Enters, Steps, IsRefused, After}
 use Rattle.backend_core.proofs.Coherent.{stands_coherent}
-use Rattle.backend_core.proofs.Passing.{silent_is}
 use Rattle.backend_core.proofs.Played.{IsPlayed-more}
-use Rattle.backend_core.proofs.Waiting.{waits_next}
 
 -- the history is still played after the entry
 pub makes_played : (scenario : Scenario) (old new : List Entry) (had has : ℕ → ℕ) (b : ℕ) → IsPlayed scenario old → MakesEntry scenario old new had has b → IsPlayed scenario new
 makes_played scenario old new had has b played makes = subst (IsPlayed scenario) (sym makes.is) (IsPlayed-more scenario old makes.entry played makes.may)
 
--- where an entry comes next, nothing is left to settle
-pub awaits : (scenario : Scenario) (seen : List Entry) (s : Backend) (next : Next) → AgreesNow scenario seen s → IsNextOf s next → makes_entry next ≡ true → AwaitsEntry scenario seen s
-awaits scenario seen s next here is makes = record {
-  agrees = here.agrees;
-  waits = waits_next scenario seen s here.agrees next is makes;
-  ready = silent_is s here.agrees.well next is ∙ ap not makes;
-}
-
--- what comes next of a backend that waits is an entry
-pub makes_next : (scenario : Scenario) (seen : List Entry) (s : Backend) (next : Next) → AwaitsEntry scenario seen s → IsNextOf s next → makes_entry next ≡ true
-makes_next scenario seen s next waits is = by_test (makes_entry next) (sym (silent_is s waits.agrees.well next is) ∙ waits.ready)
-  where
-    by_test : (t : Bool) → not t ≡ false → t ≡ true
-    by_test true h = ap not h
-    by_test false h = ap not h
-
 -- a backend that waits stands in the history
 pub awaits_stands : (scenario : Scenario) (seen : List Entry) (s : Backend) → AwaitsEntry scenario seen s → Stands scenario seen s
-awaits_stands scenario seen s waits = subst (λ life. elim life as (λ x. Type 0) [ lives.Unstarted ↦ HasNotJoined scenario seen s | lives.Alive ↦ AwaitsEntry scenario seen s | lives.Stopped ↦ HasLeft scenario seen s ]) (sym waits.agrees.alive) waits
+awaits_stands scenario seen s waits = subst (λ life. elim life as (λ x. Type 0) [ lives.Unstarted ↦ HasNotJoined scenario seen s | lives.Alive ↦ AwaitsEntry scenario seen s | lives.Stopped ↦ HasLeft scenario seen s ]) (sym waits.keeps.alive) waits
 
 -- an entry, after which it went on until it waits, is a step
-pub stepped : (scenario : Scenario) (old new : List Entry) (had has : ℕ → ℕ) (was now done : Backend) → IsPlayed scenario old → Enters scenario old new had has was now → AwaitsEntry scenario new done → done.id ≡ now.id → Steps scenario old new had has was done
+pub stepped : (scenario : Scenario) (old new : List Entry) (had has : ℕ → ℕ) (was now done : Backend) → IsPlayed scenario old → Enters scenario old new had has was now → AwaitsEntry scenario new done → done.progress.id ≡ now.progress.id → Steps scenario old new had has was done
 stepped scenario old new had has was now done played enters waits same = record {
   makes = enters.makes;
   id = same ∙ enters.id;
   stands = awaits_stands scenario new done waits;
-  coherent = stands_coherent scenario new done (makes_played scenario old new had has was.id played enters.makes).sound (awaits_stands scenario new done waits);
+  coherent = stands_coherent scenario new done (makes_played scenario old new had has was.progress.id played enters.makes).sound (awaits_stands scenario new done waits);
 }
 
 -- the same of a call that may have been refused memory, over a segment whose script is the same
-pub stepped_on : {E : Type 0} (scenario later : Scenario) (old new : List Entry) (had has : ℕ → ℕ) (was now done : Backend) (result : Result (Unit {0}) E) → later ≡ scenario → IsPlayed scenario old → Enters scenario old new had has was now → OnOk result (AwaitsEntry later new done) → OnOk result (done.id ≡ now.id)
+pub stepped_on : {E : Type 0} (scenario later : Scenario) (old new : List Entry) (had has : ℕ → ℕ) (was now done : Backend) (result : Result (Unit {0}) E) → later ≡ scenario → IsPlayed scenario old → Enters scenario old new had has was now → OnOk result (AwaitsEntry later new done) → OnOk result (done.progress.id ≡ now.progress.id)
     → OnOk result (Steps scenario old new had has was done)
 stepped_on scenario later old new had has was now done (Ok x) same played enters waits id = stepped scenario old new had has was now done played enters (subst (λ k. AwaitsEntry k new done) same waits) id
 stepped_on scenario later old new had has was now done (Err e) same played enters waits id = tt
 
 -- after the entry it was refused memory
-pub refused_after : {E : Type 0} (scenario : Scenario) (old new : List Entry) (had has : ℕ → ℕ) (was now : Backend) (result : Result (Unit {0}) E) → Enters scenario old new had has was now → OnErr result (IsRefused scenario old new had has was.id)
+pub refused_after : {E : Type 0} (scenario : Scenario) (old new : List Entry) (had has : ℕ → ℕ) (was now : Backend) (result : Result (Unit {0}) E) → Enters scenario old new had has was now → OnErr result (IsRefused scenario old new had has was.progress.id)
 refused_after scenario old new had has was now (Ok x) enters = tt
 refused_after scenario old new had has was now (Err e) enters = After enters.makes

@@ -12,26 +12,17 @@ use Rattle.rel_desc.specs.declared.error.CommandError.TheVariants.{NoRelation}
 use Rattle.lock_modes.specs.Own.{clear_modes}
 use Rattle.ddl_effect.specs.Plans.{Plan, Fails, Absent}
 use Rattle.ddl_effect.specs.Stages.{plan_at}
-use Rattle.ddl_effect.specs.declared.want.Want.{Want}
-use Rattle.ddl_effect.specs.declared.want.Want.TheVariants as wants
 use Rattle.cacheless.specs.Lines.{commit_answer}
 use Rattle.cacheless.specs.Protected.{protects}
-use Rattle.backend_core.specs.Types.{Field, Row, Purpose, Command, Answer, Opening, OwnLock, KeptScan, Backend}
-use Rattle.backend_core.specs.State.{HasCommand}
+use Rattle.backend_core.specs.Types.{Field, Purpose, Command, Answer, Opening, OwnLock, KeptScan, Progress}
 
 -- the scan that is kept for a purpose
 abbrev pub kept_for : List KeptScan → Purpose → Option KeptScan
 kept_for kept scan = find (λ k. same_scan k.scan scan) kept
 
--- the rows that an act gives: those of its scan, or those that are kept of the scan that it reads
-abbrev pub rows_for : Want → List Row → List KeptScan → List Row
-rows_for (wants.Read scan) given kept = option_map_or (λ k. k.rows) (kept_for kept scan) []
-rows_for want given kept = given
-
 -- a field by the scan that is kept for it; a descriptor that is open has them all
 abbrev pub shown_by : List OwnLock → Opening → Field → Option KeptScan → Shown
-shown_by locks o field None = record { field = field; value = []; at = None }
-shown_by locks o field (Some k) = record { field = field; value = field_text field o.rel k.rows; at = if protects (clear_modes locks o.rel) o.kind field then None else Some k.at }
+shown_by locks o field k = record { field = field; value = field_text field o.rel (option_map_or (λ k. k.rows) k []); at = if protects (clear_modes locks o.rel) o.kind field then None else Some (option_map_or (λ k. k.at) k 0) }
 
 -- a field of an open descriptor
 abbrev pub shown_kept : List KeptScan → List OwnLock → Opening → Field → Shown
@@ -47,23 +38,22 @@ of_open shown [] = answers.Ok
 of_open shown (o ∷ opened) = shown o
 
 -- what a command answers that came out well
-abbrev pub answer_done : Backend → Command → Answer
+abbrev pub answer_done : Progress → Command → Answer
 answer_done s (commands.Show name None) = of_open (shown_all s.kept s.locks.items) s.opened
 answer_done s (commands.Show name (Some field)) = of_open (λ o. answers.One (shown_kept s.kept s.locks.items o field)) s.opened
 answer_done s commands.Commit = commit_answer s.blocks.block
 answer_done s command = answers.Ok
 
 -- what a command answers, by the plan that is left of it
-abbrev pub answer_left : Backend → Command → Plan → Answer
+abbrev pub answer_left : Progress → Command → Plan → Answer
 answer_left s command (Fails error) = answers.Error error
 answer_left s command (Absent name) = answers.Error (NoRelation name s.given_at)
 answer_left s command plan = answer_done s command
 
 -- what the running command answers
-abbrev pub answer_at : Backend → Command → Answer
+abbrev pub answer_at : Progress → Command → Answer
 answer_at s command = answer_left s command (plan_at s.exec)
 
--- the text is that of what the running command answers
-pub record IsToldText (s : Backend) (text : List ℕ) : Type 0 where
-  pub has : HasCommand s
-  pub is : text ≡ answer_text (answer_at s has.command)
+-- the text is that of what this command answers
+abbrev pub IsToldText : Progress → Command → List ℕ → Type 0
+IsToldText s command text = text ≡ answer_text (answer_at s command)

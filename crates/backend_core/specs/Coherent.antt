@@ -13,4 +13,4 @@ pub record IsCoherentScan (seen : List Entry) (b : ℕ) (k : KeptScan) : Type 0 
 
 -- the caches of a backend are coherent with a history: all that it keeps of scans is, whether it has joined or has left
 abbrev pub IsCoherent : List Entry → Backend → Type 0
-IsCoherent seen s = All (IsCoherentScan seen s.id) s.kept
+IsCoherent seen s = All (IsCoherentScan seen s.progress.id) s.progress.kept

@@ -1,12 +1,7 @@
 pub mod Types
-pub mod State
-pub mod Fetched
-pub mod Passing
-pub mod Way
+pub mod Words
+pub mod Answering
+pub mod Fits
 pub mod Agrees
 pub mod Coherent
 pub mod Steps
-pub mod Endings
-pub mod Refusals
-pub mod Measure
-pub mod Answering

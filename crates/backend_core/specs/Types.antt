@@ -22,8 +22,7 @@ pub use Rattle.ddl_effect.specs.declared.draft.Draft.{Draft}
 pub use Rattle.ddl_effect.specs.declared.exec.Exec.{Exec}
 pub use Rattle.cacheless.specs.declared.opening.Opening.{Opening}
 pub use Rattle.backend_core.specs.declared.backend.Backend.{Backend}
-pub use Rattle.backend_core.specs.declared.kept_scan.KeptScan.{KeptScan}
 pub use Rattle.backend_core.specs.declared.next.Next.{Next}
-pub use Rattle.backend_core.specs.declared.phase.Life.{Life}
-pub use Rattle.backend_core.specs.declared.phase.Phase.{Phase}
-pub use Rattle.backend_core.specs.declared.phase.OwnTransaction.{OwnTransaction}
+pub use Rattle.backend_core.specs.declared.life.Life.{Life}
+pub use Rattle.cacheless.specs.declared.kept_scan.KeptScan.{KeptScan}
+pub use Rattle.cacheless.specs.declared.progress.Progress.{Progress}

@@ -1,25 +1,20 @@
-ghost use Rattle.std.specs.Prelude.{◌≡◌, ◌<◌, ◌&&◌, true, None, Some, List, IfOk, OnOk, slice_get};
+ghost use Rattle.std.specs.Prelude.{◌≡◌, ◌&&◌, true, IfOk};
 ghost use Rattle.std.specs.List.{list_any};
 ghost use Rattle.std.specs.Option.{option_copied};
 ghost use Rattle.base_types.specs.Modes.{conflicts as do_conflict};
 ghost use Rattle.base_types.specs.Scans.{same_oid};
-ghost use Rattle.base_types.specs.Scenario.{Scenario};
-ghost use Rattle.event_kinds.specs.declared.entry.Entry.{Entry};
 ghost use Rattle.rel_desc.specs.declared.answer.Answer.TheVariants as answers;
 ghost use Rattle.lock_modes.specs.Own.{clear_modes};
 ghost use Rattle.cacheless.specs.Protected.{protects};
-ghost use Rattle.backend_core.specs.declared.next.Next.TheVariants as nexts;
-ghost use Rattle.backend_core.specs.State.{is_out};
-ghost use Rattle.backend_core.specs.Answering.{kept_for, shown_by, shown_kept, shown_all as all_shown, of_open, answer_done, answer_at, IsToldText};
-ghost use Rattle.backend_core.specs.Steps.{IsNextOf, AgreesNow};
-ghost use Rattle.backend_core.specs.Measure.{left_of};
+ghost use Rattle.cacheless.specs.State.{is_out};
+ghost use Rattle.backend_core.specs.Answering.{kept_for, shown_kept, shown_all as all_shown, of_open, answer_done, answer_at, IsToldText};
 
-use crate::{Backend, KeptScan};
+use crate::Backend;
 use base_types::{
-    Command, Field, Kind, Listed, NoMemory, Oid, Purpose, field_text, fields_of, read_by,
+    Command, Field, Kind, Listed, NoMemory, Oid, Purpose, Row, field_text, fields_of, read_by,
     same_scan, writers,
 };
-use cacheless::Opening;
+use cacheless::{KeptScan, Opening};
 use ddl_effect::Want;
 use event_kinds::LineText;
 use lock_modes::OwnLocks;
@@ -27,26 +22,10 @@ use rel_desc::{Answer, CommandError, Shown, Value, answer_text};
 use std::alloc::Global;
 
 impl Backend {
-    // It works out what its command answers.
-    pub(crate) fn answer(&mut self, alloc: Global) -> Result<(), NoMemory>
-        requires next { IsNextOf self.old nexts.Answer }
-        ensures keeps { OnOk result ((scenario : Scenario) (seen : List Entry) → AgreesNow scenario seen self.old → AgreesNow scenario seen self.new) }
-        ensures less { OnOk result (left_of self.new < left_of self.old) }
-        ensures same { OnOk result (self.new.id ≡ self.old.id) }
-    {
-        let text = match self.commands.as_slice().get(self.finished as usize) {
-            Some(command) => self.told_text(alloc, command)?,
-            None => unreachable!(),
-        };
-        self.answer = Some(text);
-        Ok(())
-    }
-
     // The text of what its command answers.
-    fn told_text(&self, alloc: Global, command: &Command) -> Result<LineText, NoMemory>
-        requires at { slice_get self.now.commands self.now.finished ≡ Some command.now }
-        requires out { is_out self.now ≡ true }
-        ensures { IfOk result (IsToldText self.now) }
+    pub(crate) fn told_text(&self, alloc: Global, command: &Command) -> Result<LineText, NoMemory>
+        requires out { is_out self.now.progress ≡ true }
+        ensures { IfOk result (IsToldText self.now.progress command.now) }
     {
         let told = self.told(alloc, command)?;
         let mut text = Vec::new(alloc);
@@ -56,14 +35,14 @@ impl Backend {
 
     // What its command answers.
     fn told(&self, alloc: Global, command: &Command) -> Result<Answer, NoMemory>
-        requires { is_out self.now ≡ true }
-        ensures { IfOk result (λ answer. answer ≡ answer_at self.now command.now) }
+        requires { is_out self.now.progress ≡ true }
+        ensures { IfOk result (λ answer. answer ≡ answer_at self.now.progress command.now) }
     {
-        match self.exec.next() {
+        match self.progress.exec.next() {
             Want::Fails(error) => Ok(Answer::Error(error)),
             Want::Absent(name) => Ok(Answer::Error(CommandError::NoRelation {
                 name,
-                at: self.given_at,
+                at: self.progress.given_at,
             })),
             Want::Done => self.told_done(alloc, command),
             _ => unreachable!(),
@@ -72,7 +51,7 @@ impl Backend {
 
     // What its command answers if it came out well.
     fn told_done(&self, alloc: Global, command: &Command) -> Result<Answer, NoMemory>
-        ensures { IfOk result (λ answer. answer ≡ answer_done self.now command.now) }
+        ensures { IfOk result (λ answer. answer ≡ answer_done self.now.progress command.now) }
     {
         match command {
             Command::Show { field: None, .. } => self.shown_open(alloc),
@@ -80,28 +59,39 @@ impl Backend {
                 field: Some(field),
                 ..
             } => self.shown_open_field(alloc, *field),
-            Command::Commit if self.blocks.is_failed() => Ok(Answer::RolledBack),
+            Command::Commit if self.progress.blocks.is_failed() => Ok(Answer::RolledBack),
             _ => Ok(Answer::Ok),
         }
     }
 
     // All fields of the descriptor that is open.
     fn shown_open(&self, alloc: Global) -> Result<Answer, NoMemory>
-        ensures { IfOk result (λ answer. answer ≡ of_open (all_shown self.now.kept self.now.locks.items) self.now.opened) }
+        ensures { IfOk result (λ answer. answer ≡ of_open (all_shown self.now.progress.kept self.now.progress.locks.items) self.now.progress.opened) }
     {
-        match self.opened.as_slice().first() {
-            Some(o) => shown_all(alloc, self.kept.as_slice(), &self.locks, *o),
+        match self.progress.opened.as_slice().first() {
+            Some(o) => shown_all(
+                alloc,
+                self.progress.kept.as_slice(),
+                &self.progress.locks,
+                *o,
+            ),
             None => Ok(Answer::Ok),
         }
     }
 
     // One field of the descriptor that is open.
     fn shown_open_field(&self, alloc: Global, field: Field) -> Result<Answer, NoMemory>
-        ensures { IfOk result (λ answer. answer ≡ of_open (λ o. answers.One (shown_kept self.now.kept self.now.locks.items o field)) self.now.opened) }
+        ensures { IfOk result (λ answer. answer ≡ of_open (λ o. answers.One (shown_kept self.now.progress.kept self.now.progress.locks.items o field)) self.now.progress.opened) }
     {
-        match self.opened.as_slice().first() {
+        match self.progress.opened.as_slice().first() {
             Some(o) => {
-                let shown = shown_field(alloc, self.kept.as_slice(), &self.locks, *o, field)?;
+                let shown = shown_field(
+                    alloc,
+                    self.progress.kept.as_slice(),
+                    &self.progress.locks,
+                    *o,
+                    field,
+                )?;
                 Ok(Answer::One(shown))
             }
             None => Ok(Answer::Ok),
@@ -139,39 +129,24 @@ fn shown_field(
 ) -> Result<Shown, NoMemory>
     ensures { IfOk result (λ shown. shown ≡ shown_kept kept.now locks.now.items o field) }
 {
-    match scan_kept(kept, read_by(field, o.rel)) {
-        Some(k) => shown_scan(alloc, k, locks, o, field),
-        None => Ok(Shown {
-            field,
-            value: Value::new(Vec::new(alloc)),
-            at: None,
-        }),
-    }
-}
-
-// A field by its scan.
-fn shown_scan(
-    alloc: Global,
-    k: &KeptScan,
-    locks: &OwnLocks,
-    o: Opening,
-    field: Field,
-) -> Result<Shown, NoMemory>
-    ensures { IfOk result (λ shown. shown ≡ shown_by locks.now.items o field (Some k.now)) }
-{
+    let found = scan_kept(kept, read_by(field, o.rel));
+    let rows: &[Row] = match found {
+        Some(k) => k.rows.as_slice(),
+        None => &[],
+    };
     Ok(Shown {
         field,
-        value: Value::new(field_text(alloc, field, o.rel, k.rows.as_slice())?),
+        value: Value::new(field_text(alloc, field, o.rel, rows)?),
         at: if is_protected(locks, o.rel, o.kind, field) {
             None
         } else {
-            Some(k.at)
+            Some(found.map_or(0, |k| k.at))
         },
     })
 }
 
 // The scan that is kept for a purpose.
-pub(crate) fn scan_kept(kept: &[KeptScan], scan: Purpose) -> Option<&KeptScan>
+fn scan_kept(kept: &[KeptScan], scan: Purpose) -> Option<&KeptScan>
     ensures { option_copied result ≡ kept_for kept.now scan }
 {
     kept.iter().find(|k| same_scan(&k.scan, &scan))

@@ -10,11 +10,12 @@ impl Backend {
     pub(crate) fn join<L: Seg>(&mut self, seg: &mut L)
         requires before { HasNotJoined (L.script seg.old) (L.history seg.old) self.old }
         requires played { IsPlayed (L.script seg.old) (L.history seg.old) }
-        requires place { 0 < L.promised seg.old self.old.id }
+        requires place { 0 < L.promised seg.old self.old.progress.id }
         ensures script { L.script seg.new ≡ L.script seg.old }
         ensures enters { Enters (L.script seg.old) (L.history seg.old) (L.history seg.new) (L.promised seg.old) (L.promised seg.new) self.old self.new }
     {
-        seg.start(self.id);
+        seg.start(self.progress.id);
+        self.progress.enter_start();
         self.life = Life::Alive;
     }
 }

@@ -20,9 +20,12 @@
 //! The only way to rows, locks and the history is a segment ([`Seg`] of `seg_calls`), whichever it
 //! is, so no new body of these changes a proof here.
 //!
-//! The promise: a backend *stands* in the history of its segment (`specs/Agrees.antt`): what it holds
-//! is what the folds over its own entries say, its session is the definition's, its transcript is its
-//! part of the lines. A step keeps that, and its entry is one that the history allows and that the
+//! How far a backend is, what its transaction holds and what it has read is its `Progress` (crate
+//! cacheless), which takes any entry that the definitions allow. Here is the choice among them (`nexts.rt`),
+//! what the commands answer, and the calls of the segment.
+//!
+//! The promise: a backend *stands* in the history of its segment (`specs/Agrees.antt`): its progress holds
+//! its session there, its transcript is its part of the lines. A step keeps that, and its entry is one that the history allows and that the
 //! script's commands make next (`specs/Steps.antt`). An entry of another backend keeps it too: of all
 //! that a backend holds nothing depends on others' entries, but that a relation which it has found is
 //! there still, and that is a law of histories whose writes keep tables (cacheless, `TableWrites` and
@@ -41,24 +44,19 @@
 //! descriptor as a whole.
 #![tactic(auto)]
 
-mod accept;
 mod answers;
 mod backend;
-mod begun;
 mod ends;
-mod execute;
-mod finish;
 mod join;
-mod kept_scan;
+mod life;
+mod looks;
 mod next;
 mod nexts;
-mod phase;
 mod reads;
-mod silent;
+mod settle;
 mod steps;
 mod writes;
 
 pub use backend::Backend;
-pub use kept_scan::KeptScan;
+pub use life::Life;
 pub(crate) use next::Next;
-pub use phase::{Life, OwnTransaction, Phase};

@@ -1,139 +1,150 @@
-ghost use Rattle.std.specs.Prelude.{◌≡◌, ◌≢◌, ◌&&◌, [], true, false, None, Some, not, is_none, is_some, nat_le, slice_get};
-ghost use Rattle.std.specs.List.{find, list_any};
-ghost use Rattle.base_types.specs.Scans.{build_scans};
-ghost use Rattle.base_types.specs.declared.scan.Purpose.{Purpose};
-ghost use Rattle.ddl_effect.specs.Stages.{plan_at, want_of};
-ghost use Rattle.ddl_effect.specs.Blocks.{ends_block as does_end_block};
-ghost use Rattle.cacheless.specs.Ends.{Commits};
-ghost use Rattle.backend_core.specs.State.{is_kept, builds_missing, is_out as has_come_out, begins_in, end_at, end_in_well, end_in_badly, end_in_block, has_write_since as is_written_since, unlocked_of};
-ghost use Rattle.backend_core.specs.Endings.{end_of_ending};
-ghost use Rattle.backend_core.specs.Agrees.{Well};
-ghost use Rattle.backend_core.specs.Steps.{IsNextOf, IsWorking, NextBuild, NextLookUp};
+// Which entry comes next: the program's choice among those that may come. Where something is owed, a look,
+// a fetch or a scan, it comes first; then the act of the plan, or the next entry of the command's end.
 
-use crate::{Backend, KeptScan, Next, Phase};
-use base_types::{Command, Kind, Mode, Name, Oid, Purpose, Row, same_scan, table_scans};
-use cacheless::Opening;
+ghost use Rattle.std.specs.Prelude.{◌≡◌, ◌≤◌, None, Some, true, false, slice_get};
+ghost use Rattle.ddl_effect.specs.Stages.{plan_at, want_of};
+ghost use Rattle.cacheless.specs.OpenedReads.{ReadsOpened};
+ghost use Rattle.cacheless.specs.Silently.{IsAtRest};
+ghost use Rattle.cacheless.specs.State.{is_out};
+ghost use Rattle.cacheless.specs.May.{has_failed, lacks_opened, lacks_any};
+ghost use Rattle.backend_core.specs.Words.{build_first, unlocked_of};
+ghost use Rattle.backend_core.specs.Steps.{IsNextOf, IsFree, IsScanNext, ComesOfBack, ComesOfCommit};
+
+use crate::{Backend, Next};
+use base_types::{Command, Mode, Name, Oid, Purpose, Row, Xid};
+use cacheless::{Due, Ending, first_lacking, first_missing};
 use ddl_effect::Want;
 
-// How a command ends.
-#[derive(Clone, Copy)]
-enum Ending {
-    // With no entry.
-    Ends,
-    // By a commit of the transaction with this first command.
-    Commits { first: u32 },
-    // By taking back the commands from this one on.
-    TakesBack { from: u32 },
-}
-
 impl Backend {
-    // What it does next. Condition: it has joined and hasn't left.
+    // What it does next. Conditions: nothing is left to be done without an entry, and what its plan reads
+    // is of a descriptor that it has opened.
     pub(crate) fn next(&self) -> Next
-        requires { Well self.now }
+        requires few { self.now.progress.finished ≤ 20000 }
+        requires still { IsAtRest self.now.progress }
+        requires reads { ReadsOpened self.now.progress.opened (plan_at self.now.progress.exec) }
         ensures { IsNextOf self.now result }
     {
-        match self.commands.as_slice().get(self.finished as usize) {
+        match self
+            .progress
+            .commands
+            .as_slice()
+            .get(self.progress.finished as usize)
+        {
             Some(command) => self.next_of_command(command),
             None => self.next_after_all(),
         }
     }
 
-    // After the last command: it releases what its transaction holds still, and leaves.
+    // After the last command: it takes back what its transaction holds still, and leaves.
     fn next_after_all(&self) -> Next
-        requires well { Well self.now }
-        requires none { slice_get self.now.commands self.now.finished ≡ None }
+        requires none { slice_get self.now.progress.commands self.now.progress.finished ≡ None }
         ensures { IsNextOf self.now result }
     {
-        match self.phase {
-            Phase::Working => self.next_of_rest(),
-            Phase::TakenBack { from } => Next::Release { from },
-            Phase::Ended => Next::Leave,
-            Phase::Looking | Phase::Fetching | Phase::Visible { .. } => unreachable!(),
-        }
-    }
-
-    // After the last command, where nothing is on its way.
-    fn next_of_rest(&self) -> Next
-        requires none { slice_get self.now.commands self.now.finished ≡ None }
-        requires phase { self.now.phase ≡ Phase.Working }
-        ensures { IsNextOf self.now result }
-    {
-        match self.running {
+        match self.progress.running {
             None => Next::Leave,
-            Some(t) if self.has_write_since(t.first) => Next::TakeBack { from: t.first },
-            Some(t) => Next::Release { from: t.first },
+            Some(t) => self.next_of_back(t.first),
         }
     }
 
     // In a command.
     fn next_of_command(&self, command: &Command) -> Next
-        requires well { Well self.now }
-        requires at { slice_get self.now.commands self.now.finished ≡ Some command.now }
+        requires few { self.now.progress.finished ≤ 20000 }
+        requires still { IsAtRest self.now.progress }
+        requires reads { ReadsOpened self.now.progress.opened (plan_at self.now.progress.exec) }
+        requires at { slice_get self.now.progress.commands self.now.progress.finished ≡ Some command.now }
         ensures { IsNextOf self.now result }
     {
-        match self.phase {
-            Phase::Working => self.next_of_working(command),
-            Phase::Looking => Next::Look,
-            Phase::Fetching => Next::Fetch,
-            Phase::Visible { published } => self.next_of_visible(published),
-            Phase::TakenBack { from } => Next::Release { from },
-            Phase::Ended => Next::Finish,
+        match self.progress.due {
+            Due::Look => Next::Look,
+            Due::Fetch => Next::Fetch,
+            Due::Nothing => self.next_of_free(command),
         }
     }
 
-    // After a commit of whose messages so many are published.
-    fn next_of_visible(&self, published: usize) -> Next
-        requires well { Well self.now }
-        requires phase { self.now.phase ≡ Phase.Visible published }
+    // Where its last entry asks for nothing.
+    fn next_of_free(&self, command: &Command) -> Next
+        requires few { self.now.progress.finished ≤ 20000 }
+        requires still { IsAtRest self.now.progress }
+        requires reads { ReadsOpened self.now.progress.opened (plan_at self.now.progress.exec) }
+        requires at { slice_get self.now.progress.commands self.now.progress.finished ≡ Some command.now }
+        requires due { self.now.progress.due ≡ Due.Nothing }
         ensures { IsNextOf self.now result }
     {
-        if !self.unpublished(published).is_empty() {
-            return Next::Publish;
-        }
-        match self.running {
-            Some(t) => Next::Release { from: t.first },
-            None => unreachable!(),
-        }
-    }
-
-    // In a command of which nothing is on its way.
-    fn next_of_working(&self, command: &Command) -> Next
-        requires well { Well self.now }
-        requires at { slice_get self.now.commands self.now.finished ≡ Some command.now }
-        requires phase { self.now.phase ≡ Phase.Working }
-        ensures { IsNextOf self.now result }
-    {
-        if self.owes_first_look(command) {
+        if self.progress.owes_first_look(command) {
             return Next::Look;
         }
-        match self.exec.next() {
-            Want::Done | Want::Fails(_) | Want::Absent(_) => self.next_of_out(command),
-            want => self.next_of_act(&want),
+        if self.progress.has_failed() {
+            return self.next_of_end(command);
         }
+        self.next_of_going(command, &self.progress.exec.next())
     }
 
-    // Where an act of its plan comes next: first what its opened descriptors lack.
-    fn next_of_act(&self, want: &Want) -> Next
-        requires well { Well self.now }
-        requires working { IsWorking self.now }
-        requires want { want_of (plan_at self.now.exec) ≡ want.now }
-        requires inside { has_come_out self.now ≡ false }
+    // In a command that hasn't failed: first what its opened descriptors lack.
+    fn next_of_going(&self, command: &Command, want: &Want) -> Next
+        requires few { self.now.progress.finished ≤ 20000 }
+        requires still { IsAtRest self.now.progress }
+        requires reads { ReadsOpened self.now.progress.opened (plan_at self.now.progress.exec) }
+        requires free { IsFree self.now.progress command.now }
+        requires want { want_of (plan_at self.now.progress.exec) ≡ want.now }
+        requires goes { has_failed self.now.progress ≡ false }
         ensures { IsNextOf self.now result }
     {
         match self.first_build() {
-            None => self.next_of_want(want),
             Some(scan) => self.next_of_build(scan),
+            None => self.next_of_want(command, want),
+        }
+    }
+
+    // The first scan that its opened descriptors lack.
+    fn first_build(&self) -> Option<Purpose>
+        ensures { result ≡ build_first self.now.progress.kept self.now.progress.opened }
+    {
+        let kept = self.progress.kept.as_slice();
+        match first_lacking(kept, self.progress.opened.as_slice()) {
+            Some(o) => first_missing(kept, o.kind, o.rel),
+            None => None,
+        }
+    }
+
+    // The act itself, or what it lacks.
+    fn next_of_want(&self, command: &Command, want: &Want) -> Next
+        requires few { self.now.progress.finished ≤ 20000 }
+        requires still { IsAtRest self.now.progress }
+        requires reads { ReadsOpened self.now.progress.opened (plan_at self.now.progress.exec) }
+        requires free { IsFree self.now.progress command.now }
+        requires want { want_of (plan_at self.now.progress.exec) ≡ want.now }
+        requires goes { has_failed self.now.progress ≡ false }
+        requires whole { lacks_opened self.now.progress.kept self.now.progress.opened ≡ false }
+        ensures { IsNextOf self.now result }
+    {
+        match want {
+            Want::Lookup { name, mode } => self.next_of_lookup(command, *name, *mode),
+            Want::Column { rel, name } => self.next_of_name(Purpose::AttName(*rel, *name)),
+            Want::Open { rel, kind } => match first_missing(
+                self.progress.kept.as_slice(),
+                *kind,
+                *rel,
+            ) {
+                Some(scan) => self.next_of_build(scan),
+                None => unreachable!(),
+            },
+            Want::Lock { rel, mode } => Next::Lock {
+                rel: *rel,
+                mode: *mode,
+            },
+            Want::Write => Next::Write,
+            Want::Done => self.next_of_end(command),
+            Want::Read(_) | Want::Fails(_) | Want::Absent(_) => unreachable!(),
         }
     }
 
     // A scan for a descriptor, which has a look of its own before it.
     fn next_of_build(&self, scan: Purpose) -> Next
-        requires working { IsWorking self.now }
-        requires next { NextBuild self.now scan }
+        requires next { IsScanNext self.now.progress scan true }
         ensures { IsNextOf self.now result }
     {
         if self.looked_to_build {
-            Next::Build(scan)
+            Next::Scan { scan, builds: true }
         } else {
             Next::LookBeforeScan { builds: true }
         }
@@ -141,247 +152,91 @@ impl Backend {
 
     // A scan of a name or a column, which has a look of its own before it.
     fn next_of_name(&self, scan: Purpose) -> Next
-        requires working { IsWorking self.now }
-        requires next { NextLookUp self.now scan }
+        requires next { IsScanNext self.now.progress scan false }
         ensures { IsNextOf self.now result }
     {
         if self.looked {
-            Next::LookUp(scan)
+            Next::Scan {
+                scan,
+                builds: false,
+            }
         } else {
             Next::LookBeforeScan { builds: false }
         }
     }
 
-    // The act itself, or what it lacks.
-    fn next_of_want(&self, want: &Want) -> Next
-        requires well { Well self.now }
-        requires working { IsWorking self.now }
-        requires want { want_of (plan_at self.now.exec) ≡ want.now }
-        requires inside { has_come_out self.now ≡ false }
-        requires whole { builds_missing self.now.kept self.now.opened ≡ [] }
+    // Where a relation is to be found by its name: its scan, or the lock of the relation that it names.
+    fn next_of_lookup(&self, command: &Command, name: Name, mode: Mode) -> Next
+        requires still { IsAtRest self.now.progress }
+        requires free { IsFree self.now.progress command.now }
+        requires want { want_of (plan_at self.now.progress.exec) ≡ Want.Lookup name mode }
+        requires whole { lacks_opened self.now.progress.kept self.now.progress.opened ≡ false }
         ensures { IsNextOf self.now result }
     {
-        match want {
-            Want::Lookup { name, mode } => self.next_of_lookup(*name, *mode),
-            Want::Open { rel, kind } => self.next_of_open(*rel, *kind),
-            Want::Column { .. } if self.read => Next::Find,
-            Want::Column { rel, name } => self.next_of_name(Purpose::AttName(*rel, *name)),
-            Want::Read(_) => Next::Find,
-            Want::Write => Next::Write,
-            Want::Lock { .. } | Want::Done | Want::Fails(_) | Want::Absent(_) => unreachable!(),
+        if !self.progress.owes_nothing(command) {
+            return self.next_of_name(Purpose::RelName(name));
         }
-    }
-
-    // The first scan that its opened descriptors lack.
-    pub(crate) fn first_build(&self) -> Option<Purpose>
-        ensures { result ≡ slice_get (builds_missing self.now.kept self.now.opened) 0 }
-    {
-        match first_lacking(self.kept.as_slice(), self.opened.as_slice()) {
-            Some(o) => first_missing(self.kept.as_slice(), o.kind, o.rel),
-            None => None,
-        }
-    }
-
-    // Whether the look at the start of its transaction is owed.
-    fn owes_first_look(&self, command: &Command) -> bool
-        requires { self.now.phase ≡ Phase.Working }
-        ensures { result ≡ (begins_in self.now.blocks self.now.phase command.now && is_none self.now.running) }
-    {
-        !self.blocks.is_open()
-            && !ends_block(command)
-            && self.blocks.admit(command).is_ok()
-            && self.running.is_none()
-    }
-
-    // Where a relation is to be found by its name.
-    fn next_of_lookup(&self, name: Name, mode: Mode) -> Next
-        requires well { Well self.now }
-        requires working { IsWorking self.now }
-        requires want { want_of (plan_at self.now.exec) ≡ Want.Lookup name mode }
-        requires whole { builds_missing self.now.kept self.now.opened ≡ [] }
-        ensures { IsNextOf self.now result }
-    {
-        if self.read {
-            return match self.unlocked(mode) {
-                Some(rel) => Next::Lock { rel, mode },
-                None => Next::Find,
-            };
-        }
-        self.next_of_name(Purpose::RelName(name))
-    }
-
-    // The relation that the lookup's rows name, if it isn't locked in the mode.
-    fn unlocked(&self, mode: Mode) -> Option<Oid>
-        ensures { result ≡ unlocked_of self.now.locks.items mode self.now.given.items }
-    {
-        match self.given.first() {
-            Some(Row::Class { oid, .. }) if self.locks.state(*oid, mode).is_none() => Some(*oid),
-            _ => None,
-        }
-    }
-
-    // Where a descriptor is to be opened.
-    fn next_of_open(&self, rel: Oid, kind: Kind) -> Next
-        requires well { Well self.now }
-        requires working { IsWorking self.now }
-        requires want { want_of (plan_at self.now.exec) ≡ Want.Open rel kind }
-        requires whole { builds_missing self.now.kept self.now.opened ≡ [] }
-        ensures { IsNextOf self.now result }
-    {
-        match first_missing(self.kept.as_slice(), kind, rel) {
-            None => Next::Open { rel, kind },
-            Some(scan) => self.next_of_build(scan),
-        }
-    }
-
-    // Where the command has come out.
-    fn next_of_out(&self, command: &Command) -> Next
-        requires well { Well self.now }
-        requires at { slice_get self.now.commands self.now.finished ≡ Some command.now }
-        requires working { IsWorking self.now }
-        requires out { has_come_out self.now ≡ true }
-        ensures { IsNextOf self.now result }
-    {
-        if self.answer.is_none() {
-            return Next::Answer;
-        }
-        match self.end(command) {
-            Ending::Ends => Next::Finish,
-            Ending::Commits { first } => self.next_of_commit(command, first),
-            Ending::TakesBack { from } if self.has_write_since(from) => Next::TakeBack { from },
-            Ending::TakesBack { from } => Next::Release { from },
-        }
-    }
-
-    // Where the command ends by a commit.
-    fn next_of_commit(&self, command: &Command, first: u32) -> Next
-        requires well { Well self.now }
-        requires at { slice_get self.now.commands self.now.finished ≡ Some command.now }
-        requires working { IsWorking self.now }
-        requires answered { is_some self.now.answer ≡ true }
-        requires end { end_at self.now command.now ≡ Commits first }
-        ensures { IsNextOf self.now result }
-    {
-        if !self.has_write_since(first) {
-            return Next::Release { from: first };
-        }
-        match self.running {
-            Some(own) => match own.xid {
-                Some(xid) => Next::Commit { xid },
-                None => unreachable!(),
-            },
+        match self.unlocked(mode) {
+            Some(rel) => Next::Lock { rel, mode },
             None => unreachable!(),
         }
     }
 
-    // How the running command ends.
-    fn end(&self, command: &Command) -> Ending
-        requires well { Well self.now }
-        requires at { slice_get self.now.commands self.now.finished ≡ Some command.now }
-        ensures { end_of_ending result ≡ end_at self.now command.now }
+    // The relation that the lookup's rows name, if it isn't locked in the mode.
+    fn unlocked(&self, mode: Mode) -> Option<Oid>
+        ensures { result ≡ unlocked_of self.now.progress.locks.items mode self.now.progress.given.items }
     {
-        match self.exec.next() {
-            Want::Done => self.end_well(command),
-            Want::Fails(_) | Want::Absent(_) => self.end_badly(),
-            _ => Ending::Ends,
-        }
-    }
-
-    // How a command ends that came out well.
-    fn end_well(&self, command: &Command) -> Ending
-        requires well { Well self.now }
-        requires at { slice_get self.now.commands self.now.finished ≡ Some command.now }
-        ensures { end_of_ending result ≡ end_in_well self.now command.now }
-    {
-        match command {
-            Command::Begin => Ending::Ends,
-            Command::Commit => self.end_of_block(true),
-            Command::Rollback => self.end_of_block(false),
-            _ if self.blocks.is_open() => Ending::Ends,
-            _ => Ending::Commits {
-                first: self.finished + 1,
-            },
-        }
-    }
-
-    // How a block ends, by `commit` or by `rollback`.
-    fn end_of_block(&self, commits: bool) -> Ending
-        ensures { end_of_ending result ≡ end_in_block self.now.running self.now.blocks.block commits }
-    {
-        match self.running {
-            Some(t) if self.blocks.is_open() => {
-                if commits && !self.blocks.is_failed() {
-                    Ending::Commits { first: t.first }
-                } else {
-                    Ending::TakesBack { from: t.first }
-                }
+        match self.progress.given.first() {
+            Some(Row::Class { oid, .. }) if self.progress.locks.state(*oid, mode).is_none() => {
+                Some(*oid)
             }
-            _ => Ending::Ends,
+            _ => None,
         }
     }
 
-    // How a command ends that failed.
-    fn end_badly(&self) -> Ending
-        requires well { Well self.now }
-        ensures { end_of_ending result ≡ end_in_badly self.now }
+    // Where nothing is owed before the end of a command that has come out.
+    fn next_of_end(&self, command: &Command) -> Next
+        requires few { self.now.progress.finished ≤ 20000 }
+        requires still { IsAtRest self.now.progress }
+        requires free { IsFree self.now.progress command.now }
+        requires out { is_out self.now.progress ≡ true }
+        requires whole { lacks_any self.now.progress ≡ false }
+        ensures { IsNextOf self.now result }
     {
-        if self.blocked {
-            return Ending::Ends;
-        }
-        Ending::TakesBack {
-            from: self.blocks.level_from(self.finished + 1),
+        match self.progress.end(command) {
+            Ending::Ends => unreachable!(),
+            Ending::Commits { first } => self.next_of_commit(first),
+            Ending::TakesBack { from } => self.next_of_back(from),
         }
     }
 
-    // Whether a write of this command or a later one wasn't taken back.
-    fn has_write_since(&self, from: u32) -> bool
-        ensures { result ≡ is_written_since from self.now }
+    // The next entry of a commit: the visibility step if it has a write, the publishes, the release.
+    fn next_of_commit(&self, first: u32) -> Next
+        ensures { ComesOfCommit first self.now.progress result }
     {
-        self.lists.has_from(from)
+        if !self.progress.has_write_since(first) {
+            return Next::Release { from: first };
+        }
+        if !self.progress.is_visible() {
+            return Next::Commit {
+                xid: Xid(self.progress.own_xid()),
+            };
+        }
+        if self.progress.unpublished().is_empty() {
+            return Next::Release { from: first };
+        }
+        Next::Publish
     }
-}
 
-// Whether the command ends a block.
-fn ends_block(command: &Command) -> bool
-    ensures { result ≡ does_end_block command.now }
-{
-    matches!(command, Command::Commit | Command::Rollback)
-}
-
-// The first of these descriptors that lacks a scan.
-pub(crate) fn first_lacking(kept: &[KeptScan], opened: &[Opening]) -> Option<Opening>
-    ensures { result ≡ find (λ o. is_some (find (λ scan. not (is_kept kept.now scan)) (build_scans o.kind o.rel))) opened.now }
-{
-    opened.iter().find(|o| lacks_scan(kept, o)).copied()
-}
-
-// Whether a descriptor lacks a scan.
-fn lacks_scan(kept: &[KeptScan], o: &Opening) -> bool
-    ensures { result ≡ is_some (find (λ scan. not (is_kept kept.now scan)) (build_scans o.now.kind o.now.rel)) }
-{
-    first_missing(kept, o.kind, o.rel).is_some()
-}
-
-// The first scan of a descriptor that isn't kept.
-fn first_missing(kept: &[KeptScan], kind: Kind, rel: Oid) -> Option<Purpose>
-    ensures { result ≡ find (λ scan. not (is_kept kept.now scan)) (build_scans kind rel) }
-{
-    match kind {
-        Kind::Table => first_of(kept, &table_scans(rel)),
-        Kind::Index => first_of(kept, &[Purpose::Class(rel), Purpose::IndexRow(rel)]),
+    // The next entry of taking back: that the commands from this one on are gone, if one has written, and
+    // the release.
+    fn next_of_back(&self, from: u32) -> Next
+        ensures { ComesOfBack from self.now.progress result }
+    {
+        if self.progress.has_write_since(from) {
+            Next::TakeBack { from }
+        } else {
+            Next::Release { from }
+        }
     }
-}
-
-// The first of these scans that isn't kept.
-fn first_of(kept: &[KeptScan], wanted: &[Purpose]) -> Option<Purpose>
-    ensures { result ≡ find (λ scan. not (is_kept kept.now scan)) wanted.now }
-{
-    wanted.iter().find(|scan| !has_kept(kept, scan)).copied()
-}
-
-// Whether the scan is kept.
-pub(crate) fn has_kept(kept: &[KeptScan], scan: &Purpose) -> bool
-    ensures { result ≡ is_kept kept.now scan.now }
-{
-    kept.iter().any(|k| same_scan(&k.scan, scan))
 }

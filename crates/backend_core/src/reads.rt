@@ -1,87 +1,61 @@
 // The scans and the locks of a backend.
 
-use crate::accept::accept;
-use crate::{Backend, KeptScan, Phase};
-use base_types::{Listed, Mode, NoMemory, Oid, Purpose};
-use ddl_effect::Exec;
-use rel_desc::CommandError;
+use crate::Backend;
+use base_types::{Mode, NoMemory, Oid, Purpose};
 use seg_calls::{LockRefusal, Seg};
 
 impl Backend {
-    ghost use Rattle.std.specs.Prelude.{◌≡◌, true, OnOk, OnErr};
-    ghost use Rattle.backend_core.specs.Agrees.{Agrees, IsPlayed};
-    ghost use Rattle.backend_core.specs.Steps.{Enters, IsRefused, IsWorking, NextLookUp, NextBuild, NextLock};
+    ghost use Rattle.std.specs.Prelude.{◌≡◌, OnOk, OnErr};
+    ghost use Rattle.cacheless.specs.OnCourse.{AllOnCourse};
+    ghost use Rattle.backend_core.specs.Agrees.{AwaitsEntry, IsPlayed};
+    ghost use Rattle.backend_core.specs.declared.next.Next.TheVariants as nexts;
+    ghost use Rattle.backend_core.specs.Steps.{Enters, IsRefused, IsNextOf};
 
-    // The scan of a relation's or a column's name.
-    pub(crate) fn look_up<L: Seg>(&mut self, seg: &mut L, scan: &Purpose) -> Result<(), NoMemory>
-        requires agrees { Agrees (L.script seg.old) (L.history seg.old) self.old }
+    // A scan, for a descriptor, or of a name or a column. Out of memory, it may not be used any more.
+    pub(crate) fn scan<L: Seg>(
+        &mut self,
+        seg: &mut L,
+        scan: &Purpose,
+        builds: bool,
+    ) -> Result<(), NoMemory>
+        requires waits { AwaitsEntry (L.script seg.old) (L.history seg.old) self.old }
         requires played { IsPlayed (L.script seg.old) (L.history seg.old) }
-        requires works { IsWorking self.old }
-        requires next { NextLookUp self.old scan.now }
-        requires looked { self.old.looked ≡ true }
+        requires course { AllOnCourse (L.script seg.old) (L.history seg.old) }
+        requires next { IsNextOf self.old (nexts.Scan scan.now builds) }
         ensures script { L.script seg.new ≡ L.script seg.old }
         ensures enters { OnOk result (Enters (L.script seg.old) (L.history seg.old) (L.history seg.new) (L.promised seg.old) (L.promised seg.new) self.old self.new) }
-        ensures refused { OnErr result (IsRefused (L.script seg.old) (L.history seg.old) (L.history seg.new) (L.promised seg.old) (L.promised seg.new) self.old.id) }
+        ensures refused { OnErr result (IsRefused (L.script seg.old) (L.history seg.old) (L.history seg.new) (L.promised seg.old) (L.promised seg.new) self.old.progress.id) }
     {
-        let scanned = seg.scan(self.id, self.finished + 1, scan)?;
-        self.looked = false;
-        self.read = true;
-        self.given = scanned.rows;
-        self.given_at = scanned.at;
-        Ok(())
-    }
-
-    // A scan for a descriptor.
-    pub(crate) fn build<L: Seg>(&mut self, seg: &mut L, scan: &Purpose) -> Result<(), NoMemory>
-        requires agrees { Agrees (L.script seg.old) (L.history seg.old) self.old }
-        requires played { IsPlayed (L.script seg.old) (L.history seg.old) }
-        requires works { IsWorking self.old }
-        requires next { NextBuild self.old scan.now }
-        requires looked { self.old.looked_to_build ≡ true }
-        ensures script { L.script seg.new ≡ L.script seg.old }
-        ensures enters { OnOk result (Enters (L.script seg.old) (L.history seg.old) (L.history seg.new) (L.promised seg.old) (L.promised seg.new) self.old self.new) }
-        ensures refused { OnErr result (IsRefused (L.script seg.old) (L.history seg.old) (L.history seg.new) (L.promised seg.old) (L.promised seg.new) self.old.id) }
-    {
-        let scanned = seg.scan(self.id, self.finished + 1, scan)?;
-        self.looked_to_build = false;
-        let made = KeptScan {
-            scan: *scan,
-            rows: Listed::from_vec(scanned.rows),
-            at: scanned.at,
-        };
-        self.kept.push(made)?;
-        let accepting = self.is_in_acceptance();
-        accept(&mut self.locks, accepting);
+        let scanned = seg.scan(self.progress.id, self.progress.finished + 1, scan)?;
+        self.progress.enter_scan(scan, scanned.rows, scanned.at)?;
+        if builds {
+            self.looked_to_build = false;
+        } else {
+            self.looked = false;
+        }
+        self.answer = None;
         Ok(())
     }
 
     // It asks for a lock.
     pub(crate) fn lock<L: Seg>(&mut self, seg: &mut L, rel: Oid, mode: Mode) -> Result<(), NoMemory>
-        requires agrees { Agrees (L.script seg.old) (L.history seg.old) self.old }
+        requires waits { AwaitsEntry (L.script seg.old) (L.history seg.old) self.old }
         requires played { IsPlayed (L.script seg.old) (L.history seg.old) }
-        requires works { IsWorking self.old }
-        requires next { NextLock self.old rel mode }
+        requires course { AllOnCourse (L.script seg.old) (L.history seg.old) }
+        requires next { IsNextOf self.old (nexts.Lock rel mode) }
         ensures script { L.script seg.new ≡ L.script seg.old }
         ensures enters { OnOk result (Enters (L.script seg.old) (L.history seg.old) (L.history seg.new) (L.promised seg.old) (L.promised seg.new) self.old self.new) }
-        ensures refused { OnErr result (IsRefused (L.script seg.old) (L.history seg.old) (L.history seg.new) (L.promised seg.old) (L.promised seg.new) self.old.id) }
+        ensures refused { OnErr result (IsRefused (L.script seg.old) (L.history seg.old) (L.history seg.new) (L.promised seg.old) (L.promised seg.new) self.old.progress.id) }
     {
-        self.locks.reserve()?;
-        let number = self.finished + 1;
-        match seg.lock(self.id, number, rel, mode) {
-            Ok(()) => {
-                self.locks.add(rel, mode, number);
-                self.phase = Phase::Looking;
-                Ok(())
-            }
+        self.progress.reserve_lock()?;
+        match seg.lock(self.progress.id, self.progress.finished + 1, rel, mode) {
+            Ok(()) => self.progress.enter_lock(rel, mode),
             Err(LockRefusal::Conflict { holder, mode: held }) => {
-                self.exec = Exec::Failing(CommandError::Locked {
-                    rel,
-                    holder,
-                    mode: held,
-                });
-                Ok(())
+                self.progress.enter_refused(rel, mode, holder, held);
             }
-            Err(LockRefusal::NoMemory) => Err(NoMemory),
+            Err(LockRefusal::NoMemory) => return Err(NoMemory),
         }
+        self.answer = None;
+        Ok(())
     }
 }

@@ -43,7 +43,7 @@ use Rattle.cacheless.specs.May.{may_look_at, is_next_at, has_looked_at, lacks_an
 use Rattle.cacheless.specs.Holds.{FactsFit, Holds}
 use Rattle.cacheless.proofs.Tests.{and_true, both_true, empty_is, right_none}
 use Rattle.cacheless.proofs.Same.{look_same, looked_same, next_same, lacks_any_is, owes_nothing_is}
-use Rattle.cacheless.proofs.Ending.{end_same, end_of_all-same}
+use Rattle.cacheless.proofs.CommandEnds.{end_same, end_of_all-same}
 use Rattle.cacheless.proofs.Resting.{kept_rows, cond_none, read_made, named_made}
 use Rattle.cacheless.proofs.SameRows.{both_decide, decided_by, oid_decides, items_decide}
 

@@ -20,9 +20,9 @@ use Rattle.cacheless.specs.declared.progress.OwnTransaction.{OwnTransaction}
 use Rattle.cacheless.specs.declared.progress.Progress.{Progress}
 use Rattle.cacheless.specs.Facts.{Facts, facts_of}
 use Rattle.cacheless.specs.State.{running_of, begun_own, released_own, ends_own, lists_at, lists_left, is_kept, kept_spared, named_spared, is_absent, is_in_accept, locks_accepted}
-use Rattle.cacheless.specs.Holds.{ReadRight, NamedFit, FactsFit, Holds, Rests, with_own}
+use Rattle.cacheless.specs.Holds.{ReadRight, NamedFit, FactsFit, Holds, Rests, with_own, HasEntered}
 use Rattle.cacheless.proofs.EnteredFetches.{is_kept-spared, all-spared}
-use Rattle.cacheless.proofs.Entering.{facts_after, noted_after, with_locks, own_holds, release_begun, ends_same, runs_begun, counts_stay}
+use Rattle.cacheless.proofs.Entering.{facts_after, noted_after, with_locks, own_entered, release_begun, ends_same, runs_begun, counts_stay}
 
 -- the state after the visibility step
 abbrev pub shown : Progress → Progress
@@ -34,8 +34,8 @@ runs_shown number (Some t) = refl
 
 pub visible_holds : (scenario : Scenario) (old : List Entry) (was : Progress) (xid : Xid) (locks : Roomy OwnLock) (rests : Rests scenario old was)
     → locks.items ≡ locks_accepted (is_in_accept (shown was) (slice_get was.commands was.finished)) was.locks.items
-    → Holds scenario (with_own old was (events.Visible xid)) (with_locks (shown was) locks)
-visible_holds scenario old was xid locks rests items = own_holds scenario old was (shown was) (events.Visible xid) locks rests (record { session = λ _ _ _ _ _ _. refl; finished = λ _. refl }) (record {
+    → HasEntered scenario old was (events.Visible xid) rests (with_locks (shown was) locks)
+visible_holds scenario old was xid locks rests items = own_entered scenario old was (shown was) (events.Visible xid) locks rests (record { session = λ _ _ _ _ _ _. refl; finished = λ _. refl }) (record {
   moves = record { id = refl; commands = refl; finished = refl };
   session = refl;
   facts = let f = rests.holds.facts in record {
@@ -62,8 +62,8 @@ runs_sent number count (Some t) = refl
 
 pub publish_holds : (scenario : Scenario) (old : List Entry) (was : Progress) (count : ℕ) (locks : Roomy OwnLock) (rests : Rests scenario old was)
     → locks.items ≡ locks_accepted (is_in_accept (sent was count) (slice_get was.commands was.finished)) was.locks.items
-    → Holds scenario (with_own old was (events.Publish count)) (with_locks (sent was count) locks)
-publish_holds scenario old was count locks rests items = own_holds scenario old was (sent was count) (events.Publish count) locks rests (record { session = λ _ _ _ _ _ _. refl; finished = λ _. refl }) (record {
+    → HasEntered scenario old was (events.Publish count) rests (with_locks (sent was count) locks)
+publish_holds scenario old was count locks rests items = own_entered scenario old was (sent was count) (events.Publish count) locks rests (record { session = λ _ _ _ _ _ _. refl; finished = λ _. refl }) (record {
   moves = record { id = refl; commands = refl; finished = refl };
   session = refl;
   facts = let f = rests.holds.facts in record {
@@ -139,8 +139,8 @@ named_gone old was from cats rels p fits cats_are rels_are fit = fit
 pub gone_holds : (scenario : Scenario) (old : List Entry) (was : Progress) (from : ℕ) (cats rels : List Message) (lists : Held) (locks : Roomy OwnLock) (rests : Rests scenario old was)
     → cats ≡ cats_in (lists_from from (lists_at was)) → rels ≡ rels_in (lists_from from (lists_at was)) → all_lists lists.lists ≡ lists_before from (lists_at was)
     → locks.items ≡ locks_accepted (is_in_accept (taken_back was cats rels lists) (slice_get was.commands was.finished)) was.locks.items
-    → Holds scenario (with_own old was (events.Gone from)) (with_locks (taken_back was cats rels lists) locks)
-gone_holds scenario old was from cats rels lists locks rests cats_are rels_are before items = own_holds scenario old was (taken_back was cats rels lists) event locks rests (record { session = λ _ _ _ _ _ _. refl; finished = λ _. refl }) (record {
+    → HasEntered scenario old was (events.Gone from) rests (with_locks (taken_back was cats rels lists) locks)
+gone_holds scenario old was from cats rels lists locks rests cats_are rels_are before items = own_entered scenario old was (taken_back was cats rels lists) event locks rests (record { session = λ _ _ _ _ _ _. refl; finished = λ _. refl }) (record {
   moves = record { id = refl; commands = refl; finished = refl };
   session = refl;
   facts = let f = rests.holds.facts in record {
@@ -172,8 +172,8 @@ let_go was from lists locks = record was { due = dues.Nothing; ended = true; run
 pub release_holds : (scenario : Scenario) (old : List Entry) (was : Progress) (from : ℕ) (lists : Held) (held locks : Roomy OwnLock) (rests : Rests scenario old was)
     → all_lists lists.lists ≡ lists_left (ends_own from was.running) (lists_at was) → held.items ≡ filter (λ lock. nat_lt lock.command from) was.locks.items
     → locks.items ≡ locks_accepted (is_in_accept (let_go was from lists held) (slice_get was.commands was.finished)) held.items
-    → Holds scenario (with_own old was (events.Release from)) (with_locks (let_go was from lists held) locks)
-release_holds scenario old was from lists held locks rests left stay items = own_holds scenario old was (let_go was from lists held) event locks rests (record { session = λ _ _ _ _ _ _. refl; finished = λ _. refl }) (record {
+    → HasEntered scenario old was (events.Release from) rests (with_locks (let_go was from lists held) locks)
+release_holds scenario old was from lists held locks rests left stay items = own_entered scenario old was (let_go was from lists held) event locks rests (record { session = λ _ _ _ _ _ _. refl; finished = λ _. refl }) (record {
   moves = record { id = refl; commands = refl; finished = refl };
   session = λ i. record (noted_after old was event rests.holds.rest) { locks = sym stay i };
   facts = let f = rests.holds.facts in record {

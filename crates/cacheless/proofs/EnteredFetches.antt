@@ -28,11 +28,11 @@ use Rattle.cacheless.specs.Owed.{Owes, OwesLook, owed_after, owes_build_scan}
 use Rattle.cacheless.specs.Sessions.{resumed, placed_at, counted}
 use Rattle.cacheless.specs.Puts.{PutsOpened}
 use Rattle.cacheless.specs.State.{owed_at, due_fetched, one_if, begun_own, is_kept, kept_spared, named_spared, is_absent, is_full, is_in_accept, locks_accepted, Rest, rest_of, tally_at, session_at}
-use Rattle.cacheless.specs.Holds.{ReadRight, NamedFit, FactsFit, Holds, Rests, with_own}
+use Rattle.cacheless.specs.Holds.{ReadRight, NamedFit, FactsFit, Holds, Rests, with_own, HasEntered}
 use Rattle.cacheless.proofs.Tests.{not_both}
 use Rattle.cacheless.proofs.Same.{full_same}
 use Rattle.cacheless.proofs.Putting.{puts_again}
-use Rattle.cacheless.proofs.Entering.{facts_after, noted_after, rest_after, with_locks, own_holds, runs_begun}
+use Rattle.cacheless.proofs.Entering.{facts_after, noted_after, rest_after, with_locks, own_entered, runs_begun}
 
 -- a scan is kept still where it was kept and no message covers it
 pub is_kept-spared : (messages : List Message) (kept : List KeptScan) (scan : Purpose) → is_kept (kept_spared messages kept) scan ≡ (is_spared scan messages && is_kept kept scan)
@@ -188,8 +188,8 @@ named_after old was count messages p are fit = tt
 
 pub fetch_holds : (scenario : Scenario) (old : List Entry) (was : Progress) (count : ℕ) (messages : List Message) (exec : Exec) (locks : Roomy OwnLock) (rests : Rests scenario old was) → messages ≡ fetched_by old was.id count → plan_at exec ≡ plan_again was.exec
     → locks.items ≡ locks_accepted (is_in_accept (fetched was count messages exec) (slice_get was.commands was.finished)) was.locks.items
-    → Holds scenario (with_own old was (events.Fetch count)) (with_locks (fetched was count messages exec) locks)
-fetch_holds scenario old was count messages exec locks rests are again items = own_holds scenario old was now event locks rests (record { session = λ _ _ _ _ _ _. refl; finished = λ s. ends_same s.left s }) (record {
+    → HasEntered scenario old was (events.Fetch count) rests (with_locks (fetched was count messages exec) locks)
+fetch_holds scenario old was count messages exec locks rests are again items = own_entered scenario old was now event locks rests (record { session = λ _ _ _ _ _ _. refl; finished = λ s. ends_same s.left s }) (record {
   moves = record { id = refl; commands = refl; finished = refl };
   session = whole ∙ sym (ap (λ t. session_at now (rest_of t)) whole);
   facts = record { running = fits.running; lists = fits.lists; owed = fits.owed; usable = fits.usable; kept = fits.kept; given = fits.given };
@@ -263,8 +263,8 @@ named_reset old was p fit = tt
 
 pub reset_holds : (scenario : Scenario) (old : List Entry) (was : Progress) (exec : Exec) (locks : Roomy OwnLock) (rests : Rests scenario old was) → plan_at exec ≡ plan_again was.exec
     → locks.items ≡ locks_accepted (is_in_accept (was_reset was exec []) (slice_get was.commands was.finished)) was.locks.items
-    → Holds scenario (with_own old was events.FetchReset) (with_locks (was_reset was exec []) locks)
-reset_holds scenario old was exec locks rests again items = own_holds scenario old was now event locks rests (record { session = λ _ _ _ _ _ _. refl; finished = λ s. ends_same s.left s }) (record {
+    → HasEntered scenario old was events.FetchReset rests (with_locks (was_reset was exec []) locks)
+reset_holds scenario old was exec locks rests again items = own_entered scenario old was now event locks rests (record { session = λ _ _ _ _ _ _. refl; finished = λ s. ends_same s.left s }) (record {
   moves = record { id = refl; commands = refl; finished = refl };
   session = whole ∙ sym (ap (λ t. session_at now (rest_of t)) whole);
   facts = let f = rests.holds.facts in record {

@@ -19,8 +19,8 @@ use Rattle.cacheless.specs.Facts.{facts_of}
 use Rattle.cacheless.specs.Owed.{Owes, OwesLook, owed_after}
 use Rattle.cacheless.specs.Sessions.{refused_with}
 use Rattle.cacheless.specs.State.{begun_own, begins_in, owed_first, lacks_builds, is_in_accept, locks_accepted, clash_event, error_of, failed_with, Rest, rest_of, session_at}
-use Rattle.cacheless.specs.Holds.{Holds, Rests, with_own}
-use Rattle.cacheless.proofs.Entering.{facts_after, noted_after, with_locks, GoesOn, own_holds, runs_begun, counts_stay}
+use Rattle.cacheless.specs.Holds.{Holds, Rests, with_own, HasEntered}
+use Rattle.cacheless.proofs.Entering.{facts_after, noted_after, with_locks, GoesOn, own_entered, runs_begun, counts_stay}
 
 -- the state after a lock
 abbrev pub granted : Progress → Roomy OwnLock → Progress
@@ -33,8 +33,8 @@ accepts_on s (Some command) due = ap (λ d. is_in_accept (record s { due = d }) 
 -- a lock that is granted
 pub granted_holds : (scenario : Scenario) (old : List Entry) (was : Progress) (rel : Oid) (mode : Mode) (locks : Roomy OwnLock) (rests : Rests scenario old was)
     → locks.items ≡ was.locks.items ++ record { rel = rel; mode = mode; command = was.finished + 1; clear = false } ∷ []
-    → Holds scenario (with_own old was (events.LockOk rel mode)) (granted was locks)
-granted_holds scenario old was rel mode locks rests items = own_holds scenario old was (granted was locks) (events.LockOk rel mode) locks rests (record { session = λ _ _ _ _ _ _. refl; finished = λ _. refl }) (record {
+    → HasEntered scenario old was (events.LockOk rel mode) rests (granted was locks)
+granted_holds scenario old was rel mode locks rests items = own_entered scenario old was (granted was locks) (events.LockOk rel mode) locks rests (record { session = λ _ _ _ _ _ _. refl; finished = λ _. refl }) (record {
   moves = record { id = refl; commands = refl; finished = refl };
   session = λ i. record (noted_after old was (events.LockOk rel mode) rests.holds.rest) { locks = sym items i };
   facts = let f = rests.holds.facts in record {
@@ -66,9 +66,9 @@ accepts_none : (error : CommandError) (was : Progress) (o : Option Command) → 
 accepts_none error was None = refl
 accepts_none error was (Some command) = ap (λ t. not (is_empty (elim t as (λ x. List Owes) [ true ↦ OwesLook ∷ [] | false ↦ [] ])) || false || false) (and-false (begins_in was.blocks was.ended command))
 
-fails_holds : (event : Event) (error : CommandError) → Fails event error → (scenario : Scenario) (old : List Entry) (was : Progress) (locks : Roomy OwnLock) → Rests scenario old was → locks.items ≡ map cleared was.locks.items
-    → Holds scenario (with_own old was event) (with_locks (failed_with error was) locks)
-fails_holds event error fails scenario old was locks rests items = own_holds scenario old was (failed_with error was) event locks rests fails.on (record {
+fails_holds : (event : Event) (error : CommandError) → Fails event error → (scenario : Scenario) (old : List Entry) (was : Progress) (locks : Roomy OwnLock) → (rests : Rests scenario old was) → locks.items ≡ map cleared was.locks.items
+    → HasEntered scenario old was event rests (with_locks (failed_with error was) locks)
+fails_holds event error fails scenario old was locks rests items = own_entered scenario old was (failed_with error was) event locks rests fails.on (record {
   moves = record { id = refl; commands = refl; finished = refl };
   session = fails.noted old was rests.holds.rest ∙ sym (ap (λ t. session_at (failed_with error was) (rest_of t)) (fails.noted old was rests.holds.rest));
   facts = let f = rests.holds.facts in record {
@@ -86,12 +86,12 @@ fails_holds event error fails scenario old was locks rests items = own_holds sce
 }) (items ∙ ap (λ t. locks_accepted t was.locks.items) (sym (accepts_none error was (slice_get was.commands was.finished))))
 
 -- a lock that is refused
-pub refused_holds : (scenario : Scenario) (old : List Entry) (was : Progress) (rel : Oid) (mode : Mode) (holder : ℕ) (held : Mode) (locks : Roomy OwnLock) → Rests scenario old was → locks.items ≡ map cleared was.locks.items
-    → Holds scenario (with_own old was (events.LockHeld rel mode holder held)) (with_locks (failed_with (errors.Locked rel holder held) was) locks)
+pub refused_holds : (scenario : Scenario) (old : List Entry) (was : Progress) (rel : Oid) (mode : Mode) (holder : ℕ) (held : Mode) (locks : Roomy OwnLock) → (rests : Rests scenario old was) → locks.items ≡ map cleared was.locks.items
+    → HasEntered scenario old was (events.LockHeld rel mode holder held) rests (with_locks (failed_with (errors.Locked rel holder held) was) locks)
 refused_holds scenario old was rel mode holder held = fails_holds (events.LockHeld rel mode holder held) (errors.Locked rel holder held) (record { on = record { session = λ _ _ _ _ _ _. refl; finished = λ _. refl }; noted = λ _ _ _. refl; running = λ _ _. refl; lists = λ _ _ _ _. refl; owed = refl; usable = λ _ _ _ _ _. refl; rows = λ _ _ _ _. refl }) scenario old was
 
 -- a write that is refused
-pub clash_holds : (scenario : Scenario) (old : List Entry) (was : Progress) (name : List ℕ) (clash : Clash) (locks : Roomy OwnLock) → Rests scenario old was → locks.items ≡ map cleared was.locks.items
-    → Holds scenario (with_own old was (clash_event name clash)) (with_locks (failed_with (error_of name clash) was) locks)
+pub clash_holds : (scenario : Scenario) (old : List Entry) (was : Progress) (name : List ℕ) (clash : Clash) (locks : Roomy OwnLock) → (rests : Rests scenario old was) → locks.items ≡ map cleared was.locks.items
+    → HasEntered scenario old was (clash_event name clash) rests (with_locks (failed_with (error_of name clash) was) locks)
 clash_holds scenario old was name (clashes.Row rel) = fails_holds (events.ClashRow name rel) (errors.RelationExists name) (record { on = record { session = λ _ _ _ _ _ _. refl; finished = λ _. refl }; noted = λ _ _ _. refl; running = λ _ _. refl; lists = λ _ _ _ _. refl; owed = refl; usable = λ _ _ _ _ _. refl; rows = λ _ _ _ _. refl }) scenario old was
 clash_holds scenario old was name (clashes.Running xid) = fails_holds (events.ClashRunning name xid) (errors.NameInUse name xid) (record { on = record { session = λ _ _ _ _ _ _. refl; finished = λ _. refl }; noted = λ _ _ _. refl; running = λ _ _. refl; lists = λ _ _ _ _. refl; owed = refl; usable = λ _ _ _ _ _. refl; rows = λ _ _ _ _. refl }) scenario old was

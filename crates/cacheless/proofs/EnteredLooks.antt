@@ -21,13 +21,13 @@ use Rattle.cacheless.specs.Settled.{settled}
 use Rattle.cacheless.specs.Sessions.{session_by, session_of}
 use Rattle.cacheless.specs.Puts.{PutsOpened}
 use Rattle.cacheless.specs.State.{owed_at, due_looked, begun_own, is_absent, is_in_accept, locks_accepted, IsNew, Rest, tally_at, session_at}
-use Rattle.cacheless.specs.Holds.{FactsFit, CountsFit, Holds, Rests, HasNotStarted, entry_of, with_own}
+use Rattle.cacheless.specs.Holds.{FactsFit, CountsFit, Holds, Rests, HasNotStarted, entry_of, with_own, HasEntered, HasStarted}
 use Rattle.cacheless.proofs.ActOrder.{FollowsOrder, follows_order}
 use Rattle.cacheless.proofs.Reading.{facts_of-own, session_of-own}
 use Rattle.cacheless.proofs.Tests.{not_both}
 use Rattle.cacheless.proofs.Resting.{first_left}
 use Rattle.cacheless.proofs.Putting.{puts_first}
-use Rattle.cacheless.proofs.Entering.{facts_after, with_locks, own_holds, runs_begun, counts_stay}
+use Rattle.cacheless.proofs.Entering.{facts_after, with_locks, own_entered, runs_begun, counts_stay}
 
 owed_looked : (some_wait : Bool) → owed_after (Some (events.Look some_wait)) ≡ owed_at (due_looked some_wait)
 owed_looked true = refl
@@ -39,8 +39,8 @@ looked was some_wait = record was { due = due_looked some_wait; running = Some (
 
 pub look_holds : (scenario : Scenario) (old : List Entry) (was : Progress) (some_wait : Bool) (locks : Roomy OwnLock) (rests : Rests scenario old was)
     → locks.items ≡ locks_accepted (is_in_accept (looked was some_wait) (slice_get was.commands was.finished)) was.locks.items
-    → Holds scenario (with_own old was (events.Look some_wait)) (with_locks (looked was some_wait) locks)
-look_holds scenario old was some_wait locks rests items = own_holds scenario old was (looked was some_wait) (events.Look some_wait) locks rests (record { session = λ _ _ _ _ _ _. refl; finished = λ _. refl }) (record {
+    → HasEntered scenario old was (events.Look some_wait) rests (with_locks (looked was some_wait) locks)
+look_holds scenario old was some_wait locks rests items = own_entered scenario old was (looked was some_wait) (events.Look some_wait) locks rests (record { session = λ _ _ _ _ _ _. refl; finished = λ _. refl }) (record {
   moves = record { id = refl; commands = refl; finished = refl };
   session = refl;
   facts = let f = rests.holds.facts in record {
@@ -63,8 +63,8 @@ stopped was = record was { due = dues.Nothing }
 
 pub stop_holds : (scenario : Scenario) (old : List Entry) (was : Progress) (locks : Roomy OwnLock) (rests : Rests scenario old was)
     → locks.items ≡ locks_accepted (is_in_accept (stopped was) (slice_get was.commands was.finished)) was.locks.items
-    → Holds scenario (with_own old was events.Stop) (with_locks (stopped was) locks)
-stop_holds scenario old was locks rests items = own_holds scenario old was (stopped was) events.Stop locks rests (record { session = λ _ _ _ _ _ _. refl; finished = λ _. refl }) (record {
+    → HasEntered scenario old was events.Stop rests (with_locks (stopped was) locks)
+stop_holds scenario old was locks rests items = own_entered scenario old was (stopped was) events.Stop locks rests (record { session = λ _ _ _ _ _ _. refl; finished = λ _. refl }) (record {
   moves = record { id = refl; commands = refl; finished = refl };
   session = refl;
   facts = let f = rests.holds.facts in record { running = f.running; lists = f.lists; owed = refl; usable = f.usable; kept = f.kept; given = f.given };
@@ -153,3 +153,30 @@ start_holds scenario old was waits = record {
       tally = tally_at (sym new.tally i);
       locks = sym new.locks i;
     }
+
+-- and that is the session at the first command
+pub start_starts : (scenario : Scenario) (old : List Entry) (was : Progress) → HasNotStarted scenario old was → HasStarted scenario old was (started was)
+unfolding start_holds
+start_starts scenario old was waits = record {
+  holds = start_holds scenario old was waits;
+  session = λ i. record (session_at (started was) rest) {
+    blocks = new.blocks i;
+    left = new.plan i;
+    blocked = new.blocked i;
+    opened = new.opened i;
+    read = new.read i;
+    ended = new.ended i;
+    tally = tally_at (new.tally i);
+    locks = new.locks i;
+  };
+  moves = record { id = refl; commands = refl; finished = refl };
+}
+  where
+    new : IsNew was.id was.commands was
+    new = waits.new
+
+    first : Option Command
+    first = slice_get was.commands 0
+
+    rest : Rest
+    rest = record { finished = []; refused = refused_first no_block first; found = []; sought = Done; judged = length old + 1; last = length old + 1 }

@@ -22,10 +22,10 @@ use Rattle.cacheless.specs.Facts.{Facts, facts_of}
 use Rattle.cacheless.specs.Sessions.{is_wanted}
 use Rattle.cacheless.specs.State.{begun_own, is_kept, is_absent, is_in_accept, locks_accepted}
 use Rattle.cacheless.specs.May.{is_first_missing, is_next_of_act, is_next_at, has_failed}
-use Rattle.cacheless.specs.Holds.{ReadRight, NamedFit, FactsFit, Holds, Rests, with_own}
+use Rattle.cacheless.specs.Holds.{ReadRight, NamedFit, FactsFit, Holds, Rests, with_own, HasEntered}
 use Rattle.cacheless.proofs.Tests.{and_true, or_either, not_true}
 use Rattle.cacheless.proofs.Same.{builds_of}
-use Rattle.cacheless.proofs.Entering.{facts_after, noted_after, with_locks, own_holds, runs_begun}
+use Rattle.cacheless.proofs.Entering.{facts_after, noted_after, with_locks, own_entered, runs_begun}
 
 -- a scan for a descriptor that isn't kept
 abbrev pub IsLacking : List KeptScan → Purpose → Type 0
@@ -97,8 +97,8 @@ wanted_fit old was scan count given p is are = absurd (cc)
 pub named_holds : (scenario : Scenario) (old : List Entry) (was : Progress) (scan : Purpose) (count : ℕ) (given : Vec Row Global) (at : ℕ) (locks : Roomy OwnLock) (rests : Rests scenario old was)
     → is_wanted scan (plan_at was.exec) ≡ true → given.items ≡ answer_of old was.id scan
     → locks.items ≡ locks_accepted (is_in_accept (named_scan was given at) (slice_get was.commands was.finished)) was.locks.items
-    → Holds scenario (with_own old was (events.Scan scan count)) (with_locks (named_scan was given at) locks)
-named_holds scenario old was scan count given at locks rests wanted are items = own_holds scenario old was (named_scan was given at) event locks rests (record { session = λ _ _ _ _ _ _. refl; finished = λ _. refl }) (record {
+    → HasEntered scenario old was (events.Scan scan count) rests (with_locks (named_scan was given at) locks)
+named_holds scenario old was scan count given at locks rests wanted are items = own_entered scenario old was (named_scan was given at) event locks rests (record { session = λ _ _ _ _ _ _. refl; finished = λ _. refl }) (record {
   moves = record { id = refl; commands = refl; finished = refl };
   session = λ i. record (noted_after old was event rests.holds.rest) { read = ap (λ t. t || was.read) wanted i };
   facts = let f = rests.holds.facts in record {
@@ -166,8 +166,8 @@ other_scan a b other = by_test (same_scan b a) refl
 pub built_holds : (scenario : Scenario) (old : List Entry) (was : Progress) (scan : Purpose) (count : ℕ) (given : List Row) (at : ℕ) (kept : List KeptScan) (locks : Roomy OwnLock) (rests : Rests scenario old was)
     → IsLacking was.kept scan → given ≡ answer_of old was.id scan → kept ≡ was.kept ++ record { scan = scan; rows = given; at = at } ∷ []
     → locks.items ≡ locks_accepted (is_in_accept (built_scan was kept) (slice_get was.commands was.finished)) was.locks.items
-    → Holds scenario (with_own old was (events.Scan scan count)) (with_locks (built_scan was kept) locks)
-built_holds scenario old was scan count given at kept locks rests lacking are pushed items = own_holds scenario old was (built_scan was kept) event locks rests (record { session = λ _ _ _ _ _ _. refl; finished = λ _. refl }) (record {
+    → HasEntered scenario old was (events.Scan scan count) rests (with_locks (built_scan was kept) locks)
+built_holds scenario old was scan count given at kept locks rests lacking are pushed items = own_entered scenario old was (built_scan was kept) event locks rests (record { session = λ _ _ _ _ _ _. refl; finished = λ _. refl }) (record {
   moves = record { id = refl; commands = refl; finished = refl };
   session = λ i. record (noted_after old was event rests.holds.rest) { read = ap (λ t. t || was.read) (unwanted scan (plan_at was.exec) lacking.1) i };
   facts = let f = rests.holds.facts in record {

@@ -32,11 +32,11 @@ use Rattle.cacheless.specs.Session.{Session}
 use Rattle.cacheless.specs.Sessions.{written}
 use Rattle.cacheless.specs.Puts.{PutsOpened}
 use Rattle.cacheless.specs.State.{running_of, begun_own, lists_at, is_kept, kept_spared, is_absent, is_in_accept, locks_accepted, locks_made, messages_in, Rest, rest_of, session_at}
-use Rattle.cacheless.specs.Holds.{ReadRight, FactsFit, Holds, Rests, with_own}
+use Rattle.cacheless.specs.Holds.{ReadRight, FactsFit, Holds, Rests, with_own, HasEntered}
 use Rattle.cacheless.proofs.Tests.{not_both}
 use Rattle.cacheless.proofs.WrittenMessages.{any_once}
 use Rattle.cacheless.proofs.EnteredFetches.{is_kept-spared, all-spared}
-use Rattle.cacheless.proofs.Entering.{facts_after, noted_after, with_locks, own_holds, counts_stay}
+use Rattle.cacheless.proofs.Entering.{facts_after, noted_after, with_locks, own_entered, counts_stay}
 
 cats_for_caches : (before : List Entry) (b : ℕ) (item : Item) → ForCaches (cats_by before b item)
 cats_for_caches before b item = cats_of-caches (old_row before b item) (added_row item)
@@ -115,8 +115,8 @@ pub write_holds : (scenario : Scenario) (old : List Entry) (was : Progress) (xid
     → want_of (plan_at was.exec) ≡ wants.Write → messages ≡ messages_in old was.id items → flat_map (locked_by (was.finished + 1)) items ≡ locks_made new_oids first (was.finished + 1)
     → all_lists lists.lists ≡ lists_at was ++ with_messages messages (new_list (was.finished + 1)) ∷ [] → plan_at exec ≡ after_act [] (plan_at was.exec) → locked.items ≡ was.locks.items ++ locks_made new_oids first (was.finished + 1)
     → locks.items ≡ locks_accepted (is_in_accept (wrote was xid (kept_spared messages was.kept) lists exec locked) (slice_get was.commands was.finished)) locked.items
-    → Holds scenario (with_own old was (events.Write xid items)) (with_locks (wrote was xid (kept_spared messages was.kept) lists exec locked) locks)
-write_holds scenario old was xid items messages new_oids first lists exec locked locks rests wants_it are makes pushed goes held accepts = own_holds scenario old was now event locks rests (record { session = λ _ _ _ _ _ _. refl; finished = λ s. ends_same s.left s }) (record {
+    → HasEntered scenario old was (events.Write xid items) rests (with_locks (wrote was xid (kept_spared messages was.kept) lists exec locked) locks)
+write_holds scenario old was xid items messages new_oids first lists exec locked locks rests wants_it are makes pushed goes held accepts = own_entered scenario old was now event locks rests (record { session = λ _ _ _ _ _ _. refl; finished = λ s. ends_same s.left s }) (record {
   moves = record { id = refl; commands = refl; finished = refl };
   session = whole ∙ sym (ap (λ t. session_at now (rest_of t)) whole);
   facts = let f = rests.holds.facts in record {

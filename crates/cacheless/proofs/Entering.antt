@@ -23,7 +23,7 @@ use Rattle.cacheless.specs.Settled.{settled}
 use Rattle.cacheless.specs.Sessions.{noted, placed_at, counted, accepted, entered, commands_left, session_by, session_of}
 use Rattle.cacheless.specs.Puts.{PutsOpened}
 use Rattle.cacheless.specs.State.{running_of, begun_own, released_own, ends_own, lists_at, is_absent, is_in_accept, locks_accepted, Rest, rest_of, session_at}
-use Rattle.cacheless.specs.Holds.{FactsFit, CountsFit, Holds, Rests, entry_of, with_own}
+use Rattle.cacheless.specs.Holds.{FactsFit, CountsFit, Holds, Rests, IsWhere, HasEntered, entry_of, with_own}
 use Rattle.cacheless.proofs.Reading.{facts_of-own, session_of-own}
 use Rattle.cacheless.proofs.Same.{accept_same}
 use Rattle.cacheless.proofs.Resting.{first_left, settled_at_rest}
@@ -45,15 +45,9 @@ pub record GoesOn (event : Event) : Type 0 where
   pub session : (scenario : Scenario) (facts : Facts) (b at command : ℕ) (s : Session) → session_by scenario facts b at command event (Some s) ≡ Some (settled facts (commands_left scenario b s) (entered facts (commands_left scenario b s) at command event s))
   pub finished : (s : Session) → (noted event s).finished ≡ s.finished
 
--- the backend stays at its command
-pub record Moves (was now : Progress) : Type 0 where
-  pub id : now.id ≡ was.id
-  pub commands : now.commands ≡ was.commands
-  pub finished : now.finished ≡ was.finished
-
 -- what the code owes after its own entry, before it makes its locks clear
 pub record Enters (old : List Entry) (was now : Progress) (event : Event) (rest : Rest) : Type 0 where
-  pub moves : Moves was now
+  pub moves : IsWhere was now
   pub session : noted_after old was event rest ≡ session_at now (rest_after old was event rest)
   pub facts : FactsFit (facts_after old was event) now
   pub counts : CountsFit now.tally (length old + 1)
@@ -126,6 +120,27 @@ own_holds scenario old was now event locks rests on enters items = record {
 
     same : rest.finished ≡ holds.rest.finished
     same = ap (λ t. t.finished) (counted_tally after event (placed_at (length old + 1) (was.finished + 1) event (session_at was holds.rest))) ∙ on.finished (session_at was holds.rest)
+
+-- and that is the session which the entry left
+pub own_entered : (scenario : Scenario) (old : List Entry) (was now : Progress) (event : Event) (locks : Roomy OwnLock) (rests : Rests scenario old was) → GoesOn event → Enters old was now event rests.holds.rest
+    → locks.items ≡ locks_accepted (is_in_accept now (slice_get now.commands now.finished)) now.locks.items → HasEntered scenario old was event rests (with_locks now locks)
+unfolding own_holds
+own_entered scenario old was now event locks rests on enters items = record {
+  holds = own_holds scenario old was now event locks rests on enters items;
+  session = sym (
+      ap (λ f. entered f (drop was.finished was.commands) (length old + 1) (was.finished + 1) event (session_at was rests.holds.rest)) (facts_of-own old (entry_of was.id (was.finished + 1) event) was.id (eq-eqb was.id was.id refl))
+      ∙ ap (accepted after (first_of (drop was.finished was.commands))) enters.session
+      ∙ ap (λ o. accepted after o (session_at now rest)) (first_left was.commands was.finished ∙ ap (λ l. slice_get l was.finished) (sym enters.moves.commands) ∙ ap (slice_get now.commands) (sym enters.moves.finished))
+      ∙ accepted_same after (slice_get now.commands now.finished) now locks rest enters.facts items
+      );
+  moves = record { id = enters.moves.id; commands = enters.moves.commands; finished = enters.moves.finished };
+}
+  where
+    after : Facts
+    after = facts_after old was event
+
+    rest : Rest
+    rest = rest_after old was event rests.holds.rest
 
 -- the transaction of the entry runs
 pub runs_begun : (number : ℕ) (own : Option OwnTransaction) → Some (begun number (running_of own)) ≡ running_of (Some (begun_own number own))

@@ -21,7 +21,7 @@ use Rattle.cacheless.specs.Locks.{locked_by}
 use Rattle.cacheless.specs.Sessions.{is_wanted}
 use Rattle.cacheless.specs.State.{due_looked, due_fetched, one_if, begun_own, released_own, ends_own, lists_at, lists_left, kept_spared, named_spared, is_absent, is_full, is_in_accept, locks_accepted, locks_made, locks_written, messages_in, clash_event, error_of, failed_with, FailsWith, SearchesAgain}
 use Rattle.cacheless.specs.May.{is_next_at}
-use Rattle.cacheless.specs.Holds.{Holds, Rests, with_own}
+use Rattle.cacheless.specs.Holds.{Rests, HasEntered}
 use Rattle.cacheless.proofs.EnteredLooks.{looked, look_holds}
 use Rattle.cacheless.proofs.EnteredFetches.{fetched_first, fetched, fetch_holds, was_reset, reset_holds}
 use Rattle.cacheless.proofs.EnteredScans.{next_lacks, named_scan, named_holds, built_scan, built_holds}
@@ -31,9 +31,9 @@ use Rattle.cacheless.proofs.EnteredEnds.{shown, visible_holds, sent, publish_hol
 
 pub look_code : (was : Progress) (some_wait : Bool) (own : OwnTransaction) (due : Due) (locks : Roomy OwnLock) → own ≡ begun_own (was.finished + 1) was.running → due ≡ due_looked some_wait
     → locks.items ≡ locks_accepted (is_in_accept (record was { running = Some own; due = due; tally = record was.tally { looks = was.tally.looks + 1 } }) (slice_get was.commands was.finished)) was.locks.items
-    → (scenario : Scenario) (seen : List Entry) → Rests scenario seen was → Holds scenario (with_own seen was (events.Look some_wait)) (record was { due = due; running = Some own; tally = record was.tally { looks = was.tally.looks + 1 }; locks = locks })
+    → (scenario : Scenario) (seen : List Entry) → (rests : Rests scenario seen was) → HasEntered scenario seen was (events.Look some_wait) rests (record was { due = due; running = Some own; tally = record was.tally { looks = was.tally.looks + 1 }; locks = locks })
 look_code was some_wait own due locks begins is items scenario seen rests =
-    subst (Holds scenario (with_own seen was (events.Look some_wait))) (λ i. record (looked was some_wait) { due = sym is i; running = Some (sym begins i); locks = locks })
+    subst (HasEntered scenario seen was (events.Look some_wait) rests) (λ i. record (looked was some_wait) { due = sym is i; running = Some (sym begins i); locks = locks })
     (look_holds scenario seen was some_wait locks rests (items ∙ ap (λ d. locks_accepted (is_in_accept (record was { due = d; running = Some own }) (slice_get was.commands was.finished)) was.locks.items) is))
 
 -- the state of a fetch, before its tally is
@@ -59,29 +59,29 @@ pub fetch_code : (was : Progress) (messages : List Message) (count : ℕ) (own :
     → kept ≡ kept_spared messages was.kept → named ≡ named_spared messages (plan_at was.exec) was.named → due ≡ due_fetched count → SearchesAgain (record was { running = Some own; kept = kept; named = named; due = due }) mid
     → full ≡ one_if (is_full count (fetched_once mid))
     → locks.items ≡ locks_accepted (is_in_accept (fetched_more mid full mid.locks) (slice_get mid.commands mid.finished)) mid.locks.items
-    → (scenario : Scenario) (seen : List Entry) → Rests scenario seen was → messages ≡ fetched_by seen was.id (length messages) → Holds scenario (with_own seen was (events.Fetch (length messages))) (fetched_more mid full locks)
+    → (scenario : Scenario) (seen : List Entry) → (rests : Rests scenario seen was) → messages ≡ fetched_by seen was.id (length messages) → HasEntered scenario seen was (events.Fetch (length messages)) rests (fetched_more mid full locks)
 fetch_code was messages count own kept named due mid full locks counted begins keeps names dues again counts items scenario seen rests are = subst Goal (sym state) canonical counts items
   where
     n : ℕ
     n = length messages
 
     Goal : Progress → Type 0
-    Goal m = full ≡ one_if (is_full count (fetched_once m)) → locks.items ≡ locks_accepted (is_in_accept (fetched_more m full m.locks) (slice_get m.commands m.finished)) m.locks.items → Holds scenario (with_own seen was (events.Fetch n)) (fetched_more m full locks)
+    Goal m = full ≡ one_if (is_full count (fetched_once m)) → locks.items ≡ locks_accepted (is_in_accept (fetched_more m full m.locks) (slice_get m.commands m.finished)) m.locks.items → HasEntered scenario seen was (events.Fetch n) rests (fetched_more m full locks)
 
     state : mid ≡ searched was n messages mid.exec
     state = again.is ∙ (λ i. record (searched was n messages mid.exec) { due = (dues ∙ ap due_fetched counted) i; running = Some (begins i); named = names i; kept = keeps i })
 
     canonical : Goal (searched was n messages mid.exec)
-    canonical f l = subst (Holds scenario (with_own seen was (events.Fetch n))) (λ i. record (fetched was n messages mid.exec) { tally = record was.tally { fetches = was.tally.fetches + 1; full = was.tally.full + sym (f ∙ ap (λ c. one_if (is_full c (fetched_first was n messages mid.exec))) counted) i }; locks = locks })
+    canonical f l = subst (HasEntered scenario seen was (events.Fetch n) rests) (λ i. record (fetched was n messages mid.exec) { tally = record was.tally { fetches = was.tally.fetches + 1; full = was.tally.full + sym (f ∙ ap (λ c. one_if (is_full c (fetched_first was n messages mid.exec))) counted) i }; locks = locks })
         (fetch_holds scenario seen was n messages mid.exec locks rests are again.plan l)
 
 pub reset_code : (was : Progress) (own : OwnTransaction) (kept : List KeptScan) (mid : Progress) (locks : Roomy OwnLock) → own ≡ begun_own (was.finished + 1) was.running → kept ≡ [] → SearchesAgain (record was { running = Some own; kept = kept; named = false; due = dues.Nothing }) mid
     → locks.items ≡ locks_accepted (is_in_accept (fetched_once mid) (slice_get mid.commands mid.finished)) mid.locks.items
-    → (scenario : Scenario) (seen : List Entry) → Rests scenario seen was → Holds scenario (with_own seen was events.FetchReset) (record (fetched_once mid) { locks = locks })
+    → (scenario : Scenario) (seen : List Entry) → (rests : Rests scenario seen was) → HasEntered scenario seen was events.FetchReset rests (record (fetched_once mid) { locks = locks })
 reset_code was own kept mid locks begins keeps again items scenario seen rests = subst Goal (sym state) (λ l. reset_holds scenario seen was mid.exec locks rests again.plan l) items
   where
     Goal : Progress → Type 0
-    Goal m = locks.items ≡ locks_accepted (is_in_accept (fetched_once m) (slice_get m.commands m.finished)) m.locks.items → Holds scenario (with_own seen was events.FetchReset) (record (fetched_once m) { locks = locks })
+    Goal m = locks.items ≡ locks_accepted (is_in_accept (fetched_once m) (slice_get m.commands m.finished)) m.locks.items → HasEntered scenario seen was events.FetchReset rests (record (fetched_once m) { locks = locks })
 
     canonical : Progress
     canonical = record was { exec = mid.exec; read = was.read || is_absent (plan_at was.exec); due = dues.Nothing; running = Some (begun_own (was.finished + 1) was.running); named = false; kept = [] }
@@ -91,65 +91,65 @@ reset_code was own kept mid locks begins keeps again items scenario seen rests =
 
 pub granted_code : (was : Progress) (rel : Oid) (mode : Mode) (own : OwnTransaction) (locks : Roomy OwnLock) → own ≡ begun_own (was.finished + 1) was.running
     → locks.items ≡ was.locks.items ++ record { rel = rel; mode = mode; command = was.finished + 1; clear = false } ∷ []
-    → (scenario : Scenario) (seen : List Entry) → Rests scenario seen was → Holds scenario (with_own seen was (events.LockOk rel mode)) (record was { due = dues.Look; running = Some own; tally = record was.tally { grants = was.tally.grants + 1 }; locks = locks })
+    → (scenario : Scenario) (seen : List Entry) → (rests : Rests scenario seen was) → HasEntered scenario seen was (events.LockOk rel mode) rests (record was { due = dues.Look; running = Some own; tally = record was.tally { grants = was.tally.grants + 1 }; locks = locks })
 granted_code was rel mode own locks begins items scenario seen rests =
-    subst (Holds scenario (with_own seen was (events.LockOk rel mode))) (λ i. record (granted was locks) { running = Some (sym begins i) }) (granted_holds scenario seen was rel mode locks rests items)
+    subst (HasEntered scenario seen was (events.LockOk rel mode) rests) (λ i. record (granted was locks) { running = Some (sym begins i) }) (granted_holds scenario seen was rel mode locks rests items)
 
 pub refused_code : (was now : Progress) (rel : Oid) (mode : Mode) (holder : ℕ) (held : Mode) → FailsWith (errors.Locked rel holder held) was now
-    → (scenario : Scenario) (seen : List Entry) → Rests scenario seen was → Holds scenario (with_own seen was (events.LockHeld rel mode holder held)) now
-refused_code was now rel mode holder held fails scenario seen rests = subst (Holds scenario (with_own seen was (events.LockHeld rel mode holder held))) (sym fails.is) (refused_holds scenario seen was rel mode holder held now.locks rests fails.locks)
+    → (scenario : Scenario) (seen : List Entry) → (rests : Rests scenario seen was) → HasEntered scenario seen was (events.LockHeld rel mode holder held) rests now
+refused_code was now rel mode holder held fails scenario seen rests = subst (HasEntered scenario seen was (events.LockHeld rel mode holder held) rests) (sym fails.is) (refused_holds scenario seen was rel mode holder held now.locks rests fails.locks)
 
 pub clash_code : (was now : Progress) (name : List ℕ) (clash : Clash) (error : CommandError) → error ≡ error_of name clash → FailsWith error was now
-    → (scenario : Scenario) (seen : List Entry) → Rests scenario seen was → Holds scenario (with_own seen was (clash_event name clash)) now
-clash_code was now name clash error is fails scenario seen rests = subst (Holds scenario (with_own seen was (clash_event name clash))) (sym (fails.is ∙ ap (λ e. record (failed_with e was) { locks = now.locks }) is)) (clash_holds scenario seen was name clash now.locks rests fails.locks)
+    → (scenario : Scenario) (seen : List Entry) → (rests : Rests scenario seen was) → HasEntered scenario seen was (clash_event name clash) rests now
+clash_code was now name clash error is fails scenario seen rests = subst (HasEntered scenario seen was (clash_event name clash) rests) (sym (fails.is ∙ ap (λ e. record (failed_with e was) { locks = now.locks }) is)) (clash_holds scenario seen was name clash now.locks rests fails.locks)
 
 pub named_code : (was : Progress) (scan : Purpose) (given : Vec Row Global) (at : ℕ) (own : OwnTransaction) (locks : Roomy OwnLock) → own ≡ begun_own (was.finished + 1) was.running → is_wanted scan (plan_at was.exec) ≡ true
     → locks.items ≡ locks_accepted (is_in_accept (record was { running = Some own; due = dues.Nothing }) (slice_get was.commands was.finished)) was.locks.items
-    → (scenario : Scenario) (seen : List Entry) (count : ℕ) → Rests scenario seen was → given.items ≡ answer_of seen was.id scan
-    → Holds scenario (with_own seen was (events.Scan scan count)) (record was { due = dues.Nothing; running = Some own; tally = record was.tally { scans = was.tally.scans + 1 }; read = true; named = true; given = given; given_at = at; locks = locks })
+    → (scenario : Scenario) (seen : List Entry) (count : ℕ) → (rests : Rests scenario seen was) → given.items ≡ answer_of seen was.id scan
+    → HasEntered scenario seen was (events.Scan scan count) rests (record was { due = dues.Nothing; running = Some own; tally = record was.tally { scans = was.tally.scans + 1 }; read = true; named = true; given = given; given_at = at; locks = locks })
 named_code was scan given at own locks begins wanted items scenario seen count rests are =
-    subst (Holds scenario (with_own seen was (events.Scan scan count))) (λ i. record (named_scan was given at) { running = Some (sym begins i); locks = locks }) (named_holds scenario seen was scan count given at locks rests wanted are items)
+    subst (HasEntered scenario seen was (events.Scan scan count) rests) (λ i. record (named_scan was given at) { running = Some (sym begins i); locks = locks }) (named_holds scenario seen was scan count given at locks rests wanted are items)
 
 pub built_code : (was : Progress) (scan : Purpose) (rows : Vec Row Global) (given : List Row) (at : ℕ) (own : OwnTransaction) (kept : List KeptScan) (locks : Roomy OwnLock) → own ≡ begun_own (was.finished + 1) was.running → is_wanted scan (plan_at was.exec) ≡ false → is_next_at scan was ≡ true
     → given ≡ rows.items → kept ≡ was.kept ++ record { scan = scan; rows = given; at = at } ∷ []
     → locks.items ≡ locks_accepted (is_in_accept (record was { kept = kept; running = Some own; due = dues.Nothing }) (slice_get was.commands was.finished)) was.locks.items
-    → (scenario : Scenario) (seen : List Entry) (count : ℕ) → Rests scenario seen was → rows.items ≡ answer_of seen was.id scan
-    → Holds scenario (with_own seen was (events.Scan scan count)) (record was { due = dues.Nothing; running = Some own; tally = record was.tally { scans = was.tally.scans + 1 }; kept = kept; locks = locks })
+    → (scenario : Scenario) (seen : List Entry) (count : ℕ) → (rests : Rests scenario seen was) → rows.items ≡ answer_of seen was.id scan
+    → HasEntered scenario seen was (events.Scan scan count) rests (record was { due = dues.Nothing; running = Some own; tally = record was.tally { scans = was.tally.scans + 1 }; kept = kept; locks = locks })
 built_code was scan rows given at own kept locks begins other next same pushed items scenario seen count rests are =
-    subst (Holds scenario (with_own seen was (events.Scan scan count))) (λ i. record (built_scan was kept) { running = Some (sym begins i); locks = locks })
+    subst (HasEntered scenario seen was (events.Scan scan count) rests) (λ i. record (built_scan was kept) { running = Some (sym begins i); locks = locks })
     (built_holds scenario seen was scan count given at kept locks rests (next_lacks was scan other next) (same ∙ are) pushed items)
 
 pub write_code : (was : Progress) (xid : Xid) (messages : List Message) (new_oids : ℕ) (first : Oid) (own : OwnTransaction) (lists : Held) (kept : List KeptScan) (exec : Exec) (opened_none : List Opening) (locked locks : Roomy OwnLock)
     → own ≡ record (begun_own (was.finished + 1) was.running) { xid = Some xid } → want_of (plan_at was.exec) ≡ wants.Write → all_lists lists.lists ≡ lists_at was ++ with_messages messages (new_list (was.finished + 1)) ∷ []
     → kept ≡ kept_spared messages was.kept → plan_at exec ≡ after_act [] (plan_at was.exec) → opened_none ≡ [] → locked.items ≡ locks_written new_oids first (was.finished + 1) was.locks.items
     → locks.items ≡ locks_accepted (is_in_accept (record was { lists = lists; kept = kept; running = Some own; due = dues.Nothing; exec = exec; opened = opened_none; read = false; locks = locked }) (slice_get was.commands was.finished)) locked.items
-    → (scenario : Scenario) (seen : List Entry) (items : List Item) → Rests scenario seen was → messages ≡ messages_in seen was.id items → flat_map (locked_by (was.finished + 1)) items ≡ locks_made new_oids first (was.finished + 1)
-    → Holds scenario (with_own seen was (events.Write xid items)) (record was { lists = lists; kept = kept; running = Some own; due = dues.Nothing; exec = exec; opened = opened_none; read = false; locks = locks })
+    → (scenario : Scenario) (seen : List Entry) (items : List Item) → (rests : Rests scenario seen was) → messages ≡ messages_in seen was.id items → flat_map (locked_by (was.finished + 1)) items ≡ locks_made new_oids first (was.finished + 1)
+    → HasEntered scenario seen was (events.Write xid items) rests (record was { lists = lists; kept = kept; running = Some own; due = dues.Nothing; exec = exec; opened = opened_none; read = false; locks = locks })
 write_code was xid messages new_oids first own lists kept exec opened_none locked locks begins wants_it pushed keeps goes none held accepts scenario seen items rests are makes =
-    subst (Holds scenario (with_own seen was (events.Write xid items))) (λ i. record (wrote was xid (sym keeps i) lists exec locks) { running = Some (sym begins i); opened = sym none i })
+    subst (HasEntered scenario seen was (events.Write xid items) rests) (λ i. record (wrote was xid (sym keeps i) lists exec locks) { running = Some (sym begins i); opened = sym none i })
     (write_holds scenario seen was xid items messages new_oids first lists exec locked locks rests wants_it are makes pushed goes held
     (accepts ∙ (λ i. locks_accepted (is_in_accept (record was { lists = lists; kept = keeps i; running = Some own; due = dues.Nothing; exec = exec; opened = none i; read = false; locks = locked }) (slice_get was.commands was.finished)) locked.items)))
 
 pub visible_code : (was : Progress) (xid : Xid) (own : OwnTransaction) (locks : Roomy OwnLock) → own ≡ begun_own (was.finished + 1) was.running
     → locks.items ≡ locks_accepted (is_in_accept (record was { running = Some (record own { visible = true }); due = dues.Nothing }) (slice_get was.commands was.finished)) was.locks.items
-    → (scenario : Scenario) (seen : List Entry) → Rests scenario seen was → Holds scenario (with_own seen was (events.Visible xid)) (record was { due = dues.Nothing; running = Some (record own { visible = true }); locks = locks })
+    → (scenario : Scenario) (seen : List Entry) → (rests : Rests scenario seen was) → HasEntered scenario seen was (events.Visible xid) rests (record was { due = dues.Nothing; running = Some (record own { visible = true }); locks = locks })
 visible_code was xid own locks begins items scenario seen rests =
-    subst (Holds scenario (with_own seen was (events.Visible xid))) (λ i. record (shown was) { running = Some (record (sym begins i) { visible = true }); locks = locks }) (visible_holds scenario seen was xid locks rests items)
+    subst (HasEntered scenario seen was (events.Visible xid) rests) (λ i. record (shown was) { running = Some (record (sym begins i) { visible = true }); locks = locks }) (visible_holds scenario seen was xid locks rests items)
 
 pub publish_code : (was : Progress) (count : ℕ) (own : OwnTransaction) (locks : Roomy OwnLock) → own ≡ begun_own (was.finished + 1) was.running
     → locks.items ≡ locks_accepted (is_in_accept (record was { running = Some (record own { published = own.published + count }); due = dues.Nothing }) (slice_get was.commands was.finished)) was.locks.items
-    → (scenario : Scenario) (seen : List Entry) → Rests scenario seen was → Holds scenario (with_own seen was (events.Publish count)) (record was { due = dues.Nothing; running = Some (record own { published = own.published + count }); locks = locks })
+    → (scenario : Scenario) (seen : List Entry) → (rests : Rests scenario seen was) → HasEntered scenario seen was (events.Publish count) rests (record was { due = dues.Nothing; running = Some (record own { published = own.published + count }); locks = locks })
 publish_code was count own locks begins items scenario seen rests =
-    subst (λ o. Holds scenario (with_own seen was (events.Publish count)) (record was { due = dues.Nothing; running = Some (record o { published = o.published + count }); locks = locks })) (sym begins) (publish_holds scenario seen was count locks rests items)
+    subst (λ o. HasEntered scenario seen was (events.Publish count) rests (record was { due = dues.Nothing; running = Some (record o { published = o.published + count }); locks = locks })) (sym begins) (publish_holds scenario seen was count locks rests items)
 
 pub gone_code : (was : Progress) (from : ℕ) (own : OwnTransaction) (cats rels cats_again rels_again : List Message) (kept_first kept : List KeptScan) (named_first named : Bool) (lists : Held) (locks : Roomy OwnLock) → own ≡ begun_own (was.finished + 1) was.running
     → cats ≡ cats_in (lists_from from (lists_at was)) → rels ≡ rels_in (lists_from from (lists_at was)) → cats_again ≡ cats_in (lists_from from (lists_at was)) → rels_again ≡ rels_in (lists_from from (lists_at was))
     → kept_first ≡ kept_spared cats was.kept → kept ≡ kept_spared rels kept_first → named_first ≡ named_spared cats_again (plan_at was.exec) was.named → named ≡ named_spared rels_again (plan_at was.exec) named_first
     → all_lists lists.lists ≡ lists_before from (lists_at was)
     → locks.items ≡ locks_accepted (is_in_accept (record was { running = Some own; kept = kept; named = named; lists = lists; due = dues.Nothing }) (slice_get was.commands was.finished)) was.locks.items
-    → (scenario : Scenario) (seen : List Entry) → Rests scenario seen was → Holds scenario (with_own seen was (events.Gone from)) (record was { due = dues.Nothing; running = Some own; kept = kept; named = named; lists = lists; locks = locks })
+    → (scenario : Scenario) (seen : List Entry) → (rests : Rests scenario seen was) → HasEntered scenario seen was (events.Gone from) rests (record was { due = dues.Nothing; running = Some own; kept = kept; named = named; lists = lists; locks = locks })
 gone_code was from own cats rels cats_again rels_again kept_first kept named_first named lists locks begins cats_are rels_are cats_same rels_same first keeps named_one names before items scenario seen rests =
-    subst (Holds scenario (with_own seen was (events.Gone from))) (λ i. record (taken_back was cats rels lists) { running = Some (sym begins i); kept = sym kept_is i; named = sym named_is i; locks = locks })
+    subst (HasEntered scenario seen was (events.Gone from) rests) (λ i. record (taken_back was cats rels lists) { running = Some (sym begins i); kept = sym kept_is i; named = sym named_is i; locks = locks })
     (gone_holds scenario seen was from cats rels lists locks rests cats_are rels_are before
     (items ∙ (λ i. locks_accepted (is_in_accept (record was { running = Some own; kept = kept_is i; named = named_is i; lists = lists; due = dues.Nothing }) (slice_get was.commands was.finished)) was.locks.items)))
   where
@@ -163,9 +163,9 @@ gone_code was from own cats rels cats_again rels_again kept_first kept named_fir
 pub release_code : (was : Progress) (from : ℕ) (first : Bool) (begun : OwnTransaction) (own : Option OwnTransaction) (lists : Held) (held locks : Roomy OwnLock) → first ≡ ends_own from was.running → begun ≡ begun_own (was.finished + 1) was.running → own ≡ released_own from begun
     → all_lists lists.lists ≡ lists_left first (lists_at was) → held.items ≡ filter (λ lock. nat_lt lock.command from) was.locks.items
     → locks.items ≡ locks_accepted (is_in_accept (record was { lists = lists; running = own; locks = held; ended = true; due = dues.Nothing }) (slice_get was.commands was.finished)) held.items
-    → (scenario : Scenario) (seen : List Entry) → Rests scenario seen was → Holds scenario (with_own seen was (events.Release from)) (record was { due = dues.Nothing; ended = true; running = own; lists = lists; locks = locks })
+    → (scenario : Scenario) (seen : List Entry) → (rests : Rests scenario seen was) → HasEntered scenario seen was (events.Release from) rests (record was { due = dues.Nothing; ended = true; running = own; lists = lists; locks = locks })
 release_code was from first begun own lists held locks ends begins is left stay items scenario seen rests =
-    subst (Holds scenario (with_own seen was (events.Release from))) (λ i. record (let_go was from lists locks) { running = sym own_is i })
+    subst (HasEntered scenario seen was (events.Release from) rests) (λ i. record (let_go was from lists locks) { running = sym own_is i })
     (release_holds scenario seen was from lists held locks rests (left ∙ ap (λ t. lists_left t (lists_at was)) ends) stay
     (items ∙ (λ i. locks_accepted (is_in_accept (record was { lists = lists; running = own_is i; locks = held; ended = true; due = dues.Nothing }) (slice_get was.commands was.finished)) held.items)))
   where

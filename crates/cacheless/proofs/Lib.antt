@@ -67,7 +67,7 @@ pub mod ToldAlike
 pub mod Tests
 pub mod ReadsBuilds
 pub mod Same
-pub mod Ending
+pub mod CommandEnds
 pub mod Resting
 pub mod Putting
 pub mod Entering

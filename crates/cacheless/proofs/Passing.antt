@@ -29,7 +29,7 @@ use Rattle.cacheless.specs.Puts.{AreGivenBy, PutsOpened}
 use Rattle.cacheless.specs.State.{blocks_passed, lists_at, no_counts, is_kept, rows_kept, builds_missing, act_missing, scans_missing, is_absent, is_out, end_at, Rest, rest_of, session_at}
 use Rattle.cacheless.specs.May.{owes_nothing}
 use Rattle.cacheless.specs.Silently.{gives_at, gives_next, acts_on, is_ends, is_finished_at, rows_for, opened_for, Acts, Finishes}
-use Rattle.cacheless.specs.Holds.{NamedFit, FactsFit, Holds}
+use Rattle.cacheless.specs.Holds.{NamedFit, FactsFit, Holds, HasActed, HasPassed}
 use Rattle.cacheless.proofs.Settling.{settled-act, settled-finish, acted-out}
 use Rattle.cacheless.proofs.StillSeen.{given_seen}
 use Rattle.cacheless.proofs.Tests.{and_true, right_none, not_both}
@@ -142,6 +142,28 @@ act_keeps scenario seen was exec opened command act plan gave holds has owes at 
     left : drop was.finished was.commands ≡ command ∷ drop (was.finished + 1) was.commands
     left = left_command was command has
 
+-- and its session is that after the act
+pub act_acts : (scenario : Scenario) (seen : List Entry) (was : Progress) (exec : Exec) (opened : List Opening) (command : Command) (act : Act) (plan : List Row → Plan) (gave : List Row) (held : Holds scenario seen was) → slice_get was.commands was.finished ≡ Some command
+    → owes_nothing command was ≡ true → plan_at was.exec ≡ Do act plan → gives_at was act ≡ Some gave → plan_at exec ≡ plan gave → ((name : List ℕ) → plan_at exec ≡ Absent name → plan_again exec ≡ plan_at was.exec) → opened ≡ was.opened ++ opened_by act
+    → HasActed scenario seen was held (record was { exec = exec; opened = opened; read = false })
+unfolding act_keeps
+act_acts scenario seen was exec opened command act plan gave held has owes at gives_it on again opens = record {
+  holds = act_keeps scenario seen was exec opened command act plan gave held has owes at gives_it on again opens;
+  command = command;
+  at = has;
+  free = free.first;
+  act = act;
+  further = plan;
+  left = at;
+  given = gave;
+  gives = here (facts_of seen was.id) was held.rest act plan held.facts at free.scans ∙ gives_it;
+  session = λ i. record (act_done act gave (plan gave) (session_at was held.rest)) { left = on i; opened = opens i };
+  moves = record { id = refl; commands = refl; finished = refl };
+}
+  where
+    free : Free (facts_of seen was.id) command was held.rest
+    free = free_now (facts_of seen was.id) command was held.rest held.facts owes
+
 -- the state at the next command
 abbrev pub at_next : Progress → Exec → Bool → Blocks → List Opening → Progress
 at_next was exec blocked blocks opened = record was { finished = was.finished + 1; exec = exec; blocked = blocked; ended = false; blocks = blocks; read = false; opened = opened; tally = no_counts }
@@ -190,6 +212,34 @@ finish_keeps scenario seen was exec blocked blocks opened command holds has fini
           blocked = (ap (λ b. is_some (refused_first b (slice_get was.commands (was.finished + 1)))) blocks_are ∙ sym refuses) i;
           opened = sym none i;
         })
+
+-- and its session is that at the next command
+pub finish_passes : (scenario : Scenario) (seen : List Entry) (was : Progress) (exec : Exec) (blocked : Bool) (blocks : Blocks) (opened : List Opening) (command : Command) (held : Holds scenario seen was) → slice_get was.commands was.finished ≡ Some command → is_finished_at command was ≡ true
+    → blocks ≡ blocks_passed (plan_at was.exec) (was.finished + 1) command was.blocks → opened ≡ []
+    → plan_at exec ≡ plan_first blocks (slice_get was.commands (was.finished + 1)) → blocked ≡ is_some (refused_first blocks (slice_get was.commands (was.finished + 1)))
+    → HasPassed scenario seen was held (at_next was exec blocked blocks opened)
+unfolding finish_keeps
+finish_passes scenario seen was exec blocked blocks opened command held has finished passes none on refuses = record {
+  holds = finish_keeps scenario seen was exec blocked blocks opened command held has finished passes none on refuses;
+  command = command;
+  at = has;
+  over = finished_same (facts_of seen was.id) command was held.rest held.facts held.count ∙ finished;
+  session = λ i. record next {
+    blocks = sym blocks_are i;
+    left = sym (ap (λ b. plan_first b (slice_get was.commands (was.finished + 1))) blocks_are ∙ sym on) i;
+    blocked = sym (ap (λ b. is_some (refused_first b (slice_get was.commands (was.finished + 1)))) blocks_are ∙ sym refuses) i;
+    opened = none i;
+  };
+  id = refl;
+  commands = refl;
+  finished = refl;
+}
+  where
+    next : Session
+    next = next_session command (slice_get was.commands (was.finished + 1)) (session_at was held.rest)
+
+    blocks_are : blocks_after command (session_at was held.rest) ≡ blocks
+    blocks_are = ap (λ n. blocks_passed (plan_at was.exec) (n + 1) command was.blocks) held.count ∙ sym passes
 
 -- what an act gives is what the code gives it
 given_rows : (locks : List OwnLock) (mode : Mode) (given : List Row) → is_some (looked_up locks mode given) ≡ true → looked_up locks mode given ≡ Some given
@@ -250,13 +300,13 @@ act_is_left s acts = by_plan (plan_at s.exec) refl (and_true (owes_nothing acts.
 -- the act that is done without an entry
 pub acted_keeps : (was : Progress) (exec : Exec) (opened : List Opening) (want : Want) (acts : Acts was) → want ≡ want_of (plan_at was.exec)
     → plan_at exec ≡ after_act (rows_for want was.given.items was.kept) (plan_at was.exec) → ((name : List ℕ) → 0 < acts_left was.exec → plan_at exec ≡ Absent name → plan_again exec ≡ plan_at was.exec) → opened ≡ was.opened ++ opened_for want
-    → (scenario : Scenario) (seen : List Entry) → Holds scenario seen was → Holds scenario seen (record was { exec = exec; opened = opened; read = false })
-acted_keeps was exec opened want acts wants on again opens scenario seen holds = by_plan (plan_at was.exec) refl (and_true (owes_nothing acts.command was) (gives_next was (plan_at was.exec)) acts.acts)
+    → (scenario : Scenario) (seen : List Entry) (held : Holds scenario seen was) → HasActed scenario seen was held (record was { exec = exec; opened = opened; read = false })
+acted_keeps was exec opened want acts wants on again opens scenario seen held = by_plan (plan_at was.exec) refl (and_true (owes_nothing acts.command was) (gives_next was (plan_at was.exec)) acts.acts)
   where
-    by_plan : (p : Plan) → plan_at was.exec ≡ p → (owes_nothing acts.command was ≡ true) × (gives_next was (plan_at was.exec) ≡ true) → Holds scenario seen (record was { exec = exec; opened = opened; read = false })
+    by_plan : (p : Plan) → plan_at was.exec ≡ p → (owes_nothing acts.command was ≡ true) × (gives_next was (plan_at was.exec) ≡ true) → HasActed scenario seen was held (record was { exec = exec; opened = opened; read = false })
     by_plan (Do act plan) at parts =
         let want_is : want ≡ want_of (Do act plan) = wants ∙ ap want_of at in
-        act_keeps scenario seen was exec opened acts.command act plan (rows_for (want_of (Do act plan)) was.given.items was.kept) holds acts.at parts.0 at
+        act_acts scenario seen was exec opened acts.command act plan (rows_for (want_of (Do act plan)) was.given.items was.kept) held acts.at parts.0 at
         (gave_is was act plan (sym (ap (gives_next was) at) ∙ parts.1))
         (on ∙ ap (after_act (rows_for want was.given.items was.kept)) at ∙ ap (λ w. plan (rows_for w was.given.items was.kept)) want_is)
         (λ name. again name (act_is_left was acts))
@@ -269,11 +319,11 @@ acted_keeps was exec opened want acts wants on again opens scenario seen holds =
 -- the code's step to the next command
 pub finish_code : (was : Progress) (exec : Exec) (blocked : Bool) (blocks : Blocks) (tally : Counts) (opened : List Opening) (commands : List Command) (command : Command) → Finishes was → slice_get was.commands was.finished ≡ Some command
     → blocks ≡ blocks_passed (plan_at was.exec) (was.finished + 1) command was.blocks → commands ≡ was.commands → plan_at exec ≡ plan_first blocks (slice_get commands (was.finished + 1)) → blocked ≡ is_some (refused_first blocks (slice_get commands (was.finished + 1))) → tally ≡ no_counts → opened ≡ []
-    → (scenario : Scenario) (seen : List Entry) → Holds scenario seen was
-    → Holds scenario seen (record was { finished = was.finished + 1; exec = exec; blocked = blocked; ended = false; tally = tally; blocks = blocks; read = false; opened = opened })
-finish_code was exec blocked blocks tally opened commands command finishes at passes same on refuses fresh none scenario seen holds =
-    subst (Holds scenario seen) (λ i. record (at_next was exec blocked blocks opened) { tally = sym fresh i })
-    (finish_keeps scenario seen was exec blocked blocks opened command holds at (subst (λ c. is_finished_at c was ≡ true) one finishes.finished) passes none
+    → (scenario : Scenario) (seen : List Entry) (held : Holds scenario seen was)
+    → HasPassed scenario seen was held (record was { finished = was.finished + 1; exec = exec; blocked = blocked; ended = false; tally = tally; blocks = blocks; read = false; opened = opened })
+finish_code was exec blocked blocks tally opened commands command finishes at passes same on refuses fresh none scenario seen held =
+    subst (HasPassed scenario seen was held) (λ i. record (at_next was exec blocked blocks opened) { tally = sym fresh i })
+    (finish_passes scenario seen was exec blocked blocks opened command held at (subst (λ c. is_finished_at c was ≡ true) one finishes.finished) passes none
     (on ∙ ap (λ l. plan_first blocks (slice_get l (was.finished + 1))) same) (refuses ∙ ap (λ l. is_some (refused_first blocks (slice_get l (was.finished + 1)))) same))
   where
     one : finishes.command ≡ command

@@ -27,7 +27,7 @@ use Rattle.cacheless.proofs.Settling.{settled-waits}
 use Rattle.cacheless.proofs.ReadsBuilds.{stage_built}
 use Rattle.cacheless.proofs.Tests.{and_true, empty_is, right_none, not_true}
 use Rattle.cacheless.proofs.Same.{start_owed, builds_same, act_same, scans_same, lacks_any_is, owes_nothing_is, empty_append}
-use Rattle.cacheless.proofs.Ending.{end_same, left_none}
+use Rattle.cacheless.proofs.CommandEnds.{end_same, left_none}
 
 -- the first command that is left is the running one
 pub first_left : (xs : List Command) (n : ℕ) → first_of (drop n xs) ≡ slice_get xs n

@@ -1,20 +1,24 @@
 -- What the code holds is the session of its backend in a history.
-use Rattle.std.specs.Prelude.{◌≡◌, ◌≤◌, ◌+◌, ◌++◌, ◌∷◌, ◌||◌, [], ℕ, Bool, true, List, length, drop, All, Some, ⊤}
+use Rattle.std.specs.Prelude.{◌≡◌, ◌≤◌, ◌+◌, ◌++◌, ◌∷◌, ◌||◌, [], ℕ, Bool, true, List, length, drop, All, Some, slice_get, ⊤}
 use Rattle.std.specs.List.{AllByRecursion}
 use Rattle.base_types.specs.Scans.{is_build_scan}
 use Rattle.base_types.specs.Scenario.{IsBackend}
 use Rattle.base_types.specs.declared.scan.Purpose.TheVariants as scans
-use Rattle.ddl_effect.specs.Plans.{Plan, Absent, Do, Lookup, Column}
+use Rattle.event_kinds.specs.declared.entry.Event.TheVariants as events
+use Rattle.ddl_effect.specs.Plans.{Plan, Act, Absent, Do, Lookup, Column}
+use Rattle.ddl_effect.specs.Blocks.{no_block}
 use Rattle.ddl_effect.specs.Commands.{commands_of}
 use Rattle.ddl_effect.specs.Stages.{plan_at, plan_again}
-use Rattle.cacheless.specs.Types.{Row, Purpose, Scenario, Entry, Event}
+use Rattle.history_model.specs.Writes.{is_empty}
+use Rattle.cacheless.specs.Types.{Row, Purpose, Command, Scenario, Entry, Event}
 use Rattle.cacheless.specs.declared.kept_scan.KeptScan.{KeptScan}
 use Rattle.cacheless.specs.declared.progress.Counts.{Counts}
 use Rattle.cacheless.specs.declared.progress.Progress.{Progress}
 use Rattle.cacheless.specs.Facts.{Facts, facts_of}
-use Rattle.cacheless.specs.Owed.{owed_after}
-use Rattle.cacheless.specs.Settled.{settled}
-use Rattle.cacheless.specs.Sessions.{session_of}
+use Rattle.cacheless.specs.Session.{at_command}
+use Rattle.cacheless.specs.Owed.{owed_at_start, owed_after}
+use Rattle.cacheless.specs.Settled.{done_here, act_done, is_finished, next_session, settled}
+use Rattle.cacheless.specs.Sessions.{entered, session_of}
 use Rattle.cacheless.specs.Puts.{PutsOpened}
 use Rattle.cacheless.specs.State.{owed_at, running_of, lists_at, is_kept, is_absent, IsNew, Rest, session_at}
 use Rattle.cacheless.specs.Silently.{IsAtRest}
@@ -83,3 +87,46 @@ entry_of b c event = record { backend = b; command = c; event = event }
 -- the history with an entry of the backend
 abbrev pub with_own : List Entry → Progress → Event → List Entry
 with_own seen s event = seen ++ entry_of s.id (s.finished + 1) event ∷ []
+
+-- the backend is as far in its commands
+pub record IsWhere (was now : Progress) : Type 0 where
+  pub id : now.id ≡ was.id
+  pub commands : now.commands ≡ was.commands
+  pub finished : now.finished ≡ was.finished
+
+-- after an own entry the code holds the session that the entry left, before that has gone on
+pub record HasEntered (scenario : Scenario) (seen : List Entry) (was : Progress) (event : Event) (rests : Rests scenario seen was) (now : Progress) : Type 0 where
+  pub holds : Holds scenario (with_own seen was event) now
+  pub session : session_at now holds.rest ≡ entered (facts_of (with_own seen was event) was.id) (drop was.finished was.commands) (length seen + 1) (was.finished + 1) event (session_at was rests.holds.rest)
+  pub moves : IsWhere was now
+
+-- after its start it holds the session at the first command
+pub record HasStarted (scenario : Scenario) (seen : List Entry) (was now : Progress) : Type 0 where
+  pub holds : Holds scenario (seen ++ entry_of was.id 0 events.Start ∷ []) now
+  pub session : session_at now holds.rest ≡ at_command no_block [] [] (length seen + 1) (slice_get was.commands 0)
+  pub moves : IsWhere was now
+
+-- an act that is done without an entry
+pub record HasActed (scenario : Scenario) (seen : List Entry) (was : Progress) (held : Holds scenario seen was) (now : Progress) : Type 0 where
+  pub holds : Holds scenario seen now
+  pub command : Command
+  pub at : slice_get was.commands was.finished ≡ Some command
+  pub free : is_empty (owed_at_start (facts_of seen was.id) command (session_at was held.rest) ++ owed_after (facts_of seen was.id).last) ≡ true
+  pub act : Act
+  pub further : List Row → Plan
+  pub left : plan_at was.exec ≡ Do act further
+  pub given : List Row
+  pub gives : done_here (facts_of seen was.id) (session_at was held.rest) act (Do act further) ≡ Some given
+  pub session : session_at now holds.rest ≡ act_done act given (further given) (session_at was held.rest)
+  pub moves : IsWhere was now
+
+-- a command that is finished is passed over
+pub record HasPassed (scenario : Scenario) (seen : List Entry) (was : Progress) (held : Holds scenario seen was) (now : Progress) : Type 0 where
+  pub holds : Holds scenario seen now
+  pub command : Command
+  pub at : slice_get was.commands was.finished ≡ Some command
+  pub over : is_finished (facts_of seen was.id) command (session_at was held.rest) ≡ true
+  pub session : session_at now holds.rest ≡ next_session command (slice_get was.commands (was.finished + 1)) (session_at was held.rest)
+  pub id : now.id ≡ was.id
+  pub commands : now.commands ≡ was.commands
+  pub finished : now.finished ≡ was.finished + 1

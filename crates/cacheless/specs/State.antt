@@ -104,6 +104,11 @@ has_write_since from s = has_write_from from (lists_at s)
 abbrev pub is_kept : List KeptScan → Purpose → Bool
 is_kept kept scan = list_any (λ k. same_scan k.scan scan) kept
 
+-- what is kept of a scan that gave these rows in the entry of this number: nothing, where a name or a column is looked up by it
+abbrev pub scan_kept : Bool → Purpose → List Row → ℕ → List KeptScan
+scan_kept true scan given at = []
+scan_kept false scan given at = record { scan = scan; rows = given; at = at } ∷ []
+
 -- the rows that are kept of a scan
 abbrev pub rows_kept : List KeptScan → Purpose → List Row
 rows_kept kept scan = option_map_or (λ k. k.rows) (find (λ k. same_scan k.scan scan) kept) []

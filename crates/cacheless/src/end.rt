@@ -16,14 +16,17 @@ use std::alloc::Global;
 
 impl Progress {
     ghost use Rattle.std.specs.Prelude.{List};
-    ghost use Rattle.cacheless.specs.State.{published_at};
-    ghost use Rattle.cacheless.specs.Holds.{Holds, Rests, with_own};
+    ghost use Rattle.inval_messages.specs.Lists.{cats_in, rels_in, lists_from};
+    ghost use Rattle.cacheless.specs.State.{published_at, lists_at, kept_spared};
+    ghost use Rattle.cacheless.specs.Holds.{Rests, HasEntered};
 
     /// Its transaction is committed (`ProcArrayEndTransaction` in
     /// `src/backend/storage/ipc/procarray.c`).
     pub fn enter_visible(&mut self, xid: Xid)
         requires few { self.old.finished ≤ 20000 }
-        ensures holds { (scenario : Scenario) (seen : List Entry) → Rests scenario seen self.old → Holds scenario (with_own seen self.old (Event.Visible xid)) self.new }
+        ensures kept { self.new.kept ≡ self.old.kept }
+        ensures given_at { self.new.given_at ≡ self.old.given_at }
+        ensures holds { (scenario : Scenario) (seen : List Entry) → (rests : Rests scenario seen self.old) → HasEntered scenario seen self.old (Event.Visible xid) rests self.new }
     {
         let _xid = xid;
         self.running = Some(OwnTransaction {
@@ -40,7 +43,9 @@ impl Progress {
     pub fn enter_publish(&mut self, count: u32)
         requires few { self.old.finished ≤ 20000 }
         requires fits { published_at self.old + count < 2 ^ 64 }
-        ensures holds { (scenario : Scenario) (seen : List Entry) → Rests scenario seen self.old → Holds scenario (with_own seen self.old (Event.Publish count)) self.new }
+        ensures kept { self.new.kept ≡ self.old.kept }
+        ensures given_at { self.new.given_at ≡ self.old.given_at }
+        ensures holds { (scenario : Scenario) (seen : List Entry) → (rests : Rests scenario seen self.old) → HasEntered scenario seen self.old (Event.Publish count) rests self.new }
     {
         let own = running_from(self.finished + 1, self.running);
         self.running = Some(OwnTransaction {
@@ -57,7 +62,9 @@ impl Progress {
     /// `src/backend/utils/cache/inval.c`).
     pub fn enter_gone(&mut self, alloc: Global, from: u32)
         requires few { self.old.finished ≤ 20000 }
-        ensures holds { (scenario : Scenario) (seen : List Entry) → Rests scenario seen self.old → Holds scenario (with_own seen self.old (Event.Gone from)) self.new }
+        ensures kept { self.new.kept ≡ kept_spared (rels_in (lists_from from (lists_at self.old))) (kept_spared (cats_in (lists_from from (lists_at self.old))) self.old.kept) }
+        ensures given_at { self.new.given_at ≡ self.old.given_at }
+        ensures holds { (scenario : Scenario) (seen : List Entry) → (rests : Rests scenario seen self.old) → HasEntered scenario seen self.old (Event.Gone from) rests self.new }
     {
         self.running = Some(running_from(self.finished + 1, self.running));
         execute(alloc, &mut self.kept, self.lists.cats_from(from));
@@ -75,7 +82,9 @@ impl Progress {
     /// `src/backend/storage/lmgr/lock.c`).
     pub fn enter_release(&mut self, from: u32)
         requires few { self.old.finished ≤ 20000 }
-        ensures holds { (scenario : Scenario) (seen : List Entry) → Rests scenario seen self.old → Holds scenario (with_own seen self.old (Event.Release from)) self.new }
+        ensures kept { self.new.kept ≡ self.old.kept }
+        ensures given_at { self.new.given_at ≡ self.old.given_at }
+        ensures holds { (scenario : Scenario) (seen : List Entry) → (rests : Rests scenario seen self.old) → HasEntered scenario seen self.old (Event.Release from) rests self.new }
     {
         clear_if(&mut self.lists, is_first(from, self.running));
         self.running = released(from, running_from(self.finished + 1, self.running));

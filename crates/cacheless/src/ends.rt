@@ -15,14 +15,14 @@ use inval_messages::Message;
 // The most messages that one publish puts into the queue.
 const MOST_PUBLISHED: usize = 64;
 
-// How a command ends.
+/// How a command ends.
 #[derive(Clone, Copy)]
-pub(crate) enum Ending {
-    // With no entry.
+pub enum Ending {
+    /// With no entry.
     Ends,
-    // By a commit of the transaction with this first command.
+    /// By a commit of the transaction with this first command.
     Commits { first: u32 },
-    // By taking back the commands from this one on.
+    /// By taking back the commands from this one on.
     TakesBack { from: u32 },
 }
 
@@ -100,8 +100,8 @@ impl Progress {
         }
     }
 
-    // Whether its transaction is committed, and holds its locks still.
-    fn is_visible(&self) -> bool
+    /// Whether its transaction is committed, and holds its locks still.
+    pub fn is_visible(&self) -> bool
         ensures { result ≡ is_visible_at self.now }
     {
         match self.running {
@@ -110,8 +110,8 @@ impl Progress {
         }
     }
 
-    // The Xid of its transaction, or 0.
-    fn own_xid(&self) -> u32
+    /// The Xid of its transaction, or 0.
+    pub fn own_xid(&self) -> u32
         ensures { result ≡ xid_at self.now }
     {
         match self.running {
@@ -157,8 +157,8 @@ impl Progress {
         matches!(self.end(command), Ending::Ends)
     }
 
-    // How the running command ends.
-    fn end(&self, command: &Command) -> Ending
+    /// How the running command ends.
+    pub fn end(&self, command: &Command) -> Ending
         requires few { self.now.finished ≤ 20000 }
         ensures { end_of_ending result ≡ end_at self.now command.now }
     {
@@ -214,8 +214,8 @@ impl Progress {
         }
     }
 
-    // Whether a write of this command or a later one wasn't taken back.
-    pub(crate) fn has_write_since(&self, from: u32) -> bool
+    /// Whether a write of this command or a later one wasn't taken back.
+    pub fn has_write_since(&self, from: u32) -> bool
         ensures { result ≡ is_written_since from self.now }
     {
         self.lists.has_from(from)

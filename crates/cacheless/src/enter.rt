@@ -24,13 +24,15 @@ impl Progress {
     ghost use Rattle.std.specs.Prelude.{List, ℕ, ◌||◌};
     ghost use Rattle.ddl_effect.specs.Stages.{plan_at};
     ghost use Rattle.ddl_effect.specs.declared.exec.Exec.{Exec};
-    ghost use Rattle.cacheless.specs.State.{is_absent as has_missed, is_in_accept, is_full as counts_full, one_if, SearchesAgain};
+    ghost use Rattle.cacheless.specs.State.{kept_spared, is_absent as has_missed, is_in_accept, is_full as counts_full, one_if, SearchesAgain};
     ghost use Rattle.cacheless.specs.May.{HasRoom};
-    ghost use Rattle.cacheless.specs.Holds.{HasNotStarted, Holds, Rests, entry_of, with_own};
+    ghost use Rattle.cacheless.specs.Holds.{HasNotStarted, HasStarted, Rests, HasEntered};
 
     /// It has started (`SharedInvalBackendInit` in `src/backend/storage/ipc/sinvaladt.c`).
     pub fn enter_start(&mut self)
-        ensures holds { (scenario : Scenario) (seen : List Entry) → HasNotStarted scenario seen self.old → Holds scenario (seen ++ entry_of self.old.id 0 Event.Start ∷ []) self.new }
+        ensures kept { self.new.kept ≡ self.old.kept }
+        ensures given_at { self.new.given_at ≡ self.old.given_at }
+        ensures holds { (scenario : Scenario) (seen : List Entry) → HasNotStarted scenario seen self.old → HasStarted scenario seen self.old self.new }
     {
         self.running = None;
         self.due = Due::Nothing;
@@ -39,7 +41,9 @@ impl Progress {
     /// It has stopped (`CleanupInvalidationState` in `src/backend/storage/ipc/sinvaladt.c`).
     pub fn enter_stop(&mut self)
         requires few { self.old.finished ≤ 20000 }
-        ensures holds { (scenario : Scenario) (seen : List Entry) → Rests scenario seen self.old → Holds scenario (with_own seen self.old Event.Stop) self.new }
+        ensures kept { self.new.kept ≡ self.old.kept }
+        ensures given_at { self.new.given_at ≡ self.old.given_at }
+        ensures holds { (scenario : Scenario) (seen : List Entry) → (rests : Rests scenario seen self.old) → HasEntered scenario seen self.old Event.Stop rests self.new }
     {
         self.due = Due::Nothing;
         let accepting = self.is_in_acceptance();
@@ -51,7 +55,9 @@ impl Progress {
     pub fn enter_look(&mut self, some_wait: bool)
         requires few { self.old.finished ≤ 20000 }
         requires room { HasRoom self.old }
-        ensures holds { (scenario : Scenario) (seen : List Entry) → Rests scenario seen self.old → Holds scenario (with_own seen self.old (Event.Look some_wait)) self.new }
+        ensures kept { self.new.kept ≡ self.old.kept }
+        ensures given_at { self.new.given_at ≡ self.old.given_at }
+        ensures holds { (scenario : Scenario) (seen : List Entry) → (rests : Rests scenario seen self.old) → HasEntered scenario seen self.old (Event.Look some_wait) rests self.new }
     {
         self.running = Some(running_from(self.finished + 1, self.running));
         self.due = after_look(some_wait);
@@ -65,7 +71,9 @@ impl Progress {
     pub fn enter_fetch(&mut self, alloc: Global, messages: &[Message])
         requires few { self.old.finished ≤ 20000 }
         requires room { HasRoom self.old }
-        ensures holds { (scenario : Scenario) (seen : List Entry) → Rests scenario seen self.old → messages.now ≡ fetched_by seen self.old.id (length messages.now) → Holds scenario (with_own seen self.old (Event.Fetch (length messages.now))) self.new }
+        ensures kept { self.new.kept ≡ kept_spared messages.now self.old.kept }
+        ensures given_at { self.new.given_at ≡ self.old.given_at }
+        ensures holds { (scenario : Scenario) (seen : List Entry) → (rests : Rests scenario seen self.old) → messages.now ≡ fetched_by seen self.old.id (length messages.now) → HasEntered scenario seen self.old (Event.Fetch (length messages.now)) rests self.new }
     {
         self.running = Some(running_from(self.finished + 1, self.running));
         execute(alloc, &mut self.kept, messages);
@@ -84,7 +92,9 @@ impl Progress {
     pub fn enter_reset(&mut self, alloc: Global)
         requires few { self.old.finished ≤ 20000 }
         requires room { HasRoom self.old }
-        ensures holds { (scenario : Scenario) (seen : List Entry) → Rests scenario seen self.old → Holds scenario (with_own seen self.old Event.FetchReset) self.new }
+        ensures kept { self.new.kept ≡ [] }
+        ensures given_at { self.new.given_at ≡ self.old.given_at }
+        ensures holds { (scenario : Scenario) (seen : List Entry) → (rests : Rests scenario seen self.old) → HasEntered scenario seen self.old Event.FetchReset rests self.new }
     {
         self.running = Some(running_from(self.finished + 1, self.running));
         self.kept = Listed::new(alloc);

@@ -38,8 +38,8 @@ pub(crate) fn serves_still(named: bool, exec: &Exec, messages: &[Message]) -> bo
     }
 }
 
-// Whether one of the messages covers the scan.
-pub(crate) fn is_covered(messages: &[Message], scan: &Purpose) -> bool
+/// Whether one of the messages covers the scan.
+pub fn is_covered(messages: &[Message], scan: &Purpose) -> bool
     ensures { result ≡ list_any (covers scan.now) messages.now }
 {
     match scan {

@@ -50,7 +50,10 @@ mod silent;
 mod write;
 mod writes;
 
+pub use ends::Ending;
+pub use execute::is_covered;
 pub use kept_scan::KeptScan;
 pub use opening::Opening;
 pub use progress::{Counts, Due, OwnTransaction, Progress};
+pub use scans::{first_lacking, first_missing, has_kept};
 pub use silent::Silent;

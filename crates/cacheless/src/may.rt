@@ -216,15 +216,15 @@ impl Progress {
         self.owes_nothing(command) && gives_name(&self.exec, self.kept.as_slice(), name)
     }
 
-    // Whether nothing has to come before the next act.
-    pub(crate) fn owes_nothing(&self, command: &Command) -> bool
+    /// Whether nothing has to come before the next act.
+    pub fn owes_nothing(&self, command: &Command) -> bool
         ensures { result ≡ nothing_owed command.now self.now }
     {
         !self.owes_first_look(command) && self.is_past_accept() && !self.lacks_scan()
     }
 
-    // Whether the look at the start of its transaction is owed.
-    pub(crate) fn owes_first_look(&self, command: &Command) -> bool
+    /// Whether the look at the start of its transaction is owed.
+    pub fn owes_first_look(&self, command: &Command) -> bool
         ensures { not result ≡ none_in (owed_first self.now command.now) }
     {
         !self.blocks.is_open()

@@ -14,12 +14,12 @@ use event_kinds::Event;
 use rel_desc::CommandError;
 
 impl Progress {
-    ghost use Rattle.std.specs.Prelude.{List, ℕ};
+    ghost use Rattle.std.specs.Prelude.{List, ℕ, ◌++◌, ◌∷◌, [], if◌then◌else◌};
     ghost use Rattle.ddl_effect.specs.Stages.{plan_at};
     ghost use Rattle.cacheless.specs.Sessions.{is_wanted as is_wanted_by};
-    ghost use Rattle.cacheless.specs.State.{FailsWith, IsLockedIn};
+    ghost use Rattle.cacheless.specs.State.{FailsWith, IsLockedIn, scan_kept};
     ghost use Rattle.cacheless.specs.May.{HasRoom, is_next_at};
-    ghost use Rattle.cacheless.specs.Holds.{Holds, Rests, with_own};
+    ghost use Rattle.cacheless.specs.Holds.{Rests, HasEntered};
 
     /// A scan gave it these rows, in the entry of this number. Conditions: it is the first that an
     /// opened descriptor or the next act lacks, and the counts are small enough to be summed. Out of
@@ -28,7 +28,9 @@ impl Progress {
         requires few { self.old.finished ≤ 20000 }
         requires room { HasRoom self.old }
         requires next { is_next_at scan.now self.old ≡ true }
-        ensures holds { OnOk result ((scenario : Scenario) (seen : List Entry) (count : ℕ) → Rests scenario seen self.old → rows.items ≡ answer_of seen self.old.id scan.now → Holds scenario (with_own seen self.old (Event.Scan scan.now count)) self.new) }
+        ensures kept { OnOk result (self.new.kept ≡ self.old.kept ++ scan_kept (is_wanted_by scan.now (plan_at self.old.exec)) scan.now rows.items at) }
+        ensures given_at { OnOk result (self.new.given_at ≡ (if is_wanted_by scan.now (plan_at self.old.exec) then at else self.old.given_at)) }
+        ensures holds { OnOk result ((scenario : Scenario) (seen : List Entry) (count : ℕ) → (rests : Rests scenario seen self.old) → rows.items ≡ answer_of seen self.old.id scan.now → HasEntered scenario seen self.old (Event.Scan scan.now count) rests self.new) }
     {
         if self.is_wanted(scan) {
             self.enter_named(scan, rows, at);
@@ -42,7 +44,9 @@ impl Progress {
         requires few { self.old.finished ≤ 20000 }
         requires room { HasRoom self.old }
         requires wanted { is_wanted_by scan.now (plan_at self.old.exec) ≡ true }
-        ensures holds { (scenario : Scenario) (seen : List Entry) (count : ℕ) → Rests scenario seen self.old → rows.items ≡ answer_of seen self.old.id scan.now → Holds scenario (with_own seen self.old (Event.Scan scan.now count)) self.new }
+        ensures kept { self.new.kept ≡ self.old.kept }
+        ensures given_at { self.new.given_at ≡ at }
+        ensures holds { (scenario : Scenario) (seen : List Entry) (count : ℕ) → (rests : Rests scenario seen self.old) → rows.items ≡ answer_of seen self.old.id scan.now → HasEntered scenario seen self.old (Event.Scan scan.now count) rests self.new }
     {
         let _scan = *scan;
         self.running = Some(running_from(self.finished + 1, self.running));
@@ -62,7 +66,9 @@ impl Progress {
         requires room { HasRoom self.old }
         requires next { is_next_at scan.now self.old ≡ true }
         requires other { is_wanted_by scan.now (plan_at self.old.exec) ≡ false }
-        ensures holds { OnOk result ((scenario : Scenario) (seen : List Entry) (count : ℕ) → Rests scenario seen self.old → rows.items ≡ answer_of seen self.old.id scan.now → Holds scenario (with_own seen self.old (Event.Scan scan.now count)) self.new) }
+        ensures kept { OnOk result (self.new.kept ≡ self.old.kept ++ record { scan = scan.now; rows = rows.items; at = at } ∷ []) }
+        ensures given_at { OnOk result (self.new.given_at ≡ self.old.given_at) }
+        ensures holds { OnOk result ((scenario : Scenario) (seen : List Entry) (count : ℕ) → (rests : Rests scenario seen self.old) → rows.items ≡ answer_of seen self.old.id scan.now → HasEntered scenario seen self.old (Event.Scan scan.now count) rests self.new) }
     {
         let made = KeptScan {
             scan: *scan,
@@ -93,7 +99,7 @@ impl Progress {
     pub fn reserve_lock(&mut self) -> Result<(), NoMemory>
         ensures same { IsLockedIn self.old.locks.items self.old self.new }
         ensures ok { OnOk result (0 < self.new.locks.room) }
-        ensures rests { (scenario : Scenario) (seen : List Entry) → Rests scenario seen self.old → Rests scenario seen self.new }
+        ensures rests { (scenario : Scenario) (seen : List Entry) → (rests : Rests scenario seen self.old) → Rests scenario seen self.new }
     {
         self.locks.reserve()
     }
@@ -105,7 +111,9 @@ impl Progress {
         requires room { HasRoom self.old }
         requires place { 0 < self.old.locks.room }
         requires new { has_lock self.old.locks.items rel mode ≡ false }
-        ensures holds { (scenario : Scenario) (seen : List Entry) → Rests scenario seen self.old → Holds scenario (with_own seen self.old (Event.LockOk rel mode)) self.new }
+        ensures kept { self.new.kept ≡ self.old.kept }
+        ensures given_at { self.new.given_at ≡ self.old.given_at }
+        ensures holds { (scenario : Scenario) (seen : List Entry) → (rests : Rests scenario seen self.old) → HasEntered scenario seen self.old (Event.LockOk rel mode) rests self.new }
     {
         self.running = Some(running_from(self.finished + 1, self.running));
         self.due = Due::Look;
@@ -117,7 +125,9 @@ impl Progress {
     /// conflicts, and that mode.
     pub fn enter_refused(&mut self, rel: Oid, mode: Mode, holder: u32, held: Mode)
         requires few { self.old.finished ≤ 20000 }
-        ensures holds { (scenario : Scenario) (seen : List Entry) → Rests scenario seen self.old → Holds scenario (with_own seen self.old (Event.LockHeld rel mode holder held)) self.new }
+        ensures kept { self.new.kept ≡ self.old.kept }
+        ensures given_at { self.new.given_at ≡ self.old.given_at }
+        ensures holds { (scenario : Scenario) (seen : List Entry) → (rests : Rests scenario seen self.old) → HasEntered scenario seen self.old (Event.LockHeld rel mode holder held) rests self.new }
     {
         let _mode = mode;
         let error = CommandError::Locked {

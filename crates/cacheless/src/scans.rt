@@ -8,8 +8,8 @@ ghost use Rattle.cacheless.specs.State.{is_kept};
 use crate::{KeptScan, Opening};
 use base_types::{Kind, Oid, Purpose, same_scan, table_scans};
 
-// The first of these descriptors that lacks a scan.
-pub(crate) fn first_lacking(kept: &[KeptScan], opened: &[Opening]) -> Option<Opening>
+/// The first of these descriptors that lacks a scan.
+pub fn first_lacking(kept: &[KeptScan], opened: &[Opening]) -> Option<Opening>
     ensures { result ≡ find (λ o. is_some (find (λ scan. not (is_kept kept.now scan)) (build_scans o.kind o.rel))) opened.now }
 {
     opened.iter().find(|o| lacks_scan(kept, o)).copied()
@@ -22,8 +22,8 @@ fn lacks_scan(kept: &[KeptScan], o: &Opening) -> bool
     first_missing(kept, o.kind, o.rel).is_some()
 }
 
-// The first scan of a descriptor that isn't kept.
-pub(crate) fn first_missing(kept: &[KeptScan], kind: Kind, rel: Oid) -> Option<Purpose>
+/// The first scan of a descriptor that isn't kept.
+pub fn first_missing(kept: &[KeptScan], kind: Kind, rel: Oid) -> Option<Purpose>
     ensures { result ≡ find (λ scan. not (is_kept kept.now scan)) (build_scans kind rel) }
 {
     match kind {
@@ -39,8 +39,8 @@ fn first_of(kept: &[KeptScan], wanted: &[Purpose]) -> Option<Purpose>
     wanted.iter().find(|scan| !has_kept(kept, scan)).copied()
 }
 
-// Whether the scan is kept.
-pub(crate) fn has_kept(kept: &[KeptScan], scan: &Purpose) -> bool
+/// Whether the scan is kept.
+pub fn has_kept(kept: &[KeptScan], scan: &Purpose) -> bool
     ensures { result ≡ is_kept kept.now scan.now }
 {
     kept.iter().any(|k| same_scan(&k.scan, scan))

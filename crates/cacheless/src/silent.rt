@@ -30,7 +30,7 @@ impl Progress {
     ghost use Rattle.event_kinds.specs.declared.entry.Entry.{Entry};
     ghost use Rattle.cacheless.specs.State.{is_out as has_come_out, end_at};
     ghost use Rattle.cacheless.specs.Silently.{opened_for, gives_next, acts_on, is_finished_at, Acts, Finishes, IsSilentOf, left_of};
-    ghost use Rattle.cacheless.specs.Holds.{Holds, Rests};
+    ghost use Rattle.cacheless.specs.Holds.{Holds, Rests, HasActed, HasPassed};
 
     /// Goes on as far as it can without an entry. Out of memory, it may not be used any more.
     pub fn settle(&mut self, alloc: Global) -> Result<(), NoMemory>
@@ -48,8 +48,8 @@ impl Progress {
         }
     }
 
-    // What it does without an entry.
-    fn silent(&self) -> Silent
+    /// What it does without an entry.
+    pub fn silent(&self) -> Silent
         requires few { length self.now.commands ≤ 20000 }
         ensures { IsSilentOf self.now result }
     {
@@ -95,8 +95,8 @@ impl Progress {
         self.is_out() && (self.ended || self.ends_silently(command)) && self.owes_nothing(command)
     }
 
-    // Whether the command has come out.
-    fn is_out(&self) -> bool
+    /// Whether the command has come out.
+    pub fn is_out(&self) -> bool
         ensures { result ≡ has_come_out self.now }
     {
         matches!(
@@ -105,10 +105,12 @@ impl Progress {
         )
     }
 
-    // It does its next act.
-    fn act(&mut self) -> Result<(), NoMemory>
+    /// It does its next act, which needs no entry. Out of memory, it may not be used any more.
+    pub fn act(&mut self) -> Result<(), NoMemory>
         requires acts { Acts self.old }
-        ensures keeps { OnOk result ((scenario : Scenario) (seen : List Entry) → Holds scenario seen self.old → Holds scenario seen self.new) }
+        ensures acts { OnOk result ((scenario : Scenario) (seen : List Entry) (held : Holds scenario seen self.old) → HasActed scenario seen self.old held self.new) }
+        ensures kept { OnOk result (self.new.kept ≡ self.old.kept) }
+        ensures given_at { OnOk result (self.new.given_at ≡ self.old.given_at) }
         ensures less { OnOk result (left_of self.new < left_of self.old) }
         ensures same { OnOk result (self.new.commands ≡ self.old.commands) }
     {
@@ -125,7 +127,9 @@ impl Progress {
     fn open(&mut self, rel: Oid, kind: Kind) -> Result<(), NoMemory>
         requires acts { Acts self.old }
         requires opens { want_of (plan_at self.old.exec) ≡ Want.Open rel kind }
-        ensures keeps { OnOk result ((scenario : Scenario) (seen : List Entry) → Holds scenario seen self.old → Holds scenario seen self.new) }
+        ensures acts { OnOk result ((scenario : Scenario) (seen : List Entry) (held : Holds scenario seen self.old) → HasActed scenario seen self.old held self.new) }
+        ensures kept { OnOk result (self.new.kept ≡ self.old.kept) }
+        ensures given_at { OnOk result (self.new.given_at ≡ self.old.given_at) }
         ensures less { OnOk result (left_of self.new < left_of self.old) }
         ensures same { OnOk result (self.new.commands ≡ self.old.commands) }
     {
@@ -139,7 +143,9 @@ impl Progress {
     fn find(&mut self)
         requires acts { Acts self.old }
         requires other { opened_for (want_of (plan_at self.old.exec)) ≡ [] }
-        ensures keeps { (scenario : Scenario) (seen : List Entry) → Holds scenario seen self.old → Holds scenario seen self.new }
+        ensures acts { (scenario : Scenario) (seen : List Entry) (held : Holds scenario seen self.old) → HasActed scenario seen self.old held self.new }
+        ensures kept { self.new.kept ≡ self.old.kept }
+        ensures given_at { self.new.given_at ≡ self.old.given_at }
         ensures less { left_of self.new < left_of self.old }
         ensures same { self.new.commands ≡ self.old.commands }
     {
@@ -148,12 +154,14 @@ impl Progress {
         self.read = false;
     }
 
-    // It passes to its next command.
-    fn finish(&mut self, alloc: Global) -> Result<(), NoMemory>
+    /// It passes to its next command. Condition: the running one is finished. Out of memory, it may not be
+    /// used any more.
+    pub fn finish(&mut self, alloc: Global) -> Result<(), NoMemory>
         requires built { All (λ command. runs command ≡ true) self.old.commands }
         requires few { length self.old.commands ≤ 20000 }
         requires finishes { Finishes self.old }
-        ensures keeps { OnOk result ((scenario : Scenario) (seen : List Entry) → Holds scenario seen self.old → Holds scenario seen self.new) }
+        ensures passes { OnOk result ((scenario : Scenario) (seen : List Entry) (held : Holds scenario seen self.old) → HasPassed scenario seen self.old held self.new) }
+        ensures kept { OnOk result (self.new.kept ≡ self.old.kept) }
         ensures less { OnOk result (left_of self.new < left_of self.old) }
         ensures same { OnOk result (self.new.commands ≡ self.old.commands) }
     {

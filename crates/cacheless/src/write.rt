@@ -27,8 +27,8 @@ impl Progress {
     ghost use Rattle.std.specs.Prelude.{List, ℕ};
     ghost use Rattle.ddl_effect.specs.Stages.{plan_at, want_of};
     ghost use Rattle.ddl_effect.specs.declared.want.Want.TheVariants as wants;
-    ghost use Rattle.cacheless.specs.State.{lists_at};
-    ghost use Rattle.cacheless.specs.Holds.{Holds, Rests, with_own};
+    ghost use Rattle.cacheless.specs.State.{lists_at, kept_spared};
+    ghost use Rattle.cacheless.specs.Holds.{Rests, HasEntered};
 
     /// It wrote: these are the messages of its changes in their order, so many new oids were drawn, of
     /// which this is the first, and its transaction has this Xid. A new relation's oid is the first new
@@ -48,7 +48,9 @@ impl Progress {
         requires order { AllByRecursion (λ list. list.command ≤ self.old.finished + 1) (lists_at self.old) }
         requires place { 0 < self.old.locks.room }
         requires new { 0 < new_oids → has_lock self.old.locks.items first AccessExclusive ≡ false }
-        ensures holds { OnOk result ((scenario : Scenario) (seen : List Entry) (items : List Item) → Rests scenario seen self.old → messages.now ≡ messages_in seen self.old.id items → flat_map (locked_by (self.old.finished + 1)) items ≡ locks_made new_oids first (self.old.finished + 1) → Holds scenario (with_own seen self.old (Event.Write xid items)) self.new) }
+        ensures kept { OnOk result (self.new.kept ≡ kept_spared messages.now self.old.kept) }
+        ensures given_at { OnOk result (self.new.given_at ≡ self.old.given_at) }
+        ensures holds { OnOk result ((scenario : Scenario) (seen : List Entry) (items : List Item) → (rests : Rests scenario seen self.old) → messages.now ≡ messages_in seen self.old.id items → flat_map (locked_by (self.old.finished + 1)) items ≡ locks_made new_oids first (self.old.finished + 1) → HasEntered scenario seen self.old (Event.Write xid items) rests self.new) }
     {
         let command = self.finished + 1;
         register(&mut self.lists, command, messages)?;
@@ -67,7 +69,9 @@ impl Progress {
     /// Its write was refused, which ends its command: the new name is taken.
     pub fn enter_clash(&mut self, name: Name, clash: Clash)
         requires few { self.old.finished ≤ 20000 }
-        ensures holds { (scenario : Scenario) (seen : List Entry) → Rests scenario seen self.old → Holds scenario (with_own seen self.old (clash_event name clash)) self.new }
+        ensures kept { self.new.kept ≡ self.old.kept }
+        ensures given_at { self.new.given_at ≡ self.old.given_at }
+        ensures holds { (scenario : Scenario) (seen : List Entry) → (rests : Rests scenario seen self.old) → HasEntered scenario seen self.old (clash_event name clash) rests self.new }
     {
         self.fail(clash_error(name, clash));
     }

@@ -1,5 +1,8 @@
-use Rattle.backend_core.proofs.Joining.{join_enters}
+use Rattle.backend_core.proofs.Joining.{join_call, join_enters}
 use Rattle.backend_core.proofs.backend.Backend.join.Goals as goal
 
+pub start-requires-clause-call : goal.start-requires-clause-call
+start-requires-clause-call g c = join_call _ _ c.args.self.now c.requires.before
+
 pub returns-clause-enters : goal.returns-clause-enters
-returns-clause-enters g c = join_enters _ _ _ _ _ c.args.self.now c.requires.before c.requires.played c.start.ensures.appends
+returns-clause-enters g c = join_enters _ _ _ _ _ c.args.self.now _ c.requires.before c.requires.played (c.enter_start.ensures.holds _ _ c.requires.before.waits) c.enter_start.ensures.kept c.start.ensures.appends

@@ -3,7 +3,4 @@ use Rattle.rel_desc.specs.Answers.{answer_text}
 use Rattle.backend_core.proofs.backend.Backend.told_text.Goals as goal
 
 pub returns : goal.returns
-returns c = record {
-  has = record { command = c.args.command.now; at = c.requires.at };
-  is = c.new.ensures ∙ c.in_ok-answer_text.ensures.ok ∙ ap (λ l. l ++ answer_text c.in_ok-told.told) c.new-text.ensures.items ∙ ap answer_text c.in_ok-told.ensures;
-}
+returns c = c.new.ensures ∙ c.in_ok-answer_text.ensures.ok ∙ ap (λ l. l ++ answer_text c.in_ok-told.told) c.new-text.ensures.items ∙ ap answer_text c.in_ok-told.ensures

@@ -3,5 +3,5 @@ use Rattle.cacheless.specs.State.{locks_accepted}
 use Rattle.cacheless.proofs.EntryCodes.{built_code}
 use Rattle.cacheless.proofs.progress.Progress.enter_build.Goals as goal
 
-pub returns : goal.returns
-returns c = record { holds = built_code _ _ c.args.rows _ _ _ _ _ c.running_from.ensures c.requires.other c.requires.next c.from_vec.ensures c.in_ok-push.ensures.ok (c.accept.ensures ∙ ap (λ t. locks_accepted t c.args.self.now.locks.items) c.is_in_acceptance-accepting.ensures) }
+pub returns-clause-holds : goal.returns-clause-holds
+returns-clause-holds c = built_code _ _ c.args.rows _ _ _ _ _ c.running_from.ensures c.requires.other c.requires.next c.from_vec.ensures c.in_ok-push.ensures.ok (c.accept.ensures ∙ ap (λ t. locks_accepted t c.args.self.now.locks.items) c.is_in_acceptance-accepting.ensures)

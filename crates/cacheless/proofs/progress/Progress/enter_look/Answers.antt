@@ -3,5 +3,5 @@ use Rattle.cacheless.specs.State.{locks_accepted}
 use Rattle.cacheless.proofs.EntryCodes.{look_code}
 use Rattle.cacheless.proofs.progress.Progress.enter_look.Goals as goal
 
-pub returns : goal.returns
-returns c = record { holds = look_code _ _ _ _ _ c.running_from.ensures c.after_look-self.ensures (c.accept.ensures ∙ ap (λ t. locks_accepted t c.args.self.now.locks.items) c.is_in_acceptance-accepting.ensures) }
+pub returns-clause-holds : goal.returns-clause-holds
+returns-clause-holds c = look_code _ _ _ _ _ c.running_from.ensures c.after_look-self.ensures (c.accept.ensures ∙ ap (λ t. locks_accepted t c.args.self.now.locks.items) c.is_in_acceptance-accepting.ensures)

@@ -1,5 +1,5 @@
 use Rattle.cacheless.proofs.EntryCodes.{refused_code}
 use Rattle.cacheless.proofs.progress.Progress.enter_refused.Goals as goal
 
-pub returns : goal.returns
-returns c = record { holds = refused_code _ _ _ _ _ _ c.fail.ensures }
+pub returns-clause-holds : goal.returns-clause-holds
+returns-clause-holds c = refused_code _ _ _ _ _ _ c.fail.ensures

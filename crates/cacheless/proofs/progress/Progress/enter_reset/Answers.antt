@@ -3,5 +3,5 @@ use Rattle.cacheless.specs.State.{locks_accepted}
 use Rattle.cacheless.proofs.EntryCodes.{reset_code}
 use Rattle.cacheless.proofs.progress.Progress.enter_reset.Goals as goal
 
-pub returns : goal.returns
-returns c = record { holds = reset_code c.args.self.now _ _ c.search_again.new.self _ c.running_from.ensures c.new.ensures c.search_again.ensures (c.accept.ensures ∙ ap (λ t. locks_accepted t c.search_again.new.self.locks.items) c.is_in_acceptance-accepting.ensures) }
+pub returns-clause-holds : goal.returns-clause-holds
+returns-clause-holds c = reset_code c.args.self.now _ _ c.search_again.new.self _ c.running_from.ensures c.new.ensures c.search_again.ensures (c.accept.ensures ∙ ap (λ t. locks_accepted t c.search_again.new.self.locks.items) c.is_in_acceptance-accepting.ensures)

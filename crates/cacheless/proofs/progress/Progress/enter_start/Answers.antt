@@ -1,5 +1,5 @@
-use Rattle.cacheless.proofs.EnteredLooks.{start_holds}
+use Rattle.cacheless.proofs.EnteredLooks.{start_starts}
 use Rattle.cacheless.proofs.progress.Progress.enter_start.Goals as goal
 
-pub returns : goal.returns
-returns c = record { holds = λ scenario seen waits. start_holds scenario seen c.args.self.now waits }
+pub returns-clause-holds : goal.returns-clause-holds
+returns-clause-holds c = λ scenario seen waits. start_starts scenario seen c.args.self.now waits

@@ -3,5 +3,5 @@ use Rattle.cacheless.specs.State.{locks_accepted}
 use Rattle.cacheless.proofs.EntryCodes.{visible_code}
 use Rattle.cacheless.proofs.progress.Progress.enter_visible.Goals as goal
 
-pub returns : goal.returns
-returns c = record { holds = visible_code _ _ _ _ c.running_from.ensures (c.accept.ensures ∙ ap (λ t. locks_accepted t c.args.self.now.locks.items) c.is_in_acceptance-accepting.ensures) }
+pub returns-clause-holds : goal.returns-clause-holds
+returns-clause-holds c = visible_code _ _ _ _ c.running_from.ensures (c.accept.ensures ∙ ap (λ t. locks_accepted t c.args.self.now.locks.items) c.is_in_acceptance-accepting.ensures)

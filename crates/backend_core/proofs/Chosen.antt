@@ -1,0 +1,126 @@
+-- What comes next by the choice may come next by the history and the script.
+use Rattle.std.proofs.Common.{◌≡◌, ◌≢◌, ◌≤◌, ◌<◌, ◌+◌, ◌*◌, ◌∙◌, ◌⊎◌, inl, inr, ◌==◌, ◌&&◌, ℕ, Bool, true, false, not, Option, Some, None, List, [], ◌∷◌, ◌++◌, refl, sym, ap, subst, length, slice_get, is_none, is_some, arith, map, cond}
+use Rattle.std.specs.Option.{option_map_or}
+use Rattle.std.specs.Prelude.{nat_le}
+use Rattle.std.proofs.lemmas.Bool.{both_ways, le-leb, lt-ltb}
+use Rattle.base_types.specs.declared.scan.Purpose.TheVariants as scans
+use Rattle.event_kinds.specs.declared.entry.Event.TheVariants as events
+use Rattle.ddl_effect.specs.Commands.{commands_of}
+use Rattle.ddl_effect.specs.Plans.{Plan, Act, Do, Lookup, Lock, Write, Done, Fails, Absent, NotBuilt}
+use Rattle.ddl_effect.specs.Stages.{plan_at, want_of}
+use Rattle.ddl_effect.specs.declared.want.Want.TheVariants as wants
+use Rattle.history_model.specs.Drawn.{next_oid}
+use Rattle.history_model.specs.Legal.{AllowsEvent}
+use Rattle.history_model.specs.Lives.{life_of, last_event_of}
+use Rattle.history_model.specs.Log.{is_waiting}
+use Rattle.history_model.specs.Transactions.{Running, is_visible, running_transaction_of}
+use Rattle.history_model.specs.Writes.{is_empty}
+use Rattle.seg_calls.specs.Calls.{entry_of, took_back, MayCall, MayRequest}
+use Rattle.seg_calls.proofs.Allowed.{is_start, request_follows}
+use Rattle.cacheless.specs.declared.progress.Due.{Due}
+use Rattle.cacheless.specs.declared.progress.Due.TheVariants as dues
+use Rattle.cacheless.specs.Facts.{Facts, facts_of}
+use Rattle.cacheless.specs.Holds.{Holds, Rests, FactsFit}
+use Rattle.cacheless.specs.May.{HasRoom, started_at, may_look_at, lacks_any, owes_nothing, may_play_now, is_lock_at, may_lock_at}
+use Rattle.cacheless.specs.Owed.{Owes, OwesLook, OwesFetch, owed_after, owed_of}
+use Rattle.cacheless.specs.Plays.{started_in, has_looked, may_look, MayPlay, MayPlayIn}
+use Rattle.cacheless.specs.Ends.{TakesBack, end_of, end_of_all}
+use Rattle.cacheless.specs.Schedule.{LooksTruly}
+use Rattle.cacheless.specs.Session.{Session, number_of, outcome_of, is_settled}
+use Rattle.cacheless.specs.State.{owed_at, owed_first, one_if, is_out, session_at}
+use Rattle.cacheless.proofs.Deciding.{holds_decides}
+use Rattle.cacheless.proofs.Same.{next_same, owes_nothing_is}
+use Rattle.cacheless.proofs.SilentActs.{empty_list}
+use Rattle.cacheless.proofs.Tests.{and_true, not_both}
+use Rattle.backend_core.specs.Types.{Purpose, Command, Scenario, Entry, Event, Progress, Backend}
+use Rattle.backend_core.specs.Agrees.{IsPlayed, command_at, AwaitsEntry}
+use Rattle.backend_core.specs.Fits.{looks_due, looks_owed, LooksFit, OnCommit, OnTakingBack, IsPast, Fits}
+use Rattle.backend_core.specs.Steps.{IsFree, OwesLookNow, IsLookNext, IsScanNext, IsLockNext, IsWriteNext}
+use Rattle.backend_core.specs.Words.{is_looked_for}
+use Rattle.backend_core.proofs.Own.{waiting, waiting_course, OwnEntry}
+
+one_at_most : (t : Bool) → one_if t ≤ 1
+one_at_most true = omega arith
+one_at_most false = omega arith
+
+started_most : (number : ℕ) (facts : Facts) → started_in number facts ≤ 1
+started_most number facts = by_own facts.running
+  where
+    one : (t : Bool) → elim t as (λ x. ℕ) [ true ↦ 1 | false ↦ 0 ] ≤ 1
+    one true = omega arith
+    one false = omega arith
+
+    by_own : (own : Option Running) → option_map_or (λ t. elim (t.first == number) as (λ x. ℕ) [ true ↦ 1 | false ↦ 0 ]) own 0 ≤ 1
+    by_own None = omega arith
+    by_own (Some t) = one (t.first == number)
+
+-- the looks are within their bound where one is due, the transaction hasn't started, or none was made for one of the two kinds of scans
+may_look_by : (facts : Facts) (s : Session) (looked to_build : Bool) → LooksFit facts s looked to_build → (1 ≤ looks_due (owed_after facts.last)) ⊎ (started_in (number_of s) facts + one_if looked + one_if to_build ≤ 2) → s.tally.looks + 1 ≤ s.tally.scans + s.tally.grants + 2 * s.tally.fetches + 3
+may_look_by facts s looked to_build fits (inl due) = omega (arith, fits.within, due, started_most (number_of s) facts, one_at_most looked, one_at_most to_build)
+may_look_by facts s looked to_build fits (inr few) = omega (arith, fits.within, few)
+
+-- a look may come where no fetch is owed
+look_may : (facts : Facts) (s : Session) → (owed_after facts.last ≡ []) ⊎ (owed_after facts.last ≡ OwesLook ∷ []) → s.tally.looks + 1 ≤ s.tally.scans + s.tally.grants + 2 * s.tally.fetches + 3 → may_look facts s ≡ true
+look_may facts s (inl none) low = ap (λ l. elim l as (λ x. Bool) [ OwesFetch ∷ owed ↦ false | owed ↦ nat_le (s.tally.looks + 1) (s.tally.scans + s.tally.grants + 2 * s.tally.fetches + 3) ]) none ∙ le-leb _ _ low
+look_may facts s (inr look) low = ap (λ l. elim l as (λ x. Bool) [ OwesFetch ∷ owed ↦ false | owed ↦ nat_le (s.tally.looks + 1) (s.tally.scans + s.tally.grants + 2 * s.tally.fetches + 3) ]) look ∙ le-leb _ _ low
+
+-- in a command that runs no end is on its way: nothing is published or released
+pub data Busy (p : Progress) (command : Command) : Type 0 where
+  Owes : owes_nothing command p ≡ false → Busy p command
+  Acts : is_out p ≡ false → Busy p command
+
+module _ (scenario : Scenario) (seen : List Entry) (s : Backend) (waits : AwaitsEntry scenario seen s) (command : Command) (at : command_at s ≡ Some command) where
+  facts : Facts
+  facts = facts_of seen s.progress.id
+
+  owes_same : is_empty (owed_of facts command (waiting waits)) ≡ owes_nothing command s.progress
+  owes_same = owes_nothing_is facts command s.progress waits.rests.holds.rest waits.rests.holds.facts
+
+  not_busy : owed_of facts command (waiting waits) ≡ [] → is_out s.progress ≡ true → Busy s.progress command → ⊥
+  not_busy free out (Owes busy) = both_ways _ busy (sym owes_same ∙ ap is_empty free)
+  not_busy free out (Acts busy) = both_ways _ busy out
+
+  -- the transaction isn't visible
+  pub hidden : Busy s.progress command → is_visible facts.running ≡ false
+  hidden busy = by_test (is_visible facts.running) refl
+    where
+      by_test : (t : Bool) → is_visible facts.running ≡ t → is_visible facts.running ≡ false
+      by_test false is = is
+      by_test true is = absurd (let c = waits.fits.visible is in let one : c.command ≡ command = (let both : Some c.command ≡ Some command = sym c.at ∙ at in cc both) in
+          not_busy (subst (λ x. owed_of facts x (waiting waits) ≡ []) one c.free) c.out busy)
+
+  -- and the last entry took nothing back
+  pub standing : Busy s.progress command → took_back facts.last ≡ false
+  standing busy = by_last facts.last refl
+    where
+      by_last : (last : Option Event) → facts.last ≡ last → took_back last ≡ false
+      by_last (Some (events.Gone from)) is = absurd (let t = waits.fits.taken from is in
+          not_busy (subst (λ o. elim o as (λ x. Type 0) [ Some c ↦ (end_of facts c (waiting waits) ≡ TakesBack from) × (owed_of facts c (waiting waits) ≡ []) | None ↦ end_of_all facts ≡ TakesBack from ]) at t.end).1 t.out busy)
+      by_last last is = refl
+
+  -- so it may ask for something
+  pub may_request : Busy s.progress command → MayRequest scenario seen s.progress.id (s.progress.finished + 1)
+  may_request busy = record {
+    backend = waits.rests.holds.number;
+    number = omega (arith, waits.rests.holds.most, ap length waits.rests.holds.commands);
+    last = waits.keeps.life.last;
+    alive = waits.keeps.life.alive;
+    rises = waits.keeps.life.most;
+    visible = hidden busy;
+    gone = standing busy;
+  }
+
+  pub may_call : (event : Event) → Busy s.progress command → is_start event ≡ false → AllowsEvent seen s.progress.id (s.progress.finished + 1) event → MayCall scenario seen (entry_of s.progress.id (s.progress.finished + 1) event)
+  may_call event busy other allows = record {
+    backend = waits.rests.holds.number;
+    number = omega (arith, waits.rests.holds.most, ap length waits.rests.holds.commands);
+    follows = request_follows scenario seen s.progress.id (s.progress.finished + 1) event (may_request busy) other allows;
+  }
+
+  -- what the code's words let come next may come next
+  pub now_plays : (event : Event) → may_play_now (next_oid seen) s.progress event ≡ true → MayPlayIn (next_oid seen) facts (command_at s) (waiting waits) event
+  now_plays event may = (holds_decides s.progress (next_oid seen) event true (sym may) scenario seen waits.rests.holds).0 refl
+
+look_true : (seen : List Entry) (b : ℕ) (some_wait : Bool) → is_waiting seen b ≡ some_wait → LooksTruly seen b (events.Look some_wait)
+look_true seen b true is = tt
+look_true seen b false is = is

@@ -1,0 +1,211 @@
+-- What a backend does without an entry.
+use Rattle.std.proofs.Common.{◌≡◌, ◌≢◌, ◌≤◌, ◌+◌, ◌∙◌, ◌&&◌, ◌⊎◌, inl, inr, ℕ, Bool, true, false, not, Option, Some, None, List, [], ◌∷◌, ◌++◌, refl, sym, ap, subst, length, drop, slice_get, is_some, is_none, All, arith}
+use Rattle.std.proofs.lemmas.Bool.{both_ways, and_parts}
+use Rattle.std.proofs.lemmas.List.{length_push, take_all}
+use Rattle.rel_desc.specs.Answers.{answer_text}
+use Rattle.ddl_effect.specs.Commands.{commands_of}
+use Rattle.ddl_effect.specs.Plans.{Plan, Do}
+use Rattle.ddl_effect.specs.Stages.{plan_at}
+use Rattle.history_model.specs.Lives.{life_of, last_event_of}
+use Rattle.cacheless.specs.Facts.{Facts, facts_of}
+use Rattle.cacheless.specs.Holds.{Holds, Rests, HasActed, HasPassed}
+use Rattle.cacheless.specs.Lines.{line_of, lines_from}
+use Rattle.cacheless.specs.OnCourse.{is_over, EntersCourse}
+use Rattle.cacheless.specs.Runs.{runs}
+use Rattle.cacheless.specs.Session.{Session, number_of, first_of, outcome_of, is_settled}
+use Rattle.cacheless.specs.Sessions.{session_of}
+use Rattle.cacheless.specs.Settled.{act_done, is_finished, finished_as, next_session, settled}
+use Rattle.cacheless.specs.Silently.{Finishes, IsAtRest}
+use Rattle.cacheless.specs.State.{is_out, session_at}
+use Rattle.cacheless.specs.May.{owes_nothing}
+use Rattle.cacheless.specs.Owed.{owed_of}
+use Rattle.cacheless.proofs.HeldLocks.{settled-locks}
+use Rattle.cacheless.proofs.Resting.{first_left, left_command}
+use Rattle.cacheless.proofs.Same.{owes_nothing_is}
+use Rattle.cacheless.proofs.SilentActs.{empty_list}
+use Rattle.cacheless.proofs.ToldAnswers.{has_come_out}
+use Rattle.cacheless.proofs.SettledCourse.{HasSession, act_enters, finish_enters}
+use Rattle.backend_core.specs.Types.{Command, Scenario, Entry, Line, Progress, Backend}
+use Rattle.backend_core.specs.Agrees.{KeptAt, PlaceFits, Keeps, command_at, is_to_answer_at, IsJudgedHere, AgreesNow, AwaitsEntry}
+use Rattle.backend_core.specs.Answering.{IsToldText}
+use Rattle.backend_core.specs.Fits.{Fits}
+use Rattle.backend_core.proofs.Answered.{are_kept, told_line}
+use Rattle.backend_core.proofs.FitsOn.{fits_act, fits_pass}
+use Rattle.backend_core.proofs.LinesPush.{lines-push}
+
+-- the session of the history, whose locks are those at hand
+has_session : (scenario : Scenario) (seen : List Entry) (s : Backend) (now : AgreesNow scenario seen s) → HasSession scenario seen s.progress.id (session_at s.progress now.holds.rest).locks
+has_session scenario seen s now = record {
+  played = now.played;
+  session = settled (facts_of seen s.progress.id) (drop s.progress.finished s.progress.commands) (session_at s.progress now.holds.rest);
+  is = now.holds.is;
+  holds = settled-locks (facts_of seen s.progress.id) (drop s.progress.finished s.progress.commands) (session_at s.progress now.holds.rest);
+}
+
+-- a command whose next act is done without an entry hasn't made its release
+acts_going : (scenario : Scenario) (seen : List Entry) (b : ℕ) (s : Session) (command : Command) → EntersCourse scenario seen b s → slice_get (commands_of scenario b) (length s.finished) ≡ Some command → is_settled (outcome_of s.left) ≡ false → s.ended ≡ false
+acts_going scenario seen b s command course at unsettled = by_ended s.ended refl
+  where
+    by_ended : (t : Bool) → s.ended ≡ t → s.ended ≡ false
+    by_ended false is = is
+    by_ended true is = absurd (both_ways _ unsettled (and_parts (is_settled (outcome_of s.left)) _ (and_parts (is_settled (outcome_of s.left) && _) _ (course.ends command at is)).0).0)
+
+-- what the code answers, where that isn't worked out yet, is the line of its command
+answered_line : (scenario : Scenario) (seen : List Entry) (s : Backend) (command : Command) (text : List ℕ) (now : AgreesNow scenario seen s) → command_at s ≡ Some command → is_out s.progress ≡ true → owes_nothing command s.progress ≡ true → s.answer ≡ None → IsToldText s.progress command text
+    → record { backend = s.progress.id; command = number_of (session_at s.progress now.holds.rest); text = text } ≡ line_of scenario seen s.progress.id (number_of (session_at s.progress now.holds.rest)) (finished_as (session_at s.progress now.holds.rest)) command
+answered_line scenario seen s command text now at out owes none told = told_line scenario seen s.progress now.holds.rest command text
+    (has_come_out scenario seen s.progress.id session command (has_session scenario seen s now) (now.course.follows command (ap (slice_get (commands_of scenario s.progress.id)) now.holds.count ∙ ap (λ l. slice_get l s.progress.finished) (sym now.holds.commands) ∙ at)) out here.stands
+    (inr (empty_list (owed_of (facts_of seen s.progress.id) command session) (owes_nothing_is (facts_of seen s.progress.id) command s.progress now.holds.rest now.holds.facts ∙ owes))))
+    (are_kept seen s.progress now.holds.facts now.keeps.kept)
+    (λ name is. sym (subst (λ p. PlaceFits seen s.progress.id p s.progress.read s.progress.given_at) is now.keeps.given_at))
+    here.judged told
+  where
+    session : Session
+    session = session_at s.progress now.holds.rest
+
+    here : IsJudgedHere seen s.progress.id session
+    here = now.here command at (ap (λ o. is_some o) none)
+
+-- it does an act
+pub act_agrees : (scenario : Scenario) (seen : List Entry) (was : Backend) (p : Progress) (now : AgreesNow scenario seen was) → HasActed scenario seen was.progress now.holds p → p.kept ≡ was.progress.kept → p.given_at ≡ was.progress.given_at → AgreesNow scenario seen (record was { progress = p })
+act_agrees scenario seen was p now acted kept given_at = record {
+  played = now.played;
+  keeps = record {
+    alive = now.keeps.alive;
+    life = record { last = now.keeps.life.last; alive = ap (life_of seen) acted.moves.id ∙ now.keeps.life.alive; most = omega (arith, now.keeps.life.most, acted.moves.finished) };
+    built = subst (All (λ c. runs c ≡ true)) (sym acted.moves.commands) now.keeps.built;
+    kept = subst (λ b. All (KeptAt seen b) p.kept) (sym acted.moves.id) (subst (All (KeptAt seen was.progress.id)) (sym kept) now.keeps.kept);
+    given_at = ?;
+  };
+  holds = acted.holds;
+  course = subst (λ b. EntersCourse scenario seen b (session_at p acted.holds.rest)) (sym acted.moves.id) (subst (EntersCourse scenario seen was.progress.id) (sym acted.session)
+      (act_enters scenario seen was.progress.id s acted.command acted.act acted.further acted.given (has_session scenario seen was now) at_finished acted.free acted.left acted.gives now.course));
+  fits = subst (λ f. Fits f (slice_get p.commands p.finished) (session_at p acted.holds.rest) was.looked was.looked_to_build) (sym (ap (facts_of seen) acted.moves.id))
+      (subst (λ o. Fits (facts_of seen was.progress.id) o (session_at p acted.holds.rest) was.looked was.looked_to_build) (sym same_command)
+      (subst (λ x. Fits (facts_of seen was.progress.id) (command_at was) x was.looked was.looked_to_build) (sym acted.session)
+      (fits_act (facts_of seen was.progress.id) (command_at was) s was.looked was.looked_to_build acted.command acted.act acted.further acted.given acted.at acted.left going now.fits)));
+  tells = record {
+    lines = now.tells.lines ∙ (λ i. lines_from scenario seen (sym acted.moves.id i) 1 (sym acted.session i).finished (sym acted.moves.commands i));
+    answer = λ text command told at. absurd (both_ways _ unsettled (now.tells.out (ap (λ o. is_some o) told)));
+    out = λ some. absurd (both_ways _ unsettled (now.tells.out some));
+  };
+  here = λ command at none. let h = now.here command (sym same_command ∙ at) none in record {
+    judged = subst (λ (x : Session). length seen ≤ x.judged) (sym acted.session) h.judged;
+    stands = (λ i. is_over (last_event_of seen (acted.moves.id i)) (acted.session i)) ∙ h.stands;
+  };
+  last = subst (λ (x : Session). length seen ≤ x.last) (sym acted.session) now.last;
+}
+  where
+    s : Session
+    s = session_at was.progress now.holds.rest
+
+    at_finished : slice_get (commands_of scenario was.progress.id) (length s.finished) ≡ Some acted.command
+    at_finished = ap (slice_get (commands_of scenario was.progress.id)) now.holds.count ∙ ap (λ l. slice_get l was.progress.finished) (sym now.holds.commands) ∙ acted.at
+
+    same_command : slice_get p.commands p.finished ≡ command_at was
+    same_command = ap (λ l. slice_get l p.finished) acted.moves.commands ∙ ap (slice_get was.progress.commands) acted.moves.finished
+
+    unsettled : is_settled (outcome_of s.left) ≡ false
+    unsettled = ap (λ x. is_settled (outcome_of x)) acted.left
+
+    going : s.ended ≡ false
+    going = acts_going scenario seen was.progress.id s acted.command now.course at_finished unsettled
+
+-- it passes to its next command
+pub pass_agrees : (scenario : Scenario) (seen : List Entry) (was : Backend) (p : Progress) (lines : List Line) (text : List ℕ) (now : AgreesNow scenario seen was) (passed : HasPassed scenario seen was.progress now.holds p) → p.kept ≡ was.progress.kept
+    → lines ≡ was.lines ++ record { backend = was.progress.id; command = was.progress.finished + 1; text = text } ∷ [] → elim was.answer as (λ x. Type 0) [ Some told ↦ text ≡ told | None ↦ IsToldText was.progress passed.command text ]
+    → AgreesNow scenario seen (record was { progress = p; lines = lines; answer = None; looked = false; looked_to_build = false })
+pass_agrees scenario seen was p lines text now passed kept pushed tells = record {
+  played = now.played;
+  keeps = record {
+    alive = now.keeps.alive;
+    life = record { last = now.keeps.life.last; alive = ap (life_of seen) passed.id ∙ now.keeps.life.alive; most = omega (arith, now.keeps.life.most, passed.finished) };
+    built = subst (All (λ c. runs c ≡ true)) (sym passed.commands) now.keeps.built;
+    kept = subst (λ b. All (KeptAt seen b) p.kept) (sym passed.id) (subst (All (KeptAt seen was.progress.id)) (sym kept) now.keeps.kept);
+    given_at = ?;
+  };
+  holds = passed.holds;
+  course = subst (λ b. EntersCourse scenario seen b (session_at p passed.holds.rest)) (sym passed.id) (subst (EntersCourse scenario seen was.progress.id) (sym session)
+      (finish_enters scenario seen was.progress.id s passed.command rest left passed.over now.course));
+  fits = subst (λ f. Fits f (slice_get p.commands p.finished) (session_at p passed.holds.rest) false false) (sym (ap (facts_of seen) passed.id))
+      (subst (λ o. Fits (facts_of seen was.progress.id) o (session_at p passed.holds.rest) false false) (sym next_command)
+      (subst (λ x. Fits (facts_of seen was.progress.id) next x false false) (sym passed.session)
+      (fits_pass (facts_of seen was.progress.id) (command_at was) s was.looked was.looked_to_build passed.command next passed.at passed.over now.fits)));
+  tells = record {
+    lines = pushed ∙ ap (λ l. l ++ record { backend = was.progress.id; command = was.progress.finished + 1; text = text } ∷ []) now.tells.lines
+        ∙ ap (λ (x : Line). lines_from scenario seen was.progress.id 1 s.finished was.progress.commands ++ x ∷ []) line_is
+        ∙ sym (lines-push scenario seen was.progress.id 1 s.finished (finished_as s) was.progress.commands passed.command (ap (slice_get was.progress.commands) now.holds.count ∙ passed.at))
+        ∙ (λ i. lines_from scenario seen (sym passed.id i) 1 (sym passed.session i).finished (sym passed.commands i));
+    answer = λ text command told at. absurd (cc told);
+    out = λ some. absurd (cc some);
+  };
+  here = λ command at none. record {
+    judged = subst (λ (x : Session). length seen ≤ x.judged) (sym passed.session) now.last;
+    stands = (λ i. is_over (last_event_of seen (passed.id i)) (passed.session i)) ∙ ?;
+  };
+  last = subst (λ (x : Session). length seen ≤ x.last) (sym passed.session) now.last;
+}
+  where
+    s : Session
+    s = session_at was.progress now.holds.rest
+
+    next : Option Command
+    next = slice_get was.progress.commands (was.progress.finished + 1)
+
+    next_command : slice_get p.commands p.finished ≡ next
+    next_command = ap (λ l. slice_get l p.finished) passed.commands ∙ ap (slice_get was.progress.commands) passed.finished
+
+    rest : List Command
+    rest = drop (was.progress.finished + 1) was.progress.commands
+
+    left : passed.command ∷ rest ≡ drop (length s.finished) (commands_of scenario was.progress.id)
+    left = sym (left_command was.progress passed.command passed.at) ∙ ap (drop was.progress.finished) now.holds.commands ∙ ap (λ n. drop n (commands_of scenario was.progress.id)) (sym now.holds.count)
+
+    session : session_at p passed.holds.rest ≡ next_session passed.command (first_of rest) s
+    session = passed.session ∙ ap (λ o. next_session passed.command o s) (sym (first_left was.progress.commands (was.progress.finished + 1)))
+
+    -- what it answers is its line
+    number_same : number_of s ≡ was.progress.finished + 1
+    number_same = ap (λ n. n + 1) now.holds.count
+
+    line_is : record { backend = was.progress.id; command = was.progress.finished + 1; text = text } ≡ line_of scenario seen was.progress.id (1 + length s.finished) (finished_as s) passed.command
+    line_is = (λ i. record { backend = was.progress.id; command = sym number_same i; text = text }) ∙ told was.answer refl tells ∙ ap (λ n. line_of scenario seen was.progress.id n (finished_as s) passed.command) (let n : number_of s ≡ 1 + length s.finished = omega arith in n)
+      where
+        told : (o : Option (List ℕ)) → was.answer ≡ o → elim o as (λ x. Type 0) [ Some before ↦ text ≡ before | None ↦ IsToldText was.progress passed.command text ]
+            → record { backend = was.progress.id; command = number_of s; text = text } ≡ line_of scenario seen was.progress.id (number_of s) (finished_as s) passed.command
+        told (Some before) is same = (λ i. record { backend = was.progress.id; command = number_of s; text = same i }) ∙ now.tells.answer before passed.command is passed.at
+        told None is says = answered_line scenario seen was passed.command text now passed.at ? ? is says
+
+-- where nothing is left to be done without an entry it is answered, if it is to be
+pub rest_awaits : (scenario : Scenario) (seen : List Entry) (s : Backend) → AgreesNow scenario seen s → IsAtRest s.progress → (is_to_answer_at s.progress ≡ true → is_some s.answer ≡ true) → AwaitsEntry scenario seen s
+rest_awaits scenario seen s now still answered = record {
+  keeps = now.keeps;
+  rests = record { holds = now.holds; still = still };
+  fits = now.fits;
+  tells = now.tells;
+  answered = answered;
+}
+
+-- it works out what its command answers
+pub answer_agrees : (scenario : Scenario) (seen : List Entry) (s : Backend) (command : Command) (text : List ℕ) → AgreesNow scenario seen s → command_at s ≡ Some command → is_to_answer_at s.progress ≡ true → s.answer ≡ None → IsToldText s.progress command text → AgreesNow scenario seen (record s { answer = Some text })
+answer_agrees scenario seen s command text now at out none told = record {
+  played = now.played;
+  keeps = record { alive = now.keeps.alive; life = record { last = now.keeps.life.last; alive = now.keeps.life.alive; most = now.keeps.life.most }; built = now.keeps.built; kept = now.keeps.kept; given_at = now.keeps.given_at };
+  holds = now.holds;
+  course = now.course;
+  fits = now.fits;
+  tells = record {
+    lines = now.tells.lines;
+    answer = λ other c is here. let one : text ≡ other = cc is in let it : command ≡ c = (let both : Some command ≡ Some c = sym at ∙ here in cc both) in
+        (λ i. record { backend = s.progress.id; command = number_of session; text = sym one i }) ∙ answered_line scenario seen s command text now at parts.0 parts.1 none told ∙ ap (line_of scenario seen s.progress.id (number_of session) (finished_as session)) it;
+    out = λ some. parts.0;
+  };
+  here = λ c here unanswered. absurd (cc unanswered);
+  last = now.last;
+}
+  where
+    session : Session
+    session = session_at s.progress now.holds.rest
+
+    parts : (is_settled (outcome_of (plan_at s.progress.exec)) ≡ true) × (owes_nothing command s.progress ≡ true)
+    parts = and_parts (is_settled (outcome_of (plan_at s.progress.exec))) (owes_nothing command s.progress) (ap (λ o. elim o as (λ x. Bool) [ Some c ↦ is_settled (outcome_of (plan_at s.progress.exec)) && owes_nothing c s.progress | None ↦ false ]) (sym at) ∙ out)

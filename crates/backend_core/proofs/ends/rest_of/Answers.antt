@@ -1,5 +1,0 @@
-use Rattle.backend_core.proofs.Unsent.{rest_second}
-use Rattle.backend_core.proofs.ends.rest_of.Goals as goal
-
-pub returns-else-published-cats-clause-rest : goal.returns-else-published-cats-clause-rest
-returns-else-published-cats-clause-rest c = rest_second c.args.published c.args.cats.now c.args.rels.now c.if-published-cats.false

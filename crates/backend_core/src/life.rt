@@ -1,0 +1,7 @@
+/// Whether a backend has joined and whether it has left.
+#[derive(Clone, Copy)]
+pub enum Life {
+    Unstarted,
+    Alive,
+    Stopped,
+}

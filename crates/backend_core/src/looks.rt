@@ -1,0 +1,163 @@
+// The acceptance of invalidation messages (`AcceptInvalidationMessages` in
+// `src/backend/utils/cache/inval.c`, `ReceiveSharedInvalidMessages` in
+// `src/backend/storage/ipc/sinval.c`): a look, and where messages wait a fetch of at most 32, after
+// which it looks again exactly where the fetch gave 32. A fetch of a backend that was lapped resets
+// it, and ends the acceptance.
+
+ghost use Rattle.std.specs.Prelude.{◌≡◌, ◌<◌, ◌&&◌, ◌||◌, not};
+ghost use Rattle.backend_core.specs.Words.{built_relation as relation_built, has_begun, marks_build};
+
+use crate::Backend;
+use arrayvec::ArrayVec;
+use base_types::{Fetched, Oid, Purpose};
+use cacheless::{first_lacking, has_kept, is_covered};
+use ddl_effect::Want;
+use inval_messages::Message;
+use seg_calls::Seg;
+use std::alloc::Global;
+
+impl Backend {
+    ghost use Rattle.cacheless.specs.OnCourse.{AllOnCourse};
+    ghost use Rattle.backend_core.specs.Agrees.{AwaitsEntry, IsPlayed};
+    ghost use Rattle.backend_core.specs.declared.next.Next.TheVariants as nexts;
+    ghost use Rattle.backend_core.specs.Steps.{Enters, IsNextOf};
+
+    // The look that is owed: at its transaction's start, or in an acceptance of messages.
+    pub(crate) fn look<L: Seg>(&mut self, seg: &mut L)
+        requires waits { AwaitsEntry (L.script seg.old) (L.history seg.old) self.old }
+        requires played { IsPlayed (L.script seg.old) (L.history seg.old) }
+        requires course { AllOnCourse (L.script seg.old) (L.history seg.old) }
+        requires place { 0 < L.promised seg.old self.old.progress.id }
+        requires next { IsNextOf self.old (nexts.Look) }
+        ensures script { L.script seg.new ≡ L.script seg.old }
+        ensures enters { Enters (L.script seg.old) (L.history seg.old) (L.history seg.new) (L.promised seg.old) (L.promised seg.new) self.old self.new }
+    {
+        let some_wait = seg.waits(self.progress.id);
+        seg.looked(self.progress.id, self.progress.finished + 1, some_wait);
+        self.progress.enter_look(some_wait);
+        self.answer = None;
+    }
+
+    // The look before a scan, for a descriptor or of a name.
+    pub(crate) fn look_before_scan<L: Seg>(&mut self, seg: &mut L, builds: bool)
+        requires waits { AwaitsEntry (L.script seg.old) (L.history seg.old) self.old }
+        requires played { IsPlayed (L.script seg.old) (L.history seg.old) }
+        requires course { AllOnCourse (L.script seg.old) (L.history seg.old) }
+        requires place { 0 < L.promised seg.old self.old.progress.id }
+        requires next { IsNextOf self.old (nexts.LookBeforeScan builds) }
+        ensures script { L.script seg.new ≡ L.script seg.old }
+        ensures enters { Enters (L.script seg.old) (L.history seg.old) (L.history seg.new) (L.promised seg.old) (L.promised seg.new) self.old self.new }
+    {
+        let some_wait = seg.waits(self.progress.id);
+        seg.looked(self.progress.id, self.progress.finished + 1, some_wait);
+        self.progress.enter_look(some_wait);
+        self.looked = looked_with(self.looked, !builds);
+        self.looked_to_build = looked_with(self.looked_to_build, builds);
+        self.answer = None;
+    }
+
+    // The fetch of messages that wait. What they cover isn't relied on any more, and after a reset
+    // nothing is.
+    pub(crate) fn fetch<L: Seg>(&mut self, alloc: Global, seg: &mut L)
+        requires waits { AwaitsEntry (L.script seg.old) (L.history seg.old) self.old }
+        requires played { IsPlayed (L.script seg.old) (L.history seg.old) }
+        requires course { AllOnCourse (L.script seg.old) (L.history seg.old) }
+        requires place { 0 < L.promised seg.old self.old.progress.id }
+        requires next { IsNextOf self.old (nexts.Fetch) }
+        ensures script { L.script seg.new ≡ L.script seg.old }
+        ensures enters { Enters (L.script seg.old) (L.history seg.old) (L.history seg.new) (L.promised seg.old) (L.promised seg.new) self.old self.new }
+    {
+        let mut messages = ArrayVec::new();
+        match seg.fetch(self.progress.id, self.progress.finished + 1, &mut messages) {
+            Fetched::Messages(_) => self.take_messages(alloc, messages.as_slice()),
+            Fetched::Reset => self.take_reset(alloc),
+        }
+        self.answer = None;
+    }
+
+    // It takes the messages of a fetch.
+    fn take_messages(&mut self, alloc: Global, messages: &[Message])
+        requires few { self.old.progress.finished ≤ 20000 }
+        requires room { HasRoom self.old.progress }
+        ensures holds { (scenario : Scenario) (seen : List Entry) → (rests : Rests scenario seen self.old.progress) → messages.now ≡ fetched_by seen self.old.progress.id (length messages.now) → HasEntered scenario seen self.old.progress (Event.Fetch (length messages.now)) rests self.new.progress }
+        ensures is { self.new ≡ record self.old { progress = self.new.progress; looked_to_build = self.old.looked_to_build && not (marks_build self.old.progress messages.now) } }
+        ensures kept { self.new.progress.kept ≡ kept_spared messages.now self.old.progress.kept }
+        ensures given_at { self.new.progress.given_at ≡ self.old.progress.given_at }
+    {
+        let marked = self.is_marked(messages);
+        self.progress.enter_fetch(alloc, messages);
+        self.looked_to_build = still_looked(self.looked_to_build, marked);
+    }
+
+    // It takes a reset: all that it has read goes (`InvalidateSystemCaches` in
+    // `src/backend/utils/cache/inval.c`, `RelationCacheInvalidate` in
+    // `src/backend/utils/cache/relcache.c`).
+    fn take_reset(&mut self, alloc: Global)
+        requires few { self.old.progress.finished ≤ 20000 }
+        requires room { HasRoom self.old.progress }
+        ensures holds { (scenario : Scenario) (seen : List Entry) → (rests : Rests scenario seen self.old.progress) → HasEntered scenario seen self.old.progress Event.FetchReset rests self.new.progress }
+        ensures is { self.new ≡ record self.old { progress = self.new.progress; looked_to_build = self.old.looked_to_build && not (has_begun self.old.progress) } }
+        ensures kept { self.new.progress.kept ≡ [] }
+        ensures given_at { self.new.progress.given_at ≡ self.old.progress.given_at }
+    {
+        let marked = self.has_begun_build();
+        self.progress.enter_reset(alloc);
+        self.looked_to_build = still_looked(self.looked_to_build, marked);
+    }
+
+    // Whether messages mark the descriptor that is being built, which then starts over
+    // (`RelationBuildDesc` in `src/backend/utils/cache/relcache.c`). A build that hasn't made its first
+    // scan has nothing to start over with.
+    fn is_marked(&self, messages: &[Message]) -> bool
+        ensures { result ≡ marks_build self.now.progress messages.now }
+    {
+        match self.built_relation() {
+            Some(rel) => {
+                let first = Purpose::Class(rel);
+                has_kept(self.progress.kept.as_slice(), &first) && is_covered(messages, &first)
+            }
+            None => false,
+        }
+    }
+
+    // Whether the descriptor that is being built has made its first scan: then a reset marks it.
+    fn has_begun_build(&self) -> bool
+        ensures { result ≡ has_begun self.now.progress }
+    {
+        match self.built_relation() {
+            Some(rel) => has_kept(self.progress.kept.as_slice(), &Purpose::Class(rel)),
+            None => false,
+        }
+    }
+
+    // The relation of the descriptor that is being built: the first opened one that lacks a scan, or
+    // the one that is to be opened.
+    fn built_relation(&self) -> Option<Oid>
+        ensures { result ≡ relation_built self.now.progress }
+    {
+        match first_lacking(
+            self.progress.kept.as_slice(),
+            self.progress.opened.as_slice(),
+        ) {
+            Some(o) => Some(o.rel),
+            None => match self.progress.exec.next() {
+                Want::Open { rel, .. } => Some(rel),
+                _ => None,
+            },
+        }
+    }
+}
+
+// Whether a look counts for the next scan, with one more that may be for it.
+fn looked_with(looked: bool, more: bool) -> bool
+    ensures { result ≡ (looked || more) }
+{
+    looked || more
+}
+
+// Whether a look counts for the next scan still.
+fn still_looked(looked: bool, marked: bool) -> bool
+    ensures { result ≡ (looked && not marked) }
+{
+    looked && !marked
+}
