@@ -4,4 +4,4 @@ use Rattle.cacheless.proofs.EntryCodes.{release_code}
 use Rattle.cacheless.proofs.progress.Progress.enter_release.Goals as goal
 
 pub returns : goal.returns
-returns c = record { holds = release_code c.args.self.now _ _ _ _ _ c.release.new.self _ c.is_first.ensures c.running_from.ensures c.released-self.ensures c.clear_if.ensures c.release.ensures (c.accept.ensures ∙ ap (λ t. locks_accepted t c.release.new.self.items) c.is_in_acceptance-accepting.ensures) }
+returns c = record { holds = release_code c.args.self.now _ _ _ _ _ c.release.new.self _ c.is_first.ensures c.running_from.ensures c.released-self.ensures c.clear_if.ensures c.release.ensures.items (c.accept.ensures ∙ ap (λ t. locks_accepted t c.release.new.self.items) c.is_in_acceptance-accepting.ensures) }
