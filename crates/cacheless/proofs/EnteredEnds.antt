@@ -1,5 +1,5 @@
 -- What the entries of a command's end make of what the code holds.
-use Rattle.std.proofs.Common.{◌≡◌, ◌≤◌, ◌+◌, ◌∙◌, ◌&&◌, ◌||◌, ℕ, Bool, true, false, not, Option, Some, None, List, [], ◌∷◌, ◌++◌, refl, sym, ap, subst, cond, All, slice_get, filter, length, nat_lt, arith}
+use Rattle.std.proofs.Common.{◌≡◌, ◌≤◌, ◌+◌, ◌∙◌, ◌&&◌, ◌||◌, ℕ, Bool, true, false, not, Option, Some, None, List, [], ◌∷◌, ◌++◌, refl, sym, ap, subst, cond, All, slice_get, filter, nat_lt}
 use Rattle.std.specs.List.{AllByRecursion, list_any}
 use Rattle.std.proofs.lemmas.List.Folds.{list_any-append}
 use Rattle.event_kinds.specs.declared.entry.Event.TheVariants as events
@@ -19,7 +19,7 @@ use Rattle.cacheless.specs.declared.progress.Due.TheVariants as dues
 use Rattle.cacheless.specs.declared.progress.OwnTransaction.{OwnTransaction}
 use Rattle.cacheless.specs.declared.progress.Progress.{Progress}
 use Rattle.cacheless.specs.Facts.{Facts, facts_of}
-use Rattle.cacheless.specs.State.{running_of, begun_own, released_own, ends_own, lists_at, lists_left, is_kept, kept_spared, named_spared, is_absent, is_in_accept, locks_accepted}
+use Rattle.cacheless.specs.State.{running_of, begun_own, released_own, ends_own, lists_at, lists_left, is_kept, kept_spared, named_spared, is_in_accept, locks_accepted}
 use Rattle.cacheless.specs.Holds.{ReadRight, NamedFit, FactsFit, Holds, Rests, with_own}
 use Rattle.cacheless.proofs.EnteredFetches.{is_kept-spared, all-spared}
 use Rattle.cacheless.proofs.Entering.{facts_after, noted_after, with_locks, own_holds, release_begun, ends_same, runs_begun, counts_stay}
@@ -40,7 +40,11 @@ visible_holds scenario old was xid locks rests items = own_holds scenario old wa
   session = refl;
   facts = let f = rests.holds.facts in record {
     running = ap (λ o. Some (record (begun (was.finished + 1) o) { visible = true })) f.running ∙ runs_shown (was.finished + 1) was.running;
-    lists = f.lists; owed = refl; usable = f.usable; kept = f.kept; given = f.given;
+    lists = f.lists;
+    owed = refl;
+    usable = f.usable;
+    kept = f.kept;
+    given = f.given;
   };
   counts = counts_stay rests.holds.counts;
   order = rests.holds.order;
@@ -64,7 +68,11 @@ publish_holds scenario old was count locks rests items = own_holds scenario old 
   session = refl;
   facts = let f = rests.holds.facts in record {
     running = ap (λ o. Some (record (begun (was.finished + 1) o) { published = (begun (was.finished + 1) o).published + count })) f.running ∙ runs_sent (was.finished + 1) count was.running;
-    lists = f.lists; owed = refl; usable = f.usable; kept = f.kept; given = f.given;
+    lists = f.lists;
+    owed = refl;
+    usable = f.usable;
+    kept = f.kept;
+    given = f.given;
   };
   counts = counts_stay rests.holds.counts;
   order = rests.holds.order;
@@ -171,7 +179,10 @@ release_holds scenario old was from lists held locks rests left stay items = own
   facts = let f = rests.holds.facts in record {
     running = ap (λ o. after_release from (begun (was.finished + 1) o)) f.running ∙ release_begun from (was.finished + 1) was.running;
     lists = ap (λ o. lists_left (ends_transaction from o) (facts_of old was.id).lists) f.running ∙ ap (λ t. lists_left t (facts_of old was.id).lists) (ends_same from was.running) ∙ ap (lists_left (ends_own from was.running)) f.lists ∙ sym left;
-    owed = refl; usable = f.usable; kept = f.kept; given = f.given;
+    owed = refl;
+    usable = f.usable;
+    kept = f.kept;
+    given = f.given;
   };
   counts = counts_stay rests.holds.counts;
   order = subst (AllByRecursion (λ (list : Written). list.command ≤ was.finished + 1)) (sym left) (left_low (ends_own from was.running));

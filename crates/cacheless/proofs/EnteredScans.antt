@@ -1,5 +1,5 @@
 -- What a scan makes of what the code holds.
-use Rattle.std.proofs.Common.{◌≡◌, ◌≤◌, ◌<◌, ◌+◌, ◌∙◌, ◌==◌, ◌&&◌, ◌||◌, ℕ, Bool, true, false, not, Option, Some, None, List, [], ◌∷◌, ◌++◌, refl, sym, ap, subst, length, slice_get, arith, All, get_or, cond, suc, Vec, Global}
+use Rattle.std.proofs.Common.{◌≡◌, ◌<◌, ◌+◌, ◌∙◌, ◌||◌, ℕ, Bool, true, false, not, Some, List, [], ◌∷◌, ◌++◌, refl, sym, ap, subst, length, slice_get, arith, All, get_or, cond, Vec, Global}
 use Rattle.std.specs.List.{find, list_any, AllByRecursion}
 use Rattle.std.specs.Option.{option_map_or}
 use Rattle.std.proofs.lemmas.List.Folds.{list_any-append, list_any_at}
@@ -20,9 +20,9 @@ use Rattle.cacheless.specs.declared.progress.Due.TheVariants as dues
 use Rattle.cacheless.specs.declared.progress.Progress.{Progress}
 use Rattle.cacheless.specs.Facts.{Facts, facts_of}
 use Rattle.cacheless.specs.Sessions.{is_wanted}
-use Rattle.cacheless.specs.State.{begun_own, is_kept, is_absent, is_in_accept, locks_accepted}
+use Rattle.cacheless.specs.State.{begun_own, is_kept, is_in_accept, locks_accepted}
 use Rattle.cacheless.specs.May.{is_first_missing, is_next_of_act, is_next_at, has_failed}
-use Rattle.cacheless.specs.Holds.{ReadRight, NamedFit, FactsFit, Holds, Rests, with_own}
+use Rattle.cacheless.specs.Holds.{ReadRight, NamedFit, Holds, Rests, with_own}
 use Rattle.cacheless.proofs.Tests.{and_true, or_either, not_true}
 use Rattle.cacheless.proofs.Same.{builds_of}
 use Rattle.cacheless.proofs.Entering.{facts_after, noted_after, with_locks, own_holds, runs_begun}
@@ -176,8 +176,11 @@ built_holds scenario old was scan count given at kept locks rests lacking are pu
     owed = refl;
     usable = λ other build. ap (λ t. same_scan scan other || t) (f.usable other build) ∙ swapped (same_scan scan other) (is_kept was.kept other) ∙ sym (list_any-append (λ k. same_scan k.scan other) was.kept (made ∷ [])) ∙ ap (λ l. is_kept l other) (sym pushed);
     kept = subst (All (ReadRight after.rows)) (sym pushed) (All-push (ReadRight after.rows) was.kept made
-        (λ i d within. let k = f.kept i d within in record { build = k.build; rows_are = k.rows_are ∙ sym (rows_by-others old was.id scan (get_or was.kept i d).scan count ((facts_of old was.id).rows (get_or was.kept i d).scan)
-            (other_scan (get_or was.kept i d).scan scan (none_at (λ k. same_scan k.scan scan) was.kept i d within unkept))) })
+        (λ i d within. let k = f.kept i d within in record {
+          build = k.build;
+          rows_are = k.rows_are ∙ sym (rows_by-others old was.id scan (get_or was.kept i d).scan count ((facts_of old was.id).rows (get_or was.kept i d).scan)
+              (other_scan (get_or was.kept i d).scan scan (none_at (λ k. same_scan k.scan scan) was.kept i d within unkept)));
+        })
         (record { build = lacking.1; rows_are = are ∙ sym (rows_by-own old was.id scan scan count ((facts_of old was.id).rows scan) (same_scan-itself scan)) }));
     given = λ read. named_as_before old was scan count (plan_at was.exec) lacking.1 (f.given read);
   };

@@ -1,5 +1,5 @@
 -- What the code makes of an entry, by what its calls gave.
-use Rattle.std.proofs.Common.{◌≡◌, ◌≤◌, ◌+◌, ◌∙◌, ◌||◌, ℕ, Bool, true, false, Some, Option, List, [], ◌∷◌, ◌++◌, refl, sym, ap, subst, length, map, filter, nat_lt, slice_get, Vec, Global}
+use Rattle.std.proofs.Common.{◌≡◌, ◌+◌, ◌∙◌, ◌||◌, ℕ, Bool, true, false, Some, Option, List, [], ◌∷◌, ◌++◌, sym, ap, subst, length, filter, nat_lt, slice_get, Vec, Global}
 use Rattle.std.specs.List.{flat_map}
 use Rattle.event_kinds.specs.declared.entry.Event.TheVariants as events
 use Rattle.rel_desc.specs.declared.error.CommandError.TheVariants as errors
@@ -23,11 +23,11 @@ use Rattle.cacheless.specs.State.{due_looked, due_fetched, one_if, begun_own, re
 use Rattle.cacheless.specs.May.{is_next_at}
 use Rattle.cacheless.specs.Holds.{Holds, Rests, with_own}
 use Rattle.cacheless.proofs.EnteredLooks.{looked, look_holds}
-use Rattle.cacheless.proofs.EnteredFetches.{fetched_first, fetched, fetch_holds, was_reset, reset_holds}
+use Rattle.cacheless.proofs.EnteredFetches.{fetched_first, fetched, fetch_holds, reset_holds}
 use Rattle.cacheless.proofs.EnteredScans.{next_lacks, named_scan, named_holds, built_scan, built_holds}
 use Rattle.cacheless.proofs.EnteredLocks.{granted, granted_holds, refused_holds, clash_holds}
 use Rattle.cacheless.proofs.EnteredWrites.{wrote, write_holds}
-use Rattle.cacheless.proofs.EnteredEnds.{shown, visible_holds, sent, publish_holds, taken_back, gone_holds, let_go, release_holds}
+use Rattle.cacheless.proofs.EnteredEnds.{shown, visible_holds, publish_holds, taken_back, gone_holds, let_go, release_holds}
 
 pub look_code : (was : Progress) (some_wait : Bool) (own : OwnTransaction) (due : Due) (locks : Roomy OwnLock) → own ≡ begun_own (was.finished + 1) was.running → due ≡ due_looked some_wait
     → locks.items ≡ locks_accepted (is_in_accept (record was { running = Some own; due = due; tally = record was.tally { looks = was.tally.looks + 1 } }) (slice_get was.commands was.finished)) was.locks.items
@@ -128,7 +128,7 @@ pub write_code : (was : Progress) (xid : Xid) (messages : List Message) (new_oid
 write_code was xid messages new_oids first own lists kept exec opened_none locked locks begins wants_it pushed keeps goes none held accepts scenario seen items rests are makes =
     subst (Holds scenario (with_own seen was (events.Write xid items))) (λ i. record (wrote was xid (sym keeps i) lists exec locks) { running = Some (sym begins i); opened = sym none i })
     (write_holds scenario seen was xid items messages new_oids first lists exec locked locks rests wants_it are makes pushed goes held
-        (accepts ∙ (λ i. locks_accepted (is_in_accept (record was { lists = lists; kept = keeps i; running = Some own; due = dues.Nothing; exec = exec; opened = none i; read = false; locks = locked }) (slice_get was.commands was.finished)) locked.items)))
+    (accepts ∙ (λ i. locks_accepted (is_in_accept (record was { lists = lists; kept = keeps i; running = Some own; due = dues.Nothing; exec = exec; opened = none i; read = false; locks = locked }) (slice_get was.commands was.finished)) locked.items)))
 
 pub visible_code : (was : Progress) (xid : Xid) (own : OwnTransaction) (locks : Roomy OwnLock) → own ≡ begun_own (was.finished + 1) was.running
     → locks.items ≡ locks_accepted (is_in_accept (record was { running = Some (record own { visible = true }); due = dues.Nothing }) (slice_get was.commands was.finished)) was.locks.items
@@ -151,7 +151,7 @@ pub gone_code : (was : Progress) (from : ℕ) (own : OwnTransaction) (cats rels 
 gone_code was from own cats rels cats_again rels_again kept_first kept named_first named lists locks begins cats_are rels_are cats_same rels_same first keeps named_one names before items scenario seen rests =
     subst (Holds scenario (with_own seen was (events.Gone from))) (λ i. record (taken_back was cats rels lists) { running = Some (sym begins i); kept = sym kept_is i; named = sym named_is i; locks = locks })
     (gone_holds scenario seen was from cats rels lists locks rests cats_are rels_are before
-        (items ∙ (λ i. locks_accepted (is_in_accept (record was { running = Some own; kept = kept_is i; named = named_is i; lists = lists; due = dues.Nothing }) (slice_get was.commands was.finished)) was.locks.items)))
+    (items ∙ (λ i. locks_accepted (is_in_accept (record was { running = Some own; kept = kept_is i; named = named_is i; lists = lists; due = dues.Nothing }) (slice_get was.commands was.finished)) was.locks.items)))
   where
     kept_is : kept ≡ kept_spared rels (kept_spared cats was.kept)
     kept_is = keeps ∙ ap (kept_spared rels) first
@@ -167,7 +167,7 @@ pub release_code : (was : Progress) (from : ℕ) (first : Bool) (begun : OwnTran
 release_code was from first begun own lists held locks ends begins is left stay items scenario seen rests =
     subst (Holds scenario (with_own seen was (events.Release from))) (λ i. record (let_go was from lists locks) { running = sym own_is i })
     (release_holds scenario seen was from lists held locks rests (left ∙ ap (λ t. lists_left t (lists_at was)) ends) stay
-        (items ∙ (λ i. locks_accepted (is_in_accept (record was { lists = lists; running = own_is i; locks = held; ended = true; due = dues.Nothing }) (slice_get was.commands was.finished)) held.items)))
+    (items ∙ (λ i. locks_accepted (is_in_accept (record was { lists = lists; running = own_is i; locks = held; ended = true; due = dues.Nothing }) (slice_get was.commands was.finished)) held.items)))
   where
     own_is : own ≡ released_own from (begun_own (was.finished + 1) was.running)
     own_is = is ∙ ap (released_own from) begins

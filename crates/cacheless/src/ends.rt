@@ -131,7 +131,11 @@ impl Progress {
         ensures most { length result.now ≤ 64 }
         ensures fits { published_at self.now + length result.now < 2 ^ 64 }
     {
-        let rest = rest_of(self.lists.cats_from(0), self.lists.rels_from(0), self.published());
+        let rest = rest_of(
+            self.lists.cats_from(0),
+            self.lists.rels_from(0),
+            self.published(),
+        );
         &rest[..MOST_PUBLISHED.min(rest.len())]
     }
 

@@ -153,10 +153,12 @@ impl Progress {
     fn is_next_build(&self, scan: &Purpose) -> bool
         ensures { result ≡ list_any (λ o. is_first scan.now self.now.kept o.kind o.rel) self.now.opened }
     {
-        self.opened
-            .as_slice()
-            .iter()
-            .any(|o| is_first_missing(scan, self.kept.as_slice(), o.kind, o.rel))
+        self.opened.as_slice().iter().any(|o| is_first_missing(
+            scan,
+            self.kept.as_slice(),
+            o.kind,
+            o.rel,
+        ))
     }
 
     // Whether the scan is the first that the next act lacks.
@@ -299,7 +301,8 @@ impl Progress {
         ensures { not result ≡ none_in (act_missing self.now (plan_at self.now.exec)) }
     {
         match want {
-            Want::Lookup { mode, .. } => !(self.read && (self.named || self.is_found_locked(*mode))),
+            Want::Lookup { mode, .. } => !(self.read
+                && (self.named || self.is_found_locked(*mode))),
             Want::Column { .. } => !(self.read && self.named),
             Want::Open { rel, kind } => {
                 first_missing(self.kept.as_slice(), *kind, *rel).is_some()

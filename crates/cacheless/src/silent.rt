@@ -99,7 +99,10 @@ impl Progress {
     fn is_out(&self) -> bool
         ensures { result ≡ has_come_out self.now }
     {
-        matches!(self.exec.next(), Want::Done | Want::Fails(_) | Want::Absent(_))
+        matches!(
+            self.exec.next(),
+            Want::Done | Want::Fails(_) | Want::Absent(_)
+        )
     }
 
     // It does its next act.

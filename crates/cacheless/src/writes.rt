@@ -69,13 +69,7 @@ fn writes_row(altering: &Altering, next: u32, items: &[Item]) -> bool
 
 // Whether these are the items of changes, in which an oid from 1 to `new_oids` means a new one, and of
 // the relations that are forced to send a message.
-fn are_drafted(
-    items: &[Item],
-    changes: &[Change],
-    forced: &[Oid],
-    next: u32,
-    new_oids: u32,
-) -> bool
+fn are_drafted(items: &[Item], changes: &[Change], forced: &[Oid], next: u32, new_oids: u32) -> bool
     ensures { result ≡ all_match items.now (items_of (map (drawn_change next new_oids) changes.now) forced.now) }
 {
     if items.len() < changes.len() {
@@ -142,8 +136,18 @@ fn is_drawn(row: &Row, drafted: &Row, next: u32, new_oids: u32) -> bool
 {
     match (row, drafted) {
         (
-            Row::Class { oid, name, kind, fill },
-            Row::Class { oid: drawn, name: own, kind: own_kind, fill: own_fill },
+            Row::Class {
+                oid,
+                name,
+                kind,
+                fill,
+            },
+            Row::Class {
+                oid: drawn,
+                name: own,
+                kind: own_kind,
+                fill: own_fill,
+            },
         ) => {
             is_drawn_oid(*oid, *drawn, next, new_oids)
                 && same_name(name, own)
@@ -151,7 +155,14 @@ fn is_drawn(row: &Row, drafted: &Row, next: u32, new_oids: u32) -> bool
                 && same_fill(*fill, *own_fill)
         }
         (
-            Row::Att { rel, num, name, col_type, stat, live },
+            Row::Att {
+                rel,
+                num,
+                name,
+                col_type,
+                stat,
+                live,
+            },
             Row::Att {
                 rel: drawn,
                 num: own_num,
@@ -178,8 +189,18 @@ fn is_drawn_other(row: &Row, drafted: &Row, next: u32, new_oids: u32) -> bool
 {
     match (row, drafted) {
         (
-            Row::Def { oid, rel, num, word },
-            Row::Def { oid: drawn, rel: of, num: own_num, word: own },
+            Row::Def {
+                oid,
+                rel,
+                num,
+                word,
+            },
+            Row::Def {
+                oid: drawn,
+                rel: of,
+                num: own_num,
+                word: own,
+            },
         ) => {
             is_drawn_oid(*oid, *drawn, next, new_oids)
                 && is_drawn_oid(*rel, *of, next, new_oids)
@@ -187,8 +208,18 @@ fn is_drawn_other(row: &Row, drafted: &Row, next: u32, new_oids: u32) -> bool
                 && word.as_bytes() == own.as_bytes()
         }
         (
-            Row::Ind { index, table, state, nums },
-            Row::Ind { index: drawn, table: of, state: own_state, nums: own },
+            Row::Ind {
+                index,
+                table,
+                state,
+                nums,
+            },
+            Row::Ind {
+                index: drawn,
+                table: of,
+                state: own_state,
+                nums: own,
+            },
         ) => {
             is_drawn_oid(*index, *drawn, next, new_oids)
                 && is_drawn_oid(*table, *of, next, new_oids)
@@ -196,8 +227,20 @@ fn is_drawn_other(row: &Row, drafted: &Row, next: u32, new_oids: u32) -> bool
                 && nums.as_slice() == own.as_slice()
         }
         (
-            Row::Con { oid, rel, name, valid, what },
-            Row::Con { oid: drawn, rel: of, name: own, valid: own_valid, what: own_what },
+            Row::Con {
+                oid,
+                rel,
+                name,
+                valid,
+                what,
+            },
+            Row::Con {
+                oid: drawn,
+                rel: of,
+                name: own,
+                valid: own_valid,
+                what: own_what,
+            },
         ) => {
             is_drawn_oid(*oid, *drawn, next, new_oids)
                 && is_drawn_oid(*rel, *of, next, new_oids)
@@ -207,7 +250,12 @@ fn is_drawn_other(row: &Row, drafted: &Row, next: u32, new_oids: u32) -> bool
         }
         (
             Row::Trg { oid, rel, name, on },
-            Row::Trg { oid: drawn, rel: of, name: own, on: own_on },
+            Row::Trg {
+                oid: drawn,
+                rel: of,
+                name: own,
+                on: own_on,
+            },
         ) => {
             is_drawn_oid(*oid, *drawn, next, new_oids)
                 && is_drawn_oid(*rel, *of, next, new_oids)
@@ -236,8 +284,16 @@ fn same_demand(a: &ConKind, b: &ConKind) -> bool
     match (a, b) {
         (ConKind::Check(text), ConKind::Check(other)) => text.as_bytes() == other.as_bytes(),
         (
-            ConKind::Foreign { num, refrel, refnum },
-            ConKind::Foreign { num: own_num, refrel: own_rel, refnum: own_refnum },
+            ConKind::Foreign {
+                num,
+                refrel,
+                refnum,
+            },
+            ConKind::Foreign {
+                num: own_num,
+                refrel: own_rel,
+                refnum: own_refnum,
+            },
         ) => num == own_num && refrel.0 == own_rel.0 && refnum == own_refnum,
         _ => false,
     }
@@ -283,7 +339,9 @@ fn draft_gives(draft: &Draft, kept: &[KeptScan], name: Name) -> bool
 fn any_gives(changes: &[Change], kept: &[KeptScan], name: Name) -> bool
     ensures { result ≡ list_any (λ change. list_any (bytes_eq name) (names_by kept.now change)) changes.now }
 {
-    changes.iter().any(|change| change_gives(change, kept, name))
+    changes
+        .iter()
+        .any(|change| change_gives(change, kept, name))
 }
 
 // Whether an alteration gives a relation this new name.
