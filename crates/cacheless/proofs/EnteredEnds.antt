@@ -1,5 +1,5 @@
 -- What the entries of a command's end make of what the code holds.
-use Rattle.std.proofs.Common.{◌≡◌, ◌≤◌, ◌+◌, ◌∙◌, ◌&&◌, ◌||◌, ℕ, Bool, true, false, not, Option, Some, None, List, [], ◌∷◌, ◌++◌, refl, sym, ap, subst, cond, All, slice_get, filter, length, nat_lt, arith}
+use Rattle.std.proofs.Common.{◌≡◌, ◌≤◌, ◌+◌, ◌∙◌, ◌&&◌, ◌||◌, ℕ, Bool, true, false, not, Option, Some, None, List, [], ◌∷◌, ◌++◌, refl, sym, ap, subst, cond, All, slice_get, filter, nat_lt}
 use Rattle.std.specs.List.{AllByRecursion, list_any}
 use Rattle.std.proofs.lemmas.List.Folds.{list_any-append}
 use Rattle.event_kinds.specs.declared.entry.Event.TheVariants as events
@@ -19,7 +19,7 @@ use Rattle.cacheless.specs.declared.progress.Due.TheVariants as dues
 use Rattle.cacheless.specs.declared.progress.OwnTransaction.{OwnTransaction}
 use Rattle.cacheless.specs.declared.progress.Progress.{Progress}
 use Rattle.cacheless.specs.Facts.{Facts, facts_of}
-use Rattle.cacheless.specs.State.{running_of, begun_own, released_own, ends_own, lists_at, lists_left, is_kept, kept_spared, named_spared, is_absent, is_in_accept, locks_accepted}
+use Rattle.cacheless.specs.State.{running_of, begun_own, released_own, ends_own, lists_at, lists_left, is_kept, kept_spared, named_spared, is_in_accept, locks_accepted}
 use Rattle.cacheless.specs.Holds.{ReadRight, NamedFit, FactsFit, Holds, Rests, with_own}
 use Rattle.cacheless.proofs.EnteredFetches.{is_kept-spared, all-spared}
 use Rattle.cacheless.proofs.Entering.{facts_after, noted_after, with_locks, own_holds, release_begun, ends_same, runs_begun, counts_stay}

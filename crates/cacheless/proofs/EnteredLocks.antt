@@ -1,5 +1,5 @@
 -- What a granted lock, a refused one and a refused write make of what the code holds.
-use Rattle.std.proofs.Common.{◌≡◌, ◌≤◌, ◌+◌, ◌∙◌, ◌&&◌, ◌||◌, ℕ, Bool, true, false, not, Option, Some, None, List, [], ◌∷◌, ◌++◌, refl, sym, ap, map, slice_get, length, get_or, arith}
+use Rattle.std.proofs.Common.{◌≡◌, ◌+◌, ◌∙◌, ◌||◌, ℕ, Bool, true, false, not, Option, Some, None, List, [], ◌∷◌, ◌++◌, refl, sym, ap, map, slice_get, length, get_or, arith}
 use Rattle.std.proofs.Math.Bool.{and-false, or-true}
 use Rattle.event_kinds.specs.declared.entry.Event.TheVariants as events
 use Rattle.rel_desc.specs.declared.error.CommandError.TheVariants as errors
@@ -13,14 +13,13 @@ use Rattle.history_model.specs.Transactions.{Running, begun, running_by}
 use Rattle.history_model.specs.Writes.{is_empty}
 use Rattle.cacheless.specs.Types.{Oid, Mode, Row, Purpose, Command, CommandError, Clash, Scenario, Entry, Event, OwnLock}
 use Rattle.cacheless.specs.declared.progress.Due.TheVariants as dues
-use Rattle.cacheless.specs.declared.progress.OwnTransaction.{OwnTransaction}
 use Rattle.cacheless.specs.declared.progress.Progress.{Progress}
 use Rattle.cacheless.specs.Facts.{facts_of}
 use Rattle.cacheless.specs.Owed.{Owes, OwesLook, owed_after}
 use Rattle.cacheless.specs.Sessions.{refused_with}
 use Rattle.cacheless.specs.State.{begun_own, begins_in, owed_first, lacks_builds, is_in_accept, locks_accepted, clash_event, error_of, failed_with, Rest, rest_of, session_at}
 use Rattle.cacheless.specs.Holds.{Holds, Rests, with_own}
-use Rattle.cacheless.proofs.Entering.{facts_after, noted_after, with_locks, GoesOn, own_holds, runs_begun, counts_stay}
+use Rattle.cacheless.proofs.Entering.{noted_after, with_locks, GoesOn, own_holds, runs_begun, counts_stay}
 
 -- the state after a lock
 abbrev pub granted : Progress → Roomy OwnLock → Progress
