@@ -1,6 +1,6 @@
 #!/usr/bin/env bash
-# Measures the walk of a script of many alterations over 64 backends, by a random schedule. It decides nothing.
-# usage: bench/alter.sh [COMMANDS]; 20000 if left out
+# Measures the walk of a script of many alterations over 64 backends, by a random schedule, and that of half as many
+# commands: the least processor time of three runs each. It decides nothing. usage: bench/alter.sh [COMMANDS]; 20000 if left out
 set -u
 
 cd "$(dirname "${BASH_SOURCE[0]}")/.." || exit 1
@@ -8,15 +8,17 @@ cd "$(dirname "${BASH_SOURCE[0]}")/.." || exit 1
 need_program catsync ' -- walk < ../../examples/two_backends.script'
 commands=${1:-20000}
 
-awk -v commands="$commands" -f bench/alter.awk >"$temp/script" || exit 1
-begun=$(now)
-"$program" walk <"$temp/script" >"$temp/output"
-status=$?
-ended=$(now)
-awk -v commands="$commands" -v status="$status" -v begun="$begun" -v ended="$ended" '
-    /^h / { entries++ }
-    /^h [0-9]+ [0-9]+ write / { writes++ }
-    /^l .* error / { errors++ }
-    END {
-        printf "%d commands, status %d: %.2f seconds, %d entries, %d writes, %d errors\n", commands, status, ended - begun, entries, writes, errors
-    }' "$temp/output"
+measure() {
+    awk -v commands="$1" -f bench/alter.awk >"$temp/script" || exit 1
+    walk_thrice "$temp/script"
+    awk -v commands="$1" -v status="$status" -v seconds="$seconds" '
+        /^h / { entries++ }
+        /^h [0-9]+ [0-9]+ write / { writes++ }
+        /^l .* error / { errors++ }
+        END {
+            printf "%d commands, status %d: %.2f seconds, %d entries, %d writes, %d errors\n", commands, status, seconds, entries, writes, errors
+        }' "$temp/output"
+}
+
+measure "$commands"
+measure $((commands / 2))

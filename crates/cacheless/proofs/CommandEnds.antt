@@ -1,12 +1,12 @@
 -- The end of a command, as the code works it out, is the end that its facts and its session give.
-use Rattle.std.proofs.Common.{◌≡◌, ◌+◌, ◌∙◌, ℕ, Bool, true, false, Option, Some, None, List, [], refl, ap, length, drop, slice_get, ◌⊎◌, inl, inr}
+use Rattle.std.proofs.Common.{◌≡◌, ◌+◌, ◌∙◌, ℕ, Bool, true, false, Option, Some, None, List, [], refl, ap, length, drop, slice_get, inl, inr}
 use Rattle.std.specs.Option.{option_map_or}
 use Rattle.std.proofs.lemmas.Option.{slice_get_cases}
 use Rattle.std.proofs.lemmas.List.{drop_all}
 use Rattle.base_types.specs.declared.command.Command.TheVariants as commands
 use Rattle.ddl_effect.specs.Blocks.{Block, Outside, Inside, Failed, innermost}
 use Rattle.ddl_effect.specs.Stages.{plan_at}
-use Rattle.cacheless.specs.Types.{Command, Event}
+use Rattle.cacheless.specs.Types.{Command}
 use Rattle.cacheless.specs.declared.progress.OwnTransaction.{OwnTransaction}
 use Rattle.cacheless.specs.declared.progress.Progress.{Progress}
 use Rattle.cacheless.specs.Facts.{Facts}

@@ -1,5 +1,5 @@
 -- What the code answers decides what may come next.
-use Rattle.std.proofs.Common.{◌≡◌, ◌≤◌, ◌+◌, ◌∙◌, ◌==◌, ◌&&◌, ◌||◌, ℕ, Bool, true, false, not, Option, Some, None, List, [], ◌∷◌, ◌++◌, refl, sym, ap, subst, is_none, is_some, unwrap_or, slice_get, length, map, take, min, if◌then◌else◌, cond, arith, nat_le, suc, zero}
+use Rattle.std.proofs.Common.{◌≡◌, ◌∙◌, ◌==◌, ◌&&◌, ◌||◌, ℕ, Bool, true, false, not, Option, Some, None, List, [], ◌∷◌, ◌++◌, refl, sym, ap, subst, is_none, is_some, unwrap_or, slice_get, length, map, take, min, if◌then◌else◌, cond, arith, nat_le}
 use Rattle.std.specs.Bool.{Decides}
 use Rattle.std.specs.List.{list_any, flat_map, AllByRecursion}
 use Rattle.std.specs.Option.{option_map, option_map_or}
@@ -17,31 +17,30 @@ use Rattle.base_types.specs.declared.scan.Purpose.TheVariants as scans
 use Rattle.event_kinds.specs.declared.entry.Event.TheVariants as events
 use Rattle.event_kinds.specs.declared.entry.Item.TheVariants as items
 use Rattle.inval_messages.specs.Lists.{Written, has_write_from, unsent_after}
-use Rattle.ddl_effect.specs.Drawing.{drawn_oid, drawn_change}
-use Rattle.ddl_effect.specs.Plans.{Plan, Done, Fails, Absent, Do, NotBuilt, Lookup, Lock, Write}
+use Rattle.ddl_effect.specs.Drawing.{drawn_change}
+use Rattle.ddl_effect.specs.Plans.{Plan, Do, Lookup, Lock, Write}
 use Rattle.ddl_effect.specs.Stages.{plan_at}
 use Rattle.history_model.specs.Changes.{item_of, items_of}
 use Rattle.history_model.specs.Names.{has_name}
 use Rattle.history_model.specs.Transactions.{is_visible}
 use Rattle.history_model.specs.Sent.{unsent_in}
 use Rattle.history_model.specs.Writes.{is_empty}
-use Rattle.cacheless.specs.Types.{Oid, Xid, Mode, Kind, Message, Row, Purpose, Command, Draft, Scenario, Entry, Item, Event, Opening}
+use Rattle.cacheless.specs.Types.{Oid, Xid, Mode, Kind, Message, Row, Purpose, Command, Scenario, Entry, Item, Event, Opening}
 use Rattle.cacheless.specs.declared.kept_scan.KeptScan.{KeptScan}
 use Rattle.cacheless.specs.declared.progress.OwnTransaction.{OwnTransaction}
 use Rattle.cacheless.specs.declared.progress.Progress.{Progress}
 use Rattle.cacheless.specs.Facts.{Facts, facts_of}
 use Rattle.cacheless.specs.Locks.{is_locked}
 use Rattle.cacheless.specs.Session.{Badly, outcome_of}
-use Rattle.cacheless.specs.Owed.{Owes, owed_after, owed_of, is_next_scan}
-use Rattle.cacheless.specs.Ends.{End, Ends, Commits, TakesBack, xid_of, end_of, next_sent, next_of_commit, next_of_taking_back, next_of_end}
-use Rattle.cacheless.specs.Plays.{has_looked, IsLock, drafted, IsWrite, names_of, IsClash, owed_at_end, IsEnd, IsLastEnd, MayPlay, MayPlayLast, MayPlayIn}
+use Rattle.cacheless.specs.Owed.{Owes, owed_after, owed_of}
+use Rattle.cacheless.specs.Ends.{End, Ends, Commits, TakesBack, xid_of, next_sent, next_of_commit, next_of_taking_back, next_of_end}
+use Rattle.cacheless.specs.Plays.{IsLock, drafted, IsWrite, names_of, IsClash, IsEnd, IsLastEnd, MayPlay, MayPlayLast, MayPlayIn}
 use Rattle.cacheless.specs.Puts.{is_opened, PutOpened, PutsOpened}
 use Rattle.cacheless.specs.Settled.{class_oid}
-use Rattle.cacheless.specs.State.{owed_at, owed_first, running_of, is_visible_at, published_at, xid_at, lists_at, unsent_at, has_write_since, is_kept, rows_kept, missing, builds_missing, act_missing, scans_missing, end_of_running, end_at, Rest, session_at}
-use Rattle.cacheless.specs.SameItems.{same_items}
-use Rattle.cacheless.specs.May.{may_look_at, is_next_at, has_looked_at, lacks_any, owes_nothing, names_relation, is_lock_at, is_write_at, names_by, is_clash_at, may_scan_at, may_lock_at, may_write_at, may_clash_at, releases, shows, publishes, takes_back, is_next_sent, is_next_of_commit, is_next_of_back, is_next_of_end, owes_no_end, may_end_at, may_play_at, may_end_last, may_last_at, may_play_now}
+use Rattle.cacheless.specs.State.{owed_at, owed_first, running_of, is_visible_at, published_at, xid_at, unsent_at, has_write_since, is_kept, missing, builds_missing, act_missing, scans_missing, end_of_running, end_at, Rest, session_at}
+use Rattle.cacheless.specs.May.{may_look_at, is_next_at, has_looked_at, lacks_any, owes_nothing, names_relation, is_lock_at, is_write_at, names_by, is_clash_at, releases, shows, publishes, takes_back, is_next_sent, is_next_of_commit, is_next_of_back, is_next_of_end, owes_no_end, may_end_at, may_play_at, may_end_last, may_last_at, may_play_now}
 use Rattle.cacheless.specs.Holds.{FactsFit, Holds}
-use Rattle.cacheless.proofs.Tests.{and_true, both_true, empty_is, right_none}
+use Rattle.cacheless.proofs.Tests.{and_true, empty_is, right_none}
 use Rattle.cacheless.proofs.Same.{look_same, looked_same, next_same, lacks_any_is, owes_nothing_is}
 use Rattle.cacheless.proofs.CommandEnds.{end_same, end_of_all-same}
 use Rattle.cacheless.proofs.Resting.{kept_rows, cond_none, read_made, named_made}

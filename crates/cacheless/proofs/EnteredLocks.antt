@@ -1,5 +1,5 @@
 -- What a granted lock, a refused one and a refused write make of what the code holds.
-use Rattle.std.proofs.Common.{◌≡◌, ◌≤◌, ◌+◌, ◌∙◌, ◌&&◌, ◌||◌, ℕ, Bool, true, false, not, Option, Some, None, List, [], ◌∷◌, ◌++◌, refl, sym, ap, map, slice_get, length, get_or, arith}
+use Rattle.std.proofs.Common.{◌≡◌, ◌+◌, ◌∙◌, ◌||◌, ℕ, Bool, true, false, not, Option, Some, None, List, [], ◌∷◌, ◌++◌, refl, sym, ap, map, slice_get, length, get_or, arith}
 use Rattle.std.proofs.Math.Bool.{and-false, or-true}
 use Rattle.event_kinds.specs.declared.entry.Event.TheVariants as events
 use Rattle.rel_desc.specs.declared.error.CommandError.TheVariants as errors
@@ -13,7 +13,6 @@ use Rattle.history_model.specs.Transactions.{Running, begun, running_by}
 use Rattle.history_model.specs.Writes.{is_empty}
 use Rattle.cacheless.specs.Types.{Oid, Mode, Row, Purpose, Command, CommandError, Clash, Scenario, Entry, Event, OwnLock}
 use Rattle.cacheless.specs.declared.progress.Due.TheVariants as dues
-use Rattle.cacheless.specs.declared.progress.OwnTransaction.{OwnTransaction}
 use Rattle.cacheless.specs.declared.progress.Progress.{Progress}
 use Rattle.cacheless.specs.Facts.{facts_of}
 use Rattle.cacheless.specs.Owed.{Owes, OwesLook, owed_after}

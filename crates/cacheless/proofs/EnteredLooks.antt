@@ -1,24 +1,22 @@
 -- What a start, a look and a stop make of what the code holds.
-use Rattle.std.proofs.Common.{◌≡◌, ◌≤◌, ◌+◌, ◌∙◌, ◌==◌, ◌||◌, ℕ, Bool, true, false, Option, Some, None, List, [], ◌∷◌, ◌++◌, refl, sym, ap, subst, length, drop, slice_get, is_some, arith}
+use Rattle.std.proofs.Common.{◌≡◌, ◌≤◌, ◌+◌, ◌∙◌, ◌==◌, ◌||◌, Bool, true, false, Option, Some, None, List, [], ◌∷◌, ◌++◌, refl, sym, ap, subst, length, drop, slice_get, arith}
 use Rattle.std.proofs.lemmas.Bool.{eq-eqb}
 use Rattle.std.specs.List.{AllByRecursion}
 use Rattle.command_lists.specs.Lists.{all_lists}
 use Rattle.event_kinds.specs.declared.entry.Event.TheVariants as events
 use Rattle.lock_modes.specs.Rooms.{Roomy}
 use Rattle.ddl_effect.specs.Blocks.{Blocks, no_block, refused_by}
-use Rattle.ddl_effect.specs.Commands.{commands_of, plan_of}
+use Rattle.ddl_effect.specs.Commands.{plan_of}
 use Rattle.ddl_effect.specs.Plans.{Plan, Done, Fails, Absent, Do, NotBuilt, is_built}
 use Rattle.ddl_effect.specs.Stages.{plan_at}
 use Rattle.history_model.specs.Transactions.{begun}
-use Rattle.cacheless.specs.Types.{Command, CommandError, Scenario, Entry, Event, OwnLock}
+use Rattle.cacheless.specs.Types.{Command, CommandError, Scenario, Entry, OwnLock}
 use Rattle.cacheless.specs.declared.progress.Due.TheVariants as dues
-use Rattle.cacheless.specs.declared.progress.OwnTransaction.{OwnTransaction}
 use Rattle.cacheless.specs.declared.progress.Progress.{Progress}
 use Rattle.cacheless.specs.Facts.{Facts, facts_of, facts_by}
-use Rattle.cacheless.specs.Session.{Session, none_open, plan_admitted, plan_first, refused_first, at_command, first_of}
+use Rattle.cacheless.specs.Session.{none_open, plan_admitted, plan_first, refused_first, at_command, first_of}
 use Rattle.cacheless.specs.Owed.{owed_after}
 use Rattle.cacheless.specs.Settled.{settled}
-use Rattle.cacheless.specs.Sessions.{session_by, session_of}
 use Rattle.cacheless.specs.Puts.{PutsOpened}
 use Rattle.cacheless.specs.State.{owed_at, due_looked, begun_own, is_absent, is_in_accept, locks_accepted, IsNew, Rest, tally_at, session_at}
 use Rattle.cacheless.specs.Holds.{FactsFit, CountsFit, Holds, Rests, HasNotStarted, entry_of, with_own, HasEntered, HasStarted}

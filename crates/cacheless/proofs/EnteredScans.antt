@@ -1,5 +1,5 @@
 -- What a scan makes of what the code holds.
-use Rattle.std.proofs.Common.{◌≡◌, ◌≤◌, ◌<◌, ◌+◌, ◌∙◌, ◌==◌, ◌&&◌, ◌||◌, ℕ, Bool, true, false, not, Option, Some, None, List, [], ◌∷◌, ◌++◌, refl, sym, ap, subst, length, slice_get, arith, All, get_or, cond, suc, Vec, Global}
+use Rattle.std.proofs.Common.{◌≡◌, ◌<◌, ◌+◌, ◌∙◌, ◌||◌, ℕ, Bool, true, false, not, Some, List, [], ◌∷◌, ◌++◌, refl, sym, ap, subst, length, slice_get, arith, All, get_or, cond, Vec, Global}
 use Rattle.std.specs.List.{find, list_any, AllByRecursion}
 use Rattle.std.specs.Option.{option_map_or}
 use Rattle.std.proofs.lemmas.List.Folds.{list_any-append, list_any_at}
@@ -20,7 +20,7 @@ use Rattle.cacheless.specs.declared.progress.Due.TheVariants as dues
 use Rattle.cacheless.specs.declared.progress.Progress.{Progress}
 use Rattle.cacheless.specs.Facts.{Facts, facts_of}
 use Rattle.cacheless.specs.Sessions.{is_wanted}
-use Rattle.cacheless.specs.State.{begun_own, is_kept, is_absent, is_in_accept, locks_accepted}
+use Rattle.cacheless.specs.State.{begun_own, is_kept, is_in_accept, locks_accepted}
 use Rattle.cacheless.specs.May.{is_first_missing, is_next_of_act, is_next_at, has_failed}
 use Rattle.cacheless.specs.Holds.{ReadRight, NamedFit, FactsFit, Holds, Rests, with_own, HasEntered}
 use Rattle.cacheless.proofs.Tests.{and_true, or_either, not_true}

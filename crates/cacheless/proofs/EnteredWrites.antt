@@ -1,7 +1,6 @@
 -- What a write makes of what the code holds.
 use Rattle.std.proofs.Common.{◌≡◌, ◌≤◌, ◌+◌, ◌∙◌, ◌&&◌, ◌||◌, ℕ, Bool, true, false, not, Option, Some, None, List, [], ◌∷◌, ◌++◌, refl, sym, ap, subst, length, slice_get, fold, arith}
 use Rattle.std.specs.List.{AllByRecursion, flat_map, list_any}
-use Rattle.std.specs.Option.{option_map}
 use Rattle.std.proofs.lemmas.List.Folds.{list_any-append}
 use Rattle.event_kinds.specs.declared.entry.Event.TheVariants as events
 use Rattle.event_kinds.specs.declared.entry.Item.TheVariants as forms
@@ -11,7 +10,7 @@ use Rattle.inval_messages.specs.Lists.{Written, once_more}
 use Rattle.inval_messages.proofs.Parts.{ForCaches, ForDescriptors, cats_of-caches, rels_of-descriptors}
 use Rattle.command_lists.specs.Lists.{Held, all_lists, new_list, with_messages}
 use Rattle.command_lists.proofs.Writes.{with-changes}
-use Rattle.ddl_effect.specs.Plans.{Plan, Done, Fails, Absent, Do, NotBuilt, Act, Lookup, Open, Column, Read, Lock, Write, after_act}
+use Rattle.ddl_effect.specs.Plans.{Plan, Done, Fails, Absent, Do, NotBuilt, Lookup, Open, Column, Read, Lock, Write, after_act}
 use Rattle.ddl_effect.specs.Stages.{plan_at, altering_at, want_of}
 use Rattle.ddl_effect.specs.declared.altering.Altering.{Altering}
 use Rattle.ddl_effect.specs.declared.altering.Altering.TheVariants as alters

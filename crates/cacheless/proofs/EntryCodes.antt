@@ -1,5 +1,5 @@
 -- What the code makes of an entry, by what its calls gave.
-use Rattle.std.proofs.Common.{◌≡◌, ◌≤◌, ◌+◌, ◌∙◌, ◌||◌, ℕ, Bool, true, false, Some, Option, List, [], ◌∷◌, ◌++◌, refl, sym, ap, subst, length, map, filter, nat_lt, slice_get, Vec, Global}
+use Rattle.std.proofs.Common.{◌≡◌, ◌+◌, ◌∙◌, ◌||◌, ℕ, Bool, true, false, Some, Option, List, [], ◌∷◌, ◌++◌, sym, ap, subst, length, filter, nat_lt, slice_get, Vec, Global}
 use Rattle.std.specs.List.{flat_map}
 use Rattle.event_kinds.specs.declared.entry.Event.TheVariants as events
 use Rattle.rel_desc.specs.declared.error.CommandError.TheVariants as errors
@@ -23,11 +23,11 @@ use Rattle.cacheless.specs.State.{due_looked, due_fetched, one_if, begun_own, re
 use Rattle.cacheless.specs.May.{is_next_at}
 use Rattle.cacheless.specs.Holds.{Rests, HasEntered}
 use Rattle.cacheless.proofs.EnteredLooks.{looked, look_holds}
-use Rattle.cacheless.proofs.EnteredFetches.{fetched_first, fetched, fetch_holds, was_reset, reset_holds}
+use Rattle.cacheless.proofs.EnteredFetches.{fetched_first, fetched, fetch_holds, reset_holds}
 use Rattle.cacheless.proofs.EnteredScans.{next_lacks, named_scan, named_holds, built_scan, built_holds}
 use Rattle.cacheless.proofs.EnteredLocks.{granted, granted_holds, refused_holds, clash_holds}
 use Rattle.cacheless.proofs.EnteredWrites.{wrote, write_holds}
-use Rattle.cacheless.proofs.EnteredEnds.{shown, visible_holds, sent, publish_holds, taken_back, gone_holds, let_go, release_holds}
+use Rattle.cacheless.proofs.EnteredEnds.{shown, visible_holds, publish_holds, taken_back, gone_holds, let_go, release_holds}
 
 pub look_code : (was : Progress) (some_wait : Bool) (own : OwnTransaction) (due : Due) (locks : Roomy OwnLock) → own ≡ begun_own (was.finished + 1) was.running → due ≡ due_looked some_wait
     → locks.items ≡ locks_accepted (is_in_accept (record was { running = Some own; due = due; tally = record was.tally { looks = was.tally.looks + 1 } }) (slice_get was.commands was.finished)) was.locks.items

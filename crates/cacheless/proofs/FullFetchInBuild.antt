@@ -1,5 +1,5 @@
 -- A worked example: a fetch of 32 messages in the midst of a build asks for a look that counts for the next scan of the descriptor.
-use Rattle.std.proofs.Common.{◌≡◌, ◌≤◌, ◌++◌, ℕ, true, false, None, List, [], ◌∷◌, codes, refl, arith}
+use Rattle.std.proofs.Common.{◌≤◌, ◌++◌, true, false, None, List, [], ◌∷◌, codes, refl, arith}
 use Rattle.base_types.specs.Scenario.{Scenario}
 use Rattle.base_types.specs.declared.mode.Mode.TheVariants.{AccessShare}
 use Rattle.base_types.specs.declared.scan.Purpose.TheVariants as scans

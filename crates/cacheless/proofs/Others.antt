@@ -1,9 +1,8 @@
 -- Another backend's entry changes nothing of what the code holds.
-use Rattle.std.proofs.Common.{◌≡◌, ◌≤◌, ◌+◌, ◌∙◌, ◌==◌, false, Some, List, [], ◌∷◌, ◌++◌, sym, ap, subst, length, drop, arith}
+use Rattle.std.proofs.Common.{◌≡◌, ◌∙◌, ◌==◌, false, Some, List, [], ◌∷◌, ◌++◌, sym, ap, subst, drop}
 use Rattle.std.proofs.lemmas.List.{length_push}
 use Rattle.cacheless.specs.Types.{Scenario, Entry}
 use Rattle.cacheless.specs.declared.progress.Progress.{Progress}
-use Rattle.cacheless.specs.Facts.{facts_of}
 use Rattle.cacheless.specs.Settled.{settled}
 use Rattle.cacheless.specs.State.{session_at}
 use Rattle.cacheless.specs.Holds.{FactsFit, CountsFit, Holds, Rests, HasNotStarted}

@@ -1,6 +1,5 @@
 -- What a backend does without an entry.
-use Rattle.std.proofs.Common.{◌≡◌, ◌≤◌, ◌<◌, ◌+◌, ◌∙◌, ◌&&◌, ◌||◌, ◌==◌, ℕ, Bool, true, false, not, Option, Some, None, List, [], ◌∷◌, ◌++◌, refl, sym, ap, subst, length, drop, is_some, unwrap_or, slice_get, arith, if◌then◌else◌}
-use Rattle.std.specs.List.{AllByRecursion}
+use Rattle.std.proofs.Common.{◌≡◌, ◌≤◌, ◌<◌, ◌+◌, ◌∙◌, ◌&&◌, ◌||◌, ◌==◌, ℕ, Bool, true, false, Some, List, [], ◌∷◌, ◌++◌, refl, sym, ap, subst, drop, is_some, unwrap_or, slice_get, arith, if◌then◌else◌}
 use Rattle.std.proofs.lemmas.List.{length_push, append-nil}
 use Rattle.std.proofs.lemmas.Option.{slice_get_within}
 use Rattle.base_types.specs.Scans.{selects}
@@ -18,15 +17,15 @@ use Rattle.history_model.specs.Read.{is_scan_of, rows_by, rows_read}
 use Rattle.history_model.specs.Versions.{answer_of}
 use Rattle.history_model.proofs.Every.{every-weaker}
 use Rattle.history_model.proofs.Prefixes.{along-keeps}
-use Rattle.cacheless.specs.Types.{Mode, Row, Purpose, Command, CommandError, Scenario, Entry, Event, Opening, OwnLock, Exec}
+use Rattle.cacheless.specs.Types.{Mode, Row, Purpose, Command, CommandError, Scenario, Entry, Opening, OwnLock, Exec}
 use Rattle.cacheless.specs.declared.progress.Counts.{Counts}
 use Rattle.cacheless.specs.declared.progress.Progress.{Progress}
 use Rattle.cacheless.specs.Facts.{Facts, facts_of}
 use Rattle.cacheless.specs.Locks.{is_locked}
-use Rattle.cacheless.specs.Session.{Session, outcome_of, is_settled, first_of, plan_first, refused_first}
+use Rattle.cacheless.specs.Session.{Session, first_of, plan_first, refused_first}
 use Rattle.cacheless.specs.Settled.{next_session, blocks_after, finished_as, looked_up, if_locked, opened_by, sought_by, act_done, settled}
 use Rattle.cacheless.specs.Puts.{AreGivenBy, PutsOpened}
-use Rattle.cacheless.specs.State.{blocks_passed, lists_at, no_counts, is_kept, rows_kept, builds_missing, act_missing, scans_missing, is_absent, is_out, end_at, Rest, rest_of, session_at}
+use Rattle.cacheless.specs.State.{blocks_passed, lists_at, no_counts, is_kept, rows_kept, builds_missing, act_missing, is_absent, is_out, end_at, rest_of, session_at}
 use Rattle.cacheless.specs.May.{owes_nothing}
 use Rattle.cacheless.specs.Silently.{gives_at, gives_next, acts_on, is_ends, is_finished_at, rows_for, opened_for, Acts, Finishes}
 use Rattle.cacheless.specs.Holds.{NamedFit, FactsFit, Holds, HasActed, HasPassed}

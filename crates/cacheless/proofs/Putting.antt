@@ -1,20 +1,17 @@
 -- The writes of commands put no relation's row but that of a relation whose descriptor they have opened.
-use Rattle.std.proofs.Common.{◌≡◌, ◌∙◌, ◌==◌, ◌&&◌, ◌||◌, ℕ, Bool, true, false, Option, Some, None, List, [], ◌∷◌, ◌++◌, refl, sym, ap, subst, map, nat_le, nat_lt, not, int_lt, negsuc, pos, arith, length, is_some}
+use Rattle.std.proofs.Common.{◌≡◌, ◌∙◌, ◌&&◌, ◌||◌, ℕ, Bool, true, false, Option, Some, None, List, [], ◌∷◌, ◌++◌, refl, ap, map, nat_le, nat_lt, not, int_lt, negsuc, pos, arith, length}
 use Rattle.std.specs.Prelude.{⊤, ℤ, zero, suc, ◌+◌, ◌-◌}
 use Rattle.std.specs.Int.{int_min}
-use Rattle.std.specs.List.{AllByRecursion, list_any, enumerate_from, find}
+use Rattle.std.specs.List.{AllByRecursion, enumerate_from, find}
 use Rattle.std.proofs.Math.Bool.{and-false, or-true}
 use Rattle.std.proofs.lemmas.Bool.{eq-eqb, leb-true, false_from_ne_true}
 use Rattle.std.proofs.lemmas.List.Folds.{list_any-append}
 use Rattle.base_types.specs.Fields.{has_field}
 use Rattle.base_types.specs.Scans.{same_oid, selects}
-use Rattle.base_types.specs.declared.change.Change.{Change}
 use Rattle.base_types.specs.declared.change.Change.TheVariants.{Insert, Replace}
-use Rattle.base_types.specs.declared.col_type.ColType.{ColType}
 use Rattle.base_types.specs.declared.command.Command.TheVariants as commands
 use Rattle.base_types.specs.declared.command.NewColumn.{NewColumn}
 use Rattle.base_types.specs.declared.dropped.TheConstants.{MOST_COLUMNS}
-use Rattle.base_types.specs.declared.kind.Kind.TheVariants.{Table}
 use Rattle.base_types.specs.declared.row.Row.TheVariants as rows
 use Rattle.base_types.specs.declared.scan.Purpose.TheVariants as scans
 use Rattle.rel_desc.specs.declared.error.CommandError.TheVariants as errors
@@ -24,13 +21,13 @@ use Rattle.ddl_effect.specs.declared.exec.Exec.TheVariants as stages
 use Rattle.ddl_effect.specs.declared.search.Search.TheVariants as searches
 use Rattle.ddl_effect.specs.Blocks.{Blocks, refused_by}
 use Rattle.ddl_effect.specs.Drawing.{drawn_oid}
-use Rattle.ddl_effect.specs.Plans.{Plan, Done, Fails, Absent, Do, NotBuilt, Column, Read}
-use Rattle.ddl_effect.specs.Commands.{plan_of, found, looking_up, if_passes, if_no_column, first_twice, writing, opening, showing, showing_field, is_table, locking, new_column, new_table, altering, column_there, with_column, column_free, without_column, reading, changing, adding, add_column, as_dropped, deleting, is_default_of, column_number, dropping, drop_column, with_name, renaming, rename_column, with_stat, most_stat, targeting, set_statistics, with_fill, filling, set_fillfactor}
-use Rattle.ddl_effect.specs.Stages.{plan_at, plan_again, altering_at, altering_again, altered, mode_of, name_sought, mode_sought, plan_found}
+use Rattle.ddl_effect.specs.Plans.{Plan, Done}
+use Rattle.ddl_effect.specs.Commands.{plan_of, found, if_passes, if_no_column, first_twice, writing, opening, is_table, new_column, new_table, altering, column_there, with_column, column_free, reading, changing, adding, as_dropped, deleting, is_default_of, column_number, dropping, with_name, renaming, with_stat, most_stat, targeting, with_fill, filling}
+use Rattle.ddl_effect.specs.Stages.{plan_at, plan_again, altering_at, altering_again, altered, name_sought, plan_found}
 use Rattle.ddl_effect.specs.declared.alteration.Alteration.{Alteration}
 use Rattle.ddl_effect.specs.declared.altering.Altering.{Altering}
 use Rattle.ddl_effect.specs.declared.search.Search.{Search}
-use Rattle.cacheless.specs.Types.{Oid, Mode, Kind, Field, Row, Purpose, Command, CommandError, Draft, Exec, Opening}
+use Rattle.cacheless.specs.Types.{Oid, Kind, Row, Purpose, Command, CommandError, Exec, Opening}
 use Rattle.history_model.proofs.Asking.{oid_eq}
 use Rattle.cacheless.specs.Puts.{is_opened, PutOpened, AreGivenBy, PutsOpened}
 use Rattle.cacheless.specs.Session.{none_open, plan_admitted, plan_first}

@@ -18,14 +18,13 @@ use Rattle.cacheless.specs.Locks.{is_locked}
 use Rattle.cacheless.specs.Session.{Session, Badly, outcome_of, is_settled, first_of}
 use Rattle.cacheless.specs.Owed.{owed_at_start, owed_after, builds_owed, act_owed, owed_of}
 use Rattle.cacheless.specs.Ends.{End, Ends, Commits, TakesBack, end_left, end_of, next_of_end}
-use Rattle.cacheless.specs.Settled.{gives, looked_up, act_done, done_here, acted_on, acted, is_finished, settled}
-use Rattle.cacheless.specs.State.{owed_at, owed_first, running_of, rows_kept, is_kept, builds_missing, act_missing, scans_missing, is_absent, is_out, end_at, Rest, session_at}
+use Rattle.cacheless.specs.Settled.{gives, looked_up, act_done, done_here, acted_on, is_finished, settled}
+use Rattle.cacheless.specs.State.{owed_at, owed_first, running_of, rows_kept, is_kept, builds_missing, act_missing, scans_missing, is_absent, end_at, Rest, session_at}
 use Rattle.cacheless.specs.May.{lacks_any, owes_nothing}
-use Rattle.cacheless.specs.Silently.{gives_at, gives_next, acts_on, is_ends, is_finished_at, IsAtRest}
+use Rattle.cacheless.specs.Silently.{gives_at, gives_next, acts_on, is_ends, is_finished_at}
 use Rattle.cacheless.specs.Holds.{ReadRight, NamedFit, FactsFit, Holds, Rests}
 use Rattle.cacheless.proofs.Settling.{settled-waits}
-use Rattle.cacheless.proofs.ReadsBuilds.{stage_built}
-use Rattle.cacheless.proofs.Tests.{and_true, empty_is, right_none, not_true}
+use Rattle.cacheless.proofs.Tests.{and_true, empty_is, right_none}
 use Rattle.cacheless.proofs.Same.{start_owed, builds_same, act_same, scans_same, lacks_any_is, owes_nothing_is, empty_append}
 use Rattle.cacheless.proofs.CommandEnds.{end_same, left_none}
 

@@ -3,7 +3,7 @@ use Rattle.std.proofs.Common.{◌≡◌, ◌≤◌, ◌+◌, ◌-◌, ◌∙◌,
 use Rattle.std.specs.Prelude.{nat_lt}
 use Rattle.std.specs.List.{AllByRecursion}
 use Rattle.std.proofs.lemmas.Bool.{leb-true, leb-false, ltb-true, false_from_ne_true}
-use Rattle.std.proofs.lemmas.List.{take_min, take_rest, drop_all, length-append, length-drop}
+use Rattle.std.proofs.lemmas.List.{take_min, take_rest, drop_all}
 use Rattle.std.proofs.Math.Seq.{drop-append-add}
 use Rattle.inval_messages.specs.Lists.{Written, lists_from, cats_in, rels_in, rest_of_parts, unsent_after}
 use Rattle.command_lists.proofs.Writes.{from-first}

@@ -7,7 +7,7 @@ use Rattle.base_types.specs.declared.scan.Purpose.TheVariants as scans
 use Rattle.base_types.specs.declared.change.Change.{Change}
 use Rattle.base_types.specs.declared.change.Change.TheVariants.{Replace}
 use Rattle.ddl_effect.specs.Drawing.{drawn_oid}
-use Rattle.ddl_effect.specs.Plans.{Act, Open, Column, Read, Write, Plan, Do}
+use Rattle.ddl_effect.specs.Plans.{Open, Column, Read, Write, Plan, Do}
 use Rattle.cacheless.specs.Types.{Oid, Row, Purpose, Opening}
 
 -- the descriptor of the relation is opened

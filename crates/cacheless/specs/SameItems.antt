@@ -35,9 +35,3 @@ abbrev pub forced_match : List Item → List Oid → Bool
 forced_match [] [] = true
 forced_match (item ∷ more) (rel ∷ forced) = same_item item (items.Force rel) && forced_match more forced
 forced_match given forced = false
-
--- the rows aren't both of relations, nor both of columns
-abbrev pub IsOther : Row → Row → Type 0
-IsOther (rows.Class oid name kind fill) (rows.Class oid' name' kind' fill') = ⊥
-IsOther (rows.Att rel num name col_type stat live) (rows.Att rel' num' name' col_type' stat' live') = ⊥
-IsOther row other = ⊤

@@ -4,14 +4,16 @@ ghost use Rattle.std.specs.Prelude.{◌≡◌, ◌++◌, ◌∷◌, [], length, 
 ghost use Rattle.std.specs.List.{list_any, flat_map};
 ghost use Rattle.std.specs.Option.{option_eq};
 ghost use Rattle.std.specs.Str.{bytes_eq};
+ghost use Rattle.base_types.specs.RowKeys.{catalog_of};
 ghost use Rattle.base_types.specs.Scans.{same_oid as oids_match};
+ghost use Rattle.base_types.specs.declared.catalog.Catalog.TheVariants as catalogs;
 ghost use Rattle.ddl_effect.specs.Drawing.{drawn_oid, drawn_row, drawn_change};
 ghost use Rattle.ddl_effect.specs.Stages.{plan_at, altering_at};
 ghost use Rattle.history_model.specs.Changes.{item_of, items_of};
 ghost use Rattle.history_model.specs.Covered.{same_row as rows_match, same_demand as demands_match};
 ghost use Rattle.history_model.specs.Names.{has_name as is_named};
 ghost use Rattle.cacheless.specs.Plays.{drafted};
-ghost use Rattle.cacheless.specs.SameItems.{same_item as items_match, same_items as all_match, changes_match, forced_match, IsOther};
+ghost use Rattle.cacheless.specs.SameItems.{same_item as items_match, same_items as all_match, changes_match, forced_match};
 ghost use Rattle.cacheless.specs.May.{is_write_at, is_clash_at, names_by};
 
 use crate::KeptScan;
@@ -130,9 +132,23 @@ fn is_forced(item: &Item, rel: Oid) -> bool
     }
 }
 
-// Whether a row is a drafted one with its new oids: that of a relation or of a column.
+// Whether a row is a drafted one with its new oids.
 fn is_drawn(row: &Row, drafted: &Row, next: u32, new_oids: u32) -> bool
     ensures { result ≡ rows_match row.now (drawn_row next new_oids drafted.now) }
+{
+    match row {
+        Row::Class { .. } => is_relation(row, drafted, next, new_oids),
+        Row::Att { .. } => is_column(row, drafted, next, new_oids),
+        Row::Def { .. } => is_default(row, drafted, next, new_oids),
+        Row::Ind { .. } => is_index(row, drafted, next, new_oids),
+        Row::Con { .. } => is_constraint(row, drafted, next, new_oids),
+        Row::Trg { .. } => is_trigger(row, drafted, next, new_oids),
+    }
+}
+
+// The same of a relation's row.
+fn is_relation(row: &Row, drafted: &Row, next: u32, new_oids: u32) -> bool
+    ensures { catalog_of row.now ≡ catalogs.Class → result ≡ rows_match row.now (drawn_row next new_oids drafted.now) }
 {
     match (row, drafted) {
         (
@@ -154,6 +170,15 @@ fn is_drawn(row: &Row, drafted: &Row, next: u32, new_oids: u32) -> bool
                 && kind.word() == own_kind.word()
                 && same_fill(*fill, *own_fill)
         }
+        _ => false,
+    }
+}
+
+// Of a column's.
+fn is_column(row: &Row, drafted: &Row, next: u32, new_oids: u32) -> bool
+    ensures { catalog_of row.now ≡ catalogs.Attribute → result ≡ rows_match row.now (drawn_row next new_oids drafted.now) }
+{
+    match (row, drafted) {
         (
             Row::Att {
                 rel,
@@ -179,13 +204,13 @@ fn is_drawn(row: &Row, drafted: &Row, next: u32, new_oids: u32) -> bool
                 && stat == own_stat
                 && live_word(*live) == live_word(*own_live)
         }
-        _ => is_drawn_other(row, drafted, next, new_oids),
+        _ => false,
     }
 }
 
-// The same of the rows of other catalogs.
-fn is_drawn_other(row: &Row, drafted: &Row, next: u32, new_oids: u32) -> bool
-    ensures { IsOther row.now drafted.now → result ≡ rows_match row.now (drawn_row next new_oids drafted.now) }
+// Of a default's.
+fn is_default(row: &Row, drafted: &Row, next: u32, new_oids: u32) -> bool
+    ensures { catalog_of row.now ≡ catalogs.AttrDef → result ≡ rows_match row.now (drawn_row next new_oids drafted.now) }
 {
     match (row, drafted) {
         (
@@ -207,6 +232,15 @@ fn is_drawn_other(row: &Row, drafted: &Row, next: u32, new_oids: u32) -> bool
                 && num == own_num
                 && word.as_bytes() == own.as_bytes()
         }
+        _ => false,
+    }
+}
+
+// Of an index's.
+fn is_index(row: &Row, drafted: &Row, next: u32, new_oids: u32) -> bool
+    ensures { catalog_of row.now ≡ catalogs.Index → result ≡ rows_match row.now (drawn_row next new_oids drafted.now) }
+{
+    match (row, drafted) {
         (
             Row::Ind {
                 index,
@@ -226,6 +260,15 @@ fn is_drawn_other(row: &Row, drafted: &Row, next: u32, new_oids: u32) -> bool
                 && state.word() == own_state.word()
                 && nums.as_slice() == own.as_slice()
         }
+        _ => false,
+    }
+}
+
+// Of a constraint's.
+fn is_constraint(row: &Row, drafted: &Row, next: u32, new_oids: u32) -> bool
+    ensures { catalog_of row.now ≡ catalogs.Constraint → result ≡ rows_match row.now (drawn_row next new_oids drafted.now) }
+{
+    match (row, drafted) {
         (
             Row::Con {
                 oid,
@@ -248,6 +291,15 @@ fn is_drawn_other(row: &Row, drafted: &Row, next: u32, new_oids: u32) -> bool
                 && valid_word(*valid) == valid_word(*own_valid)
                 && same_demand(what, own_what)
         }
+        _ => false,
+    }
+}
+
+// Of a trigger's.
+fn is_trigger(row: &Row, drafted: &Row, next: u32, new_oids: u32) -> bool
+    ensures { catalog_of row.now ≡ catalogs.Trigger → result ≡ rows_match row.now (drawn_row next new_oids drafted.now) }
+{
+    match (row, drafted) {
         (
             Row::Trg { oid, rel, name, on },
             Row::Trg {

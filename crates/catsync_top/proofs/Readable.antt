@@ -13,7 +13,7 @@ use Rattle.history_model.specs.Prefixes.{EachFrom, EachEntry}
 
 -- an event with a change in each write
 event_read : (event : Event) → IsHead event → All IsItem (changes_of event) → HasChange event → IsEvent event
-event_read (events.Write xid changes) head items some = (head, some, recursion_from_All IsItem changes items)
+event_read (events.Write xid changes) head items some = (head, (some, recursion_from_All IsItem changes items))
 event_read event head items some = head
 
 entry_read : (e : Entry) → IsTyped e → HasChange e.event → IsEntry e

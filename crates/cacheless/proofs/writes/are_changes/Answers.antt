@@ -1,4 +1,4 @@
-use Rattle.std.proofs.Common.{◌≡◌, ◌<◌, ◌∙◌, ◌&&◌, ◌+◌, ap, sym, length, drop, arith}
+use Rattle.std.proofs.Common.{◌<◌, ◌∙◌, ◌&&◌, ◌+◌, ap, sym, length, drop, arith}
 use Rattle.cacheless.specs.SameItems.{changes_match}
 use Rattle.cacheless.proofs.Matching.{changes_at, changes_end}
 use Rattle.cacheless.proofs.writes.are_changes.Goals as goal

@@ -1,4 +1,4 @@
-use Rattle.std.proofs.Common.{◌≡◌, ◌<◌, ◌∙◌, ◌&&◌, ◌+◌, ap, sym, length, drop, arith}
+use Rattle.std.proofs.Common.{◌<◌, ◌∙◌, ◌&&◌, ◌+◌, ap, sym, length, drop, arith}
 use Rattle.cacheless.specs.SameItems.{forced_match}
 use Rattle.cacheless.proofs.Matching.{forced_at, forced_end, forced_long}
 use Rattle.cacheless.proofs.writes.are_forced.Goals as goal

@@ -1,4 +1,4 @@
-use Rattle.std.proofs.Common.{◌≡◌, ◌∙◌, ap, sym, refl, List, slice_get}
+use Rattle.std.proofs.Common.{◌∙◌, ap, sym, refl, List, slice_get}
 use Rattle.std.proofs.lemmas.Option.{slice_get_read}
 use Rattle.cacheless.specs.Types.{Command}
 use Rattle.cacheless.proofs.Passing.{finish_code}
