@@ -278,7 +278,7 @@ impl Progress {
     }
 
     // Whether the command has failed.
-    fn has_failed(&self) -> bool
+    pub fn has_failed(&self) -> bool
         ensures { result ≡ failed self.now }
     {
         matches!(self.exec.next(), Want::Fails(_) | Want::Absent(_))
