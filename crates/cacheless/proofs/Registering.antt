@@ -1,16 +1,15 @@
 -- The messages of a write are registered one after another.
-use Rattle.std.proofs.Common.{◌≡◌, ◌≤◌, ◌<◌, ◌+◌, ◌-◌, ◌∙◌, ℕ, Bool, true, false, Some, None, List, [], ◌∷◌, ◌++◌, refl, sym, ap, subst, length, take, get_or, arith}
+use Rattle.std.proofs.Common.{◌≡◌, ◌≤◌, ◌<◌, ◌+◌, ◌-◌, ◌∙◌, ℕ, Bool, true, false, Some, None, List, [], ◌∷◌, ◌++◌, refl, sym, ap, subst, length, take, get_or, append-nil, arith}
 use Rattle.std.specs.List.{AllByRecursion}
-use Rattle.std.specs.Option.{option_map}
+use Rattle.std.specs.Option.{option_map, option_to_list}
 use Rattle.std.proofs.lemmas.Bool.{eq-eqb}
 use Rattle.std.proofs.lemmas.List.{take_more, take_all}
 use Rattle.std.proofs.lemmas.List.Sums.{fold-append}
 use Rattle.inval_messages.specs.Lists.{Written}
 use Rattle.inval_messages.specs.declared.message.Message.{Message}
 use Rattle.inval_messages.specs.declared.message.Message.TheVariants.{Cat, Rel}
-use Rattle.command_lists.specs.Lists.{CommandLists, Held, all_lists, new_list, with_message, with_messages, is_of, begun, registered, command_ended}
+use Rattle.command_lists.specs.Lists.{CommandLists, Held, MayRun, all_lists, new_list, with_message, with_messages, is_of, begun, registered, command_ended}
 use Rattle.command_lists.proofs.Writes.{ended-all}
-use Rattle.history_model.proofs.Every.{every-append}
 
 -- the list of a command with these messages runs, after those before it
 pub record IsRegistering (was : CommandLists) (command : ℕ) (messages : List Message) (held : Held) (left : ℕ) : Type 0 where
@@ -33,11 +32,16 @@ all_keep : (messages : List Message) (list : Written) → (with_messages message
 all_keep [] list = refl
 all_keep (m ∷ messages) list = all_keep messages (with_message m list) ∙ keeps_command m list
 
--- none is of a later command
-pub registering_order : (was : CommandLists) (command : ℕ) (messages : List Message) (held : Held) (left : ℕ) → AllByRecursion (λ list. list.command ≤ command) (all_lists was) → IsRegistering was command messages held left
-    → AllByRecursion (λ list. list.command ≤ command) (all_lists held.lists)
-registering_order was command messages held left order on = subst (λ lists. AllByRecursion (λ (list : Written). list.command ≤ command) (all_lists lists)) (sym on.lists)
-    (every-append (λ (list : Written). list.command ≤ command) (all_lists was) (with_messages messages (new_list command) ∷ []) order (omega (arith, all_keep messages (new_list command)), tt))
+-- its list may run
+pub registering_begins : (was reserved : CommandLists) (command : ℕ) → was.running ≡ None → reserved ≡ was → AllByRecursion (λ list. list.command < command) (all_lists was) → MayRun command reserved
+registering_begins was reserved command none same order = subst (MayRun command) (sym same) (record {
+  ended = subst (AllByRecursion (λ (list : Written). list.command < command)) (ap (λ o. was.earlier ++ option_to_list o) none ∙ append-nil was.earlier) order;
+  running = subst (λ o. AllByRecursion (λ (list : Written). list.command ≤ command) (option_to_list o)) (sym none) tt;
+})
+
+-- and runs on
+pub registering_order : (was : CommandLists) (command : ℕ) (messages : List Message) (held : Held) (left : ℕ) → AllByRecursion (λ list. list.command < command) (all_lists was) → IsRegistering was command messages held left → MayRun command held.lists
+registering_order was command messages held left order on = subst (MayRun command) (sym on.lists) (record { ended = order; running = (omega (arith, all_keep messages (new_list command)), tt) })
 
 told : (earlier : List Written) (list : Written) (command : ℕ) (message : Message) → list.command ≡ command → registered command message (record { earlier = earlier; running = Some list }) ≡ record { earlier = earlier; running = Some (with_message message list) }
 told earlier list command message is = ap (λ t. by_test t) (eq-eqb list.command command is)

@@ -32,7 +32,7 @@ impl Progress {
 
     /// It wrote: these are the messages of its changes in their order, so many new oids were drawn, of
     /// which this is the first, and its transaction has this Xid. A new relation's oid is the first new
-    /// one, and it is locked. Conditions: its command wants to write, its lists are of no later command,
+    /// one, and it is locked. Conditions: its command wants to write, its lists are of commands before,
     /// there is room for a lock, and a new relation isn't locked. Out of memory, it may not be used any
     /// more.
     pub fn enter_write(
@@ -45,7 +45,7 @@ impl Progress {
     ) -> Result<(), NoMemory>
         requires few { self.old.finished ≤ 20000 }
         requires wants { want_of (plan_at self.old.exec) ≡ wants.Write }
-        requires order { AllByRecursion (λ list. list.command ≤ self.old.finished + 1) (lists_at self.old) }
+        requires order { AllByRecursion (λ list. list.command < self.old.finished + 1) (lists_at self.old) }
         requires place { 0 < self.old.locks.room }
         requires new { 0 < new_oids → has_lock self.old.locks.items first AccessExclusive ≡ false }
         ensures kept { OnOk result (self.new.kept ≡ kept_spared messages.now self.old.kept) }
@@ -90,7 +90,7 @@ fn lock_new(locks: &mut OwnLocks, new_oids: u32, first: Oid, command: u32)
 
 // The messages of a command's write go to its list, which is done with them.
 fn register(lists: &mut InvalLists, command: u32, messages: &[Message]) -> Result<(), NoMemory>
-    requires order { AllByRecursion (λ list. list.command ≤ command) (all_lists lists.old.lists) }
+    requires order { AllByRecursion (λ list. list.command < command) (all_lists lists.old.lists) }
     ensures lists { OnOk result (all_lists lists.new.lists ≡ all_lists lists.old.lists ++ with_messages messages.now (new_list command) ∷ []) }
 {
     lists.end_command();

@@ -1,5 +1,5 @@
 -- The lists of a command and of those after it are taken away: both vectors are cut where the first of them begins.
-use Rattle.std.proofs.Common.{◌≡◌, ◌∙◌, ℕ, ◌≤◌, Bool, true, false, Option, Some, None, List, [], ◌∷◌, ◌++◌, length, filter, take, drop, nat_le, nat_lt, refl, sym, ap, subst, arith, append-nil, ltb-true, ltb-false, leb-true, le-leb, lt-ltb, length-append}
+use Rattle.std.proofs.Common.{◌≡◌, ◌∙◌, ℕ, ◌≤◌, ◌<◌, Bool, true, false, Option, Some, None, List, [], ◌∷◌, ◌++◌, length, filter, take, drop, nat_le, nat_lt, refl, sym, ap, subst, arith, append-nil, ltb-true, ltb-false, leb-true, le-leb, lt-ltb, length-append}
 use Rattle.std.specs.Option.{option_to_list}
 use Rattle.std.specs.List.{AllByRecursion}
 use Rattle.std.proofs.lemmas.List.{take-append-drop, length-take-le}
@@ -41,8 +41,8 @@ cut-lists cats rels ended end from order within before =
 cut-place : (from : ℕ) (ended others : List Start) (end : Place) → first_of (starts_from from (ended ++ others)) end ≡ first_of (starts_from from ended) (first_of (starts_from from others) end)
 cut-place from ended others end = ap (λ starts. first_of starts end) (filter-append (λ start. nat_le from start.command) ended others) ∙ first-append (starts_from from ended) (starts_from from others) end
 
-to-last : (command : ℕ) (later : List Start) (start : Start) → AllByRecursion (λ next. command ≤ next.command) (later ++ start ∷ []) → command ≤ start.command
-to-last command [] start all = all.0
+to-last : (command : ℕ) (later : List Start) (start : Start) → AllByRecursion (λ next. command < next.command) (later ++ start ∷ []) → command ≤ start.command
+to-last command [] start all = omega (arith, all.0)
 to-last command (s ∷ later) start all = to-last command later start all.1
 
 -- a list of an earlier command still runs: so are all the others

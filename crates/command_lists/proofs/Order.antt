@@ -13,7 +13,7 @@ every_at P (x ∷ xs) (suc i) d all short = every_at P xs i d all.1 (omega (arit
 pub parted : (from : ℕ) (starts : List Start) → AreInOrder starts → IsPartitionedBy (λ start. nat_lt start.command from) starts
 parted from [] order i j d le short is = absurd (omega (arith, short))
 parted from (s ∷ later) order zero zero d le short is = is
-parted from (s ∷ later) order zero (suc j) d le short is = lt-ltb _ _ (omega (arith, ltb-true _ _ is, every_at (λ next. s.command ≤ next.command) later j d order.0 (omega (arith, short))))
+parted from (s ∷ later) order zero (suc j) d le short is = lt-ltb _ _ (omega (arith, ltb-true _ _ is, every_at (λ next. s.command < next.command) later j d order.0 (omega (arith, short))))
 parted from (s ∷ later) order (suc i) zero d le short is = absurd (omega (arith, le))
 parted from (s ∷ later) order (suc i) (suc j) d le short is = parted from later order.1 i j d (omega (arith, le)) (omega (arith, short)) is
 

@@ -1,5 +1,5 @@
 -- The lists between their starts.
-use Rattle.std.proofs.Common.{◌≡◌, ◌∙◌, ℕ, ◌≤◌, Bool, true, false, Option, Some, None, List, [], ◌∷◌, ◌++◌, length, filter, nat_le, nat_lt, refl, sym, ap, subst, arith, le-leb, leb-true, ltb-true, lt-ltb, leb-false}
+use Rattle.std.proofs.Common.{◌≡◌, ◌∙◌, ℕ, ◌≤◌, ◌<◌, Bool, true, false, Option, Some, None, List, [], ◌∷◌, ◌++◌, length, filter, nat_le, nat_lt, refl, sym, ap, subst, arith, le-leb, leb-true, ltb-true, lt-ltb, leb-false}
 use Rattle.std.specs.Option.{option_to_list}
 use Rattle.std.specs.List.{slice_range, AllByRecursion}
 use Rattle.inval_messages.specs.Lists.{Written, cats_in, rels_in, lists_from, lists_before}
@@ -58,9 +58,9 @@ every-left P (x ∷ xs) ys all = (all.0, every-left P xs ys all.1)
 
 pub order-left : (xs ys : List Start) → AreInOrder (xs ++ ys) → AreInOrder xs
 order-left [] ys order = tt
-order-left (x ∷ xs) ys order = (every-left (λ next. x.command ≤ next.command) xs ys order.0, order-left xs ys order.1)
+order-left (x ∷ xs) ys order = (every-left (λ next. x.command < next.command) xs ys order.0, order-left xs ys order.1)
 
-all-from : (from : ℕ) (s : Start) (later : List Start) → from ≤ s.command → AllByRecursion (λ next. s.command ≤ next.command) later → AllByRecursion (λ next. nat_le from next.command ≡ true) later
+all-from : (from : ℕ) (s : Start) (later : List Start) → from ≤ s.command → AllByRecursion (λ next. s.command < next.command) later → AllByRecursion (λ next. nat_le from next.command ≡ true) later
 all-from from s [] low high = tt
 all-from from s (next ∷ later) low high = (le-leb from next.command (omega (arith, low, high.0)), all-from from s later low high.1)
 
@@ -74,14 +74,14 @@ not-before from command low = by_test (nat_lt command from) refl
 not-from : (from command : ℕ) → nat_le from command ≡ false → nat_lt command from ≡ true
 not-from from command is = lt-ltb command from (leb-false from command is)
 
-none-before : (from : ℕ) (s : Start) (later : List Start) → from ≤ s.command → AllByRecursion (λ next. s.command ≤ next.command) later → AllByRecursion (λ next. nat_lt next.command from ≡ false) later
+none-before : (from : ℕ) (s : Start) (later : List Start) → from ≤ s.command → AllByRecursion (λ next. s.command < next.command) later → AllByRecursion (λ next. nat_lt next.command from ≡ false) later
 none-before from s [] low high = tt
 none-before from s (next ∷ later) low high = (not-before from next.command (omega (arith, low, high.0)), none-before from s later low high.1)
 
-all-starts-from : (from : ℕ) (s : Start) (later : List Start) → nat_le from s.command ≡ true → AllByRecursion (λ next. s.command ≤ next.command) later → starts_from from later ≡ later
+all-starts-from : (from : ℕ) (s : Start) (later : List Start) → nat_le from s.command ≡ true → AllByRecursion (λ next. s.command < next.command) later → starts_from from later ≡ later
 all-starts-from from s later low high = filter-all (λ start. nat_le from start.command) later (all-from from s later (leb-true from s.command low) high)
 
-no-starts-before : (from : ℕ) (s : Start) (later : List Start) → nat_le from s.command ≡ true → AllByRecursion (λ next. s.command ≤ next.command) later → starts_before from (s ∷ later) ≡ []
+no-starts-before : (from : ℕ) (s : Start) (later : List Start) → nat_le from s.command ≡ true → AllByRecursion (λ next. s.command < next.command) later → starts_before from (s ∷ later) ≡ []
 no-starts-before from s later low high =
     left_out (λ start. nat_lt start.command from) s later (not-before from s.command (leb-true from s.command low))
     ∙ filter-none (λ start. nat_lt start.command from) later (none-before from s later (leb-true from s.command low) high)
@@ -149,7 +149,7 @@ order-filter p [] order = tt
 order-filter p (s ∷ later) order = by_test (p s) refl (order-filter p later order.1)
   where
     by_test : (t : Bool) → p s ≡ t → AreInOrder (filter p later) → AreInOrder (filter p (s ∷ later))
-    by_test true is rest = subst AreInOrder (sym (kept p s later is)) (every-filter (λ next. s.command ≤ next.command) p later order.0, rest)
+    by_test true is rest = subst AreInOrder (sym (kept p s later is)) (every-filter (λ next. s.command < next.command) p later order.0, rest)
     by_test false is rest = subst AreInOrder (sym (left_out p s later is)) rest
 
 pub within-from : (from : ℕ) (starts : List Start) (end : Place) → AreInOrder starts → AreWithin starts end → AreWithin (starts_from from starts) end

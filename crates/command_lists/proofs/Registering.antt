@@ -1,13 +1,14 @@
 -- A message is registered: the command's list runs, and the message is at the end of one of its parts.
-use Rattle.std.proofs.Common.{◌≡◌, ◌∙◌, ℕ, ◌+◌, ◌≤◌, ◌==◌, Bool, true, false, Option, Some, None, List, [], ◌∷◌, ◌++◌, length, refl, sym, ap, subst, arith, cond, append-nil, length-append}
+use Rattle.std.proofs.Common.{◌≡◌, ◌∙◌, ℕ, ◌+◌, ◌≤◌, ◌<◌, ◌==◌, Bool, true, false, Option, Some, None, List, [], ◌∷◌, ◌++◌, length, refl, sym, ap, subst, arith, cond, append-nil, length-append}
 use Rattle.std.specs.Option.{option_map, option_to_list}
 use Rattle.std.specs.List.{slice_range, list_any, AllByRecursion}
+use Rattle.std.proofs.lemmas.Bool.{eqb-false}
 use Rattle.base_types.specs.declared.ids.Oid.{Oid}
 use Rattle.base_types.specs.declared.key.CacheId.{CacheId}
 use Rattle.inval_messages.specs.Messages.{same_message}
 use Rattle.inval_messages.specs.Lists.{Written}
 use Rattle.command_lists.specs.Types.{Message, Cat, Rel, Place, Start}
-use Rattle.command_lists.specs.Lists.{CommandLists, all_lists, new_list, with_message, registered, begun}
+use Rattle.command_lists.specs.Lists.{CommandLists, all_lists, AreOrdered, MayRun, new_list, with_message, registered, begun}
 use Rattle.command_lists.specs.Starts.{AreInOrder, AreWithin, AreKept, IsBefore, end_of, list_between, lists_until, lists_in, ended_by, running_by}
 use Rattle.command_lists.proofs.Ranges.{range-none, range-last}
 use Rattle.command_lists.proofs.Parts.{all-lists, until-more, before-more}
@@ -38,7 +39,7 @@ begun-lists cats rels ended (Some start) command = either (start.command == comm
     either true = refl
     either false = new-lists cats rels ended (Some start) command
 
-commands-until : (cats rels : List Message) (command : ℕ) (starts : List Start) (end : Place) → AllByRecursion (λ list. list.command ≤ command) (lists_until cats rels starts end) → AllByRecursion (λ start. start.command ≤ command) starts
+commands-until : (cats rels : List Message) (command : ℕ) (starts : List Start) (end : Place) → AllByRecursion (λ list. list.command < command) (lists_until cats rels starts end) → AllByRecursion (λ start. start.command < command) starts
 commands-until cats rels command [] end all = tt
 commands-until cats rels command (s ∷ later) end all = (all.0, commands-until cats rels command later end all.1)
 
@@ -46,9 +47,9 @@ every-snoc : {X : Type 0} (P : X → Type 0) (xs : List X) (x : X) → AllByRecu
 every-snoc P [] x all also = (also, tt)
 every-snoc P (y ∷ xs) x all also = (all.0, every-snoc P xs x all.1 also)
 
-order-snoc : (starts : List Start) (new : Start) → AreInOrder starts → AllByRecursion (λ start. start.command ≤ new.command) starts → AreInOrder (starts ++ new ∷ [])
+order-snoc : (starts : List Start) (new : Start) → AreInOrder starts → AllByRecursion (λ start. start.command < new.command) starts → AreInOrder (starts ++ new ∷ [])
 order-snoc [] new order all = (tt, tt)
-order-snoc (s ∷ later) new order all = (every-snoc (λ next. s.command ≤ next.command) later new order.0 all.0, order-snoc later new order.1 all.1)
+order-snoc (s ∷ later) new order all = (every-snoc (λ next. s.command < next.command) later new order.0 all.0, order-snoc later new order.1 all.1)
 
 within-snoc : (starts : List Start) (new : Start) (end : Place) → AreWithin starts new.at → IsBefore new.at end → AreWithin (starts ++ new ∷ []) end
 within-snoc [] new end within last = (last, tt)
@@ -61,22 +62,33 @@ within-longer (s ∷ []) end more within longer = (before-more s.at end more wit
 within-longer (s ∷ t ∷ later) end more within longer = (within.0, within-longer (t ∷ later) end more within.1 longer)
 
 -- the commands stay in order, and no list begins past the end
-pub begun-order : (cats rels : List Message) (ended : List Start) (running : Option Start) (command : ℕ) → AreInOrder (ended ++ option_to_list running)
-    → AllByRecursion (λ list. list.command ≤ command) (all_lists (lists_in cats rels ended running))
+pub begun-order : (cats rels : List Message) (ended : List Start) (running : Option Start) (command : ℕ) → AreInOrder (ended ++ option_to_list running) → MayRun command (lists_in cats rels ended running)
     → AreInOrder (ended_by command ended running ++ running_by command (end_of cats rels) running ∷ [])
-begun-order cats rels ended running command order all = by_running running order (commands-until cats rels command (ended ++ option_to_list running) (end_of cats rels) (subst (AllByRecursion (λ list. list.command ≤ command)) (all-lists cats rels ended running) all))
+begun-order cats rels ended None command order may =
+    order-snoc (ended ++ []) (record { command = command; at = end_of cats rels }) order
+    (subst (AllByRecursion (λ start. start.command < command)) (sym (append-nil ended)) (commands-until cats rels command ended (end_of cats rels) may.ended))
+begun-order cats rels ended (Some start) command order may = either (start.command == command) refl
   where
     new : Start
     new = record { command = command; at = end_of cats rels }
 
-    either : (start : Start) (same : Bool) → AreInOrder (ended ++ start ∷ []) → AllByRecursion (λ s. s.command ≤ command) (ended ++ start ∷ [])
-        → AreInOrder ((elim same [ true ↦ ended | false ↦ ended ++ start ∷ [] ]) ++ (elim same [ true ↦ start | false ↦ new ]) ∷ [])
-    either start true order low = order
-    either start false order low = order-snoc (ended ++ start ∷ []) new order low
+    either : (same : Bool) → (start.command == command) ≡ same → AreInOrder ((elim same [ true ↦ ended | false ↦ ended ++ start ∷ [] ]) ++ (elim same [ true ↦ start | false ↦ new ]) ∷ [])
+    either true is = order
+    either false is =
+        let before : start.command < command = omega (arith, may.running.0, eqb-false start.command command is) in
+        order-snoc (ended ++ start ∷ []) new order (every-snoc (λ s. s.command < command) ended start (commands-until cats rels command ended start.at may.ended) before)
 
-    by_running : (r : Option Start) → AreInOrder (ended ++ option_to_list r) → AllByRecursion (λ s. s.command ≤ command) (ended ++ option_to_list r) → AreInOrder (ended_by command ended r ++ running_by command (end_of cats rels) r ∷ [])
-    by_running None order low = order-snoc (ended ++ []) new order low
-    by_running (Some start) order low = either start (start.command == command) order low
+-- so each command has one list
+until-ordered : (cats rels : List Message) (starts : List Start) (end : Place) → AreInOrder starts → AreOrdered (lists_until cats rels starts end)
+until-ordered cats rels [] end order = tt
+until-ordered cats rels (s ∷ later) end order = (until-after cats rels s.command later end order.0, until-ordered cats rels later end order.1)
+  where
+    until-after : (cats rels : List Message) (command : ℕ) (starts : List Start) (end : Place) → AllByRecursion (λ next. command < next.command) starts → AllByRecursion (λ next. command < next.command) (lists_until cats rels starts end)
+    until-after cats rels command [] end all = tt
+    until-after cats rels command (next ∷ starts) end all = (all.0, until-after cats rels command starts end all.1)
+
+pub lists-ordered : (cats rels : List Message) (ended : List Start) (running : Option Start) → AreInOrder (ended ++ option_to_list running) → AreOrdered (all_lists (lists_in cats rels ended running))
+lists-ordered cats rels ended running order = subst AreOrdered (sym (all-lists cats rels ended running)) (until-ordered cats rels (ended ++ option_to_list running) (end_of cats rels) order)
 
 pub begun-within : (ended : List Start) (running : Option Start) (command : ℕ) (end more : Place) → AreWithin (ended ++ option_to_list running) end → IsBefore end more
     → AreWithin (ended_by command ended running ++ running_by command end running ∷ []) more
@@ -159,7 +171,7 @@ ended-places ended (Some start) command places room = either (start.command == c
 
 -- the lists are kept well, whatever was added at the ends
 pub kept-begun : (cats rels more others : List Message) (ended : List Start) (running : Option Start) (command : ℕ) (places : ℕ) → AreKept cats rels ended places running
-    → AllByRecursion (λ list. list.command ≤ command) (all_lists (lists_in cats rels ended running)) → length ended + length (option_to_list running) + 1 ≤ places → length cats ≤ length more → length rels ≤ length others
+    → MayRun command (lists_in cats rels ended running) → length ended + length (option_to_list running) + 1 ≤ places → length cats ≤ length more → length rels ≤ length others
     → AreKept more others (ended_by command ended running) places (Some (running_by command (end_of cats rels) running))
 kept-begun cats rels more others ended running command places kept rising room low high = record {
   order = begun-order cats rels ended running command kept.order rising;

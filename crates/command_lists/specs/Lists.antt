@@ -1,5 +1,6 @@
 -- The messages of a transaction: the lists of its earlier commands, and the running command's.
-use Rattle.std.specs.Prelude.{ℕ, Bool, true, false, Option, Some, None, List, [], ◌∷◌, ◌++◌, ◌==◌, nat_lt, fold}
+use Rattle.std.specs.Prelude.{ℕ, ⊤, Bool, true, false, Option, Some, None, List, [], ◌∷◌, ◌++◌, ◌==◌, ◌≤◌, ◌<◌, nat_lt, fold}
+use Rattle.std.specs.List.{AllByRecursion}
 use Rattle.std.specs.Option.{option_map, option_map_or, option_to_list}
 use Rattle.inval_messages.specs.Lists.{Written, once_more, lists_before}
 use Rattle.command_lists.specs.Types.{Message, Cat, Rel}
@@ -21,6 +22,16 @@ no_lists = record { earlier = []; running = None }
 -- all lists in the order of their commands
 abbrev pub all_lists : CommandLists → List Written
 all_lists lists = lists.earlier ++ option_to_list lists.running
+
+-- the lists are in the order of their commands, one for each
+abbrev pub AreOrdered : List Written → Type 0
+AreOrdered [] = ⊤
+AreOrdered (list ∷ later) = AllByRecursion (λ next. list.command < next.command) later × AreOrdered later
+
+-- a command's list may run: those that have ended are of commands before it, and the one that runs is its own or of one before it
+pub record MayRun (command : ℕ) (lists : CommandLists) : Type 0 where
+  pub ended : AllByRecursion (λ list. list.command < command) lists.earlier
+  pub running : AllByRecursion (λ list. list.command ≤ command) (option_to_list lists.running)
 
 -- the list of a command that has registered nothing
 abbrev pub new_list : ℕ → Written

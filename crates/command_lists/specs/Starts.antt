@@ -1,5 +1,5 @@
 -- How the lists are kept: all catalog parts in one vector, all relation parts in another, and where each list begins in both.
-use Rattle.std.specs.Prelude.{ℕ, ⊤, Bool, true, false, Option, Some, None, List, [], ◌∷◌, ◌++◌, ◌==◌, ◌≤◌, ◌+◌, nat_lt, length}
+use Rattle.std.specs.Prelude.{ℕ, ⊤, Bool, true, false, Option, Some, None, List, [], ◌∷◌, ◌++◌, ◌==◌, ◌≤◌, ◌<◌, ◌+◌, nat_lt, length}
 use Rattle.std.specs.Option.{option_map, option_map_or, option_to_list}
 use Rattle.std.specs.List.{slice_range, AllByRecursion}
 use Rattle.inval_messages.specs.Lists.{Written}
@@ -53,10 +53,10 @@ running_until from (Some start) = elim (nat_lt start.command from) [ true ↦ So
 abbrev pub IsBefore : Place → Place → Type 0
 IsBefore a b = (a.cats ≤ b.cats) × (a.rels ≤ b.rels)
 
--- the lists are in the order of their commands
+-- the lists are in the order of their commands, one for each
 abbrev pub AreInOrder : List Start → Type 0
 AreInOrder [] = ⊤
-AreInOrder (start ∷ later) = AllByRecursion (λ next. start.command ≤ next.command) later × AreInOrder later
+AreInOrder (start ∷ later) = AllByRecursion (λ next. start.command < next.command) later × AreInOrder later
 
 -- none of the lists begins past the next one, and the last doesn't begin past the end
 abbrev pub AreWithin : List Start → Place → Type 0

@@ -1,5 +1,5 @@
 ghost use Rattle.std.specs.Prelude.{◌≡◌, ◌≤◌, ◌<◌, ◌+◌, OnOk};
-ghost use Rattle.std.specs.List.{AllByRecursion, list_any};
+ghost use Rattle.std.specs.List.{list_any};
 ghost use Rattle.inval_messages.specs.Messages.{same_message};
 ghost use Rattle.inval_messages.specs.Lists.{cats_in, rels_in, lists_from, has_write_from};
 ghost use Rattle.command_lists.specs.Starts.{end_of as whole};
@@ -37,7 +37,7 @@ impl Model for InvalLists {
 }
 
 impl InvalLists {
-    ghost use Rattle.command_lists.specs.Lists.{no_lists, all_lists, begun, registered, command_ended, aborted};
+    ghost use Rattle.command_lists.specs.Lists.{no_lists, all_lists, AreOrdered, MayRun, begun, registered, command_ended, aborted};
 
     /// No messages, which takes no memory.
     pub fn new(alloc: Global) -> InvalLists
@@ -67,10 +67,10 @@ impl InvalLists {
     }
 
     /// Lets the command's list run, even if no message comes. Conditions: a spare place, and no list of a
-    /// later command.
+    /// later command, nor one of this command that has ended.
     pub fn begin_command(&mut self, command: u32)
         requires place { 0 < self.old.spare }
-        requires order { AllByRecursion (λ list. list.command ≤ command) (all_lists self.old.lists) }
+        requires order { MayRun command self.old.lists }
         ensures lists { self.new.lists ≡ begun command self.old.lists }
         ensures spare { self.old.spare ≤ self.new.spare + 1 }
     {
@@ -82,10 +82,10 @@ impl InvalLists {
     /// Adds a message to the command's list, which runs from now on: one for a catalog cache always, one
     /// for a descriptor unless the list has it (`AddCatcacheInvalidationMessage` and
     /// `AddRelcacheInvalidationMessage` in inval.c). Conditions: a spare place, and no list of a later
-    /// command.
+    /// command, nor one of this command that has ended.
     pub fn register(&mut self, command: u32, message: Message)
         requires place { 0 < self.old.spare }
-        requires order { AllByRecursion (λ list. list.command ≤ command) (all_lists self.old.lists) }
+        requires order { MayRun command self.old.lists }
         ensures lists { self.new.lists ≡ registered command message self.old.lists }
         ensures spare { self.old.spare ≤ self.new.spare + 1 }
     {
@@ -140,9 +140,11 @@ impl InvalLists {
         self.running = None;
     }
 
-    /// Whether there is a list of this command or of one after it.
+    /// Whether there is a list of this command or of one after it. Each command has one list at most, and
+    /// they are in the order of their commands.
     pub fn has_from(&self, from: u32) -> bool
-        ensures { result ≡ has_write_from from (all_lists self.now.lists) }
+        ensures has { result ≡ has_write_from from (all_lists self.now.lists) }
+        ensures ordered { AreOrdered (all_lists self.now.lists) }
     {
         has_start_from(&self.ended, self.running, from)
     }

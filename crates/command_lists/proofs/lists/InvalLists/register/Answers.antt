@@ -1,16 +1,15 @@
 use Rattle.std.proofs.Common.{◌∙◌, ◌≤◌, ◌<◌, ◌+◌, ◌++◌, ◌∷◌, [], length, ap, sym, subst, arith, length-append}
-use Rattle.std.specs.List.{AllByRecursion}
 use Rattle.std.specs.Option.{option_to_list}
 use Rattle.std.specs.Vec.{vec_capacity}
 use Rattle.command_lists.specs.Types.{Cat, Rel}
-use Rattle.command_lists.specs.Lists.{all_lists, registered}
+use Rattle.command_lists.specs.Lists.{MayRun, registered}
 use Rattle.command_lists.proofs.Registering.{cat-registered, rel-registered, kept-begun}
 use Rattle.command_lists.proofs.lists.InvalLists.register.Goals as goal
 
 pub invariant_of-self : goal.invariant_of-self
 invariant_of-self c =
     let l = c.self.inside in
-    let rising = subst (λ held. AllByRecursion (λ list. list.command ≤ c.args.command) (all_lists held.lists)) (sym c.self.view_is) c.requires.order in
+    let rising = subst (λ held. MayRun c.args.command held.lists) (sym c.self.view_is) c.requires.order in
     let spare = subst (λ held. 0 < held.spare) (sym c.self.view_is) c.requires.place in
     let room : length l.ended.items + length (option_to_list l.running) + 1 ≤ vec_capacity l.ended = omega (arith, spare, l.ended.ok.0) in
     rw (c.begin-start.ensures.running, c.begin-start.ensures.ended, c.begin-start.ensures.capacity, c.push_reserved.ensures.items, c.end_of-end.ensures, c.deref.ensures.value, c.deref-2.ensures.value)
@@ -19,7 +18,7 @@ invariant_of-self c =
 pub invariant_of-self-then-not-is_among : goal.invariant_of-self-then-not-is_among
 invariant_of-self-then-not-is_among c =
     let l = c.self.inside in
-    let rising = subst (λ held. AllByRecursion (λ list. list.command ≤ c.args.command) (all_lists held.lists)) (sym c.self.view_is) c.requires.order in
+    let rising = subst (λ held. MayRun c.args.command held.lists) (sym c.self.view_is) c.requires.order in
     let spare = subst (λ held. 0 < held.spare) (sym c.self.view_is) c.requires.place in
     let room : length l.ended.items + length (option_to_list l.running) + 1 ≤ vec_capacity l.ended = omega (arith, spare, l.ended.ok.0) in
     rw (c.begin-start.ensures.running, c.begin-start.ensures.ended, c.begin-start.ensures.capacity, c.push_reserved-then-not-is_among.ensures.items, c.end_of-end.ensures, c.deref.ensures.value, c.deref-2.ensures.value)
