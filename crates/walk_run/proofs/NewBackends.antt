@@ -1,13 +1,23 @@
 -- The backends of a walk before its first step.
-use Rattle.std.proofs.Common.{◌≡◌, ◌≤◌, ◌<◌, ◌+◌, ◌∙◌, ℕ, zero, suc, Bool, true, false, ◌&&◌, Some, None, List, [], ◌∷◌, ◌++◌, ◌==◌, refl, sym, ap, subst, map, filter, length, slice_get, arith, ◌⊎◌, inl, inr}
+use Rattle.std.proofs.Common.{◌≡◌, ◌≤◌, ◌<◌, ◌+◌, ◌∙◌, ℕ, zero, suc, Bool, true, false, ◌&&◌, ◌||◌, Some, None, List, [], ◌∷◌, ◌++◌, ◌==◌, refl, sym, ap, subst, map, filter, length, slice_get, arith, ◌⊎◌, inl, inr}
 use Rattle.std.specs.List.{All, list_all}
+use Rattle.std.proofs.lemmas.Bool.{both_ways}
 use Rattle.std.proofs.lemmas.List.{length_push}
 use Rattle.std.proofs.lemmas.List.Elements.{All-nil, All-cons}
 use Rattle.base_types.specs.declared.command.Command.{Command}
 use Rattle.base_types.specs.declared.command.Placed.{Placed}
 use Rattle.base_types.specs.Scenario.{Scenario, IsBackend}
 use Rattle.ddl_effect.specs.Commands.{commands_of}
+use Rattle.ddl_effect.specs.Blocks.{no_block}
+use Rattle.ddl_effect.specs.Stages.{plan_at}
+use Rattle.command_lists.specs.Lists.{all_lists}
+use Rattle.history_model.specs.Read.{rows_read}
+use Rattle.cacheless.specs.declared.progress.Progress.{Progress}
+use Rattle.cacheless.specs.Facts.{facts_of}
+use Rattle.cacheless.specs.Holds.{ReadRight, FactsFit}
 use Rattle.cacheless.specs.Runs.{runs}
+use Rattle.cacheless.specs.State.{owed_at, running_of, is_kept, is_absent, IsNew as IsNewProgress}
+use Rattle.cacheless.proofs.EnteredLooks.{not_absent}
 use Rattle.backend_core.specs.declared.backend.Backend.{Backend}
 use Rattle.backend_core.specs.Agrees.{IsNew, Stands}
 use Rattle.walk_run.specs.Built.{is_built}
@@ -56,22 +66,40 @@ pub record Begins (s : Scenario) (bs : List Backend) (n : ℕ) : Type 0 where
 pub begins_none : (s : Scenario) → Begins s [] 0
 begins_none s = record { count = refl; each = λ i x (at : None ≡ Some x). absurd (cc) }
 
+-- the facts of a backend that has no entry
+facts_none : (b : ℕ) (commands : List Command) (p : Progress) → IsNewProgress b commands p → FactsFit (facts_of [] b) p
+facts_none b commands p new = record {
+  running = sym (ap running_of new.running);
+  lists = sym (ap all_lists new.lists);
+  owed = sym (ap owed_at new.due);
+  usable = λ scan is. sym (ap (λ k. is_kept k scan) new.kept);
+  kept = subst (All (ReadRight (rows_read [] b))) (sym new.kept) (All-nil (ReadRight (rows_read [] b)));
+  given = λ is. absurd (both_ways _ (ap (λ t. t || is_absent (plan_at p.exec)) new.read ∙ ap is_absent new.plan ∙ not_absent no_block (slice_get commands 0)) is);
+}
+
 -- a new backend stands before the first entry
 new_stands : (s : Scenario) (x : Backend) (b : ℕ) → is_built s ≡ true → length s.commands ≤ 20000 → IsBackend s.backends b → IsNew x b (commands_of s b) → Stands s [] x
 new_stands s x b built few number new = subst (StandsAs s [] x) (sym new.life) (record {
-  number = subst (IsBackend s.backends) (sym new.id_is) number;
-  commands = commands;
-  built = subst (All IsBuilt) (sym new.commands_are) (built_own s b built);
-  few = omega (arith, few, few_among b s.commands, ap length new.commands_are);
-  new = subst (IsNew x x.id) (sym new.commands_are) (subst (λ k. IsNew x k (commands_of s b)) (sym new.id_is) new);
+  waits = record {
+    number = subst (IsBackend s.backends) (sym new.progress.number) number;
+    commands = commands;
+    few = omega (arith, few, few_among b s.commands, ap length new.progress.commands_are);
+    new = own.progress;
+    facts = facts_none x.progress.id x.progress.commands x.progress own.progress;
+  };
+  built = subst (All IsBuilt) (sym new.progress.commands_are) (built_own s b built);
+  new = own;
   session = refl;
   facts = refl;
   life = refl;
   unwritten = λ c. refl;
 })
   where
-    commands : x.commands ≡ commands_of s x.id
-    commands = new.commands_are ∙ ap (commands_of s) (sym new.id_is)
+    commands : x.progress.commands ≡ commands_of s x.progress.id
+    commands = new.progress.commands_are ∙ ap (commands_of s) (sym new.progress.number)
+
+    own : IsNew x x.progress.id x.progress.commands
+    own = subst (IsNew x x.progress.id) (sym new.progress.commands_are) (subst (λ k. IsNew x k (commands_of s b)) (sym new.progress.number) new)
 
 last_or_before : {X : Type 0} (xs : List X) (y x : X) (i : ℕ) → slice_get (xs ++ y ∷ []) i ≡ Some x → (slice_get xs i ≡ Some x) ⊎ ((i ≡ length xs) × (y ≡ x))
 last_or_before [] y x zero at = inr (refl, cc)
@@ -95,7 +123,7 @@ begins_more s bs n y commands built few copies begins within new = record {
     by_place i x (inl before) = begins.each i x before
     by_place i x (inr last) =
         let here : n + 1 ≡ i + 1 = omega (arith, last.0, begins.count) in
-        subst (StandsAt s [] (i + 1)) last.1 (record { id = new.id_is ∙ here; stands = new_stands s y (n + 1) built few (omega arith, omega (arith, within)) (subst (IsNew y (n + 1)) copies new) })
+        subst (StandsAt s [] (i + 1)) last.1 (record { id = new.progress.number ∙ here; stands = new_stands s y (n + 1) built few (omega arith, omega (arith, within)) (subst (IsNew y (n + 1)) copies new) })
 
 -- all backends stand before the first entry
 pub begins_stand : (s : Scenario) (bs : List Backend) → Begins s bs s.backends → AllStand s [] bs

@@ -11,7 +11,7 @@ use Rattle.history_model.proofs.Prefixes.{EachEntry-more}
 use Rattle.history_model.proofs.Reading.{life_of-other}
 use Rattle.cacheless.specs.Schedule.{FollowsSchedule, IsComplete, is_stopped, has_stopped, turns_by, turns_left}
 use Rattle.backend_core.specs.declared.backend.Backend.{Backend}
-use Rattle.backend_core.specs.State.{has_left}
+use Rattle.backend_core.specs.Words.{has_left}
 use Rattle.walk_run.specs.Walks.{AllStand, InTurn, GoesOn, IsRunning, Makes}
 use Rattle.walk_run.proofs.ScheduleSteps.{stand_more, stands_there, stopped_at}
 

@@ -16,9 +16,9 @@ use Rattle.history_model.proofs.Prefixes.{EachEntry-more, along-more}
 use Rattle.cacheless.specs.MayEnter.{MayEnter}
 use Rattle.cacheless.specs.Schedule.{FollowsSchedule, IsComplete, is_stopped, has_stopped, pass_stopped, steps_after, turns_by, turns_left}
 use Rattle.backend_core.specs.declared.backend.Backend.{Backend}
-use Rattle.backend_core.specs.declared.phase.Life.{Life}
-use Rattle.backend_core.specs.declared.phase.Life.TheVariants as lives
-use Rattle.backend_core.specs.State.{has_left}
+use Rattle.backend_core.specs.declared.life.Life.{Life}
+use Rattle.backend_core.specs.declared.life.Life.TheVariants as lives
+use Rattle.backend_core.specs.Words.{has_left}
 use Rattle.backend_core.specs.Agrees.{HasNotJoined, AwaitsEntry, HasLeft, Stands}
 use Rattle.backend_core.specs.Steps.{MakesEntry, Steps}
 use Rattle.backend_core.proofs.Others.{Stands-other}
@@ -30,12 +30,12 @@ abbrev pub StandsAs : Scenario → List Entry → Backend → Life → Type 0
 StandsAs s h x life = elim life [ lives.Unstarted ↦ HasNotJoined s h x | lives.Alive ↦ AwaitsEntry s h x | lives.Stopped ↦ HasLeft s h x ]
 
 -- whether a backend has left, the history says too
-pub stopped_as : (s : Scenario) (h : List Entry) (x : Backend) → Stands s h x → has_stopped h x.id ≡ has_left x.life
+pub stopped_as : (s : Scenario) (h : List Entry) (x : Backend) → Stands s h x → has_stopped h x.progress.id ≡ has_left x.life
 stopped_as s h x stands = of x.life stands
   where
-    of : (life : Life) → StandsAs s h x life → has_stopped h x.id ≡ has_left life
+    of : (life : Life) → StandsAs s h x life → has_stopped h x.progress.id ≡ has_left life
     of lives.Unstarted new = ap is_stopped new.life
-    of lives.Alive awaits = ap is_stopped awaits.agrees.life.alive
+    of lives.Alive awaits = ap is_stopped awaits.keeps.life.alive
     of lives.Stopped left = ap is_stopped left.life
 
 -- the history of one step more
@@ -43,8 +43,8 @@ entered_more : (s : Scenario) (h h' : List Entry) (had has : ℕ → ℕ) (b : �
 entered_more s h h' had has b entered makes = subst (EachEntry (MayEnter s)) (sym makes.is) (EachEntry-more (MayEnter s) h makes.entry entered makes.may)
 
 -- the entry of a step isn't another backend's
-entry_apart : (e : Entry) (was other : Backend) (i j : ℕ) → e.backend ≡ was.id → was.id ≡ i + 1 → other.id ≡ j + 1 → i ≢ j → (e.backend == other.id) ≡ false
-entry_apart e was other i j own mine theirs apart = ne_eqb e.backend other.id (λ same. apart (omega arith))
+entry_apart : (e : Entry) (was other : Backend) (i j : ℕ) → e.backend ≡ was.progress.id → was.progress.id ≡ i + 1 → other.progress.id ≡ j + 1 → i ≢ j → (e.backend == other.progress.id) ≡ false
+entry_apart e was other i j own mine theirs apart = ne_eqb e.backend other.progress.id (λ same. apart (omega arith))
 
 -- what stands where a list was set
 get_of_set : {X : Type 0} (xs : List X) (i : ℕ) (now was found : X) → slice_get xs i ≡ Some was → slice_get (slice_set xs i now) i ≡ Some found → found ≡ now
@@ -70,12 +70,12 @@ same_or_not i j = of (eqb_tells i j)
 -- the backends stand after a step of one of them
 pub stand_more : (s : Scenario) (h h' : List Entry) (had has : ℕ → ℕ) (bs : List Backend) (i : ℕ) (was now : Backend) → AllStand s h bs → slice_get bs i ≡ Some was → Steps s h h' had has was now → AllStand s h' (slice_set bs i now)
 stand_more s h h' had has bs i was now stand is steps = record {
-  entered = entered_more s h h' had has was.id stand.entered steps.makes;
+  entered = entered_more s h h' had has was.progress.id stand.entered steps.makes;
   count = length-set bs i now ∙ stand.count;
   each = λ j backend at. by_place j backend at (same_or_not i j);
 }
   where
-    mine : was.id ≡ i + 1
+    mine : was.progress.id ≡ i + 1
     mine = (stand.each i was is).id
 
     by_place : (j : ℕ) (backend : Backend) → slice_get (slice_set bs i now) j ≡ Some backend → (i ≡ j) ⊎ (i ≢ j) → StandsAt s h' (j + 1) backend
@@ -83,7 +83,7 @@ stand_more s h h' had has bs i was now stand is steps = record {
         let here : slice_get (slice_set bs i now) i ≡ Some backend = ap (slice_get (slice_set bs i now)) same ∙ at in
         let there : backend ≡ now = get_of_set bs i now was backend is here in
         record {
-          id = ap (λ x. x.id) there ∙ steps.id ∙ mine ∙ ap (λ x. x + 1) same;
+          id = ap (λ x. x.progress.id) there ∙ steps.id ∙ mine ∙ ap (λ x. x + 1) same;
           stands = subst (Stands s h') (sym there) steps.stands;
         }
     by_place j backend at (inr apart) =

@@ -10,11 +10,12 @@ use Rattle.cacheless.specs.Sessions.{session_of}
 use Rattle.cacheless.specs.Lines.{lines_from, lines_of_backend, lines_of}
 use Rattle.ddl_effect.specs.Commands.{commands_of}
 use Rattle.backend_core.specs.declared.backend.Backend.{Backend}
-use Rattle.backend_core.specs.declared.phase.Life.{Life}
-use Rattle.backend_core.specs.declared.phase.Life.TheVariants as lives
+use Rattle.backend_core.specs.declared.life.Life.{Life}
+use Rattle.backend_core.specs.declared.life.Life.TheVariants as lives
 use Rattle.backend_core.specs.Agrees.{Stands}
 use Rattle.backend_core.specs.Coherent.{IsCoherent}
 use Rattle.backend_core.proofs.Coherent.{stands_coherent}
+use Rattle.backend_core.proofs.Own.{waiting, waiting_is}
 use Rattle.backend_core.proofs.Played.{entered_played}
 use Rattle.walk_run.specs.Sessions.{transcripts_of, AreSessions}
 use Rattle.walk_run.specs.Walks.{AllStand, StandsAt}
@@ -25,23 +26,22 @@ lines_finished : (s : Scenario) (h : List Entry) (b : ℕ) (finished : List Fini
 lines_finished s h b finished are = ap (λ f. lines_from s h b 1 f (commands_of s b)) are
 
 -- the transcript of a backend is its part of the lines
-pub part_of : (s : Scenario) (h : List Entry) (x : Backend) → Stands s h x → x.lines ≡ lines_of_backend s h x.id
+pub part_of : (s : Scenario) (h : List Entry) (x : Backend) → Stands s h x → x.lines ≡ lines_of_backend s h x.progress.id
 part_of s h x stands = of x.life stands
   where
-    of : (life : Life) → StandsAs s h x life → x.lines ≡ lines_of_backend s h x.id
-    of lives.Unstarted new = new.new.lines ∙ sym (lines_finished s h x.id [] (ap (λ o. option_map_or (λ now. now.finished) o []) new.session))
+    of : (life : Life) → StandsAs s h x life → x.lines ≡ lines_of_backend s h x.progress.id
+    of lives.Unstarted new = new.new.lines ∙ sym (lines_finished s h x.progress.id [] (ap (λ o. option_map_or (λ now. now.finished) o []) new.session))
     of lives.Alive awaits =
-        let agrees = awaits.agrees in
-        agrees.lines ∙ ap (lines_from s h x.id 1 agrees.rest.finished) agrees.commands
-        ∙ sym (lines_finished s h x.id agrees.rest.finished (ap (λ o. option_map_or (λ now. now.finished) o []) agrees.is ∙ ap (λ now. now.finished) awaits.waits))
-    of lives.Stopped left = left.lines ∙ sym (lines_finished s h x.id left.finished left.are)
+        awaits.tells.lines ∙ ap (lines_from s h x.progress.id 1 (waiting awaits).finished) awaits.rests.holds.commands
+        ∙ sym (lines_finished s h x.progress.id (waiting awaits).finished (ap (λ o. option_map_or (λ now. now.finished) o []) (waiting_is s h x awaits)))
+    of lives.Stopped left = left.lines
 
 each_part : (s : Scenario) (h : List Entry) (bs : List Backend) (a : ℕ) → ((i : ℕ) (backend : Backend) → slice_get bs i ≡ Some backend → StandsAt s h (a + i) backend)
     → transcripts_of bs ≡ flat_map (lines_of_backend s h) (range_with_len a (length bs))
 each_part s h [] a each = refl
 each_part s h (x ∷ bs) a each =
     let at = each 0 x refl in
-    let id : x.id ≡ a = at.id ∙ omega arith in
+    let id : x.progress.id ≡ a = at.id ∙ omega arith in
     let first : x.lines ≡ lines_of_backend s h a = part_of s h x at.stands ∙ ap (lines_of_backend s h) id in
     ap (λ ls. ls ++ transcripts_of bs) first ∙ ap (λ ls. lines_of_backend s h a ++ ls) (each_part s h bs (a + 1) (λ i backend is. let n : a + suc i ≡ a + 1 + i = omega arith in subst (λ k. StandsAt s h k backend) n (each (suc i) backend is)))
     ∙ range_step a (length bs)
@@ -49,11 +49,11 @@ each_part s h (x ∷ bs) a each =
     range_step : (a n : ℕ) → lines_of_backend s h a ++ flat_map (lines_of_backend s h) (range_with_len (a + 1) n) ≡ flat_map (lines_of_backend s h) (range_with_len a (suc n))
     range_step a n = refl
 
-each_number : (s : Scenario) (h : List Entry) (bs : List Backend) (a : ℕ) → ((i : ℕ) (backend : Backend) → slice_get bs i ≡ Some backend → StandsAt s h (a + i) backend) → map (λ x. x.id) bs ≡ range_with_len a (length bs)
+each_number : (s : Scenario) (h : List Entry) (bs : List Backend) (a : ℕ) → ((i : ℕ) (backend : Backend) → slice_get bs i ≡ Some backend → StandsAt s h (a + i) backend) → map (λ x. x.progress.id) bs ≡ range_with_len a (length bs)
 each_number s h [] a each = refl
 each_number s h (x ∷ bs) a each =
-    let id : x.id ≡ a = (each 0 x refl).id ∙ omega arith in
-    ap (λ n. n ∷ map (λ y. y.id) bs) id
+    let id : x.progress.id ≡ a = (each 0 x refl).id ∙ omega arith in
+    ap (λ n. n ∷ map (λ y. y.progress.id) bs) id
     ∙ ap (λ ns. a ∷ ns) (each_number s h bs (a + 1) (λ i backend is. let n : a + suc i ≡ a + 1 + i = omega arith in subst (λ k. StandsAt s h k backend) n (each (suc i) backend is)))
     ∙ range_step a (length bs)
   where
@@ -76,7 +76,7 @@ transcripts_are s h bs stand = each_part s h bs 1 (from_one s h bs stand) ∙ ap
 pub stand_sessions : (s : Scenario) (h : List Entry) (bs : List Backend) → AllStand s h bs → AreSessions s h (transcripts_of bs) bs
 stand_sessions s h bs stand = record {
   numbers = each_number s h bs 1 (from_one s h bs stand) ∙ ap (range_with_len 1) stand.count;
-  parts = all_at (λ x. x.lines ≡ lines_of_backend s h x.id) bs (λ i x is. part_of s h x (stand.each i x is).stands);
+  parts = all_at (λ x. x.lines ≡ lines_of_backend s h x.progress.id) bs (λ i x is. part_of s h x (stand.each i x is).stands);
   transcripts = refl;
 }
 

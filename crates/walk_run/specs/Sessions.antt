@@ -13,6 +13,6 @@ transcripts_of backends = flat_map (λ s. s.lines) backends
 
 -- the backends of the script in order of their numbers: the transcript of each is its part of the lines of the history, and one after another they are the lines
 pub record AreSessions (scenario : Scenario) (history : List Entry) (lines : List Line) (backends : List Backend) : Type 0 where
-  pub numbers : map (λ s. s.id) backends ≡ range_with_len 1 scenario.backends
-  pub parts : All (λ s. s.lines ≡ lines_of_backend scenario history s.id) backends
+  pub numbers : map (λ s. s.progress.id) backends ≡ range_with_len 1 scenario.backends
+  pub parts : All (λ s. s.lines ≡ lines_of_backend scenario history s.progress.id) backends
   pub transcripts : lines ≡ transcripts_of backends

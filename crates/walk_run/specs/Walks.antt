@@ -10,7 +10,7 @@ use Rattle.cacheless.specs.Output.{IsAllowed}
 use Rattle.cacheless.specs.Schedule.{FollowsSchedule, AreLooksTrue, IsComplete, has_stopped, pass_stopped, steps_after}
 use Rattle.cacheless.specs.Lines.{lines_of}
 use Rattle.backend_core.specs.declared.backend.Backend.{Backend}
-use Rattle.backend_core.specs.State.{has_left}
+use Rattle.backend_core.specs.Words.{has_left}
 use Rattle.backend_core.specs.Agrees.{Stands}
 use Rattle.backend_core.specs.Steps.{Steps}
 
@@ -25,7 +25,7 @@ pub record IsWalk (scenario : Scenario) (history : List Entry) (lines : List Lin
 
 -- a backend with its number stands in the history
 pub record StandsAt (scenario : Scenario) (history : List Entry) (b : ℕ) (backend : Backend) : Type 0 where
-  pub id : backend.id ≡ b
+  pub id : backend.progress.id ≡ b
   pub stands : Stands scenario history backend
 
 -- each entry of the history was one that might be made, and each backend of the script stands in it
