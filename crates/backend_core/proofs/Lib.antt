@@ -16,3 +16,4 @@ pub mod Chosen
 pub mod Joining
 pub mod Looks
 pub mod Leaving
+pub mod NewFacts

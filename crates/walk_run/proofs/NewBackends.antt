@@ -1,25 +1,16 @@
 -- The backends of a walk before its first step.
-use Rattle.std.proofs.Common.{◌≡◌, ◌≤◌, ◌<◌, ◌+◌, ◌∙◌, ℕ, zero, suc, Bool, true, false, ◌&&◌, ◌||◌, Some, None, List, [], ◌∷◌, ◌++◌, ◌==◌, refl, sym, ap, subst, map, filter, length, slice_get, arith, ◌⊎◌, inl, inr}
+use Rattle.std.proofs.Common.{◌≡◌, ◌≤◌, ◌<◌, ◌+◌, ◌∙◌, ℕ, zero, suc, Bool, true, false, ◌&&◌, Some, None, List, [], ◌∷◌, ◌++◌, ◌==◌, refl, sym, ap, subst, map, filter, length, slice_get, arith, ◌⊎◌, inl, inr}
 use Rattle.std.specs.List.{All, list_all}
-use Rattle.std.proofs.lemmas.Bool.{both_ways}
 use Rattle.std.proofs.lemmas.List.{length_push}
 use Rattle.std.proofs.lemmas.List.Elements.{All-nil, All-cons}
 use Rattle.base_types.specs.declared.command.Command.{Command}
 use Rattle.base_types.specs.declared.command.Placed.{Placed}
 use Rattle.base_types.specs.Scenario.{Scenario, IsBackend}
 use Rattle.ddl_effect.specs.Commands.{commands_of}
-use Rattle.ddl_effect.specs.Blocks.{no_block}
-use Rattle.ddl_effect.specs.Stages.{plan_at}
-use Rattle.command_lists.specs.Lists.{all_lists}
-use Rattle.history_model.specs.Read.{rows_read}
-use Rattle.cacheless.specs.declared.progress.Progress.{Progress}
-use Rattle.cacheless.specs.Facts.{facts_of}
-use Rattle.cacheless.specs.Holds.{ReadRight, FactsFit}
 use Rattle.cacheless.specs.Runs.{runs}
-use Rattle.cacheless.specs.State.{owed_at, running_of, is_kept, is_absent, IsNew as IsNewProgress}
-use Rattle.cacheless.proofs.EnteredLooks.{not_absent}
 use Rattle.backend_core.specs.declared.backend.Backend.{Backend}
 use Rattle.backend_core.specs.Agrees.{IsNew, Stands}
+use Rattle.backend_core.proofs.NewFacts.{facts_none}
 use Rattle.walk_run.specs.Built.{is_built}
 use Rattle.walk_run.specs.Walks.{AllStand, StandsAt}
 use Rattle.walk_run.proofs.ScheduleSteps.{StandsAs}
@@ -65,17 +56,6 @@ pub record Begins (s : Scenario) (bs : List Backend) (n : ℕ) : Type 0 where
 -- none yet
 pub begins_none : (s : Scenario) → Begins s [] 0
 begins_none s = record { count = refl; each = λ i x (at : None ≡ Some x). absurd (cc) }
-
--- the facts of a backend that has no entry
-facts_none : (b : ℕ) (commands : List Command) (p : Progress) → IsNewProgress b commands p → FactsFit (facts_of [] b) p
-facts_none b commands p new = record {
-  running = sym (ap running_of new.running);
-  lists = sym (ap all_lists new.lists);
-  owed = sym (ap owed_at new.due);
-  usable = λ scan is. sym (ap (λ k. is_kept k scan) new.kept);
-  kept = subst (All (ReadRight (rows_read [] b))) (sym new.kept) (All-nil (ReadRight (rows_read [] b)));
-  given = λ is. absurd (both_ways _ (ap (λ t. t || is_absent (plan_at p.exec)) new.read ∙ ap is_absent new.plan ∙ not_absent no_block (slice_get commands 0)) is);
-}
 
 -- a new backend stands before the first entry
 new_stands : (s : Scenario) (x : Backend) (b : ℕ) → is_built s ≡ true → length s.commands ≤ 20000 → IsBackend s.backends b → IsNew x b (commands_of s b) → Stands s [] x
