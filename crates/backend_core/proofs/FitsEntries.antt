@@ -8,8 +8,10 @@ use Rattle.ddl_effect.specs.Blocks.{Block, Blocks, Outside, Inside, Failed, no_b
 use Rattle.history_model.specs.Transactions.{Running, begun, is_visible}
 use Rattle.history_model.specs.Writes.{is_empty}
 use Rattle.cacheless.specs.Facts.{Facts}
-use Rattle.cacheless.specs.Session.{Session, number_of, plan_first, refused_first}
+use Rattle.cacheless.specs.Session.{Session, number_of, outcome_of, is_settled, plan_first, refused_first}
 use Rattle.cacheless.specs.Owed.{begins}
+use Rattle.cacheless.specs.State.{is_absent}
+use Rattle.cacheless.proofs.EnteredLooks.{not_absent}
 use Rattle.backend_core.specs.Types.{Command}
 use Rattle.backend_core.specs.Fits.{LooksFit, first_at, RunsBy, TransactionFits, Fits}
 use Rattle.backend_core.proofs.NextTransaction.{some_first}
@@ -26,7 +28,7 @@ pub record StaysAt (s later : Session) : Type 0 where
   pub finished : length later.finished ≡ length s.finished
   pub blocked : later.blocked ≡ s.blocked
   pub ended : later.ended ≡ s.ended
-  pub left : s.blocked ≡ true → later.left ≡ s.left
+  pub left : is_settled (outcome_of s.left) ≡ true → is_absent s.left ≡ false → later.left ≡ s.left
 
 begun_first : (number : ℕ) (own : Option Running) → (begun number own).first ≡ option_map_or (λ t. t.first) own number
 begun_first number None = refl
@@ -90,7 +92,8 @@ fits_inside facts later o s now looked to_build looked_now to_build_now command 
   opens = subst (λ b. is_open b ≡ not (is_empty b.levels)) (sym same.blocks) fits.opens;
   levels = subst (λ b. innermost (number_of now) b.levels ≤ number_of now) (sym same.blocks) (subst (λ n. innermost n s.blocks.levels ≤ n) (sym (ap (λ n. n + 1) same.finished)) fits.levels);
   blocked = same.blocked ∙ fits.blocked ∙ ap (λ b. is_some (refused_first b o)) (sym same.blocks);
-  refused = λ is. same.left (sym same.blocked ∙ is) ∙ fits.refused (sym same.blocked ∙ is) ∙ ap (λ b. plan_first b o) (sym same.blocks);
+  settled = λ is. let first = fits.settled (ap (λ b. is_settled (outcome_of (plan_first b o))) (sym same.blocks) ∙ is) in
+      same.left (ap (λ p. is_settled (outcome_of p)) first ∙ ap (λ b. is_settled (outcome_of (plan_first b o))) (sym same.blocks) ∙ is) (ap is_absent first ∙ not_absent s.blocks o) ∙ first ∙ ap (λ b. plan_first b o) (sym same.blocks);
   written = stays.written;
   visible = λ is. absurd (both_ways _ (ap (λ r. is_visible r) stays.runs ∙ begun_hidden (number_of s) facts.running hidden) is);
   taken = λ from is. absurd (stays.last from is);

@@ -38,7 +38,7 @@ fits_act facts o s looked to_build command act further given at left going fits 
   opens = fits.opens;
   levels = fits.levels;
   blocked = fits.blocked;
-  refused = λ is. absurd (unsettled (ap (λ p. is_settled (outcome_of p)) (fits.refused is) ∙ refused_fails o s (sym fits.blocked ∙ is)));
+  settled = λ is. absurd (unsettled (ap (λ p. is_settled (outcome_of p)) (fits.settled is) ∙ is));
   written = fits.written;
   visible = λ is. absurd (unsettled (fits.visible is).out);
   taken = λ from is. absurd (unsettled (fits.taken from is).out);
@@ -127,7 +127,7 @@ fits_pass facts o s looked to_build command next at finished fits = record {
   opens = levels.opens;
   levels = subst (λ n. innermost n now.blocks.levels ≤ n) (sym counts) levels.low;
   blocked = refl;
-  refused = λ is. refl;
+  settled = λ is. refl;
   written = fits.written;
   visible = λ is. absurd (on_its_way facts o s looked to_build command _ done fits (visible_runs facts.running is) (let c = fits.visible is in
       ap (next_of_end facts) (subst (λ x. end_of facts x s ≡ Commits (first_at facts)) (one c.command c.at) c.end)));

@@ -60,7 +60,7 @@ fits_first facts o at runs lists last = record {
   opens = refl;
   levels = omega arith;
   blocked = refl;
-  refused = λ is. refl;
+  settled = λ is. refl;
   written = λ is. absurd (both_ways _ (ap (has_write_from 0) lists) is);
   visible = λ is. absurd (both_ways _ (ap (λ r. is_visible r) runs) is);
   taken = λ from is. absurd (let both : Some events.Start ≡ Some (events.Gone from) = sym last ∙ is in cc both);

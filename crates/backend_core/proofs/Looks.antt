@@ -125,7 +125,7 @@ module _ (scenario : Scenario) (old : List Entry) (was : Backend) (waits : Await
   look_fits looked to_build goes hid looks = subst (λ o. Fits later o now looked to_build) (sym at) (fits_inside facts later (Some command) s now was.looked was.looked_to_build looked to_build command refl
       (subst (λ o. Fits facts o s was.looked was.looked_to_build) at waits.fits)
       (record { runs = begun_number (was.progress.finished + 1) (number_of s) facts.running number_is; written = λ is. begun_written (was.progress.finished + 1) facts.running (waits.fits.written is); last = λ from is. cc is })
-      (record { blocks = refl; finished = refl; blocked = refl; ended = refl; left = λ is. refl }) goes hid going looks)
+      (record { blocks = refl; finished = refl; blocked = refl; ended = refl; left = λ is there. refl }) goes hid going looks)
 
 -- and after it the backend agrees
 pub look_enters : (scenario : Scenario) (old new : List Entry) (had has : ℕ → ℕ) (was : Backend) (p : Progress) (some_wait : Bool) (waits : AwaitsEntry scenario old was) → IsPlayed scenario old → AllOnCourse scenario old → OwesLookNow was.progress → some_wait ≡ is_waiting old was.progress.id
