@@ -39,11 +39,11 @@ use Rattle.backend_core.specs.Steps.{IsFree, OwesLookNow, IsLookNext, IsScanNext
 use Rattle.backend_core.specs.Words.{is_looked_for}
 use Rattle.backend_core.proofs.Own.{waiting, waiting_course, OwnEntry}
 
-one_at_most : (t : Bool) → one_if t ≤ 1
+pub one_at_most : (t : Bool) → one_if t ≤ 1
 one_at_most true = omega arith
 one_at_most false = omega arith
 
-started_most : (number : ℕ) (facts : Facts) → started_in number facts ≤ 1
+pub started_most : (number : ℕ) (facts : Facts) → started_in number facts ≤ 1
 started_most number facts = by_own facts.running
   where
     one : (t : Bool) → elim t as (λ x. ℕ) [ true ↦ 1 | false ↦ 0 ] ≤ 1
@@ -54,13 +54,8 @@ started_most number facts = by_own facts.running
     by_own None = omega arith
     by_own (Some t) = one (t.first == number)
 
--- the looks are within their bound where one is due, the transaction hasn't started, or none was made for one of the two kinds of scans
-may_look_by : (facts : Facts) (s : Session) (looked to_build : Bool) → LooksFit facts s looked to_build → (1 ≤ looks_due (owed_after facts.last)) ⊎ (started_in (number_of s) facts + one_if looked + one_if to_build ≤ 2) → s.tally.looks + 1 ≤ s.tally.scans + s.tally.grants + 2 * s.tally.fetches + 3
-may_look_by facts s looked to_build fits (inl due) = omega (arith, fits.within, due, started_most (number_of s) facts, one_at_most looked, one_at_most to_build)
-may_look_by facts s looked to_build fits (inr few) = omega (arith, fits.within, few)
-
 -- a look may come where no fetch is owed
-look_may : (facts : Facts) (s : Session) → (owed_after facts.last ≡ []) ⊎ (owed_after facts.last ≡ OwesLook ∷ []) → s.tally.looks + 1 ≤ s.tally.scans + s.tally.grants + 2 * s.tally.fetches + 3 → may_look facts s ≡ true
+pub look_may : (facts : Facts) (s : Session) → (owed_after facts.last ≡ []) ⊎ (owed_after facts.last ≡ OwesLook ∷ []) → s.tally.looks + 1 ≤ s.tally.scans + s.tally.grants + 2 * s.tally.fetches + 3 → may_look facts s ≡ true
 look_may facts s (inl none) low = ap (λ l. elim l as (λ x. Bool) [ OwesFetch ∷ owed ↦ false | owed ↦ nat_le (s.tally.looks + 1) (s.tally.scans + s.tally.grants + 2 * s.tally.fetches + 3) ]) none ∙ le-leb _ _ low
 look_may facts s (inr look) low = ap (λ l. elim l as (λ x. Bool) [ OwesFetch ∷ owed ↦ false | owed ↦ nat_le (s.tally.looks + 1) (s.tally.scans + s.tally.grants + 2 * s.tally.fetches + 3) ]) look ∙ le-leb _ _ low
 
@@ -70,7 +65,7 @@ pub data Busy (p : Progress) (command : Command) : Type 0 where
   Acts : is_out p ≡ false → Busy p command
 
 module _ (scenario : Scenario) (seen : List Entry) (s : Backend) (waits : AwaitsEntry scenario seen s) (command : Command) (at : command_at s ≡ Some command) where
-  facts : Facts
+  abbrev facts : Facts
   facts = facts_of seen s.progress.id
 
   owes_same : is_empty (owed_of facts command (waiting waits)) ≡ owes_nothing command s.progress
@@ -120,7 +115,3 @@ module _ (scenario : Scenario) (seen : List Entry) (s : Backend) (waits : Awaits
   -- what the code's words let come next may come next
   pub now_plays : (event : Event) → may_play_now (next_oid seen) s.progress event ≡ true → MayPlayIn (next_oid seen) facts (command_at s) (waiting waits) event
   now_plays event may = (holds_decides s.progress (next_oid seen) event true (sym may) scenario seen waits.rests.holds).0 refl
-
-look_true : (seen : List Entry) (b : ℕ) (some_wait : Bool) → is_waiting seen b ≡ some_wait → LooksTruly seen b (events.Look some_wait)
-look_true seen b true is = tt
-look_true seen b false is = is

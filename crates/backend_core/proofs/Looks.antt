@@ -1,11 +1,10 @@
 -- The looks of a backend.
-use Rattle.std.proofs.Common.{◌≡◌, ◌≢◌, ◌≤◌, ◌<◌, ◌+◌, ◌*◌, ◌∙◌, ◌⊎◌, inl, inr, ◌==◌, ◌&&◌, ℕ, Bool, true, false, not, Option, Some, None, List, [], ◌∷◌, ◌++◌, refl, sym, ap, subst, length, drop, slice_get, is_none, is_some, All, get_or, if◌then◌else◌, arith}
+use Rattle.std.proofs.Common.{◌≡◌, ◌≢◌, ◌≤◌, ◌<◌, ◌+◌, ◌*◌, ◌∙◌, ◌⊎◌, inl, inr, ◌==◌, ◌&&◌, ◌||◌, ℕ, Bool, true, false, not, Option, Some, None, List, [], ◌∷◌, ◌++◌, refl, sym, ap, subst, length, drop, is_none, is_some, All, arith}
 use Rattle.std.specs.Option.{option_map_or}
 use Rattle.std.proofs.Math.Bool.{and-false}
-use Rattle.std.proofs.lemmas.Bool.{both_ways, eq-eqb}
+use Rattle.std.proofs.lemmas.Bool.{eq-eqb}
 use Rattle.event_kinds.specs.declared.entry.Event.TheVariants as events
-use Rattle.ddl_effect.specs.Blocks.{Outside, Inside, Failed}
-use Rattle.ddl_effect.specs.Commands.{commands_of}
+use Rattle.ddl_effect.specs.Blocks.{Block, Outside, Inside, Failed, no_block, ends_block, refused_by}
 use Rattle.history_model.specs.Drawn.{next_oid}
 use Rattle.history_model.specs.Legal.{AllowsEvent}
 use Rattle.history_model.specs.Log.{is_waiting}
@@ -13,7 +12,6 @@ use Rattle.history_model.specs.Transactions.{Running, begun, is_visible}
 use Rattle.history_model.specs.Writes.{is_empty}
 use Rattle.history_model.proofs.Sound.{sound_is_legal}
 use Rattle.history_model.proofs.Waiting.{not_waited}
-use Rattle.inval_messages.specs.Lists.{has_write_from}
 use Rattle.seg_calls.specs.Calls.{entry_of, MayCall, Appends}
 use Rattle.cacheless.specs.declared.progress.Due.TheVariants as dues
 use Rattle.cacheless.specs.declared.progress.OwnTransaction.{OwnTransaction}
@@ -21,21 +19,21 @@ use Rattle.cacheless.specs.Facts.{Facts, facts_of, facts_by}
 use Rattle.cacheless.specs.Holds.{HasEntered, with_own}
 use Rattle.cacheless.specs.May.{lacks_any, owes_nothing}
 use Rattle.cacheless.specs.OnCourse.{AllOnCourse}
-use Rattle.cacheless.specs.Owed.{Owes as Owing, OwesLook, owed_after}
+use Rattle.cacheless.specs.Owed.{Owes as Owing, OwesLook, owed_after, begins}
 use Rattle.cacheless.specs.Plays.{started_in, MayPlayIn}
 use Rattle.cacheless.specs.Schedule.{LooksTruly}
 use Rattle.cacheless.specs.Session.{Session, number_of}
 use Rattle.cacheless.specs.Sessions.{entered}
 use Rattle.cacheless.specs.State.{owed_at, owed_first, begins_in, one_if, running_of}
-use Rattle.cacheless.proofs.ReadPlaces.{place_read-more}
 use Rattle.backend_core.specs.Types.{Command, Scenario, Entry, Event, Progress, Backend}
-use Rattle.backend_core.specs.Agrees.{IsPlayed, command_at, AwaitsEntry}
-use Rattle.backend_core.specs.Fits.{looks_due, looks_owed, LooksFit, Fits}
+use Rattle.backend_core.specs.Agrees.{IsPlayed, command_at, KeptAt, AwaitsEntry}
+use Rattle.backend_core.specs.Fits.{looks_due, LooksFit, Fits}
 use Rattle.backend_core.specs.Steps.{OwesLookNow, IsLookNext, Enters}
-use Rattle.backend_core.proofs.Chosen.{Busy, Owes, may_call, hidden, may_look_by, look_may}
-use Rattle.backend_core.proofs.Entered.{fits_at, keeps_at}
+use Rattle.backend_core.specs.Words.{is_looked_for}
+use Rattle.backend_core.proofs.Chosen.{Busy, Owes, may_call, hidden, one_at_most, started_most, look_may}
+use Rattle.backend_core.proofs.Entered.{fits_at, keeps_still}
 use Rattle.backend_core.proofs.FitsEntries.{StaysInside, StaysAt, RunsHere, Goes, Starts, fits_inside}
-use Rattle.backend_core.proofs.Own.{waiting, waiting_course, OwnEntry, KeepsAnswer, Inside as StaysWithin, own_enters}
+use Rattle.backend_core.proofs.Own.{waiting, going, OwnEntry, KeepsAnswer, Inside as StaysWithin, own_enters}
 
 not_empty : {X : Type 0} (xs : List X) → xs ≢ [] → is_empty xs ≡ false
 not_empty [] some = absurd (some refl)
@@ -83,9 +81,6 @@ begun_written : (number : ℕ) (own : Option Running) → option_map_or (λ t. i
 begun_written number None is = absurd (cc is)
 begun_written number (Some t) is = is
 
-begun_number : (n m : ℕ) (own : Option Running) → n ≡ m → Some (begun n own) ≡ Some (record (begun m own) { xid = (begun n own).xid })
-begun_number n m own same = λ i. Some (record (begun (same i) own) { xid = (begun n own).xid })
-
 abbrev started_by : ℕ → Option Running → ℕ
 started_by n own = option_map_or (λ t. elim (t.first == n) as (λ x. ℕ) [ true ↦ 1 | false ↦ 0 ]) own 0
 
@@ -97,43 +92,126 @@ started_still : (n m : ℕ) (own : Option Running) → is_some own ≡ true → 
 started_still n m None some = absurd (cc some)
 started_still n m (Some t) some = refl
 
+-- where the running command begins a transaction no block is open
+begins_outside : (command : Command) (s : Session) → begins command s ≡ true → s.blocks.block ≡ Outside
+begins_outside command s is = by_block s.blocks.block is
+  where
+    by_block : (block : Block) → elim block as (λ x. Bool) [ Outside ↦ not (ends_block command) && not s.ended && is_none (refused_by no_block command) | other ↦ false ] ≡ true → block ≡ Outside
+    by_block Outside is = refl
+    by_block Inside is = absurd (cc)
+    by_block Failed is = absurd (cc)
+
+-- the facts after a look of a command of this number
+abbrev looked_facts : Facts → Session → Bool → Facts
+looked_facts facts s some_wait = record facts { last = Some (events.Look some_wait); running = Some (begun (number_of s) facts.running) }
+
+-- a look that the choice makes: its transaction runs, or begins with it, and it is counted once
+record LookCounts (facts : Facts) (s : Session) (command : Command) (looked to_build looked_now to_build_now : Bool) : Type 0 where
+  goes : RunsHere facts (Some command) s
+  owes : (owed_after facts.last ≡ []) ⊎ (owed_after facts.last ≡ OwesLook ∷ [])
+  counts : looks_due (owed_after facts.last) + (started_by (number_of s) (Some (begun (number_of s) facts.running)) + one_if looked_now + one_if to_build_now) ≡ started_in (number_of s) facts + one_if looked + one_if to_build + 1
+
+-- in an accept
+counts_due : (facts : Facts) (s : Session) (command : Command) (looked to_build : Bool) → owed_after facts.last ≡ OwesLook ∷ [] → is_some facts.running ≡ true → LookCounts facts s command looked to_build looked to_build
+counts_due facts s command looked to_build owed runs = record { goes = Goes runs; owes = inr owed; counts = omega (arith, ap looks_due owed, started_still (number_of s) (number_of s) facts.running runs) }
+
+-- at the transaction's start
+counts_start : (facts : Facts) (s : Session) (command : Command) (looked to_build : Bool) → owed_after facts.last ≡ [] → begins command s ≡ true → facts.running ≡ None → LookCounts facts s command looked to_build looked to_build
+counts_start facts s command looked to_build owed starts none = record { goes = Starts command refl starts (begins_outside command s starts) none; owes = inl owed; counts = omega (arith, ap looks_due owed, started_now (number_of s) facts.running none, none_before) }
+  where
+    none_before : started_in (number_of s) facts ≡ 0
+    none_before = ap (λ o. started_by (number_of s) o) none
+
+one_more : (builds looked to_build : Bool) → elim builds [ true ↦ to_build | false ↦ looked ] ≡ false → one_if (looked || not builds) + one_if (to_build || builds) ≡ one_if looked + one_if to_build + 1
+one_more true true to_build none = ap (λ t. 1 + one_if (t || true)) none ∙ sym (ap (λ t. 1 + one_if t + 1) none)
+one_more true false to_build none = ap (λ t. 0 + one_if (t || true)) none ∙ sym (ap (λ t. 0 + one_if t + 1) none)
+one_more false looked true none = ap (λ t. one_if (t || true) + 1) none ∙ sym (ap (λ t. one_if t + 1 + 1) none)
+one_more false looked false none = ap (λ t. one_if (t || true) + 0) none ∙ sym (ap (λ t. one_if t + 0 + 1) none)
+
+-- before a scan
+counts_scan : (facts : Facts) (s : Session) (command : Command) (builds looked to_build : Bool) → owed_after facts.last ≡ [] → is_some facts.running ≡ true → elim builds [ true ↦ to_build | false ↦ looked ] ≡ false → LookCounts facts s command looked to_build (looked || not builds) (to_build || builds)
+counts_scan facts s command builds looked to_build owed runs none = record { goes = Goes runs; owes = inl owed; counts = omega (arith, ap looks_due owed, started_still (number_of s) (number_of s) facts.running runs, one_more builds looked to_build none) }
+
 -- all that a look rests on
 module _ (scenario : Scenario) (old : List Entry) (was : Backend) (waits : AwaitsEntry scenario old was) (courses : AllOnCourse scenario old) (command : Command) (at : command_at was ≡ Some command) (some_wait : Bool) where
-  facts : Facts
+  abbrev facts : Facts
   facts = facts_of old was.progress.id
 
-  s : Session
+  abbrev s : Session
   s = waiting waits
 
-  event : Event
+  abbrev event : Event
   event = events.Look some_wait
 
-  later : Facts
-  later = facts_by old was.progress.id (was.progress.finished + 1) event facts
-
-  now : Session
+  abbrev now : Session
   now = entered (facts_of (with_own old was.progress event) was.progress.id) (drop was.progress.finished was.progress.commands) (length old + 1) (was.progress.finished + 1) event s
 
-  number_is : was.progress.finished + 1 ≡ number_of s
-  number_is = ap (λ n. n + 1) (sym waits.rests.holds.count)
+  later_is : facts_by old was.progress.id (was.progress.finished + 1) event facts ≡ looked_facts facts s some_wait
+  later_is = λ i. record facts { last = Some event; running = Some (begun (sym waits.rests.holds.count i + 1) facts.running) }
 
-  pub going : s.ended ≡ false
-  going = (waiting_course scenario old was waits courses).going command (ap (slice_get (commands_of scenario was.progress.id)) waits.rests.holds.count ∙ ap (λ l. slice_get l was.progress.finished) (sym waits.rests.holds.commands) ∙ at)
+  module _ (looked to_build : Bool) (counts : LookCounts facts s command was.looked was.looked_to_build looked to_build) where
+    before : LooksFit facts s was.looked was.looked_to_build
+    before = waits.fits.looks (going scenario old was waits courses command at)
 
-  -- what the choice keeps after a look that counts
-  pub look_fits : (looked to_build : Bool) → RunsHere facts (Some command) s → is_visible facts.running ≡ false → LooksFit later now looked to_build → Fits later (command_at was) now looked to_build
-  look_fits looked to_build goes hid looks = subst (λ o. Fits later o now looked to_build) (sym at) (fits_inside facts later (Some command) s now was.looked was.looked_to_build looked to_build command refl
-      (subst (λ o. Fits facts o s was.looked was.looked_to_build) at waits.fits)
-      (record { runs = begun_number (was.progress.finished + 1) (number_of s) facts.running number_is; written = λ is. begun_written (was.progress.finished + 1) facts.running (waits.fits.written is); last = λ from is. cc is })
-      (record { blocks = refl; finished = refl; blocked = refl; ended = refl; left = λ is there. refl }) goes hid going looks)
+    -- the look stays within its bound
+    within : s.tally.looks + 1 ≤ s.tally.scans + s.tally.grants + 2 * s.tally.fetches + 3
+    within = omega (arith, before.within, counts.counts, started_most (number_of s) (looked_facts facts s some_wait), one_at_most looked, one_at_most to_build)
 
--- and after it the backend agrees
+    -- and is counted
+    looks_more : LooksFit (looked_facts facts s some_wait) now looked to_build
+    looks_more = record { enough = omega (arith, before.enough, counts.counts, looked_due some_wait); within = omega (arith, before.within, counts.counts, looked_due some_wait) }
+
+    look_fits : is_visible facts.running ≡ false → Fits (facts_by old was.progress.id (was.progress.finished + 1) event facts) (command_at was) now looked to_build
+    look_fits hides = subst (λ f. Fits f (command_at was) now looked to_build) (sym later_is) (subst (λ o. Fits (looked_facts facts s some_wait) o now looked to_build) (sym at)
+        (fits_inside facts (looked_facts facts s some_wait) (Some command) s now was.looked was.looked_to_build looked to_build command refl (subst (λ o. Fits facts o s was.looked was.looked_to_build) at waits.fits)
+        (record { runs = refl; written = λ is. begun_written (number_of s) facts.running (waits.fits.written is); last = λ from is. cc is })
+        (record { blocks = refl; finished = refl; blocked = refl; ended = refl; left = λ is there. refl }) counts.goes hides (going scenario old was waits courses command at) looks_more))
+
+    -- so after it the backend agrees
+    pub look_agrees : (new : List Entry) (had has : ℕ → ℕ) (p : Progress) → IsPlayed scenario old → some_wait ≡ is_waiting old was.progress.id → Busy was.progress command → HasEntered scenario old was.progress event waits.rests p → p.kept ≡ was.progress.kept → p.given_at ≡ was.progress.given_at
+        → Appends old new had has (entry_of was.progress.id (was.progress.finished + 1) event) → Enters scenario old new had has was (record was { progress = p; looked = looked; looked_to_build = to_build; answer = None })
+    look_agrees new had has p played is busy goes kept given_at appends =
+        own_enters scenario old new had has was (record was { progress = p; looked = looked; looked_to_build = to_build; answer = None }) event waits played courses
+        (record { plays = subst (λ o. MayPlayIn (next_oid old) facts o s event) (sym at) (look_may facts s counts.owes within); truly = look_true old was.progress.id some_wait (sym is); queue = tt })
+        goes
+        (keeps_still scenario old was event waits p goes (record was { progress = p; looked = looked; looked_to_build = to_build; answer = None }) refl refl (λ scan. refl)
+        (subst (All (KeptAt old was.progress.id)) (sym kept) waits.keeps.kept) (ap (λ (x : Session). x.left) goes.session) (ap (λ (x : Session). x.read) goes.session) given_at)
+        (fits_at scenario old was event waits p goes looked to_build (look_fits (hidden scenario old was waits command at busy)))
+        refl (StaysWithin refl refl) (λ inside. refl) appends
+
+-- the look that is owed
 pub look_enters : (scenario : Scenario) (old new : List Entry) (had has : ℕ → ℕ) (was : Backend) (p : Progress) (some_wait : Bool) (waits : AwaitsEntry scenario old was) → IsPlayed scenario old → AllOnCourse scenario old → OwesLookNow was.progress → some_wait ≡ is_waiting old was.progress.id
     → HasEntered scenario old was.progress (events.Look some_wait) waits.rests p → p.kept ≡ was.progress.kept → p.given_at ≡ was.progress.given_at
     → Appends old new had has (entry_of was.progress.id (was.progress.finished + 1) (events.Look some_wait)) → Enters scenario old new had has was (record was { progress = p; answer = None })
-look_enters scenario old new had has was p some_wait waits played courses next is goes kept given_at appends = ?
+look_enters scenario old new had has was p some_wait waits played courses next is goes kept given_at appends =
+    look_agrees scenario old was waits courses next.command next.at some_wait was.looked was.looked_to_build (by_side next.owes) new had has p played is (look_busy was.progress next) goes kept given_at appends
+  where
+    facts : Facts
+    facts = facts_of old was.progress.id
+
+    by_side : (was.progress.due ≡ dues.Look) ⊎ ((was.progress.due ≡ dues.Nothing) × (owed_first was.progress next.command ≢ [])) → LookCounts facts (waiting waits) next.command was.looked was.looked_to_build was.looked was.looked_to_build
+    by_side (inl due) = let owed : owed_after facts.last ≡ OwesLook ∷ [] = waits.rests.holds.facts.owed ∙ ap owed_at due in
+        counts_due facts (waiting waits) next.command was.looked was.looked_to_build owed (waits.fits.accepts (ap is_empty owed))
+    by_side (inr (due, owes)) = let starts : StartsNow was.progress next.command = starts_now was.progress next.command owes in
+        counts_start facts (waiting waits) next.command was.looked was.looked_to_build (waits.rests.holds.facts.owed ∙ ap owed_at due) starts.begins (waits.rests.holds.facts.running ∙ ap running_of starts.none)
+
+-- where a scan is missing something is owed
+scan_busy : (p : Progress) (command : Command) → lacks_any p ≡ true → Busy p command
+scan_busy p command lacks = Owes (ap (λ t. is_empty (owed_first p command) && is_empty (owed_at p.due) && not t) lacks ∙ and-false (is_empty (owed_first p command) && is_empty (owed_at p.due)))
 
 -- the look before a scan
 pub look_before_call : (scenario : Scenario) (seen : List Entry) (s : Backend) (some_wait builds : Bool) → AwaitsEntry scenario seen s → IsPlayed scenario seen → IsLookNext builds s → some_wait ≡ is_waiting seen s.progress.id → MayCall scenario seen (entry_of s.progress.id (s.progress.finished + 1) (events.Look some_wait))
-look_before_call scenario seen s some_wait builds waits played next is = may_call scenario seen s waits next.next.command next.next.free.at (events.Look some_wait) (Owes (ap (λ t. is_empty (owed_first s.progress next.next.command) && is_empty (owed_at s.progress.due) && not t) next.next.lacks ∙ and-false (is_empty (owed_first s.progress next.next.command) && is_empty (owed_at s.progress.due)))) refl
+look_before_call scenario seen s some_wait builds waits played next is = may_call scenario seen s waits next.next.command next.next.free.at (events.Look some_wait) (scan_busy s.progress next.next.command next.next.lacks) refl
     (look_allowed scenario seen s.progress.id (s.progress.finished + 1) some_wait played (sym is))
+
+pub look_before_enters : (scenario : Scenario) (old new : List Entry) (had has : ℕ → ℕ) (was : Backend) (p : Progress) (some_wait builds : Bool) (waits : AwaitsEntry scenario old was) → IsPlayed scenario old → AllOnCourse scenario old → IsLookNext builds was → some_wait ≡ is_waiting old was.progress.id
+    → HasEntered scenario old was.progress (events.Look some_wait) waits.rests p → p.kept ≡ was.progress.kept → p.given_at ≡ was.progress.given_at
+    → Appends old new had has (entry_of was.progress.id (was.progress.finished + 1) (events.Look some_wait)) → Enters scenario old new had has was (record was { progress = p; looked = was.looked || not builds; looked_to_build = was.looked_to_build || builds; answer = None })
+look_before_enters scenario old new had has was p some_wait builds waits played courses next is goes kept given_at appends =
+    look_agrees scenario old was waits courses next.next.command next.next.free.at some_wait (was.looked || not builds) (was.looked_to_build || builds)
+    (counts_scan (facts_of old was.progress.id) (waiting waits) next.next.command builds was.looked was.looked_to_build (waits.rests.holds.facts.owed ∙ ap owed_at next.next.free.due) ? (unlooked builds next.unlooked))
+    new had has p played is (scan_busy was.progress next.next.command next.next.lacks) goes kept given_at appends
+  where
+    unlooked : (t : Bool) → is_looked_for t was ≡ false → elim t as (λ x. Bool) [ true ↦ was.looked_to_build | false ↦ was.looked ] ≡ false
+    unlooked true none = none
+    unlooked false none = none

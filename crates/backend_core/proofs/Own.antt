@@ -46,6 +46,11 @@ waiting_is scenario seen s waits = waits.rests.holds.is ∙ ap Some (settled_at_
 pub waiting_course : (scenario : Scenario) (seen : List Entry) (s : Backend) (waits : AwaitsEntry scenario seen s) → AllOnCourse scenario seen → IsOnCourse scenario seen s.progress.id (waiting waits)
 waiting_course scenario seen s waits courses = subst (CourseOf scenario seen s.progress.id) (waiting_is scenario seen s waits) (courses s.progress.id)
 
+-- the running command hasn't made its release
+pub going : (scenario : Scenario) (seen : List Entry) (s : Backend) (waits : AwaitsEntry scenario seen s) → AllOnCourse scenario seen → (command : Command) → command_at s ≡ Some command → (waiting waits).ended ≡ false
+going scenario seen s waits courses command at = (waiting_course scenario seen s waits courses).going command
+    (ap (slice_get (commands_of scenario s.progress.id)) waits.rests.holds.count ∙ ap (λ l. slice_get l s.progress.finished) (sym waits.rests.holds.commands) ∙ at)
+
 -- what the script and the segment ask of its next entry
 pub record OwnEntry (scenario : Scenario) (old : List Entry) (was : Backend) (event : Event) (waits : AwaitsEntry scenario old was) : Type 0 where
   pub plays : MayPlayIn (next_oid old) (facts_of old was.progress.id) (command_at was) (waiting waits) event
