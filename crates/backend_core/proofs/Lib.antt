@@ -14,6 +14,7 @@ pub mod Silent
 pub mod Nexting
 pub mod Chosen
 pub mod Joining
+pub mod ActsRun
 pub mod Looks
 pub mod Leaving
 pub mod NewFacts
