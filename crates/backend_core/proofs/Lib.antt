@@ -7,6 +7,8 @@ pub mod Others
 pub mod NextTransaction
 pub mod FitsOn
 pub mod FitsEntries
+pub mod EndsNow
+pub mod FitsEnds
 pub mod LinesPush
 pub mod KeptReads
 pub mod Answered

@@ -107,9 +107,9 @@ own_makes scenario old new had has was event waits played courses own appends = 
     next : IsNext scenario old e
     next = own_next scenario old was event waits own.plays
 
--- what becomes of the answer: an entry of the command's end keeps it, any other is made where there is none
+-- what becomes of the answer: an entry of an end keeps that of the command, if one runs, any other is made where there is none
 pub data KeepsAnswer (was now : Backend) (event : Event) : Type 0 where
-  AtEnd : ends_command event ≡ true → is_some was.answer ≡ true → now.answer ≡ was.answer → KeepsAnswer was now event
+  AtEnd : ends_command event ≡ true → ((command : Command) → command_at was ≡ Some command → is_some was.answer ≡ true) → now.answer ≡ was.answer → KeepsAnswer was now event
   Inside : ends_command event ≡ false → now.answer ≡ None → KeepsAnswer was now event
 
 -- an entry of an end leaves the plan
@@ -219,10 +219,10 @@ own_enters scenario old new had has was now event waits played courses own goes 
 
     comes_out : KeepsAnswer was now event → is_some now.answer ≡ true → is_settled (outcome_of later.left) ≡ true
     comes_out (Inside inside none) some = absurd (both_ways _ (ap (λ o. is_some o) none) some)
-    comes_out (AtEnd ends had_one same) some = ap (λ p. is_settled (outcome_of p)) (ap (λ (x : Session). x.left) goes.session ∙ noted_is.after.left ∙ end_left event s ends) ∙ waits.tells.out had_one
+    comes_out (AtEnd ends has_one same) some = ap (λ p. is_settled (outcome_of p)) (ap (λ (x : Session). x.left) goes.session ∙ noted_is.after.left ∙ end_left event s ends) ∙ waits.tells.out (ap (λ o. is_some o) (sym same) ∙ some)
 
     judged : KeepsAnswer was now event → (command : Command) → command_at now ≡ Some command → is_some now.answer ≡ false → IsJudgedHere (old ++ e ∷ []) now.progress.id later
-    judged (AtEnd ends some same) command at none = absurd (both_ways _ none (ap (λ o. is_some o) same ∙ some))
+    judged (AtEnd ends some same) command at none = absurd (both_ways _ none (ap (λ o. is_some o) same ∙ some command (sym same_command ∙ at)))
     judged (Inside inside none) command at _ = record {
       judged = omega (arith, length_push old e, ap (λ (x : Session). x.judged) goes.session, judged_here facts left (length old + 1) (was.progress.finished + 1) event s inside);
       stands = ap (λ k. is_over (last_event_of (old ++ e ∷ []) k) later) goes.moves.id ∙ ap (λ o. is_over o later) (last_event_of-own old e b (eq-eqb b b refl))
