@@ -18,5 +18,6 @@ pub mod Chosen
 pub mod Joining
 pub mod ActsRun
 pub mod Looks
+pub mod Fetching
 pub mod Leaving
 pub mod NewFacts
