@@ -14,7 +14,7 @@ use Rattle.cacheless.specs.May.{is_first_missing, is_next_of_act, has_failed, is
 use Rattle.cacheless.specs.OnCourse.{OnItsWay, FollowsPlan, IsOnCourse, AllOnCourse}
 use Rattle.cacheless.specs.Owed.{Owes, OwesLook, begins, owed_at_start}
 use Rattle.cacheless.specs.Runs.{runs}
-use Rattle.cacheless.specs.Session.{Session, Unsettled, Badly, none_open, outcome_of, plan_admitted, plan_first, refused_first}
+use Rattle.cacheless.specs.Session.{Session, Unsettled, Badly, none_open, outcome_of, is_settled, plan_admitted, plan_first, refused_first}
 use Rattle.cacheless.specs.State.{owed_first}
 use Rattle.cacheless.specs.Types.{CommandError}
 use Rattle.cacheless.proofs.Same.{start_owed}
@@ -94,7 +94,7 @@ module _ (scenario : Scenario) (seen : List Entry) (s : Backend) (waits : Awaits
     where
       by_test : (t : Bool) → s.progress.blocked ≡ t → s.progress.blocked ≡ false
       by_test false is = is
-      by_test true is = absurd (goes (ap outcome_of (waits.fits.refused is) ∙ refused_badly (command_at s) (waiting waits) (sym waits.fits.blocked ∙ is)))
+      by_test true is = absurd (let badly : outcome_of (plan_first (waiting waits).blocks (command_at s)) ≡ Badly = refused_badly (command_at s) (waiting waits) (sym waits.fits.blocked ∙ is) in goes (ap outcome_of (waits.fits.settled (ap is_settled badly)) ∙ badly))
 
   runs_here : owed_first s.progress command ≡ [] → outcome_of (plan_at s.progress.exec) ≢ Badly → plan_of none_open command ≢ Done → is_some (facts_of seen s.progress.id).running ≡ true
   runs_here free goes acts = acts_run (facts_of seen s.progress.id) (command_at s) (waiting waits) s.looked s.looked_to_build command at waits.fits going_here (unblocked_here goes) built acts

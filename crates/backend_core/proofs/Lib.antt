@@ -17,7 +17,10 @@ pub mod Nexting
 pub mod Chosen
 pub mod Joining
 pub mod ActsRun
+pub mod Inside
 pub mod Looks
 pub mod Fetching
+pub mod Alike
+pub mod Scanning
 pub mod Leaving
 pub mod NewFacts

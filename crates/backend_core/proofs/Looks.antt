@@ -186,7 +186,7 @@ look_enters scenario old new had has was p some_wait waits played courses next i
         counts_start facts (waiting waits) next.command was.looked was.looked_to_build (waits.rests.holds.facts.owed ∙ ap owed_at due) starts.begins (waits.rests.holds.facts.running ∙ ap running_of starts.none)
 
 -- where a scan is missing something is owed
-scan_busy : (p : Progress) (command : Command) → lacks_any p ≡ true → Busy p command
+pub scan_busy : (p : Progress) (command : Command) → lacks_any p ≡ true → Busy p command
 scan_busy p command lacks = Owes (ap (λ t. is_empty (owed_first p command) && is_empty (owed_at p.due) && not t) lacks ∙ and-false (is_empty (owed_first p command) && is_empty (owed_at p.due)))
 
 -- the look before a scan
