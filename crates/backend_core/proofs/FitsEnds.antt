@@ -212,3 +212,21 @@ pub ended_lists : (own : Option Running) (lists : List Written) (n from : ℕ) �
     → has_write_from 0 (elim (ends_transaction from own) as (λ x. List Written) [ true ↦ [] | false ↦ lists ]) ≡ false
 ended_lists None lists n from is written = false_from_ne_true (has_write_from 0 lists) (λ some. let no : false ≡ true = written some in cc no)
 ended_lists (Some t) lists n from is written = ap (λ f. has_write_from 0 (elim f as (λ x. List Written) [ true ↦ [] | false ↦ lists ])) (eq-eqb t.first from is)
+
+-- a transaction that runs goes on with its entries
+pub goes_first : (n : ℕ) (own : Option Running) → is_some own ≡ true → Some (begun n own).first ≡ option_map (λ t. t.first) own
+goes_first n None some = absurd (cc some)
+goes_first n (Some t) some = refl
+
+pub begun_xid : (n : ℕ) (own : Option Running) → option_map_or (λ t. is_some t.xid) own false ≡ true → is_some (begun n own).xid ≡ true
+begun_xid n None is = absurd (cc is)
+begun_xid n (Some t) is = is
+
+pub begun_visible : (n : ℕ) (own : Option Running) → (begun n own).visible ≡ is_visible own
+begun_visible n None = refl
+begun_visible n (Some t) = refl
+
+-- one that has written runs
+pub written_runs : (own : Option Running) → option_map_or (λ t. is_some t.xid) own false ≡ true → is_some own ≡ true
+written_runs None is = absurd (cc is)
+written_runs (Some t) is = refl

@@ -18,6 +18,10 @@ pub mod Chosen
 pub mod Joining
 pub mod ActsRun
 pub mod Inside
+pub mod EndEntries
+pub mod Committing
+pub mod TakingBack
+pub mod Releasing
 pub mod Looks
 pub mod Fetching
 pub mod Alike
