@@ -1,18 +1,19 @@
 -- A backend whose locks have more room, or whose plan is held in another form, agrees as before.
-use Rattle.std.proofs.Common.{◌≡◌, ◌+◌, ◌∙◌, ◌&&◌, ◌||◌, ℕ, Bool, true, false, Option, Some, None, List, refl, sym, ap, subst, drop, slice_get, is_some}
+use Rattle.std.proofs.Common.{◌≡◌, ◌+◌, ◌∙◌, ◌&&◌, ◌||◌, ℕ, Bool, true, false, not, Option, Some, None, List, refl, sym, ap, subst, drop, slice_get, is_some}
 use Rattle.std.proofs.Math.Bool.{and-false}
 use Rattle.lock_modes.specs.Rooms.{Roomy}
 use Rattle.ddl_effect.specs.Commands.{writing}
 use Rattle.ddl_effect.specs.Stages.{plan_at, plan_again}
 use Rattle.ddl_effect.specs.declared.exec.Exec.TheVariants as stages
+use Rattle.history_model.specs.Writes.{is_empty}
 use Rattle.cacheless.specs.Facts.{facts_of}
 use Rattle.cacheless.specs.Holds.{NamedFit, Holds}
-use Rattle.cacheless.specs.May.{owes_nothing}
+use Rattle.cacheless.specs.May.{lacks_opened, owes_nothing}
 use Rattle.cacheless.specs.Puts.{PutsOpened}
-use Rattle.cacheless.specs.Session.{Session, outcome_of, is_settled}
+use Rattle.cacheless.specs.Session.{Badly, outcome_of, is_settled}
 use Rattle.cacheless.specs.Settled.{settled}
 use Rattle.cacheless.specs.Silently.{IsAtRest}
-use Rattle.cacheless.specs.State.{is_absent, IsLockedIn, Rest, session_at}
+use Rattle.cacheless.specs.State.{owed_at, owed_first, act_missing, is_absent, IsLockedIn, Rest, session_at}
 use Rattle.backend_core.specs.Types.{Oid, Mode, Command, Draft, Exec, OwnLock, Scenario, Entry, Progress, Backend}
 use Rattle.backend_core.specs.Agrees.{command_at, is_to_answer_at, PlaceFits, AwaitsEntry}
 use Rattle.backend_core.specs.Fits.{Fits}
@@ -97,3 +98,11 @@ pub drafted_awaits : (scenario : Scenario) (seen : List Entry) (s : Backend) (dr
 drafted_awaits scenario seen s draft plan waits = alike_awaits scenario seen s (stages.Writing draft) s.progress.locks (sym plan) refl (λ is. absurd (cc is))
     (λ command at. (and-false (owes_nothing command (record s.progress { exec = stages.Writing draft })), refl))
     (λ is. absurd (none_answered (command_at s) is)) waits
+
+pub drafted_write : (s : Progress) (draft : Draft) → plan_at s.exec ≡ writing draft → IsWriteNext s → IsWriteNext (record s { exec = stages.Writing draft })
+drafted_write s draft plan next = record {
+  command = next.command;
+  free = record { at = next.free.at; due = next.free.due; first = next.free.first };
+  owes = subst (λ p. (is_empty (owed_first s next.command) && is_empty (owed_at s.due) && not (not (elim (outcome_of p) as (λ x. Bool) [ Badly ↦ true | other ↦ false ]) && (lacks_opened s.kept s.opened || not (is_empty (act_missing s p))))) ≡ true) plan next.owes;
+  wants = refl;
+}

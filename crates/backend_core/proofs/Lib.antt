@@ -26,5 +26,8 @@ pub mod Looks
 pub mod Fetching
 pub mod Alike
 pub mod Scanning
+pub mod Failing
+pub mod Locking
+pub mod Writing
 pub mod Leaving
 pub mod NewFacts

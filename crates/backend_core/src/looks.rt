@@ -163,7 +163,7 @@ fn looked_with(looked: bool, more: bool) -> bool
 }
 
 // Whether a look counts for the next scan still.
-fn still_looked(looked: bool, marked: bool) -> bool
+pub(crate) fn still_looked(looked: bool, marked: bool) -> bool
     ensures { result ≡ (looked && not marked) }
 {
     looked && !marked

@@ -1,6 +1,7 @@
 // The scans and the locks of a backend.
 
 use crate::Backend;
+use crate::looks::still_looked;
 use base_types::{Mode, NoMemory, Oid, Purpose};
 use seg_calls::{LockRefusal, Seg};
 
@@ -28,11 +29,8 @@ impl Backend {
     {
         let scanned = seg.scan(self.progress.id, self.progress.finished + 1, scan)?;
         self.progress.enter_scan(scan, scanned.rows, scanned.at)?;
-        if builds {
-            self.looked_to_build = false;
-        } else {
-            self.looked = false;
-        }
+        self.looked = still_looked(self.looked, !builds);
+        self.looked_to_build = still_looked(self.looked_to_build, builds);
         self.answer = None;
         Ok(())
     }
