@@ -14,6 +14,7 @@ pub mod KeptReads
 pub mod Answered
 pub mod Silent
 pub mod Nexting
+pub mod NextActs
 pub mod Chosen
 pub mod Joining
 pub mod ActsRun

@@ -154,7 +154,7 @@ reads_now scenario seen s waits courses = by_command (command_at s) refl
     by_command (Some command) at = by_refused command (on.follows command (ap (slice_get (commands_of scenario s.progress.id)) waits.rests.holds.count ∙ ap (λ l. slice_get l s.progress.finished) (sym waits.rests.holds.commands) ∙ at)) (waiting waits).refused refl
 
 -- what is found of a list is as all its elements are
-find_all : {X : Type 0} (P : X → Type 0) (p : X → Bool) (xs : List X) (x : X) → AllByRecursion P xs → find p xs ≡ Some x → P x
+pub find_all : {X : Type 0} (P : X → Type 0) (p : X → Bool) (xs : List X) (x : X) → AllByRecursion P xs → find p xs ≡ Some x → P x
 find_all P p [] x all is = absurd (cc is)
 find_all P p (y ∷ xs) x all is = by_test (p y) is (find_all P p xs x all.1)
   where
@@ -162,7 +162,7 @@ find_all P p (y ∷ xs) x all is = by_test (p y) is (find_all P p xs x all.1)
     by_test true one more = let same : y ≡ x = cc one in subst P same all.0
     by_test false later more = more later
 
-each_builds : (kind : Kind) (rel : Oid) → AllByRecursion (λ d. is_build_scan d ≡ true) (build_scans kind rel)
+pub each_builds : (kind : Kind) (rel : Oid) → AllByRecursion (λ d. is_build_scan d ≡ true) (build_scans kind rel)
 each_builds Table rel = (refl, (refl, (refl, (refl, (refl, (refl, tt))))))
 each_builds Index rel = (refl, (refl, tt))
 
