@@ -1,5 +1,5 @@
 -- What the choice keeps with an entry of a command whose transaction runs, if the entry isn't a write.
-use Rattle.std.proofs.Common.{◌≡◌, ◌+◌, ◌∙◌, ℕ, Bool, true, false, Option, Some, None, List, refl, sym, ap, subst, is_some}
+use Rattle.std.proofs.Common.{◌≡◌, ◌+◌, ◌∙◌, ℕ, Bool, true, false, Option, Some, None, List, Result, Ok, Err, OnErr, refl, sym, ap, subst, is_some}
 use Rattle.std.specs.Option.{option_map_or}
 use Rattle.event_kinds.specs.declared.entry.Event.TheVariants as events
 use Rattle.inval_messages.specs.Lists.{has_write_from}
@@ -10,9 +10,15 @@ use Rattle.cacheless.specs.Session.{Session, number_of}
 use Rattle.backend_core.specs.Types.{Command, Scenario, Entry, Backend}
 use Rattle.backend_core.specs.Agrees.{command_at, AwaitsEntry}
 use Rattle.backend_core.specs.Fits.{LooksFit, Fits}
+use Rattle.backend_core.specs.Steps.{MakesEntry, IsRefused, After}
 use Rattle.backend_core.proofs.Chosen.{Busy, hidden}
 use Rattle.backend_core.proofs.FitsEntries.{StaysInside, StaysAt, Goes, fits_inside}
 use Rattle.backend_core.proofs.Own.{waiting, going}
+
+-- an entry that is made, after which memory is refused
+pub made_refused : {E : Type 0} (scenario : Scenario) (old new : List Entry) (had has : ℕ → ℕ) (b : ℕ) (result : Result (Unit {0}) E) → MakesEntry scenario old new had has b → OnErr result (IsRefused scenario old new had has b)
+made_refused scenario old new had has b (Ok x) makes = tt
+made_refused scenario old new had has b (Err e) makes = After makes
 
 -- a transaction that runs goes on
 pub runs_on : (number : ℕ) (own : Option Running) → is_some own ≡ true → Some (begun number own) ≡ own
