@@ -81,13 +81,9 @@ reserved_write s p same next = subst IsWriteNext (sym same.is)
     (subst (λ l. IsWriteNext (record s { locks = record { items = l; room = p.locks.room } })) (sym same.locks_are)
     (record { command = next.command; free = record { at = next.free.at; due = next.free.due; first = next.free.first }; owes = next.owes; wants = next.wants }))
 
--- what it entered then it entered
-pub reserved_enters : (scenario : Scenario) (old new : List Entry) (had has : ℕ → ℕ) (was now : Backend) (p : Progress) → IsLockedIn was.progress.locks.items was.progress p → Enters scenario old new had has (record was { progress = p }) now → Enters scenario old new had has was now
-reserved_enters scenario old new had has was now p same enters = record {
-  makes = subst (MakesEntry scenario old new had has) (ap (λ x. x.id) same.is) enters.makes;
-  id = enters.id ∙ ap (λ x. x.id) same.is;
-  agrees = enters.agrees;
-}
+-- what another form of the backend entered it entered
+pub alike_enters : (scenario : Scenario) (old new : List Entry) (had has : ℕ → ℕ) (was other now : Backend) → other.progress.id ≡ was.progress.id → Enters scenario old new had has other now → Enters scenario old new had has was now
+alike_enters scenario old new had has was other now same enters = record { makes = subst (MakesEntry scenario old new had has) same enters.makes; id = enters.id ∙ same; agrees = enters.agrees }
 
 -- its write is drafted
 none_answered : (o : Option Command) → elim o as (λ x. Bool) [ Some command ↦ false | None ↦ false ] ≡ true → ⊥

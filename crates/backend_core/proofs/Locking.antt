@@ -1,19 +1,21 @@
 -- The locks that a backend asks for.
-use Rattle.std.proofs.Common.{◌≡◌, ◌<◌, ◌+◌, ◌∙◌, ◌&&◌, ◌||◌, ℕ, Bool, true, false, Some, None, List, [], ◌∷◌, ◌++◌, refl, sym, ap, subst, length, drop, is_some, All, arith}
+use Rattle.std.proofs.Common.{◌≡◌, ◌<◌, ◌+◌, ◌∙◌, ◌&&◌, ◌||◌, ℕ, Bool, true, false, Some, None, Err, List, [], ◌∷◌, ◌++◌, refl, sym, ap, subst, length, drop, is_some, All, arith}
 use Rattle.std.proofs.lemmas.Bool.{and_parts}
 use Rattle.base_types.specs.declared.row.Row.TheVariants as rows
 use Rattle.event_kinds.specs.declared.entry.Event.TheVariants as events
 use Rattle.rel_desc.specs.declared.error.CommandError.TheVariants as errors
 use Rattle.lock_modes.specs.Grants.{holds}
 use Rattle.lock_modes.specs.Own.{has_lock}
+use Rattle.lock_modes.specs.declared.granted.LockRefusal.{LockRefusal}
+use Rattle.lock_modes.specs.declared.granted.LockRefusal.TheVariants.{Conflict}
 use Rattle.ddl_effect.specs.Plans.{Act, Plan, Done, Fails, Absent, NotBuilt, Do, Lookup, Open, Column, Read, Lock, Write}
 use Rattle.ddl_effect.specs.Stages.{plan_at}
 use Rattle.history_model.specs.Drawn.{next_oid}
 use Rattle.history_model.specs.Held.{held_of}
 use Rattle.history_model.specs.Transactions.{begun}
-use Rattle.seg_calls.specs.Calls.{entry_of, MayRequest, Appends}
+use Rattle.seg_calls.specs.Calls.{entry_of, MayRequest, Appends, Locks}
 use Rattle.cacheless.specs.Facts.{Facts, facts_of, facts_by}
-use Rattle.cacheless.specs.Holds.{HasEntered, with_own}
+use Rattle.cacheless.specs.Holds.{Rests, HasEntered, with_own}
 use Rattle.cacheless.specs.May.{owes_nothing, names_relation, is_lock_at, may_play_at, may_last_at}
 use Rattle.cacheless.specs.OnCourse.{AllOnCourse}
 use Rattle.cacheless.specs.Owed.{owed_after, owed_of}
@@ -22,7 +24,7 @@ use Rattle.cacheless.specs.Session.{Session, number_of, outcome_of, is_settled}
 use Rattle.cacheless.specs.Sessions.{entered}
 use Rattle.cacheless.specs.Settled.{if_locked, looked_up}
 use Rattle.cacheless.specs.Silently.{gives_next}
-use Rattle.cacheless.specs.State.{owed_at}
+use Rattle.cacheless.specs.State.{owed_at, IsLockedIn}
 use Rattle.cacheless.proofs.AloneLocks.{session_holds}
 use Rattle.cacheless.proofs.NextKeeps as keeping
 use Rattle.cacheless.proofs.SameRows.{oid_decides}
@@ -31,6 +33,7 @@ use Rattle.backend_core.specs.Agrees.{IsPlayed, command_at, KeptAt, AwaitsEntry}
 use Rattle.backend_core.specs.Fits.{looks_due, LooksFit, Fits}
 use Rattle.backend_core.specs.Steps.{IsLockNext, Enters}
 use Rattle.backend_core.proofs.ActsRun.{act_runs}
+use Rattle.backend_core.proofs.Alike.{reserved_awaits, reserved_lock, alike_enters}
 use Rattle.backend_core.proofs.Chosen.{Acts, may_request, now_plays}
 use Rattle.backend_core.proofs.Entered.{fits_at, keeps_still}
 use Rattle.backend_core.proofs.Failing.{IsActing, held_shows, failed_enters}
@@ -151,3 +154,40 @@ module _ (scenario : Scenario) (old : List Entry) (was : Backend) (waits : Await
         → Appends old new had has (entry_of was.progress.id (was.progress.finished + 1) (events.LockHeld rel mode holder held)) → Enters scenario old new had has was (record was { progress = p; answer = None })
     refused_enters holder held goes appends = failed_enters scenario old new had has was p (events.LockHeld rel mode holder held) (errors.Locked rel holder held) next.command waits played courses acting
         (held_shows scenario old was s rel mode holder held) (plays (events.LockHeld rel mode holder held) next.may) goes kept appends
+
+-- the same once there is room for the lock
+module _ (scenario : Scenario) (old : List Entry) (was : Backend) (room : Progress) (same : IsLockedIn was.progress.locks.items was.progress room) (waits : AwaitsEntry scenario old was) (played : IsPlayed scenario old) (courses : AllOnCourse scenario old) (rel : Oid) (mode : Mode) (next : IsLockNext was.progress rel mode) where
+  abbrev roomy : Backend
+  roomy = record was { progress = room }
+
+  pub roomy_awaits : AwaitsEntry scenario old roomy
+  roomy_awaits = reserved_awaits scenario old was room same waits
+
+  roomy_next : IsLockNext room rel mode
+  roomy_next = reserved_lock was.progress room rel mode same next
+
+  pub asks_request : MayRequest scenario old room.id (room.finished + 1)
+  asks_request = lock_request scenario old roomy roomy_awaits played courses rel mode roomy_next
+
+  pub asks_free : has_lock room.locks.items rel mode ≡ false
+  asks_free = lock_free scenario old roomy roomy_awaits played courses rel mode roomy_next
+
+  pub asks_new : holds (held_of old) room.id rel mode ≡ false
+  asks_new = lock_new scenario old roomy roomy_awaits played courses rel mode roomy_next
+
+  pub asks_drawn : rel.0 < next_oid old
+  asks_drawn = lock_drawn scenario old roomy roomy_awaits played courses rel mode roomy_next
+
+  pub asks_granted : (new : List Entry) (had has : ℕ → ℕ) (p : Progress) → ((rests : Rests scenario old room) → HasEntered scenario old room (events.LockOk rel mode) rests p) → p.kept ≡ room.kept → p.given_at ≡ room.given_at
+      → Appends old new had has (entry_of room.id (room.finished + 1) (events.LockOk rel mode)) → Enters scenario old new had has was (record was { progress = p; answer = None })
+  asks_granted new had has p goes kept given_at appends = alike_enters scenario old new had has was roomy (record was { progress = p; answer = None }) (ap (λ (x : Progress). x.id) same.is)
+      (granted_enters scenario old roomy roomy_awaits played courses rel mode roomy_next new had has p kept (goes roomy_awaits.rests) given_at appends)
+
+  -- for what the call answered
+  pub asks_refused : (new : List Entry) (had has : ℕ → ℕ) (p : Progress) (refusal : LockRefusal) (holder of : ℕ) (held under : Mode) → refusal ≡ Conflict holder held → of ≡ holder → under ≡ held → Locks old new had has room.id (room.finished + 1) rel mode (Err refusal)
+      → ((rests : Rests scenario old room) → HasEntered scenario old room (events.LockHeld rel mode of under) rests p) → p.kept ≡ room.kept → Enters scenario old new had has was (record was { progress = p; answer = None })
+  asks_refused new had has p refusal holder of held under is holder_is held_is locks goes kept = alike_enters scenario old new had has was roomy (record was { progress = p; answer = None }) (ap (λ (x : Progress). x.id) same.is)
+      (refused_enters scenario old roomy roomy_awaits played courses rel mode roomy_next new had has p kept of under (goes roomy_awaits.rests)
+      (subst (λ h. Appends old new had has (entry_of room.id (room.finished + 1) (events.LockHeld rel mode h under))) (sym holder_is)
+      (subst (λ m. Appends old new had has (entry_of room.id (room.finished + 1) (events.LockHeld rel mode holder m))) (sym held_is)
+      (subst (λ r. Locks old new had has room.id (room.finished + 1) rel mode (Err r)) is locks))))

@@ -1,5 +1,5 @@
 -- The write of a backend, where its draft is at hand.
-use Rattle.std.proofs.Common.{◌≡◌, ◌≤◌, ◌<◌, ◌+◌, ◌∙◌, ◌==◌, ◌&&◌, ◌||◌, ℕ, Bool, true, false, Some, None, Result, Ok, Err, List, [], ◌∷◌, ◌++◌, refl, sym, ap, subst, length, drop, is_some, All, arith}
+use Rattle.std.proofs.Common.{◌≡◌, ◌≤◌, ◌<◌, ◌+◌, ◌∙◌, ◌==◌, ◌&&◌, ◌||◌, ℕ, Bool, true, false, Some, None, Result, Ok, Err, OnOk, OnErr, List, [], ◌∷◌, ◌++◌, refl, sym, ap, subst, length, drop, is_some, All, arith}
 use Rattle.std.specs.List.{AllByRecursion, flat_map}
 use Rattle.std.proofs.Math.Bool.{and-false}
 use Rattle.std.proofs.lemmas.Bool.{both_ways, ne_eqb}
@@ -15,37 +15,40 @@ use Rattle.inval_messages.specs.Lists.{Written}
 use Rattle.ddl_effect.specs.Commands.{writing}
 use Rattle.ddl_effect.specs.Plans.{Done, Write}
 use Rattle.ddl_effect.specs.Stages.{plan_at}
+use Rattle.ddl_effect.specs.declared.exec.Exec.TheVariants as stages
 use Rattle.history_model.specs.Drawn.{next_oid}
 use Rattle.history_model.specs.Held.{held_of}
 use Rattle.history_model.specs.Transactions.{begun}
 use Rattle.history_model.specs.Writes.{has_written}
 use Rattle.history_model.proofs.Ordered.{locks_exclude}
+use Rattle.seg_calls.specs.declared.refusal.Written.{Written as Made}
 use Rattle.seg_calls.specs.declared.refusal.WriteRefusal.TheVariants as refusals
-use Rattle.seg_calls.specs.Calls.{entry_of, items_drawn, MayRequest, MayWrite, Clashes, Writes, Appends}
+use Rattle.seg_calls.specs.Calls.{entry_of, items_drawn, MayRequest, MayWrite, MakesWrite, Clashes, Writes, Appends}
 use Rattle.cacheless.specs.Facts.{Facts, facts_of, facts_by}
-use Rattle.cacheless.specs.Holds.{HasEntered, with_own}
+use Rattle.cacheless.specs.Holds.{Rests, HasEntered, with_own}
 use Rattle.cacheless.specs.Locks.{locked_by}
 use Rattle.cacheless.specs.OnCourse.{OnItsWay, AllOnCourse}
 use Rattle.cacheless.specs.Owed.{owed_of}
 use Rattle.cacheless.specs.Plays.{started_in, IsWrite, IsClash, MayPlay, MayPlayIn}
 use Rattle.cacheless.specs.Session.{Session, number_of, outcome_of, is_settled}
 use Rattle.cacheless.specs.Sessions.{written, entered}
-use Rattle.cacheless.specs.State.{owed_at, lists_at, kept_spared, locks_made, clash_event, error_of}
+use Rattle.cacheless.specs.State.{owed_at, lists_at, kept_spared, locks_made, messages_in, clash_event, error_of, IsLockedIn}
 use Rattle.cacheless.proofs.AloneLocks.{session_holds}
 use Rattle.cacheless.proofs.EnteredFetches.{all-spared}
 use Rattle.cacheless.proofs.Listed.{lists_before_it}
 use Rattle.cacheless.proofs.Same.{owes_nothing_is}
 use Rattle.cacheless.proofs.SilentActs.{empty_list, on_its_way}
 use Rattle.cacheless.proofs.WriteFits.{WriteFits, write_fits}
-use Rattle.backend_core.specs.Types.{Oid, Xid, Command, Draft, Message, Scenario, Entry, Event, Progress, Backend}
+use Rattle.backend_core.specs.Types.{Oid, Xid, Command, Draft, Item, Message, Scenario, Entry, Event, Progress, Backend}
 use Rattle.backend_core.specs.Agrees.{IsPlayed, command_at, KeptAt, PlaceFits, AwaitsEntry}
 use Rattle.backend_core.specs.Fits.{looks_due, LooksFit, Fits}
-use Rattle.backend_core.specs.Steps.{IsWriteNext, MakesEntry, Enters}
+use Rattle.backend_core.specs.Steps.{IsWriteNext, MakesEntry, Enters, IsRefused}
 use Rattle.backend_core.proofs.ActsRun.{act_runs}
+use Rattle.backend_core.proofs.Alike.{reserved_awaits, reserved_write, drafted_awaits, drafted_write, alike_enters}
 use Rattle.backend_core.proofs.Chosen.{Acts, may_request, started_still}
 use Rattle.backend_core.proofs.Entered.{fits_at, keeps_at, kept_stays}
 use Rattle.backend_core.proofs.Failing.{IsActing, clash_shows, failed_enters}
-use Rattle.backend_core.proofs.Inside.{entry_fits}
+use Rattle.backend_core.proofs.Inside.{made_refused, entry_fits}
 use Rattle.backend_core.proofs.Own.{waiting, waiting_is, follows, going, OwnEntry, Inside, own_makes, own_enters}
 
 -- on a relation that is still to be drawn there is no lock
@@ -161,3 +164,45 @@ module _ (scenario : Scenario) (old : List Entry) (was : Backend) (draft : Draft
   clash_enters new had has p name clash goes kept refused = failed_enters scenario old new had has was p (clash_event name clash) (error_of name clash) next.command waits played courses acting (clash_shows scenario old was s name clash)
       (subst (λ o. MayPlayIn (next_oid old) facts o s (clash_event name clash)) (sym next.free.at)
       (clash_plays (next_oid old) facts next.command s name clash owed_none (subst (λ p. IsClash facts (next_oid old) p name) (sym at) (suits.names name refused.is_new)))) goes kept refused.appends
+
+-- the same once there is room for a lock, and its draft is at hand
+module _ (scenario : Scenario) (old : List Entry) (was : Backend) (room : Progress) (same : IsLockedIn was.progress.locks.items was.progress room) (draft : Draft) (at : plan_at room.exec ≡ writing draft) (waits : AwaitsEntry scenario old was) (played : IsPlayed scenario old) (courses : AllOnCourse scenario old) (next : IsWriteNext was.progress) where
+  abbrev drafting : Backend
+  drafting = record was { progress = record room { exec = stages.Writing draft } }
+
+  pub drafting_awaits : AwaitsEntry scenario old drafting
+  drafting_awaits = drafted_awaits scenario old (record was { progress = room }) draft at (reserved_awaits scenario old was room same waits)
+
+  drafting_next : IsWriteNext drafting.progress
+  drafting_next = drafted_write room draft at (reserved_write was.progress room same next)
+
+  pub drafting_request : MayRequest scenario old room.id (room.finished + 1)
+  drafting_request = write_request scenario old drafting draft refl drafting_awaits played courses drafting_next
+
+  pub drafting_writes : MayWrite old room.id (room.finished + 1) draft
+  drafting_writes = may_write scenario old drafting draft refl drafting_awaits played courses drafting_next
+
+  pub drafting_before : AllByRecursion (λ list. list.command < room.finished + 1) (lists_at drafting.progress)
+  drafting_before = lists_before scenario old drafting draft refl drafting_awaits played courses drafting_next
+
+  pub drafting_free : (rel : Oid) → rel.0 ≡ next_oid old → has_lock room.locks.items rel AccessExclusive ≡ false
+  drafting_free = new_free scenario old drafting draft refl drafting_awaits played courses drafting_next
+
+  module _ (new : List Entry) (had has : ℕ → ℕ) where
+    -- for what the call answered, and what the backend then made of it
+    pub drafting_wrote : {E : Type 0} (p : Progress) (result : Result (Unit {0}) E) (made : Made) (messages : List Message) → MakesWrite old new had has room.id (room.finished + 1) draft made → messages ≡ made.messages.items → OnOk result (p.kept ≡ kept_spared messages room.kept)
+        → OnOk result ((scenario : Scenario) (seen : List Entry) (items : List Item) → (rests : Rests scenario seen drafting.progress) → messages ≡ messages_in seen room.id items → flat_map (locked_by (room.finished + 1)) items ≡ locks_made draft.new_oids made.first_oid (room.finished + 1) → HasEntered scenario seen drafting.progress (events.Write made.xid items) rests p)
+        → OnOk result (Enters scenario old new had has was (record was { progress = p; answer = None }))
+    drafting_wrote p (Ok x) made messages makes are kept goes = alike_enters scenario old new had has was drafting (record was { progress = p; answer = None }) (ap (λ (x : Progress). x.id) same.is)
+        (wrote_enters scenario old drafting draft refl drafting_awaits played courses drafting_next new had has p made.xid messages
+        (goes scenario old (items_drawn old draft) drafting_awaits.rests (are ∙ makes.messages) (new_locked scenario old drafting draft refl drafting_awaits played courses drafting_next made.first_oid makes.first)) kept makes.appends)
+    drafting_wrote p (Err e) made messages makes are kept goes = tt
+
+    pub drafting_refused : {E : Type 0} (result : Result (Unit {0}) E) (made : Made) → MakesWrite old new had has room.id (room.finished + 1) draft made → OnErr result (IsRefused scenario old new had has was.progress.id)
+    drafting_refused result made makes = made_refused scenario old new had has was.progress.id result
+        (subst (MakesEntry scenario old new had has) (ap (λ (x : Progress). x.id) same.is) (write_makes scenario old drafting draft refl drafting_awaits played courses drafting_next new had has made.xid makes.appends))
+
+    pub drafting_clashed : (p : Progress) (name : List ℕ) (clash : Clash) → Writes old new had has room.id (room.finished + 1) draft (Err (refusals.Clash name clash)) → ((rests : Rests scenario old drafting.progress) → HasEntered scenario old drafting.progress (clash_event name clash) rests p) → p.kept ≡ room.kept
+        → Enters scenario old new had has was (record was { progress = p; answer = None })
+    drafting_clashed p name clash writes goes kept = alike_enters scenario old new had has was drafting (record was { progress = p; answer = None }) (ap (λ (x : Progress). x.id) same.is)
+        (clash_enters scenario old drafting draft refl drafting_awaits played courses drafting_next new had has p name clash (goes drafting_awaits.rests) kept (clashes_as old new had has room.id (room.finished + 1) draft name clash writes))
