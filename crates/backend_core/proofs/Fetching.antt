@@ -37,7 +37,7 @@ use Rattle.backend_core.specs.Words.{has_begun, marks_build}
 use Rattle.backend_core.proofs.Chosen.{Busy, due_busy, may_call, hidden, one_at_most, started_by, started_still}
 use Rattle.backend_core.proofs.Entered.{fits_at, keeps_at, kept_stays, place_stays}
 use Rattle.backend_core.proofs.FitsEntries.{StaysInside, StaysAt, Goes, fits_inside}
-use Rattle.backend_core.proofs.Looks.{begun_written}
+use Rattle.backend_core.proofs.Looking.{begun_written}
 use Rattle.backend_core.proofs.Own.{waiting, follows, going, OwnEntry, KeepsAnswer, Inside as StaysWithin, own_enters}
 
 -- a backend whose fetch is due

@@ -23,7 +23,7 @@ pub mod EndEntries
 pub mod Committing
 pub mod TakingBack
 pub mod Releasing
-pub mod Looks
+pub mod Looking
 pub mod Fetching
 pub mod Alike
 pub mod Scanning

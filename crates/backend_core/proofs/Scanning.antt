@@ -35,7 +35,7 @@ use Rattle.backend_core.proofs.ActsRun.{scan_runs}
 use Rattle.backend_core.proofs.Chosen.{may_request}
 use Rattle.backend_core.proofs.Entered.{fits_at, keeps_at}
 use Rattle.backend_core.proofs.Inside.{runs_on, inside_fits}
-use Rattle.backend_core.proofs.Looks.{scan_busy}
+use Rattle.backend_core.proofs.Looking.{scan_busy}
 use Rattle.backend_core.proofs.Own.{waiting, going, OwnEntry, Inside, own_makes, own_enters}
 
 -- the scan that comes next may be asked for
