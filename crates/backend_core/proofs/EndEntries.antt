@@ -53,8 +53,8 @@ may_last p event ends free next = by_event event ends next
     by_own e (Some t) is = both_true (is_empty (owed_at p.due)) (is_next_of_back t.first p e) (ap (λ l. is_empty l) free) is
 
     never : (e : Event) (own : Option OwnTransaction) → ((from : ℕ) → is_next_of_back from p e ≡ true → ⊥) → is_next_of_end p e (end_of_running own) ≡ true → ⊥
-    never e None no is = cc is
-    never e (Some t) no is = no t.first is
+    never e None none is = cc is
+    never e (Some t) none is = none t.first is
 
     no_back : (t : Bool) → elim t as (λ x. Bool) [ true ↦ false | false ↦ false ] ≡ true → ⊥
     no_back true is = cc is

@@ -291,9 +291,9 @@ module _ (facts : Facts) (o : Option Command) (s : Session) (looked to_build : B
       by_outcome Unsettled outcome end = absurd (cc end)
 
 -- so is that after the last command
-pub first_of : (facts : Facts) (o : Option Command) (s : Session) (looked to_build : Bool) (from : ℕ) → ((command : Command) → o ≡ Some command → runs command ≡ true) → Fits facts o s looked to_build → s.ended ≡ false → end_from (end_by facts o s) ≡ Some from → first_begun facts s ≡ from
-first_of facts None s looked to_build from built fits going is = from_all facts.running (number_of s) from is
-first_of facts (Some command) s looked to_build from built fits going is = first_of_end facts (Some command) s looked to_build command refl (built command refl) fits going from is
+pub end_first : (facts : Facts) (o : Option Command) (s : Session) (looked to_build : Bool) (from : ℕ) → ((command : Command) → o ≡ Some command → runs command ≡ true) → Fits facts o s looked to_build → s.ended ≡ false → end_from (end_by facts o s) ≡ Some from → first_begun facts s ≡ from
+end_first facts None s looked to_build from built fits going is = from_all facts.running (number_of s) from is
+end_first facts (Some command) s looked to_build from built fits going is = first_of_end facts (Some command) s looked to_build command refl (built command refl) fits going from is
 
 -- after it no block goes on
 pub over_after : (facts : Facts) (command : Command) (s : Session) (from : ℕ) → end_from (end_of facts command s) ≡ Some from → is_inside (blocks_after command s) ≡ false

@@ -21,7 +21,7 @@ use Rattle.cacheless.specs.Runs.{runs}
 use Rattle.cacheless.specs.Session.{Session, Outcome, Well, Badly, Unsettled, none_open, number_of, outcome_of, is_settled}
 use Rattle.backend_core.specs.Types.{Purpose, Command, Event, OwnLock}
 use Rattle.backend_core.specs.Fits.{looks_due, LooksFit, first_at, RunsAlone, RunsBy, TransactionFits, OnCommit, OnTakingBack, IsPast, Fits}
-use Rattle.backend_core.proofs.EndsNow.{end_by, EndsBy, IsCommit, end_from, first_begun, first_of, over_after}
+use Rattle.backend_core.proofs.EndsNow.{end_by, EndsBy, IsCommit, end_from, first_begun, end_first, over_after}
 
 -- the session after an entry of an end, with its locks
 abbrev pub later_at : Session → List OwnLock → ℕ → Session
@@ -140,7 +140,7 @@ module _ (facts later : Facts) (o : Option Command) (s : Session) (looked to_bui
       begun_is (Some t) n some = refl
 
       first_is : first_at later ≡ commit.first
-      first_is = first_same facts later goes ∙ begun_is facts.running (number_of s) goes.runs ∙ first_of facts o s looked to_build commit.first built fits ends.going (ap end_from commit.is)
+      first_is = first_same facts later goes ∙ begun_is facts.running (number_of s) goes.runs ∙ end_first facts o s looked to_build commit.first built fits ends.going (ap end_from commit.is)
 
       all_back : (own : Option Running) → option_map_or (λ t. TakesBack t.first) own Ends ≡ Commits commit.first → ⊥
       all_back None is = cc is

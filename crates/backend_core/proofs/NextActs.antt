@@ -134,7 +134,7 @@ module _ (p : Progress) (command : Command) (still : IsAtRest p) (free : IsFree 
       names (rows.Class oid own kind fill ∷ more) is = by_lock (has_lock p.locks.items oid mode) is
         where
           by_lock : (t : Bool) → elim t as (λ x. Option Oid) [ true ↦ None | false ↦ Some oid ] ≡ Some rel → (rel.0 == oid.0) ≡ true
-          by_lock true no = absurd (cc no)
+          by_lock true none = absurd (cc none)
           by_lock false one = eq-eqb rel.0 oid.0 (let same : oid ≡ rel = cc one in ap (λ (o : Oid). o.0) (sym same))
       names (row ∷ more) is = absurd (cc is)
 

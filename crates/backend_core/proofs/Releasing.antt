@@ -20,7 +20,7 @@ use Rattle.backend_core.specs.Agrees.{IsPlayed, KeptAt, command_at, AwaitsEntry}
 use Rattle.backend_core.specs.Fits.{first_at, Fits}
 use Rattle.backend_core.specs.Steps.{EndsNext, Enters}
 use Rattle.backend_core.proofs.EndEntries.{end_now, end_call, built_at, end_enters}
-use Rattle.backend_core.proofs.EndsNow.{end_by, EndsBy, LetsGo, AllSent, NoWrite, lets_go, from_of, first_begun, first_of, commit_end, back_end}
+use Rattle.backend_core.proofs.EndsNow.{end_by, EndsBy, LetsGo, AllSent, NoWrite, lets_go, from_of, first_begun, end_first, commit_end, back_end}
 use Rattle.backend_core.proofs.FitsEnds.{fits_released, ended_running, ended_lists}
 use Rattle.backend_core.proofs.Own.{waiting}
 
@@ -89,7 +89,7 @@ module _ (scenario : Scenario) (old : List Entry) (was : Backend) (from : ℕ) (
 
   first_is : option_map_or (λ (t : Running). t.first) facts.running (was.progress.finished + 1) ≡ from
   first_is = ap (λ n. option_map_or (λ (t : Running). t.first) facts.running (n + 1)) (sym waits.rests.holds.count)
-      ∙ first_of facts (command_at was) s was.looked was.looked_to_build from (built_at scenario old was waits) waits.fits now.going (from_of facts (end_by facts (command_at was) s) from lets)
+      ∙ end_first facts (command_at was) s was.looked was.looked_to_build from (built_at scenario old was waits) waits.fits now.going (from_of facts (end_by facts (command_at was) s) from lets)
 
   may_release : LetsGo facts (end_by facts (command_at was) s) from → MayRelease (is_visible facts.running) old was.progress.id from
   may_release (AllSent commits written visible sent) = subst (λ v. MayRelease v old was.progress.id from) (sym visible) (first_visible facts.running (was.progress.finished + 1) from visible first_is, all_left facts.lists facts.running sent)
