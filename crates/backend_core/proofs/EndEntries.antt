@@ -18,14 +18,14 @@ use Rattle.cacheless.specs.declared.progress.OwnTransaction.{OwnTransaction}
 use Rattle.cacheless.specs.Ends.{End, Ends, Commits, TakesBack}
 use Rattle.cacheless.specs.Facts.{Facts, facts_of, facts_by}
 use Rattle.cacheless.specs.Holds.{HasEntered, with_own}
-use Rattle.cacheless.specs.May.{has_write_since, is_next_of_back, is_next_of_end, owes_nothing, may_end_at, may_end_last, may_play_at, may_last_at, may_play_now}
+use Rattle.cacheless.specs.May.{is_next_of_back, is_next_of_end, owes_nothing, may_end_at, may_end_last, may_play_at, may_last_at, may_play_now}
 use Rattle.cacheless.specs.OnCourse.{AllOnCourse}
 use Rattle.cacheless.specs.Plays.{MayPlayIn}
 use Rattle.cacheless.specs.Runs.{runs}
 use Rattle.cacheless.specs.Schedule.{LooksTruly}
 use Rattle.cacheless.specs.Session.{Session, number_of, outcome_of, is_settled}
 use Rattle.cacheless.specs.Sessions.{ends_command, noted, entered}
-use Rattle.cacheless.specs.State.{owed_at, is_out, end_of_running, session_at}
+use Rattle.cacheless.specs.State.{owed_at, has_write_since, is_out, end_of_running, session_at}
 use Rattle.cacheless.proofs.Deciding.{holds_decides}
 use Rattle.cacheless.proofs.NextOnCourse.{entered_noted}
 use Rattle.cacheless.proofs.OwnEntries.{IsNoted}

@@ -119,7 +119,7 @@ pub data KeepsAnswer (was now : Backend) (event : Event) : Type 0 where
   Inside : ends_command event ≡ false → now.answer ≡ None → KeepsAnswer was now event
 
 -- an entry of an end leaves the plan
-end_left : (event : Event) (s : Session) → ends_command event ≡ true → (noted event s).left ≡ s.left
+pub end_left : (event : Event) (s : Session) → ends_command event ≡ true → (noted event s).left ≡ s.left
 end_left (events.Visible xid) s is = refl
 end_left (events.Publish count) s is = refl
 end_left (events.Release from) s is = refl
@@ -144,6 +144,7 @@ pub own_enters : (scenario : Scenario) (old new : List Entry) (had has : ℕ →
     → Fits (facts_of (with_own old was.progress event) now.progress.id) (command_at now) (session_at now.progress goes.holds.rest) now.looked now.looked_to_build
     → now.lines ≡ was.lines → KeepsAnswer was now event → (ends_command event ≡ false → (noted event (waiting waits)).ended ≡ (waiting waits).ended)
     → Appends old new had has (entry_of was.progress.id (was.progress.finished + 1) event) → Enters scenario old new had has was now
+unfolding own_makes
 own_enters scenario old new had has was now event waits played courses own goes keeps fits lines answer stays appends = record {
   makes = makes;
   id = goes.moves.id;

@@ -23,11 +23,10 @@ use Rattle.backend_core.specs.Types.{Command, Scenario, Entry, Event, OwnLock, M
 use Rattle.backend_core.specs.Agrees.{IsPlayed, KeptAt, command_at, AwaitsEntry}
 use Rattle.backend_core.specs.Fits.{first_at, Fits}
 use Rattle.backend_core.specs.Steps.{EndsNext, Enters}
-use Rattle.backend_core.proofs.ActsRun.{follows_here}
 use Rattle.backend_core.proofs.EndEntries.{end_now, end_call, end_enters}
 use Rattle.backend_core.proofs.EndsNow.{end_by, EndsBy, takes_now, commit_end, back_end}
 use Rattle.backend_core.proofs.FitsEnds.{later_at, GoesOn, end_same, fits_ending, takes_back_on, write_from_first, none_from, some_before, goes_first, begun_xid, begun_visible, written_runs}
-use Rattle.backend_core.proofs.Own.{waiting}
+use Rattle.backend_core.proofs.Own.{waiting, follows}
 
 -- a transaction that is taken back isn't visible
 pub back_hidden : (facts : Facts) (o : Option Command) (s : Session) (looked to_build : Bool) (from : ℕ) → Fits facts o s looked to_build → end_by facts o s ≡ TakesBack from → is_visible facts.running ≡ false
@@ -77,7 +76,7 @@ module _ (scenario : Scenario) (old : List Entry) (was : Backend) (from : ℕ) (
     where
       by_command : (o : Option Command) → command_at was ≡ o → builds_owed later s.opened ≡ []
       by_command None past = ap (builds_owed later) (waits.fits.past past).opened
-      by_command (Some command) is = ends_built later command (later_at s locks at) (follows_here scenario old was waits courses command is).plain well
+      by_command (Some command) is = ends_built later command (later_at s locks at) (follows scenario old was waits courses command is).plain well
           (ap (λ e. elim e as (λ x. List Owes) [ TakesBack n ↦ owed_after later.last | end ↦ owed_of later command (later_at s locks at) ]) (end_same facts later command s locks at goes_on ∙ ap (λ o. end_by facts o s) (sym is) ∙ takes.0))
 
   pub take_back_fits : AllOnCourse scenario old → (locks : List OwnLock) (at : ℕ) → Fits later (command_at was) (later_at s locks at) was.looked was.looked_to_build

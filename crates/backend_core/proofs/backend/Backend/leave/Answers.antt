@@ -5,8 +5,8 @@ use Rattle.backend_core.proofs.backend.Backend.leave.Goals as goal
 pub stop-requires-clause-call : goal.stop-requires-clause-call
 stop-requires-clause-call g c = leave_call _ _ c.args.self.now c.requires.waits c.requires.next.1
 
-pub enter_stop-requires : goal.enter_stop-requires
-enter_stop-requires g c = is_few _ _ c.args.self.now c.requires.waits
+pub enter_stop-requires : goal.enter_stop-requires-clause-few
+enter_stop-requires g c = record { few = is_few _ _ c.args.self.now c.requires.waits }
 
 pub returns-clause-steps : goal.returns-clause-steps
 returns-clause-steps g c = leave_steps _ _ _ _ _ c.args.self.now _ c.requires.waits c.requires.played c.requires.course c.requires.next.0 c.requires.next.1 (c.enter_stop.ensures.holds _ _ c.requires.waits.rests) c.enter_stop.ensures.kept c.stop.ensures.appends
