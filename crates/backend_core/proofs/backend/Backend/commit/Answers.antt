@@ -5,7 +5,7 @@ use Rattle.backend_core.proofs.backend.Backend.commit.Goals as goal
 pub visible-requires-clause-call : goal.visible-requires-clause-call
 visible-requires-clause-call g c = commit_call _ _ c.args.self.now _ c.requires.waits c.requires.next
 
-pub enter_visible-requires : goal.enter_visible-requires-clause-few
+pub enter_visible-requires : goal.enter_visible-requires
 enter_visible-requires g c = record { few = is_few _ _ c.args.self.now c.requires.waits }
 
 pub returns-clause-enters : goal.returns-clause-enters

@@ -5,7 +5,7 @@ use Rattle.backend_core.proofs.backend.Backend.leave.Goals as goal
 pub stop-requires-clause-call : goal.stop-requires-clause-call
 stop-requires-clause-call g c = leave_call _ _ c.args.self.now c.requires.waits c.requires.next.1
 
-pub enter_stop-requires : goal.enter_stop-requires-clause-few
+pub enter_stop-requires : goal.enter_stop-requires
 enter_stop-requires g c = record { few = is_few _ _ c.args.self.now c.requires.waits }
 
 pub returns-clause-steps : goal.returns-clause-steps

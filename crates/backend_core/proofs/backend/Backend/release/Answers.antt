@@ -5,7 +5,7 @@ use Rattle.backend_core.proofs.backend.Backend.release.Goals as goal
 pub release-requires-clause-call : goal.release-requires-clause-call
 release-requires-clause-call g c = release_call _ _ c.args.self.now _ c.requires.waits c.requires.next
 
-pub enter_release-requires : goal.enter_release-requires-clause-few
+pub enter_release-requires : goal.enter_release-requires
 enter_release-requires g c = record { few = is_few _ _ c.args.self.now c.requires.waits }
 
 pub returns-clause-enters : goal.returns-clause-enters

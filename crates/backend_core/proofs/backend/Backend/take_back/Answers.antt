@@ -5,7 +5,7 @@ use Rattle.backend_core.proofs.backend.Backend.take_back.Goals as goal
 pub gone-requires-clause-call : goal.gone-requires-clause-call
 gone-requires-clause-call g c = take_back_call _ _ c.args.self.now _ c.requires.waits c.requires.next
 
-pub enter_gone-requires : goal.enter_gone-requires-clause-few
+pub enter_gone-requires : goal.enter_gone-requires
 enter_gone-requires g c = record { few = is_few _ _ c.args.self.now c.requires.waits }
 
 pub returns-clause-enters : goal.returns-clause-enters
