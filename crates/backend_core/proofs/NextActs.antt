@@ -75,32 +75,14 @@ next_is p act wants scan is = (λ i. not (goes_on p act wants i) && (list_any (�
 -- a list lacks what is found of it
 found_lacks : {X : Type 0} (f : X → Bool) (xs : List X) → is_empty (filter f xs) ≡ not (is_some (find f xs))
 found_lacks f [] = refl
-found_lacks f (x ∷ xs) = by_test (f x)
+found_lacks f (x ∷ xs) = by_test (f x) (found_lacks f xs)
   where
-    by_test : (t : Bool) → is_empty (cond t (x ∷ filter f xs) (filter f xs)) ≡ not (is_some (cond t (Some x) (find f xs)))
-    by_test true = refl
-    by_test false = found_lacks f xs
+    by_test : (t : Bool) → is_empty (filter f xs) ≡ not (is_some (find f xs)) → is_empty (cond t (x ∷ filter f xs) (filter f xs)) ≡ not (is_some (cond t (Some x) (find f xs)))
+    by_test true more = refl
+    by_test false more = more
 
 module _ (p : Progress) (command : Command) (still : IsAtRest p) (free : IsFree p command) (whole : lacks_opened p.kept p.opened ≡ false) where
-  -- the scan of a column
-  pub column_next : (rel : Oid) (name : List ℕ) → want_of (plan_at p.exec) ≡ wants.Column rel name → IsScanNext p (scans.AttName rel name) false
-  column_next rel name want = by_made (p.read && p.named) refl
-    where
-      act : Wants (plan_at p.exec) (Column rel name)
-      act = plan_wanted (plan_at p.exec) (Column rel name) (ap wanted_act want)
-
-      lacks : (t : Bool) → (p.read && p.named) ≡ t → lacks_any p ≡ not t
-      lacks t is = lacks_is p (Column rel name) act whole ∙ ap (λ x. not (is_empty (if x then [] else scans.AttName rel name ∷ []))) is ∙ by_test t
-        where
-          by_test : (x : Bool) → not (is_empty (if x then [] else scans.AttName rel name ∷ [])) ≡ not x
-          by_test true = refl
-          by_test false = refl
-
-      by_made : (t : Bool) → (p.read && p.named) ≡ t → IsScanNext p (scans.AttName rel name) false
-      by_made true is = absurd (not_at_rest p command (Column rel name) still free act (out_owes p command free (lacks true is)) refl)
-      by_made false is = record { command = command; free = free; lacks = lacks false is; next = next_is p (Column rel name) act (scans.AttName rel name) (ap (λ t. not t && same_scan (scans.AttName rel name) (scans.AttName rel name)) is ∙ same_scan-itself (scans.AttName rel name)); kind = refl }
-
-  -- that of a name
+  -- the scan of a name
   pub lookup_next : (name : List ℕ) (mode : Mode) → want_of (plan_at p.exec) ≡ wants.Lookup name mode → owes_nothing command p ≡ false → IsScanNext p (scans.RelName name) false
   lookup_next name mode want owes = by_made made refl
     where
@@ -121,35 +103,6 @@ module _ (p : Progress) (command : Command) (still : IsAtRest p) (free : IsFree 
       by_made true is = absurd (both_ways _ owes (out_owes p command free (lacks true is)))
       by_made false is = record { command = command; free = free; lacks = lacks false is; next = next_is p (Lookup name mode) act (scans.RelName name) (ap (λ t. not t && same_scan (scans.RelName name) (scans.RelName name)) is ∙ same_scan-itself (scans.RelName name)); kind = refl }
 
-  -- then the lock of the relation that it names
-  pub lookup_lock : (name : List ℕ) (mode : Mode) (rel : Oid) → want_of (plan_at p.exec) ≡ wants.Lookup name mode → owes_nothing command p ≡ true → unlocked_of p.locks.items mode p.given.items ≡ Some rel → IsLockNext p rel mode
-  lookup_lock name mode rel want owes unlocked = record { command = command; free = free; may = both_true (owes_nothing command p) (is_lock_at p (plan_at p.exec) rel mode) owes
-      (ap (λ q. is_lock_at p q rel mode) act.is ∙ both_true (names_relation rel p.given.items) (mode_number mode == mode_number mode) (names p.given.items unlocked) (eq-eqb (mode_number mode) (mode_number mode) refl)) }
-    where
-      act : Wants (plan_at p.exec) (Lookup name mode)
-      act = plan_wanted (plan_at p.exec) (Lookup name mode) (ap wanted_act want)
-
-      names : (given : List Row) → unlocked_of p.locks.items mode given ≡ Some rel → names_relation rel given ≡ true
-      names [] is = absurd (cc is)
-      names (rows.Class oid own kind fill ∷ more) is = by_lock (has_lock p.locks.items oid mode) is
-        where
-          by_lock : (t : Bool) → elim t as (λ x. Option Oid) [ true ↦ None | false ↦ Some oid ] ≡ Some rel → (rel.0 == oid.0) ≡ true
-          by_lock true none = absurd (cc none)
-          by_lock false one = eq-eqb rel.0 oid.0 (let same : oid ≡ rel = cc one in ap (λ (o : Oid). o.0) (sym same))
-      names (row ∷ more) is = absurd (cc is)
-
-  pub lookup_none : (name : List ℕ) (mode : Mode) → want_of (plan_at p.exec) ≡ wants.Lookup name mode → owes_nothing command p ≡ true → unlocked_of p.locks.items mode p.given.items ≡ None → ⊥
-  lookup_none name mode want owes locked = not_at_rest p command (Lookup name mode) still free (plan_wanted (plan_at p.exec) (Lookup name mode) (ap wanted_act want)) owes (gives p.given.items locked)
-    where
-      gives : (given : List Row) → unlocked_of p.locks.items mode given ≡ None → is_some (looked_up p.locks.items mode given) ≡ true
-      gives [] is = refl
-      gives (rows.Class oid own kind fill ∷ more) is = by_lock (has_lock p.locks.items oid mode) is
-        where
-          by_lock : (t : Bool) → elim t as (λ x. Option Oid) [ true ↦ None | false ↦ Some oid ] ≡ None → is_some (if_locked t (rows.Class oid own kind fill ∷ more)) ≡ true
-          by_lock true none = refl
-          by_lock false one = absurd (cc one)
-      gives (row ∷ more) is = refl
-
   -- the first scan of a descriptor that is to be opened
   pub open_next : (rel : Oid) (kind : Kind) (scan : Purpose) → want_of (plan_at p.exec) ≡ wants.Open rel kind → find (λ d. not (is_kept p.kept d)) (build_scans kind rel) ≡ Some scan → IsScanNext p scan true
   open_next rel kind scan want is = record {
@@ -162,21 +115,6 @@ module _ (p : Progress) (command : Command) (still : IsAtRest p) (free : IsFree 
     where
       act : Wants (plan_at p.exec) (Open rel kind)
       act = plan_wanted (plan_at p.exec) (Open rel kind) (ap wanted_act want)
-
-  pub open_none : (rel : Oid) (kind : Kind) → want_of (plan_at p.exec) ≡ wants.Open rel kind → find (λ d. not (is_kept p.kept d)) (build_scans kind rel) ≡ None → ⊥
-  open_none rel kind want none = not_at_rest p command (Open rel kind) still free act
-      (out_owes p command free (lacks_is p (Open rel kind) act whole ∙ ap not (found_lacks (λ d. not (is_kept p.kept d)) (build_scans kind rel)) ∙ ap (λ f. not (not (is_some f))) none)) refl
-    where
-      act : Wants (plan_at p.exec) (Open rel kind)
-      act = plan_wanted (plan_at p.exec) (Open rel kind) (ap wanted_act want)
-
-  -- a lock
-  pub lock_next : (rel : Oid) (mode : Mode) → want_of (plan_at p.exec) ≡ wants.Lock rel mode → IsLockNext p rel mode
-  lock_next rel mode want = record { command = command; free = free; may = both_true (owes_nothing command p) (is_lock_at p (plan_at p.exec) rel mode) (out_owes p command free (lacks_is p (Lock rel mode) act whole))
-      (ap (λ q. is_lock_at p q rel mode) act.is ∙ both_true (rel.0 == rel.0) (mode_number mode == mode_number mode) (eq-eqb rel.0 rel.0 refl) (eq-eqb (mode_number mode) (mode_number mode) refl)) }
-    where
-      act : Wants (plan_at p.exec) (Lock rel mode)
-      act = plan_wanted (plan_at p.exec) (Lock rel mode) (ap wanted_act want)
 
   -- what is read of an opened descriptor is there
   pub read_none : (scan : Purpose) → want_of (plan_at p.exec) ≡ wants.Read scan → ReadsOpened p.opened (plan_at p.exec) → ⊥
@@ -192,38 +130,21 @@ module _ (p : Progress) (command : Command) (still : IsAtRest p) (free : IsFree 
       kept : is_kept p.kept scan ≡ true
       kept = kept_opened p.kept scan p.opened (empty_list (builds_missing p.kept p.opened) (not_false (is_empty (builds_missing p.kept p.opened)) (sym (lacks_opened_is p.kept p.opened) ∙ whole))) (subst (ReadsOpened p.opened) act.is reads).0
 
--- a command that has failed wants nothing
-pub failed_none : (p : Progress) → has_failed p ≡ false → outcome_of (plan_at p.exec) ≡ Badly → ⊥
-failed_none p goes badly = both_ways _ goes (ap (λ o. elim o as (λ x. Bool) [ Badly ↦ true | other ↦ false ]) badly)
+-- a command that hasn't failed wants no failure
+abbrev fails : Want → Bool
+fails (wants.Fails error) = true
+fails (wants.Absent name) = true
+fails want = false
 
--- the next entry of a commit
-abbrev commit_by : Bool → Bool → List Message → ℕ → ℕ → Event → Bool
-commit_by written visible unsent first xid event = elim written [ true ↦ elim visible [ true ↦ is_next_sent first unsent event | false ↦ shows xid event ] | false ↦ releases first event ]
+pub fails_none : (p : Progress) (want : Want) → has_failed p ≡ false → want_of (plan_at p.exec) ≡ want → fails want ≡ true → ⊥
+fails_none p want goes is failing = by_plan (plan_at p.exec) refl (ap fails is ∙ failing)
+  where
+    by_act : (act : Act) → fails (want_of_act act) ≡ true → ⊥
+    by_act act bad = cc bad
 
-module _ (first : ℕ) (p : Progress) where
-  pub commit_bare : has_write_since first p ≡ false → ComesOfCommit first p (nexts.Release first)
-  commit_bare bare = (λ i. commit_by (bare i) (is_visible_at p) (unsent_at p) first (xid_at p) (events.Release first)) ∙ eq-eqb first first refl
-
-  pub commit_shows : has_write_since first p ≡ true → is_visible_at p ≡ false → ComesOfCommit first p (nexts.Commit (record { 0 = xid_at p }))
-  commit_shows written hidden = (λ i. commit_by (written i) (hidden i) (unsent_at p) first (xid_at p) (events.Visible (record { 0 = xid_at p }))) ∙ eq-eqb (xid_at p) (xid_at p) refl
-
-  pub commit_sent : has_write_since first p ≡ true → is_visible_at p ≡ true → take 64 (unsent_at p) ≡ [] → ComesOfCommit first p (nexts.Release first)
-  commit_sent written visible none = (λ i. commit_by (written i) (visible i) (no_message (unsent_at p) none i) first (xid_at p) (events.Release first)) ∙ eq-eqb first first refl
-    where
-      no_message : (l : List Message) → take 64 l ≡ [] → l ≡ []
-      no_message [] is = refl
-      no_message (m ∷ l) is = absurd (cc is)
-
-  pub commit_publishes : has_write_since first p ≡ true → is_visible_at p ≡ true → take 64 (unsent_at p) ≢ [] → ComesOfCommit first p nexts.Publish
-  commit_publishes written visible some = (λ i. commit_by (written i) (visible i) (unsent_at p) first (xid_at p) (events.Publish (length (take 64 (unsent_at p))))) ∙ by_list (unsent_at p) some
-    where
-      by_list : (l : List Message) → take 64 l ≢ [] → is_next_sent first l (events.Publish (length (take 64 l))) ≡ true
-      by_list [] none = absurd (none refl)
-      by_list (m ∷ l) there = eq-eqb (length (take 64 (m ∷ l))) (length (take 64 (m ∷ l))) refl
-
-  -- and of taking back
-  pub back_takes : has_write_since first p ≡ true → ComesOfBack first p (nexts.TakeBack first)
-  back_takes written = ap (λ t. elim t as (λ x. Bool) [ true ↦ first == first | false ↦ false ]) written ∙ eq-eqb first first refl
-
-  pub back_bare : has_write_since first p ≡ false → ComesOfBack first p (nexts.Release first)
-  back_bare bare = ap (λ t. elim t as (λ x. Bool) [ true ↦ false | false ↦ first == first ]) bare ∙ eq-eqb first first refl
+    by_plan : (q : Plan) → plan_at p.exec ≡ q → fails (want_of q) ≡ true → ⊥
+    by_plan Done at bad = cc bad
+    by_plan NotBuilt at bad = cc bad
+    by_plan (Do act rest) at bad = by_act act bad
+    by_plan (Fails error) at bad = both_ways _ goes (ap (λ x. elim (outcome_of x) as (λ y. Bool) [ Badly ↦ true | other ↦ false ]) at)
+    by_plan (Absent name) at bad = both_ways _ goes (ap (λ x. elim (outcome_of x) as (λ y. Bool) [ Badly ↦ true | other ↦ false ]) at)

@@ -112,23 +112,26 @@ takes_back_next s command next from still free out lacks end comes = ends_next s
 -- the plans of commands read what they have opened, however far they are
 reads_reached : (gave : List (List Row)) (opened : List Opening) (plan : Plan) → ReadsOpened opened plan → ReadsOpened (opened ++ made_in opening_by gave plan) (reached gave plan)
 reads_reached [] opened plan reads = subst (λ o. ReadsOpened o plan) (sym (append-nil opened)) reads
-reads_reached (given ∷ gave) opened plan reads = by_plan plan reads
+reads_reached (given ∷ gave) opened plan reads = by_plan (reads_reached gave) plan reads
   where
-    on : (act : Act) (rest : List Row → Plan) → ReadsOpened opened (Do act rest) → ReadsOpened (opened ++ (opened_by act ++ made_in opening_by gave (rest given))) (reached gave (rest given))
-    on act rest has = subst (λ o. ReadsOpened o (reached gave (rest given))) (append_assoc opened (opened_by act) (made_in opening_by gave (rest given)))
-        (reads_reached gave (opened ++ opened_by act) (rest given) (reads_after opened act rest given (opened ++ opened_by act) (rest given) has refl refl))
+    Further : Type 0
+    Further = (o : List Opening) (p : Plan) → ReadsOpened o p → ReadsOpened (o ++ made_in opening_by gave p) (reached gave p)
 
-    by_plan : (p : Plan) → ReadsOpened opened p → ReadsOpened (opened ++ made_in opening_by (given ∷ gave) p) (reached (given ∷ gave) p)
-    by_plan (Do (Write draft) rest) has = reads_reached gave opened (Do (Write draft) rest) has
-    by_plan (Do (Lookup name mode) rest) has = on (Lookup name mode) rest has
-    by_plan (Do (Open rel kind) rest) has = on (Open rel kind) rest has
-    by_plan (Do (Column rel name) rest) has = on (Column rel name) rest has
-    by_plan (Do (Read scan) rest) has = on (Read scan) rest has
-    by_plan (Do (Lock rel mode) rest) has = on (Lock rel mode) rest has
-    by_plan Done has = reads_reached gave opened Done tt
-    by_plan (Fails error) has = reads_reached gave opened (Fails error) tt
-    by_plan (Absent name) has = reads_reached gave opened (Absent name) tt
-    by_plan NotBuilt has = reads_reached gave opened NotBuilt tt
+    on : Further → (act : Act) (rest : List Row → Plan) → ReadsOpened opened (Do act rest) → ReadsOpened (opened ++ (opened_by act ++ made_in opening_by gave (rest given))) (reached gave (rest given))
+    on further act rest has = subst (λ o. ReadsOpened o (reached gave (rest given))) (append_assoc opened (opened_by act) (made_in opening_by gave (rest given)))
+        (further (opened ++ opened_by act) (rest given) (reads_after opened act rest given (opened ++ opened_by act) (rest given) has refl refl))
+
+    by_plan : Further → (p : Plan) → ReadsOpened opened p → ReadsOpened (opened ++ made_in opening_by (given ∷ gave) p) (reached (given ∷ gave) p)
+    by_plan further (Do (Write draft) rest) has = further opened (Do (Write draft) rest) has
+    by_plan further (Do (Lookup name mode) rest) has = on further (Lookup name mode) rest has
+    by_plan further (Do (Open rel kind) rest) has = on further (Open rel kind) rest has
+    by_plan further (Do (Column rel name) rest) has = on further (Column rel name) rest has
+    by_plan further (Do (Read scan) rest) has = on further (Read scan) rest has
+    by_plan further (Do (Lock rel mode) rest) has = on further (Lock rel mode) rest has
+    by_plan further Done has = further opened Done tt
+    by_plan further (Fails error) has = further opened (Fails error) tt
+    by_plan further (Absent name) has = further opened (Absent name) tt
+    by_plan further NotBuilt has = further opened NotBuilt tt
 
 pub reads_now : (scenario : Scenario) (seen : List Entry) (s : Backend) → AwaitsEntry scenario seen s → AllOnCourse scenario seen → ReadsOpened s.progress.opened (plan_at s.progress.exec)
 reads_now scenario seen s waits courses = by_command (command_at s) refl
@@ -192,6 +195,11 @@ build_some kept (o ∷ opened) scan is = by_first (find (λ d. not (is_kept kept
       first = ap (λ f. option_map_or (same_scan scan) f false || list_any (λ q. is_first_missing scan kept q.kind q.rel) opened) at ∙ later.first;
       build = later.build;
     }
+
+-- the first scan that is lacked, of lists that are these
+pub first_built : (kept mine : List KeptScan) (opened given : List Opening) (lacking : Option Opening) (o : Opening) (result : Option Purpose) → mine ≡ kept → given ≡ opened → lacking ≡ lacking_first mine given → lacking ≡ Some o → result ≡ find (λ d. not (is_kept mine d)) (build_scans o.kind o.rel) → result ≡ build_first kept opened
+first_built kept mine opened given lacking o result mine_is given_is lacking_is some result_is = result_is ∙ ap (λ l. find (λ d. not (is_kept l d)) (build_scans o.kind o.rel)) mine_is
+    ∙ sym (ap (λ x. elim x as (λ y. Option Purpose) [ Some q ↦ find (λ d. not (is_kept kept d)) (build_scans q.kind q.rel) | None ↦ None ]) ((λ i. lacking_first (sym mine_is i) (sym given_is i)) ∙ sym lacking_is ∙ some))
 
 -- where no scan is found none is lacked
 pub build_none : (kept : List KeptScan) (opened : List Opening) → build_first kept opened ≡ None → lacks_opened kept opened ≡ false
