@@ -186,7 +186,7 @@ full_most true false tally = omega arith
 full_most false counts tally = omega arith
 
 -- a full fetch counts in the tally alone
-full_same : {X : Type 0} (t : Bool) (tally : Tally) (get : Tally → X) → ((n : ℕ) → get (record tally { full = n }) ≡ get tally) → get (elim t as (λ x. Tally) [ true ↦ record tally { full = tally.full + 1 } | false ↦ tally ]) ≡ get tally
+full_same : (t : Bool) (tally : Tally) (get : Tally → ℕ) → ((n : ℕ) → get (record tally { full = n }) ≡ get tally) → get (elim t as (λ x. Tally) [ true ↦ record tally { full = tally.full + 1 } | false ↦ tally ]) ≡ get tally
 full_same true tally get same = same (tally.full + 1)
 full_same false tally get same = refl
 
