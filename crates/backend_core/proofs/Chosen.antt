@@ -23,7 +23,7 @@ use Rattle.cacheless.specs.declared.progress.Due.TheVariants as dues
 use Rattle.cacheless.specs.Facts.{Facts, facts_of}
 use Rattle.cacheless.specs.Holds.{Holds, Rests, FactsFit}
 use Rattle.cacheless.specs.May.{HasRoom, started_at, may_look_at, lacks_any, owes_nothing, may_play_now, is_lock_at, may_lock_at}
-use Rattle.cacheless.specs.Owed.{Owes, OwesLook, OwesFetch, owed_after, owed_of}
+use Rattle.cacheless.specs.Owed.{Owes as Owing, OwesLook, OwesFetch, OwesScan, owed_after, owed_of}
 use Rattle.cacheless.specs.Plays.{started_in, has_looked, may_look, MayPlay, MayPlayIn}
 use Rattle.cacheless.specs.Ends.{TakesBack, end_of, end_of_all}
 use Rattle.cacheless.specs.Schedule.{LooksTruly}
@@ -68,8 +68,14 @@ started_still n m (Some t) some = refl
 
 -- a look may come where no fetch is owed
 pub look_may : (facts : Facts) (s : Session) → (owed_after facts.last ≡ []) ⊎ (owed_after facts.last ≡ OwesLook ∷ []) → s.tally.looks + 1 ≤ s.tally.scans + s.tally.grants + 2 * s.tally.fetches + 3 → may_look facts s ≡ true
-look_may facts s (inl none) low = ap (λ l. elim l as (λ x. Bool) [ OwesFetch ∷ owed ↦ false | owed ↦ nat_le (s.tally.looks + 1) (s.tally.scans + s.tally.grants + 2 * s.tally.fetches + 3) ]) none ∙ le-leb _ _ low
-look_may facts s (inr look) low = ap (λ l. elim l as (λ x. Bool) [ OwesFetch ∷ owed ↦ false | owed ↦ nat_le (s.tally.looks + 1) (s.tally.scans + s.tally.grants + 2 * s.tally.fetches + 3) ]) look ∙ le-leb _ _ low
+look_may facts s owes low = by_owed (owed_after facts.last) owes
+  where
+    by_owed : (l : List Owing) → (l ≡ []) ⊎ (l ≡ OwesLook ∷ []) → elim l [ OwesFetch ∷ owed ↦ false | owed ↦ nat_le (s.tally.looks + 1) (s.tally.scans + s.tally.grants + 2 * s.tally.fetches + 3) ] ≡ true
+    by_owed [] is = le-leb _ _ low
+    by_owed (OwesLook ∷ owed) is = le-leb _ _ low
+    by_owed (OwesFetch ∷ owed) (inl none) = absurd (cc none)
+    by_owed (OwesFetch ∷ owed) (inr look) = absurd (cc look)
+    by_owed (OwesScan scan ∷ owed) is = le-leb _ _ low
 
 -- in a command that runs no end is on its way: nothing is published or released
 pub data Busy (p : Progress) (command : Command) : Type 0 where

@@ -255,9 +255,9 @@ fetched_count old b count due = length-take-le count (drop (position_of old b) (
 pub messages_enter : (scenario : Scenario) (old new : List Entry) (had has : ℕ → ℕ) (was now : Backend) (count : ℕ) (given : List Message) (waits : AwaitsEntry scenario old was) → IsPlayed scenario old → AllOnCourse scenario old → was.progress.due ≡ dues.Fetch
     → Fetches scenario.size old new had has was.progress.id (was.progress.finished + 1) given (fetches.Messages count)
     → (given ≡ fetched_by old was.progress.id (length given) → HasEntered scenario old was.progress (events.Fetch (length given)) waits.rests now.progress) → now.progress.kept ≡ kept_spared given was.progress.kept → now.progress.given_at ≡ was.progress.given_at
-    → now ≡ record was { progress = now.progress; looked_to_build = was.looked_to_build && not (marks_build was.progress given) } → Enters scenario old new had has was (record now { answer = None })
+    → now ≡ record was { progress = now.progress; looked_to_build = was.looked_to_build && not (marks_build was.progress given); answer = None } → Enters scenario old new had has was now
 messages_enter scenario old new had has was now count given waits played courses due gives goes kept given_at is =
-    subst (Enters scenario old new had has was) (sym (ap (λ (x : Backend). record x { answer = None }) is))
+    subst (Enters scenario old new had has was) (sym is)
     (fetch_agrees scenario old new had has was now.progress (events.Fetch (length given)) (marks_build was.progress given) waits played courses due (messages_bring scenario old was (length given) waits due gives.served) (goes (gives.messages ∙ ap (fetched_by old was.progress.id) counts))
     (subst (All (KeptAt old was.progress.id)) (sym kept) (All-filter (λ k. is_spared k.scan given) (KeptAt old was.progress.id) was.progress.kept waits.keeps.kept)) given_at
     (subst (λ n. Appends old new had has (entry_of was.progress.id (was.progress.finished + 1) (events.Fetch n))) counts gives.appends))
@@ -268,8 +268,8 @@ messages_enter scenario old new had has was now count given waits played courses
 -- a reset
 pub reset_enters : (scenario : Scenario) (old new : List Entry) (had has : ℕ → ℕ) (was now : Backend) (given : List Message) (waits : AwaitsEntry scenario old was) → IsPlayed scenario old → AllOnCourse scenario old → was.progress.due ≡ dues.Fetch
     → Fetches scenario.size old new had has was.progress.id (was.progress.finished + 1) given fetches.Reset → HasEntered scenario old was.progress events.FetchReset waits.rests now.progress → now.progress.kept ≡ [] → now.progress.given_at ≡ was.progress.given_at
-    → now ≡ record was { progress = now.progress; looked_to_build = was.looked_to_build && not (has_begun was.progress) } → Enters scenario old new had has was (record now { answer = None })
+    → now ≡ record was { progress = now.progress; looked_to_build = was.looked_to_build && not (has_begun was.progress); answer = None } → Enters scenario old new had has was now
 reset_enters scenario old new had has was now given waits played courses due gives goes kept given_at is =
-    subst (Enters scenario old new had has was) (sym (ap (λ (x : Backend). record x { answer = None }) is))
+    subst (Enters scenario old new had has was) (sym is)
     (fetch_agrees scenario old new had has was now.progress events.FetchReset (has_begun was.progress) waits played courses due (reset_brings scenario old was waits due gives.lapped) goes
     (subst (All (KeptAt old was.progress.id)) (sym kept) (λ i d within. absurd (omega (arith, within)))) given_at gives.appends)

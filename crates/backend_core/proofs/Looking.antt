@@ -96,10 +96,10 @@ abbrev looked_facts : Facts → Session → Bool → Facts
 looked_facts facts s some_wait = record facts { last = Some (events.Look some_wait); running = Some (begun (number_of s) facts.running) }
 
 -- a look that the choice makes: its transaction runs, or begins with it, and it is counted once
-record LookCounts (facts : Facts) (s : Session) (command : Command) (looked to_build looked_now to_build_now : Bool) : Type 0 where
-  goes : RunsHere facts (Some command) s
-  owes : (owed_after facts.last ≡ []) ⊎ (owed_after facts.last ≡ OwesLook ∷ [])
-  counts : looks_due (owed_after facts.last) + (started_by (number_of s) (Some (begun (number_of s) facts.running)) + one_if looked_now + one_if to_build_now) ≡ started_in (number_of s) facts + one_if looked + one_if to_build + 1
+pub record LookCounts (facts : Facts) (s : Session) (command : Command) (looked to_build looked_now to_build_now : Bool) : Type 0 where
+  pub goes : RunsHere facts (Some command) s
+  pub owes : (owed_after facts.last ≡ []) ⊎ (owed_after facts.last ≡ OwesLook ∷ [])
+  pub counts : looks_due (owed_after facts.last) + (started_by (number_of s) (Some (begun (number_of s) facts.running)) + one_if looked_now + one_if to_build_now) ≡ started_in (number_of s) facts + one_if looked + one_if to_build + 1
 
 -- in an accept
 counts_due : (facts : Facts) (s : Session) (command : Command) (looked to_build : Bool) → owed_after facts.last ≡ OwesLook ∷ [] → is_some facts.running ≡ true → LookCounts facts s command looked to_build looked to_build

@@ -74,6 +74,11 @@ answered_line scenario seen s command text now at out owes none told = told_line
     here : IsJudgedHere seen s.progress.id session
     here = now.here command at (ap (λ o. is_some o) none)
 
+-- the last entry is over as it was
+over_same : (last : Option Event) (s later : Session) → later.ended ≡ s.ended → is_over last later ≡ is_over last s
+over_same (Some (events.Gone from)) s later same = refl
+over_same last s later same = same
+
 -- the place of a lookup that found no relation is that of its scan
 place_absent : (seen : List Entry) (b : ℕ) (s : Session) (command : Command) (act : Act) (rest : List Row → Plan) (given : List Row) (at : ℕ) → (way : OnItsWay seen b s command) → s.left ≡ Do act rest → IsDoneHere (facts_of seen b) s act rest given → PlaceFits seen b s.left s.read at → is_absent (rest given) ≡ true → PlaceFits seen b (rest given) false at
 place_absent seen b s command (Lookup name mode) rest given at way left done fits absent = subst (λ p. PlaceFits seen b p false at) (sym unfound.is)
@@ -114,7 +119,7 @@ act_agrees scenario seen was p now acted kept given_at = record {
   };
   here = λ command at none. let h = now.here command (sym same_command ∙ at) none in record {
     judged = subst (λ (x : Session). length seen ≤ x.judged) (sym acted.session) h.judged;
-    stands = (λ i. is_over (last_event_of seen (acted.moves.id i)) (acted.session i)) ∙ h.stands;
+    stands = (λ i. is_over (last_event_of seen (acted.moves.id i)) (acted.session i)) ∙ over_same (last_event_of seen was.progress.id) s (act_done acted.act acted.given (acted.further acted.given) s) refl ∙ h.stands;
   };
   last = subst (λ (x : Session). length seen ≤ x.last) (sym acted.session) now.last;
 }
@@ -141,7 +146,7 @@ act_agrees scenario seen was p now acted kept given_at = record {
 
 -- it passes to its next command
 pub pass_agrees : (scenario : Scenario) (seen : List Entry) (was : Backend) (p : Progress) (lines : List Line) (text : List ℕ) (now : AgreesNow scenario seen was) (passed : HasPassed scenario seen was.progress now.holds p) → p.kept ≡ was.progress.kept
-    → lines ≡ was.lines ++ record { backend = was.progress.id; command = was.progress.finished + 1; text = text } ∷ [] → elim was.answer as (λ x. Type 0) [ Some told ↦ text ≡ told | None ↦ IsToldText was.progress passed.command text ]
+    → lines ≡ was.lines ++ record { backend = was.progress.id; command = was.progress.finished + 1; text = text } ∷ [] → elim was.answer as (λ x. Type 0) [ Some told ↦ text ≡ told | None ↦ (command : Command) → command_at was ≡ Some command → IsToldText was.progress command text ]
     → AgreesNow scenario seen (record was { progress = p; lines = lines; answer = None; looked = false; looked_to_build = false })
 pass_agrees scenario seen was p lines text now passed kept pushed tells = record {
   played = now.played;
@@ -207,10 +212,10 @@ pass_agrees scenario seen was p lines text now passed kept pushed tells = record
     line_is : record { backend = was.progress.id; command = was.progress.finished + 1; text = text } ≡ line_of scenario seen was.progress.id (1 + length s.finished) (finished_as s) passed.command
     line_is = (λ i. record { backend = was.progress.id; command = sym number_same i; text = text }) ∙ told was.answer refl tells ∙ ap (λ n. line_of scenario seen was.progress.id n (finished_as s) passed.command) (let n : number_of s ≡ 1 + length s.finished = omega arith in n)
       where
-        told : (o : Option (List ℕ)) → was.answer ≡ o → elim o as (λ x. Type 0) [ Some before ↦ text ≡ before | None ↦ IsToldText was.progress passed.command text ]
+        told : (o : Option (List ℕ)) → was.answer ≡ o → elim o as (λ x. Type 0) [ Some before ↦ text ≡ before | None ↦ (command : Command) → command_at was ≡ Some command → IsToldText was.progress command text ]
             → record { backend = was.progress.id; command = number_of s; text = text } ≡ line_of scenario seen was.progress.id (number_of s) (finished_as s) passed.command
         told (Some before) is same = (λ i. record { backend = was.progress.id; command = number_of s; text = same i }) ∙ now.tells.answer before passed.command is passed.at
-        told None is says = answered_line scenario seen was passed.command text now passed.at (and_parts (is_settled (outcome_of s.left)) _ over.0).0 (sym (owes_nothing_is (facts_of seen was.progress.id) passed.command was.progress now.holds.rest now.holds.facts) ∙ over.1) is says
+        told None is says = answered_line scenario seen was passed.command text now passed.at (and_parts (is_settled (outcome_of s.left)) _ over.0).0 (sym (owes_nothing_is (facts_of seen was.progress.id) passed.command was.progress now.holds.rest now.holds.facts) ∙ over.1) is (says passed.command passed.at)
 
 -- where nothing is left to be done without an entry it is answered, if it is to be
 pub rest_awaits : (scenario : Scenario) (seen : List Entry) (s : Backend) → AgreesNow scenario seen s → IsAtRest s.progress → (is_to_answer_at s.progress ≡ true → is_some s.answer ≡ true) → AwaitsEntry scenario seen s

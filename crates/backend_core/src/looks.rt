@@ -4,7 +4,7 @@
 // which it looks again exactly where the fetch gave 32. A fetch of a backend that was lapped resets
 // it, and ends the acceptance.
 
-ghost use Rattle.std.specs.Prelude.{◌≡◌, ◌≤◌, ◌<◌, ◌&&◌, ◌||◌, [], List, not, length};
+ghost use Rattle.std.specs.Prelude.{◌≡◌, ◌≤◌, ◌<◌, ◌&&◌, ◌||◌, [], None, List, not, length};
 ghost use Rattle.base_types.specs.Scenario.{Scenario};
 ghost use Rattle.event_kinds.specs.declared.entry.Entry.{Entry};
 ghost use Rattle.backend_core.specs.Words.{built_relation as relation_built, has_begun, marks_build};
@@ -79,7 +79,6 @@ impl Backend {
             Fetched::Messages(_) => self.take_messages(alloc, messages.as_slice()),
             Fetched::Reset => self.take_reset(alloc),
         }
-        self.answer = None;
     }
 
     // It takes the messages of a fetch.
@@ -87,13 +86,14 @@ impl Backend {
         requires few { self.old.progress.finished ≤ 20000 }
         requires room { HasRoom self.old.progress }
         ensures holds { (scenario : Scenario) (seen : List Entry) → (rests : Rests scenario seen self.old.progress) → messages.now ≡ fetched_by seen self.old.progress.id (length messages.now) → HasEntered scenario seen self.old.progress (events.Fetch (length messages.now)) rests self.new.progress }
-        ensures is { self.new ≡ record self.old { progress = self.new.progress; looked_to_build = self.old.looked_to_build && not (marks_build self.old.progress messages.now) } }
+        ensures is { self.new ≡ record self.old { progress = self.new.progress; looked_to_build = self.old.looked_to_build && not (marks_build self.old.progress messages.now); answer = None } }
         ensures kept { self.new.progress.kept ≡ kept_spared messages.now self.old.progress.kept }
         ensures given_at { self.new.progress.given_at ≡ self.old.progress.given_at }
     {
         let marked = self.is_marked(messages);
         self.progress.enter_fetch(alloc, messages);
         self.looked_to_build = still_looked(self.looked_to_build, marked);
+        self.answer = None;
     }
 
     // It takes a reset: all that it has read goes (`InvalidateSystemCaches` in
@@ -103,13 +103,14 @@ impl Backend {
         requires few { self.old.progress.finished ≤ 20000 }
         requires room { HasRoom self.old.progress }
         ensures holds { (scenario : Scenario) (seen : List Entry) → (rests : Rests scenario seen self.old.progress) → HasEntered scenario seen self.old.progress events.FetchReset rests self.new.progress }
-        ensures is { self.new ≡ record self.old { progress = self.new.progress; looked_to_build = self.old.looked_to_build && not (has_begun self.old.progress) } }
+        ensures is { self.new ≡ record self.old { progress = self.new.progress; looked_to_build = self.old.looked_to_build && not (has_begun self.old.progress); answer = None } }
         ensures kept { self.new.progress.kept ≡ [] }
         ensures given_at { self.new.progress.given_at ≡ self.old.progress.given_at }
     {
         let marked = self.has_begun_build();
         self.progress.enter_reset(alloc);
         self.looked_to_build = still_looked(self.looked_to_build, marked);
+        self.answer = None;
     }
 
     // Whether messages mark the descriptor that is being built, which then starts over

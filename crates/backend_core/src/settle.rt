@@ -68,7 +68,7 @@ impl Backend {
     // What its command answers, where that isn't worked out yet as it is now.
     fn take_answer(&mut self, alloc: Global) -> Result<LineText, NoMemory>
         requires finishes { Finishes self.old.progress }
-        ensures text { IfOk result (λ text. elim self.old.answer [ Some told ↦ text ≡ told | None ↦ IsToldText self.old.progress finishes.command text ]) }
+        ensures text { IfOk result (λ text. elim self.old.answer [ Some told ↦ text ≡ told | None ↦ (command : Command) → slice_get self.old.progress.commands self.old.progress.finished ≡ Some command → IsToldText self.old.progress command text ]) }
         ensures is { self.new ≡ record self.old { answer = None } }
     {
         if let Some(text) = self.answer.take() {
