@@ -140,6 +140,7 @@ pub fails_none : (p : Progress) (want : Want) → has_failed p ≡ false → wan
 fails_none p want goes is failing = by_plan (plan_at p.exec) refl (ap fails is ∙ failing)
   where
     by_act : (act : Act) → fails (want_of_act act) ≡ true → ⊥
+    by_act (Lookup name mode) bad = cc bad
     by_act act bad = cc bad
 
     by_plan : (q : Plan) → plan_at p.exec ≡ q → fails (want_of q) ≡ true → ⊥
