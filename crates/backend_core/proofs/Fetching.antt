@@ -252,18 +252,18 @@ fetched_count : (old : List Entry) (b count : ℕ) → count ≡ due_to old b �
 fetched_count old b count due = length-take-le count (drop (position_of old b) (log_of old)) (omega (arith, due, min-le_right 32 (length (log_of old) - position_of old b), length-drop (position_of old b) (log_of old)))
 
 -- the messages of a fetch
-pub messages_enter : (scenario : Scenario) (old new : List Entry) (had has : ℕ → ℕ) (was now : Backend) (count : ℕ) (given : List Message) (waits : AwaitsEntry scenario old was) → IsPlayed scenario old → AllOnCourse scenario old → was.progress.due ≡ dues.Fetch
-    → Fetches scenario.size old new had has was.progress.id (was.progress.finished + 1) given (fetches.Messages count)
+pub messages_enter : (scenario : Scenario) (old new : List Entry) (had has : ℕ → ℕ) (was now : Backend) (count : ℕ) (taken given : List Message) (waits : AwaitsEntry scenario old was) → IsPlayed scenario old → AllOnCourse scenario old → was.progress.due ≡ dues.Fetch
+    → Fetches scenario.size old new had has was.progress.id (was.progress.finished + 1) taken (fetches.Messages count) → given ≡ taken
     → (given ≡ fetched_by old was.progress.id (length given) → HasEntered scenario old was.progress (events.Fetch (length given)) waits.rests now.progress) → now.progress.kept ≡ kept_spared given was.progress.kept → now.progress.given_at ≡ was.progress.given_at
     → now ≡ record was { progress = now.progress; looked_to_build = was.looked_to_build && not (marks_build was.progress given); answer = None } → Enters scenario old new had has was now
-messages_enter scenario old new had has was now count given waits played courses due gives goes kept given_at is =
+messages_enter scenario old new had has was now count taken given waits played courses due gives same goes kept given_at is =
     subst (Enters scenario old new had has was) (sym is)
-    (fetch_agrees scenario old new had has was now.progress (events.Fetch (length given)) (marks_build was.progress given) waits played courses due (messages_bring scenario old was (length given) waits due gives.served) (goes (gives.messages ∙ ap (fetched_by old was.progress.id) counts))
+    (fetch_agrees scenario old new had has was now.progress (events.Fetch (length given)) (marks_build was.progress given) waits played courses due (messages_bring scenario old was (length given) waits due gives.served) (goes (same ∙ gives.messages ∙ ap (fetched_by old was.progress.id) counts))
     (subst (All (KeptAt old was.progress.id)) (sym kept) (All-filter (λ k. is_spared k.scan given) (KeptAt old was.progress.id) was.progress.kept waits.keeps.kept)) given_at
     (subst (λ n. Appends old new had has (entry_of was.progress.id (was.progress.finished + 1) (events.Fetch n))) counts gives.appends))
   where
     counts : count ≡ length given
-    counts = sym (ap length gives.messages ∙ fetched_count old was.progress.id count gives.due)
+    counts = sym (ap length (same ∙ gives.messages) ∙ fetched_count old was.progress.id count gives.due)
 
 -- a reset
 pub reset_enters : (scenario : Scenario) (old new : List Entry) (had has : ℕ → ℕ) (was now : Backend) (given : List Message) (waits : AwaitsEntry scenario old was) → IsPlayed scenario old → AllOnCourse scenario old → was.progress.due ≡ dues.Fetch

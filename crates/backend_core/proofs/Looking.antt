@@ -119,8 +119,12 @@ one_more false looked true none = ap (λ t. one_if (t || true) + 1) none ∙ sym
 one_more false looked false none = ap (λ t. one_if (t || true) + 0) none ∙ sym (ap (λ t. one_if t + 0 + 1) none)
 
 -- before a scan
-counts_scan : (facts : Facts) (s : Session) (command : Command) (builds looked to_build : Bool) → owed_after facts.last ≡ [] → is_some facts.running ≡ true → elim builds [ true ↦ to_build | false ↦ looked ] ≡ false → LookCounts facts s command looked to_build (looked || not builds) (to_build || builds)
-counts_scan facts s command builds looked to_build owed runs none = record { goes = Goes runs; owes = inl owed; counts = omega (arith, ap looks_due owed, started_still (number_of s) (number_of s) facts.running runs, one_more builds looked to_build none) }
+counts_scan : (facts : Facts) (s : Session) (command : Command) (builds looked to_build looked_now to_build_now : Bool) → looked_now ≡ (looked || not builds) → to_build_now ≡ (to_build || builds) → owed_after facts.last ≡ [] → is_some facts.running ≡ true → elim builds [ true ↦ to_build | false ↦ looked ] ≡ false → LookCounts facts s command looked to_build looked_now to_build_now
+counts_scan facts s command builds looked to_build looked_now to_build_now looked_is to_build_is owed runs none = record {
+  goes = Goes runs;
+  owes = inl owed;
+  counts = omega (arith, ap looks_due owed, started_still (number_of s) (number_of s) facts.running runs, ap one_if looked_is, ap one_if to_build_is, one_more builds looked to_build none);
+}
 
 -- all that a look rests on
 module _ (scenario : Scenario) (old : List Entry) (was : Backend) (waits : AwaitsEntry scenario old was) (courses : AllOnCourse scenario old) (command : Command) (at : command_at was ≡ Some command) (some_wait : Bool) where
@@ -194,12 +198,13 @@ pub look_before_call : (scenario : Scenario) (seen : List Entry) (s : Backend) (
 look_before_call scenario seen s some_wait builds waits played next is = may_call scenario seen s waits next.next.command next.next.free.at (events.Look some_wait) (scan_busy s.progress next.next.command next.next.lacks) refl
     (look_allowed scenario seen s.progress.id (s.progress.finished + 1) some_wait played (sym is))
 
-pub look_before_enters : (scenario : Scenario) (old new : List Entry) (had has : ℕ → ℕ) (was : Backend) (p : Progress) (some_wait builds : Bool) (waits : AwaitsEntry scenario old was) → IsPlayed scenario old → AllOnCourse scenario old → IsLookNext builds was → some_wait ≡ is_waiting old was.progress.id
+pub look_before_enters : (scenario : Scenario) (old new : List Entry) (had has : ℕ → ℕ) (was : Backend) (p : Progress) (some_wait builds looked to_build : Bool) (waits : AwaitsEntry scenario old was) → IsPlayed scenario old → AllOnCourse scenario old → IsLookNext builds was → some_wait ≡ is_waiting old was.progress.id
+    → looked ≡ (was.looked || not builds) → to_build ≡ (was.looked_to_build || builds)
     → HasEntered scenario old was.progress (events.Look some_wait) waits.rests p → p.kept ≡ was.progress.kept → p.given_at ≡ was.progress.given_at
-    → Appends old new had has (entry_of was.progress.id (was.progress.finished + 1) (events.Look some_wait)) → Enters scenario old new had has was (record was { progress = p; looked = was.looked || not builds; looked_to_build = was.looked_to_build || builds; answer = None })
-look_before_enters scenario old new had has was p some_wait builds waits played courses next is goes kept given_at appends =
-    look_agrees scenario old was waits courses next.next.command next.next.free.at some_wait (was.looked || not builds) (was.looked_to_build || builds)
-    (counts_scan (facts_of old was.progress.id) (waiting waits) next.next.command builds was.looked was.looked_to_build (waits.rests.holds.facts.owed ∙ ap owed_at next.next.free.due)
+    → Appends old new had has (entry_of was.progress.id (was.progress.finished + 1) (events.Look some_wait)) → Enters scenario old new had has was (record was { progress = p; looked = looked; looked_to_build = to_build; answer = None })
+look_before_enters scenario old new had has was p some_wait builds looked to_build waits played courses next is looked_is to_build_is goes kept given_at appends =
+    look_agrees scenario old was waits courses next.next.command next.next.free.at some_wait looked to_build
+    (counts_scan (facts_of old was.progress.id) (waiting waits) next.next.command builds was.looked was.looked_to_build looked to_build looked_is to_build_is (waits.rests.holds.facts.owed ∙ ap owed_at next.next.free.due)
         (scan_runs scenario old was waits courses next.next.command next.next.free.at next.scan next.next.next next.next.free.first) (unlooked builds next.unlooked))
     new had has p played is (scan_busy was.progress next.next.command next.next.lacks) goes kept given_at appends
   where
