@@ -82,8 +82,8 @@ reserved_write s p same next = subst IsWriteNext (sym same.is)
     (record { command = next.command; free = record { at = next.free.at; due = next.free.due; first = next.free.first }; owes = next.owes; wants = next.wants }))
 
 -- what another form of the backend entered it entered
-pub alike_enters : (scenario : Scenario) (old new : List Entry) (had has : ℕ → ℕ) (was other now : Backend) → other.progress.id ≡ was.progress.id → Enters scenario old new had has other now → Enters scenario old new had has was now
-alike_enters scenario old new had has was other now same enters = record { makes = subst (MakesEntry scenario old new had has) same enters.makes; id = enters.id ∙ same; agrees = enters.agrees }
+pub alike_enters : (scenario : Scenario) (old new : List Entry) (had has : ℕ → ℕ) (was alike now : Backend) → alike.progress.id ≡ was.progress.id → Enters scenario old new had has alike now → Enters scenario old new had has was now
+alike_enters scenario old new had has was alike now same enters = record { makes = subst (MakesEntry scenario old new had has) same enters.makes; id = enters.id ∙ same; agrees = enters.agrees }
 
 -- its write is drafted
 none_answered : (o : Option Command) → elim o as (λ x. Bool) [ Some command ↦ false | None ↦ false ] ≡ true → ⊥
@@ -99,6 +99,6 @@ pub drafted_write : (s : Progress) (draft : Draft) → plan_at s.exec ≡ writin
 drafted_write s draft plan next = record {
   command = next.command;
   free = record { at = next.free.at; due = next.free.due; first = next.free.first };
-  owes = subst (λ p. (is_empty (owed_first s next.command) && is_empty (owed_at s.due) && not (not (elim (outcome_of p) as (λ x. Bool) [ Badly ↦ true | other ↦ false ]) && (lacks_opened s.kept s.opened || not (is_empty (act_missing s p))))) ≡ true) plan next.owes;
+  owes = subst (λ p. (is_empty (owed_first s next.command) && is_empty (owed_at s.due) && not (not (elim (outcome_of p) as (λ x. Bool) [ Badly ↦ true | outcome ↦ false ]) && (lacks_opened s.kept s.opened || not (is_empty (act_missing s p))))) ≡ true) plan next.owes;
   wants = refl;
 }

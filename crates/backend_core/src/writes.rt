@@ -27,17 +27,19 @@ impl Backend {
         self.answer = None;
         let draft = replace(&mut self.progress.exec, Exec::Done).into_draft(alloc)?;
         let new_oids = draft.new_oids;
-        let result = seg.write(self.progress.id, self.progress.finished + 1, &draft);
-        self.progress.exec = Exec::Writing(draft);
-        match result {
-            Ok(written) => self.progress.enter_write(
-                alloc,
-                written.xid,
-                written.messages.as_slice(),
-                new_oids,
-                written.first_oid,
-            ),
+        match seg.write(self.progress.id, self.progress.finished + 1, &draft) {
+            Ok(written) => {
+                self.progress.exec = Exec::Writing(draft);
+                self.progress.enter_write(
+                    alloc,
+                    written.xid,
+                    written.messages.as_slice(),
+                    new_oids,
+                    written.first_oid,
+                )
+            }
             Err(WriteRefusal::Clash(name, clash)) => {
+                self.progress.exec = Exec::Writing(draft);
                 self.progress.enter_clash(name, clash);
                 Ok(())
             }

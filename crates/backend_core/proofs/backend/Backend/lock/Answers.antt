@@ -22,7 +22,7 @@ pub enter_lock-requires-clause-new : goal.enter_lock-requires-clause-new
 enter_lock-requires-clause-new g c = asks_free _ _ c.args.self.now _ c.reserve_lock.ensures.same c.requires.waits c.requires.played c.requires.course _ _ c.requires.next
 
 pub enter_refused-requires : goal.enter_refused-requires
-enter_refused-requires g c = is_few _ _ _ (roomy_awaits _ _ c.args.self.now _ c.reserve_lock.ensures.same c.requires.waits c.requires.played c.requires.course _ _ c.requires.next)
+enter_refused-requires g c = record { few = is_few _ _ _ (roomy_awaits _ _ c.args.self.now _ c.reserve_lock.ensures.same c.requires.waits c.requires.played c.requires.course _ _ c.requires.next) }
 
 pub returns-in-Ok-clause-enters : goal.returns-in-Ok-clause-enters
 returns-in-Ok-clause-enters g c = asks_granted _ _ c.args.self.now _ c.reserve_lock.ensures.same c.requires.waits c.requires.played c.requires.course _ _ c.requires.next _ _ _ _ (c.enter_lock.ensures.holds _ _) c.enter_lock.ensures.kept c.enter_lock.ensures.given_at c.in-Ok.ensures.locks
