@@ -38,12 +38,14 @@ impl Backend {
                     written.first_oid,
                 )
             }
-            Err(WriteRefusal::Clash(name, clash)) => {
-                self.progress.exec = Exec::Writing(draft);
-                self.progress.enter_clash(name, clash);
-                Ok(())
-            }
-            Err(WriteRefusal::NoMemory) => Err(NoMemory),
+            Err(refusal) => match refusal {
+                WriteRefusal::Clash(name, clash) => {
+                    self.progress.exec = Exec::Writing(draft);
+                    self.progress.enter_clash(name, clash);
+                    Ok(())
+                }
+                WriteRefusal::NoMemory => Err(NoMemory),
+            },
         }
     }
 }
