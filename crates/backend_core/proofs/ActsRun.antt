@@ -1,5 +1,5 @@
 -- In a command that acts or scans, and whose transaction's first look is made, a transaction runs.
-use Rattle.std.proofs.Common.{◌≡◌, ◌≢◌, ◌+◌, ◌∙◌, ◌&&◌, ◌||◌, ◌⊎◌, inl, inr, ℕ, Bool, true, false, not, Option, Some, None, List, [], ◌∷◌, refl, sym, ap, subst, is_none, is_some}
+use Rattle.std.proofs.Common.{◌≡◌, ◌≢◌, ◌∙◌, ◌&&◌, ◌||◌, inl, inr, Bool, true, false, not, Option, Some, None, List, [], ◌∷◌, refl, sym, ap, subst, is_none, is_some}
 use Rattle.std.specs.List.{list_any}
 use Rattle.std.proofs.lemmas.Bool.{both_ways}
 use Rattle.std.proofs.lemmas.Option.{slice_get_within, get_or_from_slice_get}
@@ -101,8 +101,8 @@ module _ (scenario : Scenario) (seen : List Entry) (s : Backend) (waits : Awaits
   pub scan_runs : (scan : Purpose) → is_next_at scan s.progress ≡ true → owed_first s.progress command ≡ [] → is_some (facts_of seen s.progress.id).running ≡ true
   scan_runs scan next free = runs_here free (λ badly. both_ways _ (not_true (has_failed s.progress) both.0) (ap (λ o. elim o as (λ x. Bool) [ Badly ↦ true | other ↦ false ]) badly))
       (λ none. or_either (list_any (λ o. is_first_missing scan s.progress.kept o.kind o.rel) s.progress.opened) (is_next_of_act scan s.progress (plan_at s.progress.exec)) both.1
-          (λ opened. both_ways _ (ap (list_any (λ o. is_first_missing scan s.progress.kept o.kind o.rel)) ((follows scenario seen s waits courses command at).plain none)) opened)
-          (λ act. by_plan (plan_at s.progress.exec) refl act none))
+      (λ opened. both_ways _ (ap (list_any (λ o. is_first_missing scan s.progress.kept o.kind o.rel)) ((follows scenario seen s waits courses command at).plain none)) opened)
+      (λ act. by_plan (plan_at s.progress.exec) refl act none))
     where
       both : (not (has_failed s.progress) ≡ true) × ((list_any (λ o. is_first_missing scan s.progress.kept o.kind o.rel) s.progress.opened || is_next_of_act scan s.progress (plan_at s.progress.exec)) ≡ true)
       both = and_true (not (has_failed s.progress)) _ next

@@ -1,5 +1,5 @@
 -- A backend whose locks have more room, or whose plan is held in another form, agrees as before.
-use Rattle.std.proofs.Common.{◌≡◌, ◌+◌, ◌∙◌, ◌&&◌, ◌||◌, ℕ, Bool, true, false, not, Option, Some, None, List, refl, sym, ap, subst, drop, slice_get, is_some}
+use Rattle.std.proofs.Common.{◌≡◌, ◌∙◌, ◌&&◌, ◌||◌, ℕ, Bool, true, false, not, Option, Some, None, List, refl, sym, ap, subst, drop, is_some}
 use Rattle.std.proofs.Math.Bool.{and-false}
 use Rattle.lock_modes.specs.Rooms.{Roomy}
 use Rattle.ddl_effect.specs.Commands.{writing}
@@ -17,7 +17,7 @@ use Rattle.cacheless.specs.State.{owed_at, owed_first, act_missing, is_absent, I
 use Rattle.backend_core.specs.Types.{Oid, Mode, Command, Draft, Exec, OwnLock, Scenario, Entry, Progress, Backend}
 use Rattle.backend_core.specs.Agrees.{command_at, is_to_answer_at, PlaceFits, AwaitsEntry}
 use Rattle.backend_core.specs.Fits.{Fits}
-use Rattle.backend_core.specs.Steps.{MakesEntry, Enters, IsFree, IsLockNext, IsWriteNext}
+use Rattle.backend_core.specs.Steps.{MakesEntry, Enters, IsLockNext, IsWriteNext}
 
 module _ (scenario : Scenario) (seen : List Entry) (s : Backend) (exec : Exec) (locks : Roomy OwnLock) (plan : plan_at exec ≡ plan_at s.progress.exec) (items : locks.items ≡ s.progress.locks.items) (again : is_absent (plan_at exec) ≡ true → plan_again s.progress.exec ≡ plan_again exec) where
   abbrev other : Backend

@@ -1,5 +1,5 @@
 -- An entry that shows an error, which ends its command: a lock or a write that is refused.
-use Rattle.std.proofs.Common.{◌≡◌, ◌+◌, ◌∙◌, ℕ, Bool, true, false, Some, None, List, [], ◌∷◌, ◌++◌, refl, sym, ap, subst, length, drop, is_some, All, arith}
+use Rattle.std.proofs.Common.{◌≡◌, ◌+◌, ◌∙◌, ℕ, true, false, Some, None, List, [], refl, sym, ap, subst, length, drop, is_some, All, arith}
 use Rattle.std.proofs.lemmas.Bool.{both_ways}
 use Rattle.event_kinds.specs.declared.entry.Event.TheVariants as events
 use Rattle.row_visibility.specs.declared.clash.Clash.{Clash}
@@ -24,7 +24,7 @@ use Rattle.cacheless.specs.Sessions.{noted, ends_command, entered}
 use Rattle.cacheless.specs.State.{clash_event, error_of}
 use Rattle.backend_core.specs.Types.{Oid, Mode, Purpose, Command, CommandError, Scenario, Entry, Event, Progress, Backend}
 use Rattle.backend_core.specs.Agrees.{IsPlayed, command_at, KeptAt, PlaceFits, AwaitsEntry}
-use Rattle.backend_core.specs.Fits.{looks_due, LooksFit, Fits}
+use Rattle.backend_core.specs.Fits.{looks_due, LooksFit}
 use Rattle.backend_core.specs.Steps.{Enters}
 use Rattle.backend_core.proofs.Chosen.{Acts}
 use Rattle.backend_core.proofs.Entered.{fits_at, keeps_at, kept_stays}

@@ -1,5 +1,5 @@
 -- What the choice keeps with an entry of a command whose transaction runs, if the entry isn't a write.
-use Rattle.std.proofs.Common.{◌≡◌, ◌+◌, ◌∙◌, ℕ, Bool, true, false, Option, Some, None, List, Result, Ok, Err, OnErr, refl, sym, ap, subst, is_some}
+use Rattle.std.proofs.Common.{◌≡◌, ◌∙◌, ℕ, Bool, true, false, Option, Some, None, List, Result, Ok, Err, OnErr, refl, sym, ap, subst, is_some}
 use Rattle.std.specs.Option.{option_map_or}
 use Rattle.event_kinds.specs.declared.entry.Event.TheVariants as events
 use Rattle.inval_messages.specs.Lists.{has_write_from}

@@ -1,5 +1,5 @@
 -- The locks that a backend asks for.
-use Rattle.std.proofs.Common.{◌≡◌, ◌<◌, ◌+◌, ◌∙◌, ◌&&◌, ◌||◌, ℕ, Bool, true, false, Some, None, Err, List, [], ◌∷◌, ◌++◌, refl, sym, ap, subst, length, drop, is_some, All, arith}
+use Rattle.std.proofs.Common.{◌≡◌, ◌<◌, ◌+◌, ◌∙◌, ◌&&◌, ℕ, Bool, true, false, Some, None, Err, List, [], ◌∷◌, refl, sym, ap, subst, length, drop, is_some, All, arith}
 use Rattle.std.proofs.lemmas.Bool.{and_parts}
 use Rattle.base_types.specs.declared.row.Row.TheVariants as rows
 use Rattle.event_kinds.specs.declared.entry.Event.TheVariants as events
@@ -18,7 +18,7 @@ use Rattle.cacheless.specs.Facts.{Facts, facts_of, facts_by}
 use Rattle.cacheless.specs.Holds.{Rests, HasEntered, with_own}
 use Rattle.cacheless.specs.May.{owes_nothing, names_relation, is_lock_at, may_play_at, may_last_at}
 use Rattle.cacheless.specs.OnCourse.{AllOnCourse}
-use Rattle.cacheless.specs.Owed.{owed_after, owed_of}
+use Rattle.cacheless.specs.Owed.{owed_of}
 use Rattle.cacheless.specs.Plays.{started_in, IsLock, MayPlayIn}
 use Rattle.cacheless.specs.Session.{Session, number_of, outcome_of, is_settled}
 use Rattle.cacheless.specs.Sessions.{entered}
@@ -28,9 +28,9 @@ use Rattle.cacheless.specs.State.{owed_at, IsLockedIn}
 use Rattle.cacheless.proofs.AloneLocks.{session_holds}
 use Rattle.cacheless.proofs.NextKeeps as keeping
 use Rattle.cacheless.proofs.SameRows.{oid_decides}
-use Rattle.backend_core.specs.Types.{Oid, Mode, Row, Command, OwnLock, Scenario, Entry, Event, Progress, Backend}
+use Rattle.backend_core.specs.Types.{Oid, Mode, Row, OwnLock, Scenario, Entry, Event, Progress, Backend}
 use Rattle.backend_core.specs.Agrees.{IsPlayed, command_at, KeptAt, AwaitsEntry}
-use Rattle.backend_core.specs.Fits.{looks_due, LooksFit, Fits}
+use Rattle.backend_core.specs.Fits.{looks_due, LooksFit}
 use Rattle.backend_core.specs.Steps.{IsLockNext, Enters}
 use Rattle.backend_core.proofs.ActsRun.{act_runs}
 use Rattle.backend_core.proofs.Alike.{reserved_awaits, reserved_lock, alike_enters}
@@ -38,7 +38,7 @@ use Rattle.backend_core.proofs.Chosen.{Acts, may_request, now_plays}
 use Rattle.backend_core.proofs.Entered.{fits_at, keeps_still}
 use Rattle.backend_core.proofs.Failing.{IsActing, held_shows, failed_enters}
 use Rattle.backend_core.proofs.Inside.{runs_on, inside_fits}
-use Rattle.backend_core.proofs.Own.{waiting, waiting_is, follows, going, OwnEntry, Inside, own_enters}
+use Rattle.backend_core.proofs.Own.{waiting, waiting_is, follows, going, Inside, own_enters}
 
 -- the relation that the rows name isn't locked, where they wait for its lock
 unlocked : (locks : List OwnLock) (mode : Mode) (given : List Row) (rel : Oid) → names_relation rel given ≡ true → is_some (looked_up locks mode given) ≡ false → has_lock locks rel mode ≡ false

@@ -1,5 +1,5 @@
 -- The scans of a backend.
-use Rattle.std.proofs.Common.{◌≡◌, ◌≢◌, ◌≤◌, ◌+◌, ◌∙◌, ◌&&◌, ◌||◌, ℕ, Bool, true, false, not, Some, None, List, [], ◌∷◌, ◌++◌, if◌then◌else◌, refl, sym, ap, subst, length, drop, get_or, All, ◌<◌, arith}
+use Rattle.std.proofs.Common.{◌≡◌, ◌≢◌, ◌≤◌, ◌+◌, ◌∙◌, ◌&&◌, ◌||◌, ℕ, Bool, true, false, not, None, List, [], ◌∷◌, ◌++◌, if◌then◌else◌, refl, sym, ap, subst, length, drop, get_or, All, arith}
 use Rattle.std.proofs.lemmas.Bool.{both_ways, eq-eqb, lt-ltb}
 use Rattle.std.proofs.lemmas.List.{append-nil}
 use Rattle.std.proofs.lemmas.List.Elements.{All-push}
@@ -26,7 +26,7 @@ use Rattle.cacheless.proofs.EnteredScans.{next_lacks}
 use Rattle.cacheless.proofs.ReadPlaces.{place_read-more, place_read-scan}
 use Rattle.cacheless.proofs.Same.{next_same}
 use Rattle.cacheless.proofs.Tests.{and_true, not_true}
-use Rattle.backend_core.specs.Types.{Row, Purpose, Command, Scenario, Entry, Event, KeptScan, Progress, Backend}
+use Rattle.backend_core.specs.Types.{Row, Purpose, Scenario, Entry, Event, KeptScan, Progress, Backend}
 use Rattle.backend_core.specs.Agrees.{IsPlayed, command_at, KeptAt, PlaceFits, AwaitsEntry}
 use Rattle.backend_core.specs.Fits.{looks_due, LooksFit, Fits}
 use Rattle.backend_core.specs.Steps.{IsScanNext, MakesEntry, Enters}
