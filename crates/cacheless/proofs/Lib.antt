@@ -86,3 +86,4 @@ pub mod Matching
 pub mod SameRows
 pub mod Deciding
 pub mod KeptTells
+pub mod KeptByRelation

@@ -41,6 +41,7 @@ mod ends;
 mod enter;
 mod execute;
 mod kept_scan;
+mod kept_scans;
 mod may;
 mod opening;
 mod progress;
@@ -51,6 +52,7 @@ mod write;
 mod writes;
 
 pub use kept_scan::KeptScan;
+pub use kept_scans::KeptScans;
 pub use opening::Opening;
 pub use progress::{Counts, Due, OwnTransaction, Progress};
 pub use silent::Silent;
