@@ -11,10 +11,9 @@ ghost use Rattle.backend_core.specs.Answering.{kept_for, shown_kept, shown_all a
 
 use crate::Backend;
 use base_types::{
-    Command, Field, Kind, Listed, NoMemory, Oid, Purpose, Row, field_text, fields_of, read_by,
-    same_scan, writers,
+    Command, Field, Kind, Listed, NoMemory, Oid, Purpose, Row, field_text, fields_of, read_by, writers,
 };
-use cacheless::{KeptScan, Opening};
+use cacheless::{KeptScan, KeptScans, Opening};
 use ddl_effect::Want;
 use event_kinds::LineText;
 use lock_modes::OwnLocks;
@@ -71,7 +70,7 @@ impl Backend {
         match self.progress.opened.as_slice().first() {
             Some(o) => shown_all(
                 alloc,
-                self.progress.kept.as_slice(),
+                &self.progress.kept,
                 &self.progress.locks,
                 *o,
             ),
@@ -87,7 +86,7 @@ impl Backend {
             Some(o) => {
                 let shown = shown_field(
                     alloc,
-                    self.progress.kept.as_slice(),
+                    &self.progress.kept,
                     &self.progress.locks,
                     *o,
                     field,
@@ -102,7 +101,7 @@ impl Backend {
 // All fields of an open descriptor.
 fn shown_all(
     alloc: Global,
-    kept: &[KeptScan],
+    kept: &KeptScans,
     locks: &OwnLocks,
     o: Opening,
 ) -> Result<Answer, NoMemory>
@@ -122,7 +121,7 @@ fn shown_all(
 // A field of an open descriptor.
 fn shown_field(
     alloc: Global,
-    kept: &[KeptScan],
+    kept: &KeptScans,
     locks: &OwnLocks,
     o: Opening,
     field: Field,
@@ -146,10 +145,10 @@ fn shown_field(
 }
 
 // The scan that is kept for a purpose.
-fn scan_kept(kept: &[KeptScan], scan: Purpose) -> Option<&KeptScan>
+fn scan_kept(kept: &KeptScans, scan: Purpose) -> Option<&KeptScan>
     ensures { option_copied result ≡ kept_for kept.now scan }
 {
-    kept.iter().find(|k| same_scan(&k.scan, &scan))
+    kept.find(&scan)
 }
 
 // Whether the locks keep all others from changing the field.

@@ -3,7 +3,6 @@
 use crate::{Backend, Life};
 use base_types::Xid;
 use seg_calls::Seg;
-use std::alloc::Global;
 
 impl Backend {
     ghost use Rattle.std.specs.Prelude.{◌≡◌, ◌<◌};
@@ -43,7 +42,7 @@ impl Backend {
     }
 
     // What it wrote from this command on is taken back.
-    pub(crate) fn take_back<L: Seg>(&mut self, alloc: Global, seg: &mut L, from: u32)
+    pub(crate) fn take_back<L: Seg>(&mut self, seg: &mut L, from: u32)
         requires waits { AwaitsEntry (L.script seg.old) (L.history seg.old) self.old }
         requires played { IsPlayed (L.script seg.old) (L.history seg.old) }
         requires course { AllOnCourse (L.script seg.old) (L.history seg.old) }
@@ -53,7 +52,7 @@ impl Backend {
         ensures enters { Enters (L.script seg.old) (L.history seg.old) (L.history seg.new) (L.promised seg.old) (L.promised seg.new) self.old self.new }
     {
         seg.gone(self.progress.id, self.progress.finished + 1, from);
-        self.progress.enter_gone(alloc, from);
+        self.progress.enter_gone(from);
     }
 
     // It releases the locks of its transaction, which ends.

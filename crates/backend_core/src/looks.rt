@@ -76,13 +76,13 @@ impl Backend {
     {
         let mut messages = ArrayVec::new();
         match seg.fetch(self.progress.id, self.progress.finished + 1, &mut messages) {
-            Fetched::Messages(_) => self.take_messages(alloc, messages.as_slice()),
+            Fetched::Messages(_) => self.take_messages(messages.as_slice()),
             Fetched::Reset => self.take_reset(alloc),
         }
     }
 
     // It takes the messages of a fetch.
-    fn take_messages(&mut self, alloc: Global, messages: &[Message])
+    fn take_messages(&mut self, messages: &[Message])
         requires few { self.old.progress.finished ≤ 20000 }
         requires room { HasRoom self.old.progress }
         ensures holds { (scenario : Scenario) (seen : List Entry) → (rests : Rests scenario seen self.old.progress) → messages.now ≡ fetched_by seen self.old.progress.id (length messages.now) → HasEntered scenario seen self.old.progress (events.Fetch (length messages.now)) rests self.new.progress }
@@ -91,7 +91,7 @@ impl Backend {
         ensures given_at { self.new.progress.given_at ≡ self.old.progress.given_at }
     {
         let marked = self.is_marked(messages);
-        self.progress.enter_fetch(alloc, messages);
+        self.progress.enter_fetch(messages);
         self.looked_to_build = still_looked(self.looked_to_build, marked);
         self.answer = None;
     }
@@ -122,7 +122,7 @@ impl Backend {
         match self.built_relation() {
             Some(rel) => {
                 let first = Purpose::Class(rel);
-                has_kept(self.progress.kept.as_slice(), &first) && is_covered(messages, &first)
+                has_kept(&self.progress.kept, &first) && is_covered(messages, &first)
             }
             None => false,
         }
@@ -133,7 +133,7 @@ impl Backend {
         ensures { result ≡ has_begun self.now.progress }
     {
         match self.built_relation() {
-            Some(rel) => has_kept(self.progress.kept.as_slice(), &Purpose::Class(rel)),
+            Some(rel) => has_kept(&self.progress.kept, &Purpose::Class(rel)),
             None => false,
         }
     }
@@ -144,7 +144,7 @@ impl Backend {
         ensures { result ≡ relation_built self.now.progress }
     {
         match first_lacking(
-            self.progress.kept.as_slice(),
+            &self.progress.kept,
             self.progress.opened.as_slice(),
         ) {
             Some(o) => Some(o.rel),

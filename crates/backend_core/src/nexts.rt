@@ -99,7 +99,7 @@ impl Backend {
     fn first_build(&self) -> Option<Purpose>
         ensures { result ≡ build_first self.now.progress.kept self.now.progress.opened }
     {
-        let kept = self.progress.kept.as_slice();
+        let kept = &self.progress.kept;
         match first_lacking(kept, self.progress.opened.as_slice()) {
             Some(o) => first_missing(kept, o.kind, o.rel),
             None => None,
@@ -121,7 +121,7 @@ impl Backend {
             Want::Lookup { name, mode } => self.next_of_lookup(command, *name, *mode),
             Want::Column { rel, name } => self.next_of_name(Purpose::AttName(*rel, *name)),
             Want::Open { rel, kind } => match first_missing(
-                self.progress.kept.as_slice(),
+                &self.progress.kept,
                 *kind,
                 *rel,
             ) {

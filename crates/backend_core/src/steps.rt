@@ -52,7 +52,7 @@ impl Backend {
             Next::Write => self.write(alloc, seg)?,
             Next::Commit { xid } => self.commit(seg, *xid),
             Next::Publish => self.publish(seg),
-            Next::TakeBack { from } => self.take_back(alloc, seg, *from),
+            Next::TakeBack { from } => self.take_back(seg, *from),
             Next::Release { from } => self.release(seg, *from),
             Next::Leave => unreachable!(),
         }

@@ -87,3 +87,4 @@ pub mod SameRows
 pub mod Deciding
 pub mod KeptTells
 pub mod Listed
+pub mod KeptByRelation

@@ -22,6 +22,7 @@ pub mod Judged
 pub mod OpenedReads
 pub mod Puts
 pub mod State
+pub mod KeptByRelation
 pub mod SameItems
 pub mod May
 pub mod Endings

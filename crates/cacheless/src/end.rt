@@ -7,12 +7,11 @@ ghost use Rattle.cacheless.specs.State.{begun_own, released_own, ends_own, lists
 ghost use Rattle.command_lists.specs.Lists.{all_lists};
 
 use crate::enter::{accept, running_from};
-use crate::execute::{execute, serves_still};
+use crate::execute::serves_still;
 use crate::{Due, OwnTransaction, Progress};
 use base_types::Xid;
 use command_lists::InvalLists;
 use event_kinds::Event;
-use std::alloc::Global;
 
 impl Progress {
     ghost use Rattle.std.specs.Prelude.{List};
@@ -60,15 +59,15 @@ impl Progress {
     /// What it wrote from this command on is taken back: what its messages cover doesn't serve any more,
     /// and nobody else hears of them (`AtEOXact_Inval` and `AtEOSubXact_Inval` in
     /// `src/backend/utils/cache/inval.c`).
-    pub fn enter_gone(&mut self, alloc: Global, from: u32)
+    pub fn enter_gone(&mut self, from: u32)
         requires few { self.old.finished ≤ 20000 }
         ensures kept { self.new.kept ≡ kept_spared (rels_in (lists_from from (lists_at self.old))) (kept_spared (cats_in (lists_from from (lists_at self.old))) self.old.kept) }
         ensures given_at { self.new.given_at ≡ self.old.given_at }
         ensures holds { (scenario : Scenario) (seen : List Entry) → (rests : Rests scenario seen self.old) → HasEntered scenario seen self.old (Event.Gone from) rests self.new }
     {
         self.running = Some(running_from(self.finished + 1, self.running));
-        execute(alloc, &mut self.kept, self.lists.cats_from(from));
-        execute(alloc, &mut self.kept, self.lists.rels_from(from));
+        self.kept.execute(self.lists.cats_from(from));
+        self.kept.execute(self.lists.rels_from(from));
         self.named = serves_still(self.named, &self.exec, self.lists.cats_from(from));
         self.named = serves_still(self.named, &self.exec, self.lists.rels_from(from));
         self.lists.abort_from(from);

@@ -8,9 +8,9 @@ ghost use Rattle.event_kinds.specs.declared.entry.Entry.{Entry};
 ghost use Rattle.history_model.specs.Log.{fetched_by};
 ghost use Rattle.cacheless.specs.State.{begun_own, due_looked, due_fetched, locks_accepted};
 
-use crate::execute::{execute, serves_still};
-use crate::{Due, OwnTransaction, Progress};
-use base_types::{Command, Listed};
+use crate::execute::serves_still;
+use crate::{Due, KeptScans, OwnTransaction, Progress};
+use base_types::Command;
 use ddl_effect::Want;
 use event_kinds::Event;
 use inval_messages::Message;
@@ -68,7 +68,7 @@ impl Progress {
 
     /// It took these messages from the queue: what they cover doesn't serve any more, and a search that
     /// found no relation is made anew. Condition: its counts are small enough to be summed.
-    pub fn enter_fetch(&mut self, alloc: Global, messages: &[Message])
+    pub fn enter_fetch(&mut self, messages: &[Message])
         requires few { self.old.finished ≤ 20000 }
         requires room { HasRoom self.old }
         ensures kept { self.new.kept ≡ kept_spared messages.now self.old.kept }
@@ -76,7 +76,7 @@ impl Progress {
         ensures holds { (scenario : Scenario) (seen : List Entry) → (rests : Rests scenario seen self.old) → messages.now ≡ fetched_by seen self.old.id (length messages.now) → HasEntered scenario seen self.old (Event.Fetch (length messages.now)) rests self.new }
     {
         self.running = Some(running_from(self.finished + 1, self.running));
-        execute(alloc, &mut self.kept, messages);
+        self.kept.execute(messages);
         self.named = serves_still(self.named, &self.exec, messages);
         self.due = after_fetch(messages.len());
         self.search_again();
@@ -97,7 +97,7 @@ impl Progress {
         ensures holds { (scenario : Scenario) (seen : List Entry) → (rests : Rests scenario seen self.old) → HasEntered scenario seen self.old Event.FetchReset rests self.new }
     {
         self.running = Some(running_from(self.finished + 1, self.running));
-        self.kept = Listed::new(alloc);
+        self.kept = KeptScans::new(alloc);
         self.named = false;
         self.due = Due::Nothing;
         self.search_again();

@@ -4,25 +4,11 @@ ghost use Rattle.std.specs.Prelude.{◌≡◌, not};
 ghost use Rattle.std.specs.List.{list_any};
 ghost use Rattle.inval_messages.specs.Messages.{covers, is_for_cache as is_of_cache, message_for, same_message};
 ghost use Rattle.ddl_effect.specs.Stages.{plan_at};
-ghost use Rattle.cacheless.specs.State.{kept_spared as spared, named_spared};
+ghost use Rattle.cacheless.specs.State.{named_spared};
 
-use crate::KeptScan;
-use base_types::{CacheId, Key, KeyPart, Listed, Purpose, key_hash};
+use base_types::{CacheId, Key, KeyPart, Purpose, key_hash};
 use ddl_effect::{Exec, Want};
 use inval_messages::Message;
-use std::alloc::Global;
-use std::mem::replace;
-
-// Executes messages: what they cover isn't kept any more (`LocalExecuteInvalidationMessage` in
-// `src/backend/utils/cache/inval.c`, `RelationCacheInvalidateEntry` in
-// `src/backend/utils/cache/relcache.c`).
-pub(crate) fn execute(alloc: Global, kept: &mut Listed<KeptScan>, messages: &[Message])
-    ensures { kept.new ≡ spared messages.now kept.old }
-{
-    let mut scans = replace(kept, Listed::new(alloc)).into_vec();
-    scans.retain(|k: &KeptScan| !is_covered(messages, &k.scan));
-    *kept = Listed::from_vec(scans);
-}
 
 // Whether the scan of the name or the column on which the next act rests, or with which a lookup found
 // nothing, serves still after messages.

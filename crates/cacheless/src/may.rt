@@ -10,7 +10,7 @@ ghost use Rattle.cacheless.specs.May.{is_first_missing as is_first, names_relati
 
 use crate::scans::{first_lacking, first_missing, has_kept};
 use crate::writes::{gives_name, writes_items};
-use crate::{Due, KeptScan, Progress};
+use crate::{Due, KeptScans, Progress};
 use base_types::{Command, Kind, Mode, Name, Oid, Purpose, Row, same_scan};
 use ddl_effect::Want;
 use event_kinds::{Event, Item};
@@ -153,12 +153,10 @@ impl Progress {
     fn is_next_build(&self, scan: &Purpose) -> bool
         ensures { result ≡ list_any (λ o. is_first scan.now self.now.kept o.kind o.rel) self.now.opened }
     {
-        self.opened.as_slice().iter().any(|o| is_first_missing(
-            scan,
-            self.kept.as_slice(),
-            o.kind,
-            o.rel,
-        ))
+        self.opened
+            .as_slice()
+            .iter()
+            .any(|o| is_first_missing(scan, &self.kept, o.kind, o.rel))
     }
 
     // Whether the scan is the first that the next act lacks.
@@ -174,7 +172,7 @@ impl Progress {
             Want::Column { rel, name } => {
                 !(self.read && self.named) && same_scan(scan, &Purpose::AttName(*rel, *name))
             }
-            Want::Open { rel, kind } => is_first_missing(scan, self.kept.as_slice(), *kind, *rel),
+            Want::Open { rel, kind } => is_first_missing(scan, &self.kept, *kind, *rel),
             _ => false,
         }
     }
@@ -213,7 +211,7 @@ impl Progress {
     fn may_clash(&self, command: &Command, name: Name) -> bool
         ensures { result ≡ may_clash_at command.now name self.now }
     {
-        self.owes_nothing(command) && gives_name(&self.exec, self.kept.as_slice(), name)
+        self.owes_nothing(command) && gives_name(&self.exec, &self.kept, name)
     }
 
     /// Whether nothing has to come before the next act.
@@ -260,7 +258,7 @@ impl Progress {
     fn lacks_build(&self) -> bool
         ensures { result ≡ lacks_opened self.now.kept self.now.opened }
     {
-        first_lacking(self.kept.as_slice(), self.opened.as_slice()).is_some()
+        first_lacking(&self.kept, self.opened.as_slice()).is_some()
     }
 
     // Whether an opened descriptor lacks a scan, in a command that hasn't failed.
@@ -289,8 +287,8 @@ impl Progress {
         ensures { result ≡ lacks_to_build self.now (plan_at self.now.exec) }
     {
         match self.exec.next() {
-            Want::Open { rel, kind } => first_missing(self.kept.as_slice(), kind, rel).is_some(),
-            Want::Read(scan) => !has_kept(self.kept.as_slice(), &scan),
+            Want::Open { rel, kind } => first_missing(&self.kept, kind, rel).is_some(),
+            Want::Read(scan) => !has_kept(&self.kept, &scan),
             _ => false,
         }
     }
@@ -304,10 +302,8 @@ impl Progress {
             Want::Lookup { mode, .. } => !(self.read
                 && (self.named || self.is_found_locked(*mode))),
             Want::Column { .. } => !(self.read && self.named),
-            Want::Open { rel, kind } => {
-                first_missing(self.kept.as_slice(), *kind, *rel).is_some()
-            }
-            Want::Read(scan) => !has_kept(self.kept.as_slice(), scan),
+            Want::Open { rel, kind } => { first_missing(&self.kept, *kind, *rel).is_some() }
+            Want::Read(scan) => !has_kept(&self.kept, scan),
             _ => false,
         }
     }
@@ -324,7 +320,7 @@ impl Progress {
 }
 
 // Whether the scan is the first that a descriptor lacks.
-fn is_first_missing(scan: &Purpose, kept: &[KeptScan], kind: Kind, rel: Oid) -> bool
+fn is_first_missing(scan: &Purpose, kept: &KeptScans, kind: Kind, rel: Oid) -> bool
     ensures { result ≡ is_first scan.now kept.now kind rel }
 {
     match first_missing(kept, kind, rel) {

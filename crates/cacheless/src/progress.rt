@@ -6,7 +6,7 @@ ghost use Rattle.cacheless.specs.State.{IsNew};
 ghost use Rattle.cacheless.specs.Holds.{HasNotStarted};
 
 use crate::begun::begun;
-use crate::{KeptScan, Opening};
+use crate::{KeptScans, Opening};
 use base_types::{Command, Listed, NoMemory, Row, Xid};
 use command_lists::InvalLists;
 use ddl_effect::Exec;
@@ -93,7 +93,7 @@ pub struct Progress {
     pub opened: Listed<Opening>,
     pub locks: OwnLocks,
     // the scans for descriptors that serve
-    pub kept: Listed<KeptScan>,
+    pub kept: KeptScans,
 }
 
 impl Progress {
@@ -123,7 +123,7 @@ impl Progress {
             given_at: 0,
             opened: Listed::new(alloc),
             locks: OwnLocks::new(alloc),
-            kept: Listed::new(alloc),
+            kept: KeptScans::new(alloc),
         })
     }
 }

@@ -10,8 +10,8 @@ ghost use Rattle.cacheless.specs.State.{blocks_passed, rows_kept as kept_rows};
 ghost use Rattle.cacheless.specs.Silently.{rows_for as gives_rows};
 
 use crate::begun::begun;
-use crate::{Counts, KeptScan, Opening, Progress};
-use base_types::{Command, Kind, Listed, NoMemory, Oid, Purpose, Row, same_scan};
+use crate::{Counts, KeptScan, KeptScans, Opening, Progress};
+use base_types::{Command, Kind, Listed, NoMemory, Oid, Purpose, Row};
 use ddl_effect::{Exec, Want};
 use std::alloc::Global;
 use txn_blocks::TxnBlocks;
@@ -150,7 +150,8 @@ impl Progress {
         ensures same { self.new.commands ≡ self.old.commands }
     {
         let want = self.exec.next();
-        self.exec.give(rows_for(&want, self.given.as_slice(), self.kept.as_slice()));
+        self.exec
+            .give(rows_for(&want, self.given.as_slice(), &self.kept));
         self.read = false;
     }
 
@@ -193,7 +194,7 @@ fn pass(blocks: &mut TxnBlocks, exec: &Exec, number: u32, command: &Command)
 }
 
 // The rows that are given to an act.
-fn rows_for<'a>(want: &Want, given: &'a [Row], kept: &'a [KeptScan]) -> &'a [Row]
+fn rows_for<'a>(want: &Want, given: &'a [Row], kept: &'a KeptScans) -> &'a [Row]
     ensures { result.now ≡ gives_rows want.now given.now kept.now }
 {
     match want {
@@ -204,7 +205,7 @@ fn rows_for<'a>(want: &Want, given: &'a [Row], kept: &'a [KeptScan]) -> &'a [Row
 }
 
 // The rows that are kept of a scan.
-pub(crate) fn rows_kept(kept: &[KeptScan], scan: Purpose) -> &[Row]
+pub(crate) fn rows_kept(kept: &KeptScans, scan: Purpose) -> &[Row]
     ensures { result.now ≡ kept_rows kept.now scan }
 {
     match scan_kept(kept, scan) {
@@ -214,8 +215,8 @@ pub(crate) fn rows_kept(kept: &[KeptScan], scan: Purpose) -> &[Row]
 }
 
 // The scan that is kept for a purpose.
-fn scan_kept(kept: &[KeptScan], scan: Purpose) -> Option<&KeptScan>
+fn scan_kept(kept: &KeptScans, scan: Purpose) -> Option<&KeptScan>
     ensures { option_copied result ≡ find (λ k. same_scan_as k.scan scan) kept.now }
 {
-    kept.iter().find(|k| same_scan(&k.scan, &scan))
+    kept.find(&scan)
 }

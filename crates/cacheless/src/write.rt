@@ -12,7 +12,6 @@ ghost use Rattle.cacheless.specs.Locks.{locked_by};
 ghost use Rattle.cacheless.specs.State.{locks_made, locks_written, messages_in, clash_event, error_of};
 
 use crate::enter::{accept, running_from};
-use crate::execute::execute;
 use crate::{Due, OwnTransaction, Progress};
 use base_types::{Listed, Name, NoMemory, Oid, Xid};
 use command_lists::InvalLists;
@@ -54,7 +53,7 @@ impl Progress {
     {
         let command = self.finished + 1;
         register(&mut self.lists, command, messages)?;
-        execute(alloc, &mut self.kept, messages);
+        self.kept.execute(messages);
         lock_new(&mut self.locks, new_oids, first, command);
         self.running = Some(with_xid(running_from(command, self.running), xid));
         self.due = Due::Nothing;

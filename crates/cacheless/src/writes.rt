@@ -16,7 +16,7 @@ ghost use Rattle.cacheless.specs.Plays.{drafted};
 ghost use Rattle.cacheless.specs.SameItems.{same_item as items_match, same_items as all_match, changes_match, forced_match};
 ghost use Rattle.cacheless.specs.May.{is_write_at, is_clash_at, names_by};
 
-use crate::KeptScan;
+use crate::KeptScans;
 use crate::silent::rows_kept;
 use base_types::{Change, ConKind, Name, Oid, Purpose, Row, live_word, on_word, valid_word};
 use ddl_effect::{Altering, Draft, Exec};
@@ -370,7 +370,7 @@ fn same_name(a: &Name, b: &Name) -> bool
 }
 
 // Whether the next act writes a relation of this new name.
-pub(crate) fn gives_name(exec: &Exec, kept: &[KeptScan], name: Name) -> bool
+pub(crate) fn gives_name(exec: &Exec, kept: &KeptScans, name: Name) -> bool
     ensures { result ≡ is_clash_at kept.now name (plan_at exec.now) }
 {
     match exec {
@@ -381,14 +381,14 @@ pub(crate) fn gives_name(exec: &Exec, kept: &[KeptScan], name: Name) -> bool
 }
 
 // Whether a draft gives a relation this new name.
-fn draft_gives(draft: &Draft, kept: &[KeptScan], name: Name) -> bool
+fn draft_gives(draft: &Draft, kept: &KeptScans, name: Name) -> bool
     ensures { result ≡ list_any (bytes_eq name) (flat_map (names_by kept.now) draft.now.changes) }
 {
     any_gives(draft.changes.as_slice(), kept, name)
 }
 
 // Whether one of the changes gives a relation this new name.
-fn any_gives(changes: &[Change], kept: &[KeptScan], name: Name) -> bool
+fn any_gives(changes: &[Change], kept: &KeptScans, name: Name) -> bool
     ensures { result ≡ list_any (λ change. list_any (bytes_eq name) (names_by kept.now change)) changes.now }
 {
     changes
@@ -397,7 +397,7 @@ fn any_gives(changes: &[Change], kept: &[KeptScan], name: Name) -> bool
 }
 
 // Whether an alteration gives a relation this new name.
-fn alteration_gives(altering: &Altering, kept: &[KeptScan], name: Name) -> bool
+fn alteration_gives(altering: &Altering, kept: &KeptScans, name: Name) -> bool
     ensures { result ≡ is_clash_at kept.now name (altering_at altering.now) }
 {
     match altering {
@@ -409,7 +409,7 @@ fn alteration_gives(altering: &Altering, kept: &[KeptScan], name: Name) -> bool
 
 // Whether a change gives a relation this new name: a row that is put gives none which the row that is
 // kept of it has already.
-fn change_gives(change: &Change, kept: &[KeptScan], name: Name) -> bool
+fn change_gives(change: &Change, kept: &KeptScans, name: Name) -> bool
     ensures { result ≡ list_any (bytes_eq name) (names_by kept.now change.now) }
 {
     match change {
