@@ -27,8 +27,10 @@
 //! `src/backend/access/nbtree/nbtinsert.c`).
 #![tactic(auto)]
 
+mod committing;
 mod growing;
 mod index;
+mod indexes;
 mod lists;
 mod naming;
 mod numbers;
