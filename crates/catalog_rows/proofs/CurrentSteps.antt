@@ -1,5 +1,5 @@
 -- What the second index has as versions are added, ended, committed, dropped and taken back.
-use Rattle.std.proofs.Common.{◌≡◌, ◌≢◌, ◌<◌, ◌≤◌, ◌+◌, ◌∙◌, ◌&&◌, ◌==◌, ◌⊎◌, inl, inr, ℕ, zero, suc, Bool, true, false, not, cond, if◌then◌else◌, Option, Some, None, IfSome, List, [], ◌∷◌, ◌++◌, length, map, filter, set, nat_le, eq-eqb, get_or-set_same, get_or-set_other, sym, ap, refl, subst, arith}
+use Rattle.std.proofs.Common.{◌≡◌, ◌≢◌, ◌<◌, ◌≤◌, ◌+◌, ◌∙◌, ◌&&◌, ◌||◌, ◌==◌, ◌⊎◌, inl, inr, ℕ, zero, suc, Bool, true, false, not, cond, if◌then◌else◌, Option, Some, None, IfSome, List, [], ◌∷◌, ◌++◌, length, map, filter, set, nat_le, eq-eqb, get_or-set_same, get_or-set_other, sym, ap, refl, subst, arith}
 use Rattle.std.specs.Prelude.{slice_set}
 use Rattle.std.specs.Option.{option_map_or}
 use Rattle.std.specs.List.{AllByRecursion}
@@ -202,3 +202,19 @@ current_back committed xid from number at slots o now old new is lt was made rem
 -- where the first index serves nothing is asked of the second
 pub current_whole : (committed : List Bool) (slots : List (Option Version)) (indexes : Indexes) → indexes.whole ≡ true → IsCurrent committed slots indexes
 current_whole committed slots indexes whole = record { has = λ used. let never : true ≡ false = sym whole ∙ used in absurd (cc) }
+
+-- a transaction's writes are taken back: if it was committed, the first index serves from then on
+or_true : (t : Bool) → (t || true) ≡ true
+or_true true = refl
+or_true false = refl
+
+or_none : (t : Bool) → (t || false) ≡ false → t ≡ false
+or_none true is = is
+or_none false is = is
+
+pub current_undone : (committed : List Bool) (xid : Xid) (done : Bool) (slots after : List (Option Version)) (old mid new : Indexes) → done ≡ has_committed committed xid.0 → mid.whole ≡ (old.whole || done) → mid.current ≡ old.current → new.whole ≡ mid.whole
+    → ((marks : List Bool) → has_committed marks xid.0 ≡ false → IsCurrent marks slots mid → IsCurrent marks after new) → IsCurrent committed slots old → IsCurrent committed after new
+current_undone committed xid true slots after old mid new is whole same stays step current = current_whole committed after new (stays ∙ whole ∙ or_true old.whole)
+current_undone committed xid false slots after old mid new is whole same stays step current = step committed (sym is) (record {
+  has = λ used place n. subst (λ (x : Index). IfSome (version_numbered slots n) (λ v. is_dead committed v ≡ false → is_under place v.row ≡ true → IsIn n (listed_at x place))) (sym same) (current.has (or_none old.whole (sym whole ∙ used)) place n);
+})

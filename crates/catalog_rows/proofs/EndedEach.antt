@@ -5,6 +5,7 @@ use Rattle.std.proofs.lemmas.List.Sums.{fold_more}
 use Rattle.catalog_rows.specs.Types.{Change, Insert, Replace, Delete, Stamp, Version}
 use Rattle.catalog_rows.specs.Store.{is_ended, end_if, added_row, option_items, after_change, rows_added, numbers_from, new_version}
 use Rattle.catalog_rows.specs.declared.lists.Lists.{Lists}
+use Rattle.catalog_rows.specs.declared.indexes.Indexes.{Indexes}
 use Rattle.catalog_rows.specs.Slots.{IsIn, versions_in, numbers_at, numbers_in, slot_changed, new_slots, after_slots}
 use Rattle.catalog_rows.specs.Index.{own_at, ends_at, IsCurrent, IsIndexed, AreNoted}
 use Rattle.catalog_rows.proofs.Ascending.{all_more, append_none}

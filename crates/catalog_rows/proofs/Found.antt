@@ -1,5 +1,5 @@
 -- The versions that are looked for are among the listed ones, and the store is what its slots say.
-use Rattle.std.proofs.Common.{◌≡◌, ◌∙◌, ◌&&◌, ℕ, Bool, Result, Ok, Err, IfOk, Vec, Option, List, ◌++◌, length, fold, take, map, filter, find, filter_map, sym, ap}
+use Rattle.std.proofs.Common.{◌≡◌, ◌∙◌, ◌&&◌, ℕ, Bool, true, false, Result, Ok, Err, IfOk, Vec, Option, List, ◌++◌, length, fold, take, map, filter, find, filter_map, sym, ap}
 use Rattle.std.specs.Option.{option_map}
 use Rattle.std.specs.Global.{Global}
 use Rattle.std.proofs.lemmas.Bool.{and_parts}
@@ -34,14 +34,14 @@ pub row_found : (store : Store) (key : RowKey) (reader : Reader) (slots : List (
 row_found store key reader slots committed list found is_store serves first =
     ap (option_map {U = Row} (λ v. v.row))
     (first ∙ find_served committed slots (key_place key) list (λ v. sees_version (has_committed committed) reader v && same_key (key_of v.row) key)
-        (λ v yes. let parts = and_parts (sees_version (has_committed committed) reader v) (same_key (key_of v.row) key) yes in (alive_sees committed reader v parts.0, key_under key v.row parts.1)) serves)
+        (λ v asked. let parts = and_parts (sees_version (has_committed committed) reader v) (same_key (key_of v.row) key) asked in (alive_sees committed reader v parts.0, key_under key v.row parts.1)) serves)
     ∙ sym (ap (λ (s : Store). row_of_key s key reader) is_store)
 
 -- the first version of a relation with a name that passes a test, which no dead one does
 named_found : (test : Version → Bool) (name : List ℕ) (slots : List (Option Version)) (committed : List Bool) (list : List ℕ) → ((v : Version) → test v ≡ true → is_dead committed v ≡ false) → Serves committed slots (relation_place name) list
     → find (λ v. is_named name v.row && test v) (filter_map (version_numbered slots) list) ≡ find (λ v. is_named name v.row && test v) (versions_in slots)
 named_found test name slots committed list alive serves =
-    find_served committed slots (relation_place name) list (λ v. is_named name v.row && test v) (λ v yes. let parts = and_parts (is_named name v.row) (test v) yes in (alive v parts.1, name_under name v.row parts.0)) serves
+    find_served committed slots (relation_place name) list (λ v. is_named name v.row && test v) (λ v asked. let parts = and_parts (is_named name v.row) (test v) asked in (alive v parts.1, name_under name v.row parts.0)) serves
 
 pub clash_found : (store : Store) (own : Option Xid) (name : List ℕ) (slots : List (Option Version)) (committed : List Bool) (list : List ℕ) → store ≡ store_of slots committed → Serves committed slots (relation_place name) list
     → clash_by committed own (find (λ v. is_named name v.row && is_claimed committed own v) (filter_map (version_numbered slots) list)) (find (λ v. is_named name v.row && seen_by (counts committed own) v) (filter_map (version_numbered slots) list))

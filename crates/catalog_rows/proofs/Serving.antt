@@ -1,12 +1,12 @@
 -- What is looked for is among the numbers of a list that has each version that isn't dead.
-use Rattle.std.proofs.Common.{◌≡◌, ◌≢◌, ◌<◌, ◌≤◌, ◌+◌, ◌∙◌, ◌&&◌, ◌||◌, ◌⊎◌, inl, inr, ℕ, zero, suc, Bool, true, false, not, cond, Option, Some, None, IfSome, List, [], ◌∷◌, ◌++◌, length, map, filter, find, filter_map, fold, append_assoc, sym, ap, refl, subst, arith}
+use Rattle.std.proofs.Common.{◌≡◌, ◌≢◌, ◌<◌, ◌≤◌, ◌+◌, ◌∙◌, ◌&&◌, ◌||◌, ◌⊎◌, inl, inr, ℕ, zero, suc, Bool, true, false, not, cond, nat_lt, Option, Some, None, IfSome, List, [], ◌∷◌, ◌++◌, length, map, filter, find, filter_map, fold, append_assoc, sym, ap, refl, subst, arith}
 use Rattle.std.specs.Option.{option_map_or}
 use Rattle.std.specs.List.{AllByRecursion, cons_option}
 use Rattle.std.proofs.lemmas.Bool.{and_parts, cases_eq}
 use Rattle.std.proofs.lemmas.List.{length_push}
 use Rattle.base_types.specs.Scans.{selects, put_in_order}
 use Rattle.base_types.specs.RowKeys.{key_of, same_key}
-use Rattle.row_visibility.specs.Seen.{seen_by, sees_version}
+use Rattle.row_visibility.specs.Seen.{is_own, seen_by, sees_stamp, sees_version}
 use Rattle.catalog_rows.specs.Types.{Row, RowKey, Purpose, Change, Xid, Stamp, Version, Reader}
 use Rattle.catalog_rows.specs.Store.{has_committed, counts, is_claimed, is_running_other, is_ended, ended_key}
 use Rattle.catalog_rows.specs.declared.place.Place.{Place}
@@ -66,17 +66,18 @@ first_true : (a b : Bool) → a ≡ true → (a || b) ≡ true
 first_true a b is = ap (λ t. t || b) is
 
 pub alive_sees : (committed : List Bool) (reader : Reader) (v : Version) → sees_version (has_committed committed) reader v ≡ true → is_dead committed v ≡ false
-alive_sees committed reader v seen = alive_seen committed _ v (λ stamp done. first_true (has_committed committed stamp.xid.0) _ done) seen
+alive_sees committed reader v seen =
+    alive_seen committed (sees_stamp (has_committed committed) reader) v (λ stamp done. first_true (has_committed committed stamp.xid.0) (is_own reader.xid stamp && nat_lt stamp.command reader.command) done) seen
 
 pub alive_counts : (committed : List Bool) (own : Option Xid) (v : Version) → seen_by (counts committed own) v ≡ true → is_dead committed v ≡ false
-alive_counts committed own v seen = alive_seen committed (counts committed own) v (λ stamp done. first_true (has_committed committed stamp.xid.0) _ done) seen
+alive_counts committed own v seen = alive_seen committed (counts committed own) v (λ stamp done. first_true (has_committed committed stamp.xid.0) (is_own own stamp) done) seen
 
 -- nobody claims a dead version
 pub alive_claimed : (committed : List Bool) (own : Option Xid) (v : Version) → is_claimed committed own v ≡ true → is_dead committed v ≡ false
 alive_claimed committed own v claimed = by (is_dead committed v) refl
   where
     settled : (stamp : Stamp) → has_committed committed stamp.xid.0 ≡ true → is_running_other committed own stamp ≡ false
-    settled stamp done = ap not (first_true (has_committed committed stamp.xid.0) _ done)
+    settled stamp done = ap not (first_true (has_committed committed stamp.xid.0) (is_own own stamp) done)
 
     of_end : (o : Option Stamp) → option_map_or (λ stamp. has_committed committed stamp.xid.0) o false ≡ true → option_map_or (is_running_other committed own) o false ≡ false
     of_end None done = refl
@@ -129,18 +130,15 @@ begins n [] up all = inr tt
 begins n (m ∷ list) up all = by (cases_eq m n)
   where
     by : (m ≡ n) ⊎ (m ≢ n) → ((rest : List ℕ) × (m ∷ list ≡ n ∷ rest) × IsAscending rest × AllByRecursion (λ k. n < k) rest) ⊎ AllByRecursion (λ k. n < k) (m ∷ list)
-    by (inl same) = inl (list, (ap (λ k. k ∷ list) same, (up.1, subst (λ k. AllByRecursion (λ j. k < j) list) same up.0)))
+    by (inl same) = inl (list, ap (λ k. k ∷ list) same, up.1, subst (λ k. AllByRecursion (λ j. k < j) list) same up.0)
     by (inr other) = inr (omega (arith, all.0, other), all_more (λ k. m < k) (λ k. n < k) list (λ k lt. omega (arith, lt, all.0)) up.0)
 
 served_from : (test : Version → Bool) (before slots : List (Option Version)) (n : ℕ) (list : List ℕ) → n ≡ length before → IsAscending list → AllByRecursion (λ m. n ≤ m) list
     → ((j : ℕ) (v : Version) → slot_at slots j ≡ Some v → test v ≡ true → IsIn (n + j) list) → filter test (filter_map (slot_at (before ++ slots)) list) ≡ filter test (versions_in slots)
 served_from test before [] n list is up all has =
     ap (filter test) (ap (λ xs. filter_map (slot_at xs) list) (append_none before) ∙ read_past before list (subst (λ k. AllByRecursion (λ m. k ≤ m) list) is all))
-served_from test before (o ∷ slots) n list is up all has = by (begins n list up all)
+served_from test before (o ∷ slots) n list is up all has = by (λ rest. served_from test (before ++ o ∷ []) slots (n + 1) rest (omega (arith, is, length_push before o))) (begins n list up all)
   where
-    further : n + 1 ≡ length (before ++ o ∷ [])
-    further = omega (arith, is, length_push before o)
-
     skip : (before ++ o ∷ []) ++ slots ≡ before ++ o ∷ slots
     skip = append_assoc before (o ∷ []) slots
 
@@ -163,16 +161,18 @@ served_from test before (o ∷ slots) n list is up all has = by (begins n list u
     fails (Some v) same = at (test v) refl
       where
         at : (t : Bool) → test v ≡ t → (filter test (versions_in slots) ≡ filter test (versions_in (Some v ∷ slots))) ⊎ ((w : Version) × (o ≡ Some w) × (test w ≡ true))
-        at true passes = inr (v, (same, passes))
+        at true passes = inr (v, same, passes)
         at false isnt = inl (sym (ap (λ t. cond t (v ∷ filter test (versions_in slots)) (filter test (versions_in slots))) isnt))
 
-    by : ((rest : List ℕ) × (list ≡ n ∷ rest) × IsAscending rest × AllByRecursion (λ m. n < m) rest) ⊎ AllByRecursion (λ m. n < m) list
+    by : ((rest : List ℕ) → IsAscending rest → AllByRecursion (λ m. n + 1 ≤ m) rest → ((j : ℕ) (v : Version) → slot_at slots j ≡ Some v → test v ≡ true → IsIn (n + 1 + j) rest)
+        → filter test (filter_map (slot_at ((before ++ o ∷ []) ++ slots)) rest) ≡ filter test (versions_in slots))
+        → ((rest : List ℕ) × (list ≡ n ∷ rest) × IsAscending rest × AllByRecursion (λ m. n < m) rest) ⊎ AllByRecursion (λ m. n < m) list
         → filter test (filter_map (slot_at (before ++ o ∷ slots)) list) ≡ filter test (versions_in (o ∷ slots))
-    by (inl (rest, (parts, (up_rest, above)))) =
+    by further_on (inl (rest, parts, up_rest, above)) =
         ap (λ l. filter test (filter_map (slot_at (before ++ o ∷ slots)) l)) parts
         ∙ ap (λ x. filter test (cons_option x (filter_map (slot_at (before ++ o ∷ slots)) rest))) here
         ∙ head_same o (filter_map (slot_at (before ++ o ∷ slots)) rest) (versions_in slots)
-        (sym (ap (λ xs. filter test (filter_map (slot_at xs) rest)) skip) ∙ served_from test (before ++ o ∷ []) slots (n + 1) rest further up_rest (next rest above) (λ j v at passes. behind j (has (suc j) v at passes)))
+        (sym (ap (λ xs. filter test (filter_map (slot_at xs) rest)) skip) ∙ further_on rest up_rest (next rest above) (λ j v at passes. behind j (has (suc j) v at passes)))
         ∙ sym (ap (filter test) (versions o))
       where
         behind : (j : ℕ) → IsIn (n + suc j) list → IsIn (n + 1 + j) rest
@@ -181,14 +181,14 @@ served_from test before (o ∷ slots) n list is up all has = by (begins n list u
             of : IsIn (n + suc j) (n ∷ rest) → IsIn (n + 1 + j) rest
             of (inl same) = absurd (omega (arith, same))
             of (inr later) = let far : n + suc j ≡ n + 1 + j = omega arith in subst (λ k. IsIn k rest) far later
-    by (inr above) = past (fails o refl)
+    by further_on (inr above) = past (fails o refl)
       where
         past : (filter test (versions_in slots) ≡ filter test (versions_in (o ∷ slots))) ⊎ ((v : Version) × (o ≡ Some v) × (test v ≡ true)) → filter test (filter_map (slot_at (before ++ o ∷ slots)) list) ≡ filter test (versions_in (o ∷ slots))
         past (inl same) =
             sym (ap (λ xs. filter test (filter_map (slot_at xs) list)) skip)
-            ∙ served_from test (before ++ o ∷ []) slots (n + 1) list further up (next list above) (λ j v at passes. let far : n + suc j ≡ n + 1 + j = omega arith in subst (λ k. IsIn k list) far (has (suc j) v at passes))
+            ∙ further_on list up (next list above) (λ j v at passes. let far : n + suc j ≡ n + 1 + j = omega arith in subst (λ k. IsIn k list) far (has (suc j) v at passes))
             ∙ same
-        past (inr (v, (at, passes))) = let far : n + 0 ≡ n = omega arith in absurd (not_above n list above (subst (λ k. IsIn k list) far (has 0 v at passes)))
+        past (inr (v, at, passes)) = let far : n + 0 ≡ n = omega arith in absurd (not_above n list above (subst (λ k. IsIn k list) far (has 0 v at passes)))
 
 -- the same where what passes is at a place, and isn't dead
 pub served : (committed : List Bool) (slots : List (Option Version)) (place : Place) (list : List ℕ) (test : Version → Bool) → ((v : Version) → test v ≡ true → (is_dead committed v ≡ false) × (is_under place v.row ≡ true)) → Serves committed slots place list
@@ -200,11 +200,11 @@ served committed slots place list test passes serves = served_from test [] (None
     all_numbers (x ∷ xs) = (omega arith, all_numbers xs)
 
     of : (n : ℕ) (v : Version) (o : Option Version) → o ≡ Some v → test v ≡ true → IfSome o (λ w. is_dead committed w ≡ false → is_under place w.row ≡ true → IsIn n list) → IsIn n list
-    of n v None is yes found = let never : None ≡ Some v = is in absurd (cc)
-    of n v (Some w) is yes found = let same : w ≡ v = cc in let both = passes w (ap test same ∙ yes) in found both.0 both.1
+    of n v None is passed found = let never : None ≡ Some v = is in absurd (cc)
+    of n v (Some w) is passed found = let same : w ≡ v = cc in let both = passes w (ap test same ∙ passed) in found both.0 both.1
 
     has : (j : ℕ) (v : Version) → version_numbered slots j ≡ Some v → test v ≡ true → IsIn (0 + j) list
-    has j v at yes = let far : j ≡ 0 + j = omega arith in subst (λ k. IsIn k list) far (of j v (version_numbered slots j) at yes (serves.has j))
+    has j v at passed = let far : j ≡ 0 + j = omega arith in subst (λ k. IsIn k list) far (of j v (version_numbered slots j) at passed (serves.has j))
 
 -- a search finds the first that passes
 find_first : (test : Version → Bool) (xs : List Version) → find test xs ≡ find (λ v. true) (filter test xs)
@@ -245,5 +245,5 @@ pub given_served : (committed : List Bool) (slots : List (Option Version)) (purp
 given_served committed slots purpose list seen alive serves = ap (fold (put_in_order purpose) [])
     (asked_rows purpose seen (filter_map (version_numbered slots) list)
     ∙ ap (map (λ v. v.row)) (served committed slots (scan_place purpose) list (λ v. seen v && selects purpose v.row)
-        (λ v yes. let parts = and_parts (seen v) (selects purpose v.row) yes in (alive v parts.0, sym (selects_under purpose v.row) ∙ parts.1)) serves)
+        (λ v asked. let parts = and_parts (seen v) (selects purpose v.row) asked in (alive v parts.0, sym (selects_under purpose v.row) ∙ parts.1)) serves)
     ∙ sym (asked_rows purpose seen (versions_in slots)))

@@ -27,13 +27,13 @@ out_step n k x xs false is = ap (λ b. cond (not b) (x ∷ removed true k xs) (r
 
 stays_out : (n k : ℕ) (xs : List ℕ) → n ≢ k → IsIn n xs → IsIn n (removed true k xs)
 stays_out n k [] other is = is
-stays_out n k (x ∷ xs) other is = by (x == k) refl is
+stays_out n k (x ∷ xs) other is = by (stays_out n k xs other) (x == k) refl is
   where
-    by : (t : Bool) → (x == k) ≡ t → IsIn n (x ∷ xs) → IsIn n (removed true k (x ∷ xs))
-    by true same (inl here) = absurd (other (here ∙ eqb-true x k same))
-    by true same (inr later) = subst (IsIn n) (sym (out_step n k x xs true same)) (stays_out n k xs other later)
-    by false apart (inl here) = subst (IsIn n) (sym (out_step n k x xs false apart)) (inl here)
-    by false apart (inr later) = subst (IsIn n) (sym (out_step n k x xs false apart)) (inr (stays_out n k xs other later))
+    by : (IsIn n xs → IsIn n (removed true k xs)) → (t : Bool) → (x == k) ≡ t → IsIn n (x ∷ xs) → IsIn n (removed true k (x ∷ xs))
+    by rest true same (inl here) = absurd (other (here ∙ eqb-true x k same))
+    by rest true same (inr later) = subst (IsIn n) (sym (out_step n k x xs true same)) (rest later)
+    by rest false apart (inl here) = subst (IsIn n) (sym (out_step n k x xs false apart)) (inl here)
+    by rest false apart (inr later) = subst (IsIn n) (sym (out_step n k x xs false apart)) (inr (rest later))
 
 pub in_removed : (here : Bool) (n k : ℕ) (xs : List ℕ) → n ≢ k → IsIn n xs → IsIn n (removed here k xs)
 in_removed true n k xs other is = stays_out n k xs other is
@@ -41,15 +41,15 @@ in_removed false n k xs other is = is
 
 was_in : (n k : ℕ) (xs : List ℕ) → IsIn n (removed true k xs) → IsIn n xs × (n ≢ k)
 was_in n k [] is = absurd is
-was_in n k (x ∷ xs) is = by (x == k) refl
+was_in n k (x ∷ xs) is = by (was_in n k xs) (x == k) refl
   where
-    by : (t : Bool) → (x == k) ≡ t → IsIn n (x ∷ xs) × (n ≢ k)
-    by true same = let rest = was_in n k xs (subst (IsIn n) (out_step n k x xs true same) is) in (inr rest.0, rest.1)
-    by false apart = at (subst (IsIn n) (out_step n k x xs false apart) is)
+    by : (IsIn n (removed true k xs) → IsIn n xs × (n ≢ k)) → (t : Bool) → (x == k) ≡ t → IsIn n (x ∷ xs) × (n ≢ k)
+    by rest true same = let was = rest (subst (IsIn n) (out_step n k x xs true same) is) in (inr was.0, was.1)
+    by rest false apart = at (subst (IsIn n) (out_step n k x xs false apart) is)
       where
         at : IsIn n (x ∷ removed true k xs) → IsIn n (x ∷ xs) × (n ≢ k)
         at (inl here) = (inl here, λ same. let never : true ≡ false = sym (eq-eqb x k (sym here ∙ same)) ∙ apart in absurd (cc))
-        at (inr later) = let rest = was_in n k xs later in (inr rest.0, rest.1)
+        at (inr later) = let was = rest later in (inr was.0, was.1)
 
 of_removed : (here : Bool) (n k : ℕ) (xs ys : List ℕ) → (IsIn n xs → IsIn n ys) → IsIn n (removed here k xs) → IsIn n (removed here k ys)
 of_removed true n k xs ys f is = let was = was_in n k xs is in stays_out n k ys was.1 (f was.0)

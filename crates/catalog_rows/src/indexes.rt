@@ -78,7 +78,9 @@ impl Indexes {
         requires current { IsInOrder self.old.current }
         ensures { RemovesBoth (is_listed version) number self.old self.new }
     {
-        self.all.remove_version(version, number);
-        self.current.remove_version(version, number);
+        if let Some(version) = version {
+            self.all.remove_row(&version.row, number);
+            self.current.remove_row(&version.row, number);
+        }
     }
 }

@@ -26,9 +26,7 @@ pub(crate) fn undo(
     ensures current { IsCurrent committed.now slots.new lists.new.indexes }
     ensures slots { slots.new ≡ map (slot_back (goes_back xid from)) slots.old }
 {
-    if has_committed(xid, committed) {
-        lists.indexes.whole = true;
-    }
+    lists.indexes.whole |= has_committed(xid, committed);
     take_back(slots, &mut lists.indexes, own(&lists.touched, xid), xid, from);
 }
 
