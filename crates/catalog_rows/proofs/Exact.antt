@@ -49,6 +49,13 @@ numbers_below_last test n (Some v ∷ slots) = by (test v) refl (all_more (λ m.
     by true is rest = subst (AllByRecursion (λ m. m < n + suc (length slots))) (sym (yes_at test n v slots is)) (omega arith, rest)
     by false is rest = subst (AllByRecursion (λ m. m < n + suc (length slots))) (sym (no_at test n v slots is)) rest
 
+pub numbers_within : (test : Version → Bool) (slots : List (Option Version)) (last : ℕ) → last ≡ length slots → AllByRecursion (λ m. (0 < m) × (m ≤ last)) (numbers_at test 1 slots)
+numbers_within test slots last is = both (numbers_at test 1 slots) (numbers_from_first test 1 slots) (numbers_below_last test 1 slots)
+  where
+    both : (xs : List ℕ) → AllByRecursion (λ m. 1 ≤ m) xs → AllByRecursion (λ m. m < 1 + length slots) xs → AllByRecursion (λ m. (0 < m) × (m ≤ last)) xs
+    both [] from below = tt
+    both (x ∷ xs) from below = ((omega (arith, from.0), omega (arith, below.0, is)), both xs from.1 below.1)
+
 pub above_first : (test : Version → Bool) (n : ℕ) (slots : List (Option Version)) → AllByRecursion (λ m. n < m) (numbers_at test (n + 1) slots)
 above_first test n slots = all_more (λ m. n + 1 ≤ m) (λ m. n < m) (numbers_at test (n + 1) slots) (λ m le. omega (arith, le)) (numbers_from_first test (n + 1) slots)
 

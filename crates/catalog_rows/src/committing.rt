@@ -41,7 +41,7 @@ fn drop_listed(
     }
 }
 
-// The same of one version, if it stands.
+// The same of one version, if it is there.
 fn drop_if_dead(
     slots: &[Option<Version>],
     indexes: &mut Indexes,

@@ -45,7 +45,7 @@ fn grow_each(
     requires current { IsCurrent committed.now slots.old.items lists.old.indexes }
     ensures indexed { IsIndexed slots.new.items lists.new }
     ensures current { StaysCurrent slots.old.items lists.old.indexes slots.new.items lists.new.indexes }
-    ensures front { take (vec_len slots.old) slots.new.items ≡ slots.old.items }
+    ensures before { take (vec_len slots.old) slots.new.items ≡ slots.old.items }
     ensures ok { OnOk result (slots.new.items ≡ slots.old.items ++ new_slots stamp changes.now) }
     ensures noted { OnOk result (AreNoted committed.now stamp changes.now slots.new.items lists.new) }
 {

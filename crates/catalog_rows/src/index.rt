@@ -8,7 +8,7 @@ use base_types::{NoMemory, Row};
 use std::alloc::Global;
 use std::collections::HashMap;
 
-// For each place the numbers of the standing versions whose rows are listed there, ascending.
+// For each place the numbers of the versions whose rows are listed there, ascending.
 #[derive(Drop)]
 pub(crate) struct Index {
     alloc: Global,

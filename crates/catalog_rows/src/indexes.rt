@@ -13,11 +13,11 @@ use std::alloc::Global;
 // The numbers of the versions at each place.
 #[derive(Drop)]
 pub(crate) struct Indexes {
-    // of all that stand
+    // of all but those that an undo took back
     pub all: Index,
-    // without those that nobody sees any more, as far as they were taken out
+    // without those that committed transactions wrote and ended, as far as commits took them out
     pub current: Index,
-    // an undo took back what was committed, so that the second index doesn't serve any more
+    // an undo took back what was committed, so that the first index is asked from then on
     pub whole: bool,
 }
 

@@ -1,4 +1,4 @@
-ghost use Rattle.std.specs.Prelude.{◌≡◌, ◌++◌, ◌∷◌, ℕ, true, Some, [], OnOk, OnErr};
+ghost use Rattle.std.specs.Prelude.{◌≡◌, ◌++◌, ◌∷◌, ℕ, true, false, Some, [], OnOk, OnErr};
 ghost use Rattle.catalog_rows.specs.Index.{own_at, ends_at, listed_at, IsCurrent, IsNumbered, IsOnly, NotesMore};
 ghost use Rattle.catalog_rows.specs.Slots.{IsIn};
 
@@ -107,6 +107,7 @@ fn touch_if_ended(
 ) -> Result<(), NoMemory>
     ensures grows { (x j : ℕ) → IsIn j (own_at touched.old.items x) → IsIn j (own_at touched.new.items x) }
     ensures ok { OnOk result (ends_at committed.now stamp change.now slots.now number ≡ true → IsIn number (own_at touched.new.items stamp.xid.0)) }
+    ensures same { ends_at committed.now stamp change.now slots.now number ≡ false → touched.new ≡ touched.old }
 {
     match version_at(slots, number) {
         Some(version) if is_ended(&version, committed, stamp, change) => {

@@ -11,8 +11,8 @@ use crate::store::has_committed;
 use base_types::Xid;
 use row_visibility::{Stamp, Version};
 
-// Takes back what the transaction did in its commands of this number and above. If that was committed, the
-// versions that nobody saw any more may be seen again.
+// Takes back what the transaction did in its commands of this number and above. If it is committed, versions that
+// nobody saw any more may be seen again.
 pub(crate) fn undo(
     slots: &mut [Option<Version>],
     lists: &mut Lists,
@@ -51,7 +51,7 @@ fn take_back(
     }
 }
 
-// The same for one version, if it stands.
+// The same for one version, if it is there.
 fn restore(
     slots: &mut [Option<Version>],
     indexes: &mut Indexes,
