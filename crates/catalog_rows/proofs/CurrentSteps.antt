@@ -1,21 +1,19 @@
 -- What the second index has as versions are added, ended, committed, dropped and taken back.
-use Rattle.std.proofs.Common.{◌≡◌, ◌≢◌, ◌<◌, ◌≤◌, ◌+◌, ◌∙◌, ◌&&◌, ◌||◌, ◌==◌, ◌⊎◌, inl, inr, ℕ, zero, suc, Bool, true, false, not, cond, if◌then◌else◌, Option, Some, None, IfSome, List, [], ◌∷◌, ◌++◌, length, map, filter, set, nat_le, eq-eqb, get_or-set_same, get_or-set_other, sym, ap, refl, subst, arith}
+use Rattle.std.proofs.Common.{◌≡◌, ◌≢◌, ◌<◌, ◌+◌, ◌∙◌, ◌&&◌, ◌||◌, ◌==◌, ◌⊎◌, inl, inr, ℕ, zero, suc, Bool, true, false, if◌then◌else◌, Option, Some, None, IfSome, List, [], ◌∷◌, ◌++◌, length, map, set, nat_le, get_or-set_same, get_or-set_other, sym, ap, refl, subst, arith}
 use Rattle.std.specs.Prelude.{slice_set}
 use Rattle.std.specs.Option.{option_map_or}
-use Rattle.std.specs.List.{AllByRecursion}
 use Rattle.std.proofs.lemmas.Bool.{and_parts, cases_eq, eqb-true}
-use Rattle.catalog_rows.specs.Types.{Row, Change, Xid, Stamp, Version}
+use Rattle.catalog_rows.specs.Types.{Change, Xid, Stamp, Version}
 use Rattle.catalog_rows.specs.Store.{has_committed, is_ended, end_if, is_back, restored}
 use Rattle.catalog_rows.specs.Given.{if_back}
 use Rattle.catalog_rows.specs.declared.place.Place.{Place}
 use Rattle.catalog_rows.specs.declared.index.Index.{Index}
 use Rattle.catalog_rows.specs.declared.indexes.Indexes.{Indexes}
-use Rattle.catalog_rows.specs.Numbers.{IsAscending, added, removed}
+use Rattle.catalog_rows.specs.Numbers.{removed}
 use Rattle.catalog_rows.specs.Places.{is_under}
 use Rattle.catalog_rows.specs.Slots.{IsIn, slot_at, version_numbered, slot_changed, slot_back}
-use Rattle.catalog_rows.specs.Index.{listed_at, is_listed, is_dead, AddsWhere, RemovesWhere, AddsBoth, RemovesBoth, AreSame, IsBelow, IsOnly, IsCurrent, StaysCurrent}
-use Rattle.catalog_rows.proofs.Ascending.{all_in, ascending_push, ascending_removed, added_removed, append_none}
-use Rattle.catalog_rows.proofs.SlotLists.{in_append, in_front, in_behind, numbered_front, some_more, along}
+use Rattle.catalog_rows.specs.Index.{listed_at, is_listed, is_dead, RemovesWhere, AddsBoth, RemovesBoth, AreSame, IsCurrent, StaysCurrent}
+use Rattle.catalog_rows.proofs.SlotLists.{numbered_front, some_more, along}
 use Rattle.catalog_rows.proofs.Ended.{end_if_yes, end_if_no, front_step}
 use Rattle.catalog_rows.proofs.Within.{in_added, new_added, in_removed}
 use Rattle.catalog_rows.proofs.Grown.{numbered_push}

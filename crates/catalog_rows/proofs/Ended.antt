@@ -12,8 +12,8 @@ use Rattle.catalog_rows.specs.declared.index.Index.{Index}
 use Rattle.catalog_rows.specs.declared.lists.Lists.{Lists}
 use Rattle.catalog_rows.specs.Places.{key_place, is_under}
 use Rattle.catalog_rows.specs.Slots.{IsIn, slot_at, version_numbered, numbers_at, Settles, slot_changed}
-use Rattle.catalog_rows.specs.Index.{listed_at, own_at, ends_at, IsNumbered, IsNoted, IsIndexed, AreNoted}
-use Rattle.catalog_rows.proofs.SlotLists.{settles_none, settled_numbered, numbered_front, along}
+use Rattle.catalog_rows.specs.Index.{listed_at, own_at, ends_at, IsNumbered, IsNoted, IsIndexed}
+use Rattle.catalog_rows.proofs.SlotLists.{settled_numbered, along}
 use Rattle.catalog_rows.proofs.Exact.{has_number, numbers_at-append, numbers_at-map}
 use Rattle.catalog_rows.proofs.Under.{key_under}
 

@@ -1,11 +1,10 @@
 -- The numbers of the versions that pass a test: which they are, and what changes them.
-use Rattle.std.proofs.Common.{◌≡◌, ◌<◌, ◌≤◌, ◌+◌, ◌∙◌, inl, inr, ℕ, zero, suc, Bool, true, false, cond, if◌then◌else◌, Option, Some, None, List, [], ◌∷◌, ◌++◌, length, map, filter, find, filter_map, append_assoc, sym, ap, refl, subst, arith}
-use Rattle.std.specs.List.{AllByRecursion, cons_option}
-use Rattle.std.proofs.lemmas.List.{length_push}
+use Rattle.std.proofs.Common.{◌≡◌, ◌<◌, ◌≤◌, ◌+◌, ◌∙◌, inl, inr, ℕ, zero, suc, Bool, true, false, if◌then◌else◌, Option, Some, None, List, [], ◌∷◌, ◌++◌, length, map, sym, ap, refl, subst, arith}
+use Rattle.std.specs.List.{AllByRecursion}
 use Rattle.catalog_rows.specs.Types.{Version}
 use Rattle.catalog_rows.specs.Store.{numbers_where}
 use Rattle.catalog_rows.specs.Numbers.{IsAscending}
-use Rattle.catalog_rows.specs.Slots.{IsIn, slot_at, version_numbered, versions_in, numbers_at, slot_changed}
+use Rattle.catalog_rows.specs.Slots.{IsIn, slot_at, versions_in, numbers_at, slot_changed}
 use Rattle.catalog_rows.proofs.Ascending.{all_more}
 
 pub yes_at : (test : Version → Bool) (n : ℕ) (v : Version) (slots : List (Option Version)) → test v ≡ true → numbers_at test n (Some v ∷ slots) ≡ n ∷ numbers_at test (n + 1) slots

@@ -1,5 +1,5 @@
 -- The versions that are looked for are among the listed ones, and the store is what its slots say.
-use Rattle.std.proofs.Common.{◌≡◌, ◌∙◌, ◌&&◌, ℕ, Bool, true, false, Result, Ok, Err, IfOk, Vec, Option, List, ◌++◌, length, fold, take, map, filter, find, filter_map, sym, ap}
+use Rattle.std.proofs.Common.{◌≡◌, ◌∙◌, ◌&&◌, ℕ, Bool, true, false, Result, Ok, Err, IfOk, Vec, Option, List, ◌++◌, length, fold, take, map, find, filter_map, sym, ap}
 use Rattle.std.specs.Option.{option_map}
 use Rattle.std.specs.Global.{Global}
 use Rattle.std.proofs.lemmas.Bool.{and_parts}
@@ -8,7 +8,7 @@ use Rattle.base_types.specs.RowKeys.{key_of, same_key}
 use Rattle.row_visibility.specs.Seen.{seen_by, sees_version}
 use Rattle.catalog_rows.specs.Types.{Xid, Row, RowKey, Purpose, Change, Stamp, Version, Reader}
 use Rattle.catalog_rows.specs.Store.{Store, has_committed, row_of_key, rows_of_scan, is_named, is_claimed, counts, clash_by, clash_of, after_write, after_undo, with_place, is_back}
-use Rattle.catalog_rows.specs.Places.{key_place, scan_place, relation_place, is_under}
+use Rattle.catalog_rows.specs.Places.{key_place, scan_place, relation_place}
 use Rattle.catalog_rows.specs.Slots.{version_numbered, versions_in, numbers_in, slot_back, new_slots, after_slots}
 use Rattle.catalog_rows.specs.Index.{is_dead, Serves}
 use Rattle.catalog_rows.proofs.EndedEach.{versions_written, slots_written, numbers_written}
@@ -34,7 +34,7 @@ pub row_found : (store : Store) (key : RowKey) (reader : Reader) (slots : List (
 row_found store key reader slots committed list found is_store serves first =
     ap (option_map {U = Row} (λ v. v.row))
     (first ∙ find_served committed slots (key_place key) list (λ v. sees_version (has_committed committed) reader v && same_key (key_of v.row) key)
-        (λ v asked. let parts = and_parts (sees_version (has_committed committed) reader v) (same_key (key_of v.row) key) asked in (alive_sees committed reader v parts.0, key_under key v.row parts.1)) serves)
+    (λ v asked. let parts = and_parts (sees_version (has_committed committed) reader v) (same_key (key_of v.row) key) asked in (alive_sees committed reader v parts.0, key_under key v.row parts.1)) serves)
     ∙ sym (ap (λ (s : Store). row_of_key s key reader) is_store)
 
 -- the first version of a relation with a name that passes a test, which no dead one does

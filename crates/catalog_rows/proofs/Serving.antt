@@ -7,7 +7,7 @@ use Rattle.std.proofs.lemmas.List.{length_push}
 use Rattle.base_types.specs.Scans.{selects, put_in_order}
 use Rattle.base_types.specs.RowKeys.{key_of, same_key}
 use Rattle.row_visibility.specs.Seen.{is_own, seen_by, sees_stamp, sees_version}
-use Rattle.catalog_rows.specs.Types.{Row, RowKey, Purpose, Change, Xid, Stamp, Version, Reader}
+use Rattle.catalog_rows.specs.Types.{RowKey, Purpose, Change, Xid, Stamp, Version, Reader}
 use Rattle.catalog_rows.specs.Store.{has_committed, counts, is_claimed, is_running_other, is_ended, ended_key}
 use Rattle.catalog_rows.specs.declared.place.Place.{Place}
 use Rattle.catalog_rows.specs.declared.index.Index.{Index}
@@ -245,5 +245,5 @@ pub given_served : (committed : List Bool) (slots : List (Option Version)) (purp
 given_served committed slots purpose list seen alive serves = ap (fold (put_in_order purpose) [])
     (asked_rows purpose seen (filter_map (version_numbered slots) list)
     ∙ ap (map (λ v. v.row)) (served committed slots (scan_place purpose) list (λ v. seen v && selects purpose v.row)
-        (λ v asked. let parts = and_parts (seen v) (selects purpose v.row) asked in (alive v parts.0, sym (selects_under purpose v.row) ∙ parts.1)) serves)
+    (λ v asked. let parts = and_parts (seen v) (selects purpose v.row) asked in (alive v parts.0, sym (selects_under purpose v.row) ∙ parts.1)) serves)
     ∙ sym (asked_rows purpose seen (versions_in slots)))

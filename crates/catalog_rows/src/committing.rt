@@ -9,27 +9,22 @@ use base_types::Xid;
 use row_visibility::Version;
 
 // Takes out of the second index what nobody sees any more, now that the transaction is committed.
-pub(crate) fn drop_dead(
-    slots: &[Option<Version>],
-    lists: &mut Lists,
-    committed: &[bool],
-    xid: Xid,
-)
+pub(crate) fn drop_dead(slots: &[Option<Version>], lists: &mut Lists, committed: &[bool], xid: Xid)
     requires indexed { IsIndexed slots.now lists.old }
     requires current { IsCurrent committed.now slots.now lists.old.indexes }
     ensures indexed { IsIndexed slots.now lists.new }
     ensures current { IsCurrent committed.now slots.now lists.new.indexes }
 {
-    drop_listed(slots, &mut lists.indexes, own(&lists.touched, xid), committed);
+    drop_listed(
+        slots,
+        &mut lists.indexes,
+        own(&lists.touched, xid),
+        committed,
+    );
 }
 
 // The same of the listed versions, the last first.
-fn drop_listed(
-    slots: &[Option<Version>],
-    indexes: &mut Indexes,
-    list: &[u64],
-    committed: &[bool],
-)
+fn drop_listed(slots: &[Option<Version>], indexes: &mut Indexes, list: &[u64], committed: &[bool])
     requires only { IsOnly indexes.old }
     requires current { IsCurrent committed.now slots.now indexes.old }
     ensures only { IsOnly indexes.new }
@@ -42,12 +37,7 @@ fn drop_listed(
 }
 
 // The same of one version, if it is there.
-fn drop_if_dead(
-    slots: &[Option<Version>],
-    indexes: &mut Indexes,
-    number: u64,
-    committed: &[bool],
-)
+fn drop_if_dead(slots: &[Option<Version>], indexes: &mut Indexes, number: u64, committed: &[bool])
     requires only { IsOnly indexes.old }
     requires current { IsCurrent committed.now slots.now indexes.old }
     ensures only { IsOnly indexes.new }

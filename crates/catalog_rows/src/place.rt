@@ -153,7 +153,10 @@ impl Place {
             Purpose::RelName(name) => Place::of_relation(name),
             Purpose::RelOid(rel) | Purpose::Class(rel) => Place::of_oid(KeyKind::Relation, *rel),
             Purpose::AttName(rel, name) => Place::of_column(*rel, name),
-            Purpose::AttList(rel) | Purpose::Attribute(rel) => Place::of_oid(KeyKind::Columns, *rel),
+            Purpose::AttList(rel) | Purpose::Attribute(rel) => Place::of_oid(
+                KeyKind::Columns,
+                *rel,
+            ),
             Purpose::AttrDef(rel) => Place::of_oid(KeyKind::Defaults, *rel),
             Purpose::Constraint(rel) => Place::of_oid(KeyKind::Constraints, *rel),
             Purpose::Index(rel) => Place::of_oid(KeyKind::Indexes, *rel),

@@ -27,7 +27,13 @@ pub(crate) fn undo(
     ensures slots { slots.new ≡ map (slot_back (goes_back xid from)) slots.old }
 {
     lists.indexes.whole |= has_committed(xid, committed);
-    take_back(slots, &mut lists.indexes, own(&lists.touched, xid), xid, from);
+    take_back(
+        slots,
+        &mut lists.indexes,
+        own(&lists.touched, xid),
+        xid,
+        from,
+    );
 }
 
 // The same for these versions, the last first.
@@ -52,13 +58,7 @@ fn take_back(
 }
 
 // The same for one version, if it is there.
-fn restore(
-    slots: &mut [Option<Version>],
-    indexes: &mut Indexes,
-    number: u64,
-    xid: Xid,
-    from: u32,
-)
+fn restore(slots: &mut [Option<Version>], indexes: &mut Indexes, number: u64, xid: Xid, from: u32)
     requires numbered { IsNumbered slots.old indexes.old.all }
     requires only { IsOnly indexes.old }
     ensures numbered { IsNumbered slots.new indexes.new.all }

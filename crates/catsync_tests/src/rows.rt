@@ -150,7 +150,10 @@ const CALLS: [(&str, &[(Call, Answer)]); 8] = [
     ("a rollback and the name again", NAME_AGAIN),
     ("a replaced row and its undo", REPLACED),
     ("versions under a key", UNDER),
-    ("a transaction replaces its own row, and an undo", OWN_REPLACED),
+    (
+        "a transaction replaces its own row, and an undo",
+        OWN_REPLACED,
+    ),
     ("versions that nobody sees any more", DEAD),
     ("an undo of what is committed", OPENED_AGAIN),
 ];
@@ -226,7 +229,10 @@ const UNDER: &[(Call, Answer)] = &[
     (Call::Numbers(16385, &[3]), DONE),
     (Call::Numbers(16386, &[]), DONE),
     (Call::Columns(16384, &[]), DONE),
-    (Call::Write(2, 1, b"-class(16385) +att(16384,1,a,int4,-1,l)"), DONE),
+    (
+        Call::Write(2, 1, b"-class(16385) +att(16384,1,a,int4,-1,l)"),
+        DONE,
+    ),
     (Call::Numbers(16385, &[3]), DONE),
     (Call::Columns(16384, &[4]), DONE),
 ];

@@ -1,4 +1,4 @@
-use Rattle.std.proofs.Common.{◌∙◌, ap, refl, sym}
+use Rattle.std.proofs.Common.{◌∙◌, refl, sym}
 use Rattle.catalog_rows.specs.Places.{is_under}
 use Rattle.catalog_rows.proofs.Within.{only_dropped}
 use Rattle.catalog_rows.proofs.CurrentSteps.{current_dropped}

@@ -20,4 +20,3 @@ returns-in-Some-clause-current c = λ committed current.
     let number : c.len-number.result ≡ 1 + length c.pop.new.self.items = omega (arith, c.len-number.ensures, c.in-Some.ensures.cases, c.pop.new.self.ok) in
     current_off c.pop.new.self.items c.in-Some.slot c.len-number.result c.args.lists.now.indexes c.remove_version.new.self number c.remove_version.ensures committed
     (subst (λ (xs : List (Option Version)). IsCurrent committed xs c.args.lists.now.indexes) (c.pop.ensures.items ∙ ap (λ (o : Option (Option Version)). c.pop.new.self.items ++ option_to_list o) c.in-Some.is) current)
-

@@ -1,5 +1,4 @@
-use Rattle.std.proofs.Common.{◌≡◌, ◌∙◌, ◌||◌, List, Option, refl, ap}
-use Rattle.catalog_rows.specs.Types.{Version}
+use Rattle.std.proofs.Common.{◌∙◌, ◌||◌, refl, ap}
 use Rattle.catalog_rows.specs.Index.{own_at}
 use Rattle.catalog_rows.proofs.TakenBack.{back_all, back_indexed}
 use Rattle.catalog_rows.proofs.CurrentSteps.{current_undone}

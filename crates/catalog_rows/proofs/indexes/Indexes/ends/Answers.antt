@@ -1,5 +1,4 @@
 use Rattle.catalog_rows.proofs.Serving.{serves_ends}
-use Rattle.catalog_rows.proofs.Ended.{ends_none}
 use Rattle.catalog_rows.proofs.indexes.Indexes.ends.Goals as goal
 
 pub returns-in-Some : goal.returns-in-Some

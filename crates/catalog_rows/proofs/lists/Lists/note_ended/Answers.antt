@@ -1,4 +1,3 @@
-use Rattle.std.proofs.Common.{refl}
 use Rattle.catalog_rows.proofs.Grown.{ok_then}
 use Rattle.catalog_rows.proofs.lists.Lists.note_ended.Goals as goal
 
