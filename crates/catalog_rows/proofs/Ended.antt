@@ -12,13 +12,13 @@ use Rattle.catalog_rows.specs.declared.index.Index.{Index}
 use Rattle.catalog_rows.specs.declared.lists.Lists.{Lists}
 use Rattle.catalog_rows.specs.Places.{key_place, is_under}
 use Rattle.catalog_rows.specs.Slots.{IsIn, slot_at, version_numbered, numbers_at, Settles, slot_changed}
-use Rattle.catalog_rows.specs.Index.{listed_at, own_at, ends_at, IsNumbered, IsCovered, IsNoted, IsIndexed}
-use Rattle.catalog_rows.proofs.SlotLists.{settles_none, settled_numbered, numbered_front, along}
+use Rattle.catalog_rows.specs.Index.{listed_at, own_at, ends_at, IsNumbered, IsNoted, IsIndexed}
+use Rattle.catalog_rows.proofs.SlotLists.{settled_numbered, along}
 use Rattle.catalog_rows.proofs.Exact.{has_number, numbers_at-append, numbers_at-map}
 use Rattle.catalog_rows.proofs.Under.{key_under}
 
 -- each version is at its places
-pub covered : (slots : List (Option Version)) (index : Index) → IsNumbered slots index → IsCovered slots index
+pub covered : (slots : List (Option Version)) (index : Index) → IsNumbered slots index → (place : Place) (n : ℕ) → IfSome (version_numbered slots n) (λ v. is_under place v.row ≡ true → IsIn n (listed_at index place))
 covered slots index is place zero = tt
 covered slots index is place (suc j) = at_slot (slot_at slots j) refl
   where
@@ -28,14 +28,11 @@ covered slots index is place (suc j) = at_slot (slot_at slots j) refl
         let far : 1 + j ≡ suc j = omega arith in
         subst (λ n. IsIn n (listed_at index place)) far (subst (IsIn (1 + j)) (sym (is place)) (has_number (λ w. is_under place w.row) 1 slots j v here under))
 
-pub covered_front : (front behind : List (Option Version)) (index : Index) → IsCovered (front ++ behind) index → IsCovered front index
-covered_front front behind index is place n = numbered_front (λ v. is_under place v.row ≡ true → IsIn n (listed_at index place)) front behind n (is place n)
-
 -- a version that a test picks gets the end, and another stays
-end_if_yes : (test : Version → Bool) (stamp : Stamp) (v : Version) → test v ≡ true → end_if test stamp v ≡ record { row = v.row; by = v.by; ended = Some stamp }
+pub end_if_yes : (test : Version → Bool) (stamp : Stamp) (v : Version) → test v ≡ true → end_if test stamp v ≡ record { row = v.row; by = v.by; ended = Some stamp }
 end_if_yes test stamp v is = ap (λ (b : Bool). elim b as (λ t. Version) [ true ↦ record { row = v.row; by = v.by; ended = Some stamp } | false ↦ v ]) is
 
-end_if_no : (test : Version → Bool) (stamp : Stamp) (v : Version) → test v ≡ false → end_if test stamp v ≡ v
+pub end_if_no : (test : Version → Bool) (stamp : Stamp) (v : Version) → test v ≡ false → end_if test stamp v ≡ v
 end_if_no test stamp v is = ap (λ (b : Bool). elim b as (λ t. Version) [ true ↦ record { row = v.row; by = v.by; ended = Some stamp } | false ↦ v ]) is
 
 end_if_row : (test : Version → Bool) (stamp : Stamp) (v : Version) → (end_if test stamp v).row ≡ v.row
@@ -70,48 +67,37 @@ ended_twice committed stamp change (Some v) = ap Some (by (is_ended committed st
         ap (end_if (is_ended committed stamp change) stamp) yes ∙ end_if_no (is_ended committed stamp change) stamp (record { row = v.row; by = v.by; ended = Some stamp }) (own_end committed stamp change v) ∙ sym yes
     by false is = ap (end_if (is_ended committed stamp change) stamp) (end_if_no (is_ended committed stamp change) stamp v is)
 
--- a change without a key ends no version
-unended : (committed : List Bool) (stamp : Stamp) (change : Change) → ended_key change ≡ None → (o : Option Version) → slot_changed (end_if (is_ended committed stamp change) stamp) o ≡ o
-unended committed stamp change none None = refl
-unended committed stamp change none (Some v) =
-    ap Some (end_if_no (is_ended committed stamp change) stamp v (ap (λ o. option_map_or (same_key (key_of v.row)) o false && seen_by (counts committed (Some stamp.xid)) v) none))
-
 -- the row of a version that a change ends has the key of the change
-ended_under : (committed : List Bool) (stamp : Stamp) (change : Change) (key : RowKey) (v : Version) → Some key ≡ ended_key change → is_ended committed stamp change v ≡ true → is_under (key_place key) v.row ≡ true
+pub ended_under : (committed : List Bool) (stamp : Stamp) (change : Change) (key : RowKey) (v : Version) → Some key ≡ ended_key change → is_ended committed stamp change v ≡ true → is_under (key_place key) v.row ≡ true
 ended_under committed stamp change key v ends is =
     let parts = and_parts (option_map_or (same_key (key_of v.row)) (ended_key change) false) (seen_by (counts committed (Some stamp.xid)) v) is in
     key_under key v.row (ap (λ o. option_map_or (same_key (key_of v.row)) o false) ends ∙ parts.0)
 
-covers_end : (committed : List Bool) (stamp : Stamp) (change : Change) (key : RowKey) (index : Index) (j : ℕ) (o : Option Version) → Some key ≡ ended_key change
-    → IfSome o (λ v. is_under (key_place key) v.row ≡ true → IsIn j (listed_at index (key_place key))) → (slot_changed (end_if (is_ended committed stamp change) stamp) o ≡ o) ⊎ IsIn j (listed_at index (key_place key))
-covers_end committed stamp change key index j None ends listed = inl refl
-covers_end committed stamp change key index j (Some v) ends listed = by (is_ended committed stamp change v) refl
+covers_end : (committed : List Bool) (stamp : Stamp) (change : Change) (list : List ℕ) (n : ℕ) (o : Option Version) → (option_map_or (is_ended committed stamp change) o false ≡ true → IsIn n list)
+    → (slot_changed (end_if (is_ended committed stamp change) stamp) o ≡ o) ⊎ IsIn n list
+covers_end committed stamp change list n None has = inl refl
+covers_end committed stamp change list n (Some v) has = by (is_ended committed stamp change v) refl
   where
-    by : (t : Bool) → is_ended committed stamp change v ≡ t → (slot_changed (end_if (is_ended committed stamp change) stamp) (Some v) ≡ Some v) ⊎ IsIn j (listed_at index (key_place key))
-    by true is = inr (listed (ended_under committed stamp change key v ends is))
+    by : (t : Bool) → is_ended committed stamp change v ≡ t → (slot_changed (end_if (is_ended committed stamp change) stamp) (Some v) ≡ Some v) ⊎ IsIn n list
+    by true is = inr (has is)
     by false is = inl (ap Some (end_if_no (is_ended committed stamp change) stamp v is))
 
-pub ended_all : (committed : List Bool) (stamp : Stamp) (change : Change) (key : RowKey) (place : Place) (index : Index) (list : List ℕ) (old new : List (Option Version)) → Some key ≡ ended_key change → place ≡ key_place key
-    → list ≡ listed_at index place → IsCovered old index → Settles (slot_changed (end_if (is_ended committed stamp change) stamp)) list (None ∷ old) (None ∷ new) → new ≡ map (slot_changed (end_if (is_ended committed stamp change) stamp)) old
-ended_all committed stamp change key place index list old new ends is_place is_list is settles =
-    settled_numbered (slot_changed (end_if (is_ended committed stamp change) stamp)) (listed_at index (key_place key)) old new (λ j. covers_end committed stamp change key index j (version_numbered old j) ends (is (key_place key) j))
-    (subst (λ l. Settles (slot_changed (end_if (is_ended committed stamp change) stamp)) l (None ∷ old) (None ∷ new)) (is_list ∙ ap (listed_at index) is_place) settles)
+pub ended_all : (committed : List Bool) (stamp : Stamp) (change : Change) (list : List ℕ) (old new : List (Option Version)) → ((n : ℕ) → ends_at committed stamp change old n ≡ true → IsIn n list)
+    → Settles (slot_changed (end_if (is_ended committed stamp change) stamp)) list (None ∷ old) (None ∷ new) → new ≡ map (slot_changed (end_if (is_ended committed stamp change) stamp)) old
+ended_all committed stamp change list old new has settles =
+    settled_numbered (slot_changed (end_if (is_ended committed stamp change) stamp)) list old new (λ n. covers_end committed stamp change list n (version_numbered old n) (has n)) settles
 
-pub ended_none : (committed : List Bool) (stamp : Stamp) (change : Change) (old : List (Option Version)) → ended_key change ≡ None → old ≡ map (slot_changed (end_if (is_ended committed stamp change) stamp)) old
-ended_none committed stamp change old none =
-    settled_numbered (slot_changed (end_if (is_ended committed stamp change) stamp)) [] old old (λ j. inl (unended committed stamp change none (version_numbered old j)))
-    (settles_none (slot_changed (end_if (is_ended committed stamp change) stamp)) (None ∷ old))
-
--- the number of a version that a change ends is in the list of the change's key
-pub ends_listed : (committed : List Bool) (stamp : Stamp) (change : Change) (key : RowKey) (place : Place) (slots : List (Option Version)) (index : Index) (list : List ℕ) → Some key ≡ ended_key change → place ≡ key_place key
-    → list ≡ listed_at index place → IsNumbered slots index → (n : ℕ) → ends_at committed stamp change slots n ≡ true → IsIn n list
-ends_listed committed stamp change key place slots index list ends is_place is_list is n ended =
-    subst (IsIn n) (sym (is_list ∙ ap (listed_at index) is_place)) (of (version_numbered slots n) (covered slots index is (key_place key) n) ended)
+-- what a change ends among the first slots it ends among all
+pub front_ends : (committed : List Bool) (stamp : Stamp) (change : Change) (front behind : List (Option Version)) (n : ℕ) → ends_at committed stamp change front n ≡ true → ends_at committed stamp change (front ++ behind) n ≡ true
+front_ends committed stamp change front behind zero ends = ends
+front_ends committed stamp change front behind (suc j) ends = at_slot front j ends
   where
-    of : (o : Option Version) → IfSome o (λ v. is_under (key_place key) v.row ≡ true → IsIn n (listed_at index (key_place key))) → option_map_or (is_ended committed stamp change) o false ≡ true → IsIn n (listed_at index (key_place key))
-    of None listed at = let never : false ≡ true = at in absurd (cc)
-    of (Some v) listed at = listed (ended_under committed stamp change key v ends at)
+    at_slot : (front : List (Option Version)) (j : ℕ) → option_map_or (is_ended committed stamp change) (slot_at front j) false ≡ true → option_map_or (is_ended committed stamp change) (slot_at (front ++ behind) j) false ≡ true
+    at_slot [] j at = let never : false ≡ true = at in absurd (cc)
+    at_slot (o ∷ front) zero at = at
+    at_slot (o ∷ front) (suc j) at = at_slot front j at
 
+-- a change without a key ends no version
 pub ends_none : (committed : List Bool) (stamp : Stamp) (change : Change) (slots : List (Option Version)) (P : ℕ → Type 0) → ended_key change ≡ None → (n : ℕ) → ends_at committed stamp change slots n ≡ true → P n
 ends_none committed stamp change slots P none n ended = of (version_numbered slots n) ended
   where
@@ -130,7 +116,7 @@ ended_noted committed stamp change touched n (Some v) own noted = by (is_ended c
     by false is = subst (IsNoted touched n) (sym (end_if_no (is_ended committed stamp change) stamp v is)) noted
 
 -- a version in the slots of which the first ones are stepped
-front_step : (step : Version → Version) (front behind : List (Option Version)) (n : ℕ)
+pub front_step : (step : Version → Version) (front behind : List (Option Version)) (n : ℕ)
     → (version_numbered (map (slot_changed step) front ++ behind) n ≡ slot_changed step (version_numbered (front ++ behind) n)) ⊎ (version_numbered (map (slot_changed step) front ++ behind) n ≡ version_numbered (front ++ behind) n)
 front_step step front behind zero = inr refl
 front_step step front behind (suc j) = at_slot front j
@@ -145,6 +131,7 @@ pub ended_indexed : (committed : List Bool) (stamp : Stamp) (change : Change) (f
     → ((n : ℕ) → ends_at committed stamp change (front ++ behind) n ≡ true → IsIn n (own_at lists.touched.items stamp.xid.0)) → IsIndexed (map (slot_changed (end_if (is_ended committed stamp change) stamp)) front ++ behind) lists
 ended_indexed committed stamp change front behind lists is own = record {
   numbered = λ place. is.numbered place ∙ same place;
+  only = is.only;
   noted = λ n. each n (front_step step front behind n);
 }
   where

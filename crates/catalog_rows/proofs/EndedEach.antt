@@ -5,12 +5,14 @@ use Rattle.std.proofs.lemmas.List.Sums.{fold_more}
 use Rattle.catalog_rows.specs.Types.{Change, Insert, Replace, Delete, Stamp, Version}
 use Rattle.catalog_rows.specs.Store.{is_ended, end_if, added_row, option_items, after_change, rows_added, numbers_from, new_version}
 use Rattle.catalog_rows.specs.declared.lists.Lists.{Lists}
+use Rattle.catalog_rows.specs.declared.indexes.Indexes.{Indexes}
 use Rattle.catalog_rows.specs.Slots.{IsIn, versions_in, numbers_at, numbers_in, slot_changed, new_slots, after_slots}
-use Rattle.catalog_rows.specs.Index.{own_at, ends_at, IsCovered, IsIndexed, AreNoted}
+use Rattle.catalog_rows.specs.Index.{own_at, ends_at, IsCurrent, IsIndexed, AreNoted}
 use Rattle.catalog_rows.proofs.Ascending.{all_more, append_none}
 use Rattle.catalog_rows.proofs.Exact.{numbers_at-append, numbers_at-map}
 use Rattle.catalog_rows.proofs.Grown.{new_slots-append, take_front}
-use Rattle.catalog_rows.proofs.Ended.{covered, covered_front, ended_indexed, other_noted}
+use Rattle.catalog_rows.proofs.Ended.{front_ends, ended_indexed, other_noted}
+use Rattle.catalog_rows.proofs.CurrentSteps.{current_ended}
 
 -- the slots after the first changes, and those of the versions that the others add
 abbrev so_far : List Bool → Stamp → List (Option Version) → List Change → ℕ → List (Option Version)
@@ -37,11 +39,12 @@ one_more : (committed : List Bool) (stamp : Stamp) (slots : List (Option Version
     → so_far committed stamp slots changes (k + 1) ≡ after_slots committed stamp (so_far committed stamp slots changes k) change
 one_more committed stamp slots changes k change within is = fold_more (after_slots committed stamp) slots changes k change within ∙ ap (after_slots committed stamp (so_far committed stamp slots changes k)) (sym is)
 
--- the slots whose versions a change may end are covered
-pub first_covered : (slots front behind : List (Option Version)) (count : ℕ) (lists : Lists) → slots ≡ front ++ behind → count ≡ length front → IsIndexed slots lists → IsCovered (take count slots) lists.index
-first_covered slots front behind count lists parts is indexed =
-    subst (λ (xs : List (Option Version)). IsCovered xs lists.index) (sym (ap (take count) parts ∙ take_front front behind count is))
-    (covered_front front behind lists.index (covered (front ++ behind) lists.index (subst (λ (xs : List (Option Version)). IsIndexed xs lists) parts indexed).numbered))
+-- a list with what a change ends has also what it ends among the first slots
+pub first_ends : (committed : List Bool) (stamp : Stamp) (change : Change) (slots front behind : List (Option Version)) (count : ℕ) (list : List ℕ) → slots ≡ front ++ behind → count ≡ length front
+    → ((n : ℕ) → ends_at committed stamp change slots n ≡ true → IsIn n list) → (n : ℕ) → ends_at committed stamp change (take count slots) n ≡ true → IsIn n list
+first_ends committed stamp change slots front behind count list parts is has n ends =
+    has n (subst (λ (xs : List (Option Version)). ends_at committed stamp change xs n ≡ true) (sym parts)
+    (front_ends committed stamp change front behind n (subst (λ (xs : List (Option Version)). ends_at committed stamp change xs n ≡ true) (ap (take count) parts ∙ take_front front behind count is) ends)))
 
 -- what is left of the slots after a change
 left : (committed : List Bool) (stamp : Stamp) (change : Change) (slots front behind ended : List (Option Version)) (count : ℕ) → slots ≡ front ++ behind → count ≡ length front
@@ -85,6 +88,12 @@ next_indexed committed stamp change changes k slots front behind ended count lis
   where
     here : AreNoted committed stamp (change ∷ drop (k + 1) changes) (front ++ behind) lists
     here = subst (λ cs. AreNoted committed stamp cs (front ++ behind) lists) (drop_next changes k change within is) (subst (λ (xs : List (Option Version)). AreNoted committed stamp (drop k changes) xs lists) parts noted)
+
+pub next_current : (committed : List Bool) (stamp : Stamp) (change : Change) (slots front behind ended : List (Option Version)) (count : ℕ) (indexes : Indexes) → slots ≡ front ++ behind → count ≡ length front
+    → ended ≡ map (slot_changed (end_if (is_ended committed stamp change) stamp)) (take count slots) → IsCurrent committed slots indexes → IsCurrent committed (ended ++ drop count slots) indexes
+next_current committed stamp change slots front behind ended count indexes parts counted by_step current =
+    subst (λ (xs : List (Option Version)). IsCurrent committed xs indexes) (sym (left committed stamp change slots front behind ended count parts counted by_step))
+    (current_ended committed stamp change front behind indexes (subst (λ (xs : List (Option Version)). IsCurrent committed xs indexes) parts current))
 
 pub next_noted : (committed : List Bool) (stamp : Stamp) (change : Change) (changes : List Change) (k : ℕ) (slots front behind ended : List (Option Version)) (count : ℕ) (lists : Lists) → k < length changes → change ≡ get_or changes k change
     → slots ≡ front ++ behind → count ≡ length front → ended ≡ map (slot_changed (end_if (is_ended committed stamp change) stamp)) (take count slots) → AreNoted committed stamp (drop k changes) slots lists

@@ -1,11 +1,10 @@
 -- The numbers of the versions that pass a test: which they are, and what changes them.
-use Rattle.std.proofs.Common.{◌≡◌, ◌<◌, ◌≤◌, ◌+◌, ◌∙◌, inl, inr, ℕ, zero, suc, Bool, true, false, cond, if◌then◌else◌, Option, Some, None, List, [], ◌∷◌, ◌++◌, length, map, filter, find, filter_map, append_assoc, sym, ap, refl, subst, arith}
-use Rattle.std.specs.List.{AllByRecursion, cons_option}
-use Rattle.std.proofs.lemmas.List.{length_push}
+use Rattle.std.proofs.Common.{◌≡◌, ◌<◌, ◌≤◌, ◌+◌, ◌∙◌, inl, inr, ℕ, zero, suc, Bool, true, false, if◌then◌else◌, Option, Some, None, List, [], ◌∷◌, ◌++◌, length, map, sym, ap, refl, subst, arith}
+use Rattle.std.specs.List.{AllByRecursion}
 use Rattle.catalog_rows.specs.Types.{Version}
 use Rattle.catalog_rows.specs.Store.{numbers_where}
 use Rattle.catalog_rows.specs.Numbers.{IsAscending}
-use Rattle.catalog_rows.specs.Slots.{IsIn, slot_at, version_numbered, versions_in, numbers_at, slot_changed}
+use Rattle.catalog_rows.specs.Slots.{IsIn, slot_at, versions_in, numbers_at, slot_changed}
 use Rattle.catalog_rows.proofs.Ascending.{all_more}
 
 pub yes_at : (test : Version → Bool) (n : ℕ) (v : Version) (slots : List (Option Version)) → test v ≡ true → numbers_at test n (Some v ∷ slots) ≡ n ∷ numbers_at test (n + 1) slots
@@ -49,6 +48,13 @@ numbers_below_last test n (Some v ∷ slots) = by (test v) refl (all_more (λ m.
     by true is rest = subst (AllByRecursion (λ m. m < n + suc (length slots))) (sym (yes_at test n v slots is)) (omega arith, rest)
     by false is rest = subst (AllByRecursion (λ m. m < n + suc (length slots))) (sym (no_at test n v slots is)) rest
 
+pub numbers_within : (test : Version → Bool) (slots : List (Option Version)) (last : ℕ) → last ≡ length slots → AllByRecursion (λ m. (0 < m) × (m ≤ last)) (numbers_at test 1 slots)
+numbers_within test slots last is = both (numbers_at test 1 slots) (numbers_from_first test 1 slots) (numbers_below_last test 1 slots)
+  where
+    both : (xs : List ℕ) → AllByRecursion (λ m. 1 ≤ m) xs → AllByRecursion (λ m. m < 1 + length slots) xs → AllByRecursion (λ m. (0 < m) × (m ≤ last)) xs
+    both [] from below = tt
+    both (x ∷ xs) from below = ((omega (arith, from.0), omega (arith, below.0, is)), both xs from.1 below.1)
+
 pub above_first : (test : Version → Bool) (n : ℕ) (slots : List (Option Version)) → AllByRecursion (λ m. n < m) (numbers_at test (n + 1) slots)
 above_first test n slots = all_more (λ m. n + 1 ≤ m) (λ m. n < m) (numbers_at test (n + 1) slots) (λ m le. omega (arith, le)) (numbers_from_first test (n + 1) slots)
 
@@ -84,52 +90,6 @@ has_number test n (Some w ∷ slots) (suc j) v at is = by (test w) refl (subst (
     by : (t : Bool) → test w ≡ t → IsIn (n + suc j) (numbers_at test (n + 1) slots) → IsIn (n + suc j) (numbers_at test n (Some w ∷ slots))
     by true is_one rest = subst (IsIn (n + suc j)) (sym (yes_at test n w slots is_one)) (inr rest)
     by false is_none rest = subst (IsIn (n + suc j)) (sym (no_at test n w slots is_none)) rest
-
--- one slot further on
-skip : (before : List (Option Version)) (o : Option Version) (slots : List (Option Version)) → (before ++ o ∷ []) ++ slots ≡ before ++ o ∷ slots
-skip before o slots = append_assoc before (o ∷ []) slots
-
-at_end : (before : List (Option Version)) (o : Option Version) (slots : List (Option Version)) → slot_at (before ++ o ∷ slots) (length before) ≡ o
-at_end [] o slots = refl
-at_end (b ∷ before) o slots = at_end before o slots
-
--- the versions with these numbers are those that pass
-read_from : (test : Version → Bool) (before slots : List (Option Version)) (n : ℕ) → n ≡ length before → filter_map (slot_at (before ++ slots)) (numbers_at test n slots) ≡ filter test (versions_in slots)
-read_from test before [] n is = refl
-read_from test before (None ∷ slots) n is =
-    let further : n + 1 ≡ length (before ++ None ∷ []) = omega (arith, is, length_push before None) in
-    sym (ap (λ all. filter_map (slot_at all) (numbers_at test (n + 1) slots)) (skip before None slots)) ∙ read_from test (before ++ None ∷ []) slots (n + 1) further
-read_from test before (Some v ∷ slots) n is =
-    by (test v) refl (sym (ap (λ all. filter_map (slot_at all) (numbers_at test (n + 1) slots)) (skip before (Some v) slots)) ∙ read_from test (before ++ Some v ∷ []) slots (n + 1) further)
-  where
-    further : n + 1 ≡ length (before ++ Some v ∷ [])
-    further = omega (arith, is, length_push before (Some v))
-
-    here : slot_at (before ++ Some v ∷ slots) n ≡ Some v
-    here = ap (slot_at (before ++ Some v ∷ slots)) is ∙ at_end before (Some v) slots
-
-    by : (t : Bool) → test v ≡ t → filter_map (slot_at (before ++ Some v ∷ slots)) (numbers_at test (n + 1) slots) ≡ filter test (versions_in slots)
-        → filter_map (slot_at (before ++ Some v ∷ slots)) (numbers_at test n (Some v ∷ slots)) ≡ filter test (versions_in (Some v ∷ slots))
-    by true is_one rest =
-        ap (filter_map (slot_at (before ++ Some v ∷ slots))) (yes_at test n v slots is_one) ∙ ap (λ o. cons_option o (filter_map (slot_at (before ++ Some v ∷ slots)) (numbers_at test (n + 1) slots))) here ∙ ap (λ l. v ∷ l) rest
-        ∙ sym (ap (λ t. cond t (v ∷ filter test (versions_in slots)) (filter test (versions_in slots))) is_one)
-    by false is_none rest =
-        ap (filter_map (slot_at (before ++ Some v ∷ slots))) (no_at test n v slots is_none) ∙ rest ∙ sym (ap (λ t. cond t (v ∷ filter test (versions_in slots)) (filter test (versions_in slots))) is_none)
-
-pub read_numbered : (test : Version → Bool) (slots : List (Option Version)) → filter_map (version_numbered slots) (numbers_at test 1 slots) ≡ filter test (versions_in slots)
-read_numbered test slots = read_from test (None ∷ []) slots 1 refl
-
--- a search among those that pass a test that what is searched for passes
-pub find_among : (wanted test : Version → Bool) → ((v : Version) → wanted v ≡ true → test v ≡ true) → (versions : List Version) → find wanted (filter test versions) ≡ find wanted versions
-find_among wanted test passes [] = refl
-find_among wanted test passes (v ∷ versions) = by (test v) refl (wanted v) refl (find_among wanted test passes versions)
-  where
-    by : (t : Bool) → test v ≡ t → (w : Bool) → wanted v ≡ w → find wanted (filter test versions) ≡ find wanted versions → find wanted (filter test (v ∷ versions)) ≡ find wanted (v ∷ versions)
-    by true is w found rest =
-        ap (λ t. find wanted (cond t (v ∷ filter test versions) (filter test versions))) is ∙ ap (cond (wanted v) (Some v)) rest
-    by false is true found rest = let never : false ≡ true = sym is ∙ passes v found in absurd (cc)
-    by false is false found rest =
-        ap (λ t. find wanted (cond t (v ∷ filter test versions) (filter test versions))) is ∙ rest ∙ sym (ap (λ w. cond w (Some v) (find wanted versions)) found)
 
 -- the numbers of the versions that pass, from the numbers of all
 pub numbers_where_at : (test : Version → Bool) (n : ℕ) (slots : List (Option Version)) → numbers_where test (versions_in slots) (numbers_at (λ v. true) n slots) ≡ numbers_at test n slots

@@ -1,5 +1,5 @@
 -- The versions that are looked for are among the listed ones, and the store is what its slots say.
-use Rattle.std.proofs.Common.{◌≡◌, ◌∙◌, ◌&&◌, ℕ, Bool, Result, Ok, Err, IfOk, Vec, Option, List, ◌++◌, length, fold, take, map, filter, find, filter_map, sym, ap}
+use Rattle.std.proofs.Common.{◌≡◌, ◌∙◌, ◌&&◌, ℕ, Bool, true, false, Result, Ok, Err, IfOk, Vec, Option, List, ◌++◌, length, fold, take, map, find, filter_map, sym, ap}
 use Rattle.std.specs.Option.{option_map}
 use Rattle.std.specs.Global.{Global}
 use Rattle.std.proofs.lemmas.Bool.{and_parts}
@@ -8,14 +8,12 @@ use Rattle.base_types.specs.RowKeys.{key_of, same_key}
 use Rattle.row_visibility.specs.Seen.{seen_by, sees_version}
 use Rattle.catalog_rows.specs.Types.{Xid, Row, RowKey, Purpose, Change, Stamp, Version, Reader}
 use Rattle.catalog_rows.specs.Store.{Store, has_committed, row_of_key, rows_of_scan, is_named, is_claimed, counts, clash_by, clash_of, after_write, after_undo, with_place, is_back}
-use Rattle.catalog_rows.specs.declared.place.Place.{Place}
-use Rattle.catalog_rows.specs.declared.index.Index.{Index}
-use Rattle.catalog_rows.specs.Places.{key_place, scan_place, relation_place, is_under}
+use Rattle.catalog_rows.specs.Places.{key_place, scan_place, relation_place}
 use Rattle.catalog_rows.specs.Slots.{version_numbered, versions_in, numbers_in, slot_back, new_slots, after_slots}
-use Rattle.catalog_rows.specs.Index.{listed_at, IsNumbered}
-use Rattle.catalog_rows.proofs.Exact.{read_numbered, find_among}
+use Rattle.catalog_rows.specs.Index.{is_dead, Serves}
 use Rattle.catalog_rows.proofs.EndedEach.{versions_written, slots_written, numbers_written}
-use Rattle.catalog_rows.proofs.Given.{given, given_under}
+use Rattle.catalog_rows.proofs.Given.{given}
+use Rattle.catalog_rows.proofs.Serving.{given_served, find_served, alive_sees, alive_counts, alive_claimed}
 use Rattle.catalog_rows.proofs.Grown.{take_front}
 use Rattle.catalog_rows.proofs.TakenBack.{versions_left, slots_left, numbers_left}
 use Rattle.catalog_rows.proofs.Under.{key_under, name_under}
@@ -24,46 +22,32 @@ use Rattle.catalog_rows.proofs.Under.{key_under, name_under}
 abbrev pub store_of : List (Option Version) → List Bool → Store
 store_of slots committed = record { versions = versions_in slots; numbers = numbers_in slots; written = length slots; committed = committed }
 
--- the listed versions are those whose rows are listed there
-pub listed_versions : (slots : List (Option Version)) (index : Index) (place at : Place) (list : List ℕ) → list ≡ listed_at index at → at ≡ place → IsNumbered slots index
-    → filter_map (version_numbered slots) list ≡ filter (λ v. is_under place v.row) (versions_in slots)
-listed_versions slots index place at list is_list is_at is =
-    ap (filter_map (version_numbered slots)) (is_list ∙ ap (listed_at index) is_at ∙ is place) ∙ read_numbered (λ v. is_under place v.row) slots
-
 -- the rows of a scan
-pub rows_found : (store : Store) (purpose : Purpose) (reader : Reader) (at : Place) (slots : List (Option Version)) (committed : List Bool) (index : Index) (list : List ℕ) → store ≡ store_of slots committed
-    → list ≡ listed_at index at → at ≡ scan_place purpose → IsNumbered slots index
+pub rows_found : (store : Store) (purpose : Purpose) (reader : Reader) (slots : List (Option Version)) (committed : List Bool) (list : List ℕ) → store ≡ store_of slots committed → Serves committed slots (scan_place purpose) list
     → given purpose (sees_version (has_committed committed) reader) (filter_map (version_numbered slots) list) ≡ rows_of_scan store purpose reader
-rows_found store purpose reader at slots committed index list is_store is_list is_at is =
-    ap (given purpose (sees_version (has_committed committed) reader)) (listed_versions slots index (scan_place purpose) at list is_list is_at is)
-    ∙ given_under purpose (sees_version (has_committed committed) reader) (versions_in slots) ∙ sym (ap (λ (s : Store). rows_of_scan s purpose reader) is_store)
+rows_found store purpose reader slots committed list is_store serves =
+    given_served committed slots purpose list (sees_version (has_committed committed) reader) (alive_sees committed reader) serves ∙ sym (ap (λ (s : Store). rows_of_scan s purpose reader) is_store)
 
 -- the row of a key
-pub row_found : (store : Store) (key : RowKey) (reader : Reader) (at : Place) (slots : List (Option Version)) (committed : List Bool) (index : Index) (list : List ℕ) (found : Option Version) → store ≡ store_of slots committed
-    → list ≡ listed_at index at → at ≡ key_place key → IsNumbered slots index
+pub row_found : (store : Store) (key : RowKey) (reader : Reader) (slots : List (Option Version)) (committed : List Bool) (list : List ℕ) (found : Option Version) → store ≡ store_of slots committed → Serves committed slots (key_place key) list
     → found ≡ find (λ v. sees_version (has_committed committed) reader v && same_key (key_of v.row) key) (filter_map (version_numbered slots) list) → option_map {U = Row} (λ v. v.row) found ≡ row_of_key store key reader
-row_found store key reader at slots committed index list found is_store is_list is_at is first =
+row_found store key reader slots committed list found is_store serves first =
     ap (option_map {U = Row} (λ v. v.row))
-    (first ∙ ap (find wanted) (listed_versions slots index (key_place key) at list is_list is_at is)
-    ∙ find_among wanted (λ v. is_under (key_place key) v.row) (λ v yes. key_under key v.row (and_parts (sees_version (has_committed committed) reader v) (same_key (key_of v.row) key) yes).1) (versions_in slots))
+    (first ∙ find_served committed slots (key_place key) list (λ v. sees_version (has_committed committed) reader v && same_key (key_of v.row) key)
+    (λ v asked. let parts = and_parts (sees_version (has_committed committed) reader v) (same_key (key_of v.row) key) asked in (alive_sees committed reader v parts.0, key_under key v.row parts.1)) serves)
     ∙ sym (ap (λ (s : Store). row_of_key s key reader) is_store)
-  where
-    wanted : Version → Bool
-    wanted = λ v. sees_version (has_committed committed) reader v && same_key (key_of v.row) key
 
--- the first version of a relation with a name that passes a test
-named_found : (test : Version → Bool) (name : List ℕ) (at : Place) (slots : List (Option Version)) (index : Index) (list : List ℕ) → list ≡ listed_at index at → at ≡ relation_place name → IsNumbered slots index
+-- the first version of a relation with a name that passes a test, which no dead one does
+named_found : (test : Version → Bool) (name : List ℕ) (slots : List (Option Version)) (committed : List Bool) (list : List ℕ) → ((v : Version) → test v ≡ true → is_dead committed v ≡ false) → Serves committed slots (relation_place name) list
     → find (λ v. is_named name v.row && test v) (filter_map (version_numbered slots) list) ≡ find (λ v. is_named name v.row && test v) (versions_in slots)
-named_found test name at slots index list is_list is_at is =
-    ap (find (λ v. is_named name v.row && test v)) (listed_versions slots index (relation_place name) at list is_list is_at is)
-    ∙ find_among (λ v. is_named name v.row && test v) (λ v. is_under (relation_place name) v.row) (λ v wanted. name_under name v.row (and_parts (is_named name v.row) (test v) wanted).0) (versions_in slots)
+named_found test name slots committed list alive serves =
+    find_served committed slots (relation_place name) list (λ v. is_named name v.row && test v) (λ v asked. let parts = and_parts (is_named name v.row) (test v) asked in (alive v parts.1, name_under name v.row parts.0)) serves
 
-pub clash_found : (store : Store) (own : Option Xid) (name : List ℕ) (at : Place) (slots : List (Option Version)) (committed : List Bool) (index : Index) (list : List ℕ) → store ≡ store_of slots committed
-    → list ≡ listed_at index at → at ≡ relation_place name → IsNumbered slots index
+pub clash_found : (store : Store) (own : Option Xid) (name : List ℕ) (slots : List (Option Version)) (committed : List Bool) (list : List ℕ) → store ≡ store_of slots committed → Serves committed slots (relation_place name) list
     → clash_by committed own (find (λ v. is_named name v.row && is_claimed committed own v) (filter_map (version_numbered slots) list)) (find (λ v. is_named name v.row && seen_by (counts committed own) v) (filter_map (version_numbered slots) list))
     ≡ clash_of store own name
-clash_found store own name at slots committed index list is_store is_list is_at is =
-    (λ i. clash_by committed own (named_found (is_claimed committed own) name at slots index list is_list is_at is i) (named_found (seen_by (counts committed own)) name at slots index list is_list is_at is i))
+clash_found store own name slots committed list is_store serves =
+    (λ i. clash_by committed own (named_found (is_claimed committed own) name slots committed list (alive_claimed committed own) serves i) (named_found (seen_by (counts committed own)) name slots committed list (alive_counts committed own) serves i))
     ∙ sym (ap (λ (s : Store). clash_of s own name) is_store)
 
 -- after a write

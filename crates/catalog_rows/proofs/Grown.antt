@@ -8,13 +8,15 @@ use Rattle.catalog_rows.specs.Types.{Row, Change, Insert, Replace, Delete, Stamp
 use Rattle.catalog_rows.specs.Store.{is_ended, added_row, new_version, option_items}
 use Rattle.catalog_rows.specs.declared.place.Place.{Place}
 use Rattle.catalog_rows.specs.declared.index.Index.{Index}
+use Rattle.catalog_rows.specs.declared.indexes.Indexes.{Indexes}
 use Rattle.catalog_rows.specs.declared.lists.Lists.{Lists}
 use Rattle.catalog_rows.specs.Numbers.{IsAscending, added, removed}
 use Rattle.catalog_rows.specs.Places.{is_under}
 use Rattle.catalog_rows.specs.Slots.{IsIn, slot_at, version_numbered, numbers_at, new_slots}
-use Rattle.catalog_rows.specs.Index.{listed_at, own_at, ends_at, IsSame, AddsWhere, is_listed, IsInOrder, IsBelow, IsNumbered, IsNoted, IsIndexed, AreNoted, NotesMore}
+use Rattle.catalog_rows.specs.Index.{listed_at, own_at, ends_at, AddsBoth, AreSame, RemovesBoth, is_listed, IsInOrder, IsBelow, IsNumbered, IsNoted, IsIndexed, AreNoted, NotesMore}
 use Rattle.catalog_rows.proofs.Ascending.{append_none, added_removed, all_more, all_push}
 use Rattle.catalog_rows.proofs.SlotLists.{numbered_front, numbered_in_parts, some_more, along}
+use Rattle.catalog_rows.proofs.Within.{only_same, only_added, only_removed, below_current}
 use Rattle.catalog_rows.proofs.Exact.{numbers_at-append, numbers_ascending, numbers_below_last}
 
 -- the lists with the same numbers at each place, and no less noted
@@ -24,17 +26,25 @@ noted_more old new n v own is = record {
   ender = some_more (λ (stamp : Stamp). IsIn n (own_at old stamp.xid.0)) (λ stamp. IsIn n (own_at new stamp.xid.0)) v.ended (λ stamp. own stamp.xid.0 n) is.ender;
 }
 
-pub indexed_same : (slots : List (Option Version)) (old new : Lists) → IsIndexed slots old → IsSame old.index new.index → ((x m : ℕ) → IsIn m (own_at old.touched.items x) → IsIn m (own_at new.touched.items x)) → IsIndexed slots new
+pub indexed_same : (slots : List (Option Version)) (old new : Lists) → IsIndexed slots old → AreSame old.indexes new.indexes → ((x m : ℕ) → IsIn m (own_at old.touched.items x) → IsIn m (own_at new.touched.items x)) → IsIndexed slots new
 indexed_same slots old new is same own = record {
-  numbered = λ place. same place ∙ is.numbered place;
+  numbered = λ place. same.all place ∙ is.numbered place;
+  only = only_same old.indexes new.indexes same is.only;
   noted = λ n. some_more (IsNoted old.touched.items n) (IsNoted new.touched.items n) (version_numbered slots n) (λ v. noted_more old.touched.items new.touched.items n v own) (is.noted n);
 }
 
+pub same_indexes : (old new : Indexes) → new ≡ old → AreSame old new
+same_indexes old new same = record {
+  all = λ place. ap (λ (x : Indexes). listed_at x.all place) same;
+  current = λ place. ap (λ (x : Indexes). listed_at x.current place) same;
+  whole = ap (λ (x : Indexes). x.whole) same;
+}
+
 pub indexed_noted : (slots : List (Option Version)) (old new : Lists) → IsIndexed slots old → NotesMore old new → IsIndexed slots new
-indexed_noted slots old new is more = indexed_same slots old new is (λ place. ap (λ (x : Index). listed_at x place) more.index) more.own
+indexed_noted slots old new is more = indexed_same slots old new is (same_indexes old.indexes new.indexes more.indexes) more.own
 
 -- a number that no version has yet
-pub number_new : (slots : List (Option Version)) (number : ℕ) (lists : Lists) → number ≡ length slots + 1 → IsIndexed slots lists → IsBelow number lists.index
+pub number_new : (slots : List (Option Version)) (number : ℕ) (lists : Lists) → number ≡ length slots + 1 → IsIndexed slots lists → IsBelow number lists.indexes.all
 number_new slots number lists is i = record {
   order = λ place. subst IsAscending (sym (i.numbered place)) (numbers_ascending (λ v. is_under place v.row) 1 slots);
   below = λ place. subst (AllByRecursion (λ n. n < number)) (sym (i.numbered place))
@@ -47,33 +57,38 @@ in_order slots index is place = subst IsAscending (sym (is place)) (numbers_asce
 one_number : (test : Version → Bool) (n : ℕ) (v : Version) → numbers_at test n (Some v ∷ []) ≡ (if test v then n ∷ [] else [])
 one_number test n v = refl
 
+-- the slots with one more version
+slot_cases : (v : Version) (xs : List (Option Version)) (j : ℕ) → (slot_at (xs ++ Some v ∷ []) j ≡ slot_at xs j) ⊎ ((j ≡ length xs) × (slot_at (xs ++ Some v ∷ []) j ≡ Some v))
+slot_cases v [] zero = inr (refl, refl)
+slot_cases v [] (suc j) = inl refl
+slot_cases v (x ∷ xs) zero = inl refl
+slot_cases v (x ∷ xs) (suc j) = elim (slot_cases v xs j) [ inl same_slot ↦ inl same_slot | inr last ↦ inr (ap suc last.0, last.1) ]
+
+pub numbered_push : (slots : List (Option Version)) (number : ℕ) (v : Version) → number ≡ length slots + 1 → (n : ℕ) → (version_numbered (slots ++ Some v ∷ []) n ≡ version_numbered slots n) ⊎ ((n ≡ number) × (version_numbered (slots ++ Some v ∷ []) n ≡ Some v))
+numbered_push slots number v is zero = inl refl
+numbered_push slots number v is (suc j) = elim (slot_cases v slots j) [ inl same_slot ↦ inl same_slot | inr last ↦ inr (omega (arith, last.0, is), last.1) ]
+
 -- one more version
 pub indexed_push : (slots : List (Option Version)) (number : ℕ) (v : Version) (old mid new : Lists) → number ≡ length slots + 1 → v.ended ≡ None → IsIndexed slots old → NotesMore old mid → IsIn number (own_at mid.touched.items v.by.xid.0)
-    → AddsWhere (λ place. is_under place v.row) number mid.index new.index → new.touched ≡ mid.touched → IsIndexed (slots ++ Some v ∷ []) new
+    → AddsBoth (λ place. is_under place v.row) number mid.indexes new.indexes → new.touched ≡ mid.touched → IsIndexed (slots ++ Some v ∷ []) new
 indexed_push slots number v old mid new is unended i notes own adds same = record {
-  numbered = λ place. adds.each place ∙ ap (added (is_under place v.row) number) (ap (λ (x : Index). listed_at x place) notes.index ∙ i.numbered place)
+  numbered = λ place. adds.all.each place ∙ ap (added (is_under place v.row) number) (ap (λ (x : Indexes). listed_at x.all place) notes.indexes ∙ i.numbered place)
       ∙ ap (λ k. numbers_at (λ w. is_under place w.row) 1 slots ++ (if is_under place v.row then k ∷ [] else [])) at ∙ sym (numbers_at-append (λ w. is_under place w.row) 1 slots (Some v ∷ []));
-  noted = λ n. each n (numbered_at n);
+  only = only_added (λ place. is_under place v.row) number mid.indexes new.indexes adds (below_current number mid.indexes noted.only (number_new slots number mid is noted)) noted.only;
+  noted = λ n. each n (numbered_push slots number v is n);
 }
   where
     at : number ≡ 1 + length slots
     at = omega (arith, is)
+
+    noted : IsIndexed slots mid
+    noted = indexed_noted slots old mid i notes
 
     here : IsNoted new.touched.items number v
     here = record {
       writer = subst (λ t. IsIn number (own_at t.items v.by.xid.0)) (sym same) own;
       ender = subst (λ o. IfSome o (λ (stamp : Stamp). IsIn number (own_at new.touched.items stamp.xid.0))) (sym unended) tt;
     }
-
-    slot_cases : (xs : List (Option Version)) (j : ℕ) → (slot_at (xs ++ Some v ∷ []) j ≡ slot_at xs j) ⊎ ((j ≡ length xs) × (slot_at (xs ++ Some v ∷ []) j ≡ Some v))
-    slot_cases [] zero = inr (refl, refl)
-    slot_cases [] (suc j) = inl refl
-    slot_cases (x ∷ xs) zero = inl refl
-    slot_cases (x ∷ xs) (suc j) = elim (slot_cases xs j) [ inl same_slot ↦ inl same_slot | inr last ↦ inr (ap suc last.0, last.1) ]
-
-    numbered_at : (n : ℕ) → (version_numbered (slots ++ Some v ∷ []) n ≡ version_numbered slots n) ⊎ ((n ≡ number) × (version_numbered (slots ++ Some v ∷ []) n ≡ Some v))
-    numbered_at zero = inl refl
-    numbered_at (suc j) = elim (slot_cases slots j) [ inl same_slot ↦ inl same_slot | inr last ↦ inr (omega (arith, last.0, is), last.1) ]
 
     each : (n : ℕ) → (version_numbered (slots ++ Some v ∷ []) n ≡ version_numbered slots n) ⊎ ((n ≡ number) × (version_numbered (slots ++ Some v ∷ []) n ≡ Some v)) → IfSome (version_numbered (slots ++ Some v ∷ []) n) (IsNoted new.touched.items n)
     each n (inl stayed) = along (IsNoted new.touched.items n) (version_numbered slots n) (version_numbered (slots ++ Some v ∷ []) n) (sym stayed)
@@ -82,10 +97,11 @@ indexed_push slots number v old mid new is unended i notes own adds same = recor
     each n (inr last) = along (IsNoted new.touched.items n) (Some v) (version_numbered (slots ++ Some v ∷ []) n) (sym last.1) (subst (λ m. IsNoted new.touched.items m v) (sym last.0) here)
 
 -- the last slot off
-pub indexed_off : (slots : List (Option Version)) (o : Option Version) (old new : Lists) → IsIndexed (slots ++ o ∷ []) old → new.touched ≡ old.touched
-    → ((place : Place) → listed_at new.index place ≡ removed (is_listed o place) (1 + length slots) (listed_at old.index place)) → IsIndexed slots new
-indexed_off slots o old new is same removes = record {
-  numbered = λ place. removes place ∙ ap (removed (is_listed o place) (1 + length slots)) (is.numbered place ∙ numbers_at-append (λ v. is_under place v.row) 1 slots (o ∷ [])) ∙ out place o;
+pub indexed_off : (slots : List (Option Version)) (o : Option Version) (number : ℕ) (old new : Lists) → number ≡ 1 + length slots → IsIndexed (slots ++ o ∷ []) old → new.touched ≡ old.touched → RemovesBoth (is_listed o) number old.indexes new.indexes → IsIndexed slots new
+indexed_off slots o number old new at is same removes = record {
+  numbered = λ place. removes.all.each place ∙ ap (λ k. removed (is_listed o place) k (listed_at old.indexes.all place)) at
+      ∙ ap (removed (is_listed o place) (1 + length slots)) (is.numbered place ∙ numbers_at-append (λ v. is_under place v.row) 1 slots (o ∷ [])) ∙ out place o;
+  only = only_removed (is_listed o) number old.indexes new.indexes removes is.only;
   noted = λ n. subst (λ t. IfSome (version_numbered slots n) (IsNoted t.items n)) (sym same) (numbered_front (IsNoted old.touched.items n) slots (o ∷ []) n (is.noted n));
 }
   where

@@ -1,4 +1,5 @@
 mod Ascending
+mod CurrentSteps
 mod Ended
 mod EndedEach
 mod Exact
@@ -6,7 +7,9 @@ mod Found
 mod Given
 mod Grown
 mod Listing
+mod Serving
 mod SlotLists
 mod TakenBack
 mod Touched
 mod Under
+mod Within

@@ -24,7 +24,7 @@ updated old new place other has updates same =
 kept : (old new : Index) (place other : Place) (has : List ℕ) → UpdatesBy same_place (same_place place) old.lists new.lists (Some has) → same_place place other ≡ false → listed_at new other ≡ listed_at old other
 kept old new place other has updates apart = ap (λ o. option_map_or {U = List ℕ} (λ numbers. numbers) o []) (updates.2 other apart)
 
--- a list that is replaced by one with the number behind
+-- a list that is replaced by one with the number at its end
 pub updated_adds : (old new : Index) (place : Place) (number : ℕ) (had has : List ℕ) → listed_at old place ≡ had → has ≡ had ++ number ∷ []
     → UpdatesBy same_place (same_place place) old.lists new.lists (Some has) → AddsWhere (same_place place) number old new
 updated_adds old new place number had has before more updates = record { each = λ other. by other (same_place place other) refl }

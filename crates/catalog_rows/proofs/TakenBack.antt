@@ -5,29 +5,29 @@ use Rattle.std.proofs.lemmas.Bool.{eqb-true, and_parts}
 use Rattle.std.proofs.lemmas.List.{length-map}
 use Rattle.catalog_rows.specs.Types.{Xid, Stamp, Version}
 use Rattle.catalog_rows.specs.Store.{is_back, restored, taken_back, numbers_where}
-use Rattle.catalog_rows.specs.Given.{is_back_under}
+use Rattle.catalog_rows.specs.Given.{if_back}
 use Rattle.catalog_rows.specs.declared.place.Place.{Place}
 use Rattle.catalog_rows.specs.declared.index.Index.{Index}
 use Rattle.catalog_rows.specs.declared.lists.Lists.{Lists}
 use Rattle.catalog_rows.specs.Numbers.{removed}
 use Rattle.catalog_rows.specs.Places.{is_under}
 use Rattle.catalog_rows.specs.Slots.{IsIn, slot_at, version_numbered, versions_in, numbers_at, numbers_in, Settles, slot_back}
-use Rattle.catalog_rows.specs.Index.{own_at, RemovesWhere, IsNumbered, IsNoted, IsIndexed}
+use Rattle.catalog_rows.specs.Index.{listed_at, own_at, is_listed, RemovesWhere, IsNumbered, IsOnly, IsNoted, IsIndexed}
 use Rattle.catalog_rows.proofs.Ascending.{first_out, later_out}
 use Rattle.catalog_rows.proofs.Exact.{yes_at, no_at, above_first, numbers_where_at}
 use Rattle.catalog_rows.proofs.SlotLists.{settled_numbered, slot_at-map, along}
 
 -- an end is taken back where a test says so
-restored_yes : (back : Stamp → Bool) (v : Version) → option_map_or back v.ended false ≡ true → restored back v ≡ record { row = v.row; by = v.by; ended = None }
+pub restored_yes : (back : Stamp → Bool) (v : Version) → option_map_or back v.ended false ≡ true → restored back v ≡ record { row = v.row; by = v.by; ended = None }
 restored_yes back v is = ap (λ (b : Bool). let e : Option Stamp = elim b as (λ t. Option Stamp) [ true ↦ None | false ↦ v.ended ] in let w : Version = record { row = v.row; by = v.by; ended = e } in w) is
 
-restored_no : (back : Stamp → Bool) (v : Version) → option_map_or back v.ended false ≡ false → restored back v ≡ v
+pub restored_no : (back : Stamp → Bool) (v : Version) → option_map_or back v.ended false ≡ false → restored back v ≡ v
 restored_no back v is = ap (λ (b : Bool). let e : Option Stamp = elim b as (λ t. Option Stamp) [ true ↦ None | false ↦ v.ended ] in let w : Version = record { row = v.row; by = v.by; ended = e } in w) is
 
-back_yes : (back : Stamp → Bool) (v : Version) → back v.by ≡ true → slot_back back (Some v) ≡ None
+pub back_yes : (back : Stamp → Bool) (v : Version) → back v.by ≡ true → slot_back back (Some v) ≡ None
 back_yes back v is = ap (λ t. if t then None else Some (restored back v)) is
 
-back_no : (back : Stamp → Bool) (v : Version) → back v.by ≡ false → slot_back back (Some v) ≡ Some (restored back v)
+pub back_no : (back : Stamp → Bool) (v : Version) → back v.by ≡ false → slot_back back (Some v) ≡ Some (restored back v)
 back_no back v is = ap (λ t. if t then None else Some (restored back v)) is
 
 -- what is taken back isn't there to be taken back again
@@ -77,9 +77,9 @@ back_all xid from lists list old new is_own is settles =
     settled_numbered (slot_back (is_back xid from)) (own_at lists.touched.items xid.0) old new (λ j. covers_back xid from lists.touched.items j (version_numbered old j) (is.noted j))
     (subst (λ l. Settles (slot_back (is_back xid from)) l (None ∷ old) (None ∷ new)) is_own settles)
 
-pub back_indexed : (xid : Xid) (from : ℕ) (old new : Lists) (list : List ℕ) (slots after : List (Option Version)) → list ≡ own_at old.touched.items xid.0 → IsIndexed slots old → new.touched ≡ old.touched → IsNumbered after new.index
+pub back_indexed : (xid : Xid) (from : ℕ) (old new : Lists) (list : List ℕ) (slots after : List (Option Version)) → list ≡ own_at old.touched.items xid.0 → IsIndexed slots old → new.touched ≡ old.touched → IsNumbered after new.indexes.all → IsOnly new.indexes
     → Settles (slot_back (is_back xid from)) list (None ∷ slots) (None ∷ after) → IsIndexed after new
-back_indexed xid from old new list slots after is_own is same numbered settles = record { numbered = numbered; noted = λ n. subst (λ t. IfSome (version_numbered after n) (IsNoted t.items n)) (sym same) (each n) }
+back_indexed xid from old new list slots after is_own is same numbered only settles = record { numbered = numbered; only = only; noted = λ n. subst (λ t. IfSome (version_numbered after n) (IsNoted t.items n)) (sym same) (each n) }
   where
     step : Option Version → Option Version
     step = slot_back (is_back xid from)
@@ -88,6 +88,19 @@ back_indexed xid from old new list slots after is_own is same numbered settles =
     each n = along (IsNoted old.touched.items n) (step (version_numbered slots n)) (version_numbered after n)
         (sym (slot_at-map step refl (None ∷ slots) n) ∙ ap (λ (xs : List (Option Version)). version_numbered xs n) (sym (back_all xid from old list slots after is_own is settles)))
         (back_noted (is_back xid from) old.touched.items n (version_numbered slots n) (is.noted n))
+
+-- a version was added in a command whose writes are taken back, and is listed at the place
+abbrev is_back_under : (Stamp → Bool) → Place → Option Version → Bool
+is_back_under back place None = false
+is_back_under back place (Some v) = back v.by && is_under place v.row
+
+back_under : (back : Stamp → Bool) (place : Place) (o : Option Version) → is_listed (if_back back o) place ≡ is_back_under back place o
+back_under back place None = refl
+back_under back place (Some v) = by (back v.by) refl
+  where
+    by : (t : Bool) → back v.by ≡ t → is_listed (if_back back (Some v)) place ≡ (back v.by && is_under place v.row)
+    by true is = ap (λ b. is_listed (if b then Some v else None) place) is ∙ sym (ap (λ b. b && is_under place v.row) is)
+    by false is = ap (λ b. is_listed (if b then Some v else None) place) is ∙ sym (ap (λ b. b && is_under place v.row) is)
 
 -- the numbers where a slot is taken back
 numbers_back : (place : Place) (back : Stamp → Bool) (n at : ℕ) (slots : List (Option Version)) → at < length slots
@@ -139,10 +152,10 @@ numbers_back place back n (suc at) (Some v ∷ slots) within = by (is_under plac
     by false under more = no_at test n v after under ∙ more ∙ ap (removed out (n + suc at)) (sym (no_at test n v slots under))
 
 pub numbered_back : (back : Stamp → Bool) (number at : ℕ) (slots : List (Option Version)) (o now : Option Version) (old new : Index) → number ≡ at + 1 → at < length slots → o ≡ slot_at slots at → now ≡ slot_back back (slot_at slots at) → IsNumbered slots old
-    → RemovesWhere (λ place. is_back_under back place o) number old new → IsNumbered (set slots at now) new
+    → RemovesWhere (is_listed (if_back back o)) number old new → IsNumbered (set slots at now) new
 numbered_back back number at slots o now old new is within was made numbered removes place =
     let far : number ≡ 1 + at = omega (arith, is) in
-    removes.each place ∙ ap (removed (is_back_under back place o) number) (numbered place)
+    removes.each place ∙ ap (λ t. removed t number (listed_at old place)) (back_under back place o) ∙ ap (removed (is_back_under back place o) number) (numbered place)
     ∙ (λ i. removed (is_back_under back place (was i)) (far i) (numbers_at (λ v. is_under place v.row) 1 slots))
     ∙ sym (numbers_back place back 1 at slots within) ∙ ap (λ x. numbers_at (λ v. is_under place v.row) 1 (set slots at x)) (sym made)
 

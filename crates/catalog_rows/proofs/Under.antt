@@ -16,9 +16,9 @@ use Rattle.base_types.specs.Scans.{same_oid, selects, refers_to}
 use Rattle.catalog_rows.specs.Types.{Oid, Row, RowKey, Purpose}
 use Rattle.catalog_rows.specs.Store.{is_named}
 use Rattle.catalog_rows.specs.declared.place.Place.{Place}
-use Rattle.catalog_rows.specs.Places.{words_number, same_place, key_place, scan_place, relation_place, owner_place, other_place, referred_place, is_place, is_under}
+use Rattle.catalog_rows.specs.Places.{kind_number, same_place, key_place, scan_place, relation_place, owner_place, other_place, referred_place, is_place, is_under}
 
-pub place_laws : IsEquivalence (eq_of_both (on (λ (p : Place). words_number p.words) nat_eq) (eq_of_both (on (λ p. p.name) (pointwise nat_eq)) (eq_of_both (on (λ p. p.column) nat_eq) (on (λ p. p.oid) nat_eq))))
+pub place_laws : IsEquivalence (eq_of_both (on (λ (p : Place). kind_number p.kind) nat_eq) (eq_of_both (on (λ p. p.name) (pointwise nat_eq)) (eq_of_both (on (λ p. p.column) nat_eq) (on (λ p. p.oid) nat_eq))))
 place_laws = search (comparing, rules)
 
 or_none : (x : Bool) → x ≡ (x || (false || false))
@@ -51,7 +51,7 @@ referred of rel (kinds.Foreign num refrel refnum) = by (same_oid of refrel) refl
     by true same = one same (same_oid of rel) refl ∙ sym (ap (λ t. same_oid of rel || is_place (if t then None else Some (scan_place (scans.Constraint refrel))) (scan_place (scans.Constraint rel))) same)
     by false other = sym (ap (λ t. same_oid of rel || is_place (if t then None else Some (scan_place (scans.Constraint refrel))) (scan_place (scans.Constraint rel))) other)
 
-not_referred : (of : Oid) (what : ConKind) (place : Place) → nat_eq 9 (words_number place.words) ≡ false → is_place (referred_place of what) place ≡ false
+not_referred : (of : Oid) (what : ConKind) (place : Place) → nat_eq 9 (kind_number place.kind) ≡ false → is_place (referred_place of what) place ≡ false
 not_referred of (kinds.Check text) place other = refl
 not_referred of (kinds.Foreign num refrel refnum) place other = by (same_oid of refrel) refl
   where
@@ -113,12 +113,12 @@ name_under name (rows.Class oid own kind fill) is = sym (and_none (bytes_eq own 
 name_under name row is = let never : false ≡ true = is in absurd (cc)
 
 -- at most one of two places is a third one
-words_of : (p place : Place) → same_place p place ≡ true → words_number p.words ≡ words_number place.words
-words_of p place is = eqb-true (words_number p.words) (words_number place.words) (and_parts (words_number p.words == words_number place.words) _ is).0
+kind_of : (p place : Place) → same_place p place ≡ true → kind_number p.kind ≡ kind_number place.kind
+kind_of p place is = eqb-true (kind_number p.kind) (kind_number place.kind) (and_parts (kind_number p.kind == kind_number place.kind) _ is).0
 
 oid_of : (p place : Place) → same_place p place ≡ true → p.oid ≡ place.oid
 oid_of p place is =
-    let behind = (and_parts (words_number p.words == words_number place.words) _ is).1 in
+    let behind = (and_parts (kind_number p.kind == kind_number place.kind) _ is).1 in
     eqb-true p.oid place.oid (and_parts (p.column == place.column) (p.oid == place.oid) (and_parts (pointwise nat_eq p.name place.name) _ behind).1).1
 
 not_both : (x y : Bool) → (x ≡ true → y ≡ true → ⊥) → (x && y) ≡ false
@@ -130,31 +130,31 @@ no_owner : (x : Bool) → (x && false) ≡ false
 no_owner false = refl
 no_owner true = refl
 
-other_words : (p q place : Place) → (words_number p.words ≡ words_number q.words → ⊥) → (same_place p place && same_place q place) ≡ false
-other_words p q place apart = not_both (same_place p place) (same_place q place) (λ a b. apart (words_of p place a ∙ sym (words_of q place b)))
+other_kinds : (p q place : Place) → (kind_number p.kind ≡ kind_number q.kind → ⊥) → (same_place p place && same_place q place) ≡ false
+other_kinds p q place apart = not_both (same_place p place) (same_place q place) (λ a b. apart (kind_of p place a ∙ sym (kind_of q place b)))
 
 other_oid : (p q place : Place) → (p.oid ≡ q.oid → ⊥) → (same_place p place && same_place q place) ≡ false
 other_oid p q place apart = not_both (same_place p place) (same_place q place) (λ a b. apart (oid_of p place a ∙ sym (oid_of q place b)))
 
 pub owner_apart : (row : Row) (place : Place) → (same_place (key_place (key_of row)) place && is_place (owner_place row) place) ≡ false
 owner_apart (rows.Class oid own kind fill) place = no_owner _
-owner_apart (rows.Att of num own col_type stat live) place = other_words (key_place (keys.Att of num)) (scan_place (scans.Attribute of)) place (λ e. absurd (omega (arith, e)))
-owner_apart (rows.Def oid of num word) place = other_words (key_place (keys.Def oid)) (scan_place (scans.AttrDef of)) place (λ e. absurd (omega (arith, e)))
-owner_apart (rows.Ind index table state nums) place = other_words (key_place (keys.Ind index)) (scan_place (scans.Index table)) place (λ e. absurd (omega (arith, e)))
-owner_apart (rows.Con oid of own valid what) place = other_words (key_place (keys.Con oid)) (scan_place (scans.Constraint of)) place (λ e. absurd (omega (arith, e)))
-owner_apart (rows.Trg oid of own runs) place = other_words (key_place (keys.Trg oid)) (scan_place (scans.Trigger of)) place (λ e. absurd (omega (arith, e)))
+owner_apart (rows.Att of num own col_type stat live) place = other_kinds (key_place (keys.Att of num)) (scan_place (scans.Attribute of)) place (λ e. absurd (omega (arith, e)))
+owner_apart (rows.Def oid of num word) place = other_kinds (key_place (keys.Def oid)) (scan_place (scans.AttrDef of)) place (λ e. absurd (omega (arith, e)))
+owner_apart (rows.Ind index table state nums) place = other_kinds (key_place (keys.Ind index)) (scan_place (scans.Index table)) place (λ e. absurd (omega (arith, e)))
+owner_apart (rows.Con oid of own valid what) place = other_kinds (key_place (keys.Con oid)) (scan_place (scans.Constraint of)) place (λ e. absurd (omega (arith, e)))
+owner_apart (rows.Trg oid of own runs) place = other_kinds (key_place (keys.Trg oid)) (scan_place (scans.Trigger of)) place (λ e. absurd (omega (arith, e)))
 
-referred_apart : (p : Place) (of : Oid) (what : ConKind) (place : Place) → (words_number p.words ≡ 9 → ⊥) → (same_place p place && is_place (referred_place of what) place) ≡ false
+referred_apart : (p : Place) (of : Oid) (what : ConKind) (place : Place) → (kind_number p.kind ≡ 9 → ⊥) → (same_place p place && is_place (referred_place of what) place) ≡ false
 referred_apart p of (kinds.Check text) place apart = no_owner _
 referred_apart p of (kinds.Foreign num refrel refnum) place apart = by (same_oid of refrel) refl
   where
     by : (t : Bool) → same_oid of refrel ≡ t → (same_place p place && is_place (referred_place of (kinds.Foreign num refrel refnum)) place) ≡ false
     by true same = ap (λ t. same_place p place && is_place (if t then None else Some (scan_place (scans.Constraint refrel))) place) same ∙ no_owner _
-    by false other = ap (λ t. same_place p place && is_place (if t then None else Some (scan_place (scans.Constraint refrel))) place) other ∙ other_words p (scan_place (scans.Constraint refrel)) place apart
+    by false other = ap (λ t. same_place p place && is_place (if t then None else Some (scan_place (scans.Constraint refrel))) place) other ∙ other_kinds p (scan_place (scans.Constraint refrel)) place apart
 
 pub other_apart : (row : Row) (place : Place) → (same_place (key_place (key_of row)) place && is_place (other_place row) place) ≡ false
-other_apart (rows.Class oid own kind fill) place = other_words (key_place (keys.Class oid)) (relation_place own) place (λ e. absurd (omega (arith, e)))
-other_apart (rows.Att of num own col_type stat live) place = other_words (key_place (keys.Att of num)) (scan_place (scans.AttName of own)) place (λ e. absurd (omega (arith, e)))
+other_apart (rows.Class oid own kind fill) place = other_kinds (key_place (keys.Class oid)) (relation_place own) place (λ e. absurd (omega (arith, e)))
+other_apart (rows.Att of num own col_type stat live) place = other_kinds (key_place (keys.Att of num)) (scan_place (scans.AttName of own)) place (λ e. absurd (omega (arith, e)))
 other_apart (rows.Def oid of num word) place = no_owner _
 other_apart (rows.Ind index table state nums) place = no_owner _
 other_apart (rows.Con oid of own valid what) place = referred_apart (key_place (keys.Con oid)) of what place (λ e. absurd (omega (arith, e)))
@@ -171,7 +171,7 @@ referred_other of (kinds.Foreign num refrel refnum) place = by (same_oid of refr
 
 pub owner_other : (row : Row) (place : Place) → (is_place (owner_place row) place && is_place (other_place row) place) ≡ false
 owner_other (rows.Class oid own kind fill) place = refl
-owner_other (rows.Att of num own col_type stat live) place = other_words (scan_place (scans.Attribute of)) (scan_place (scans.AttName of own)) place (λ e. absurd (omega (arith, e)))
+owner_other (rows.Att of num own col_type stat live) place = other_kinds (scan_place (scans.Attribute of)) (scan_place (scans.AttName of own)) place (λ e. absurd (omega (arith, e)))
 owner_other (rows.Def oid of num word) place = no_owner _
 owner_other (rows.Ind index table state nums) place = no_owner _
 owner_other (rows.Con oid of own valid what) place = referred_other of what place

@@ -1,15 +1,16 @@
 -- Where versions are listed, and what the lists must have.
-use Rattle.std.specs.Prelude.{ℕ, Bool, true, false, Option, Some, None, List, [], ◌∷◌, ◌++◌, ◌≡◌, ◌<◌, ◌⊎◌, IfSome, slice_index_or}
+use Rattle.std.specs.Prelude.{ℕ, Bool, true, false, Option, Some, None, List, [], ◌∷◌, ◌++◌, ◌≡◌, ◌<◌, ◌⊎◌, ◌&&◌, IfSome, slice_index_or}
 use Rattle.std.specs.Option.{option_map_or}
 use Rattle.std.specs.List.{AllByRecursion}
 use Rattle.std.specs.HashMap.{get}
 use Rattle.catalog_rows.specs.Types.{Change, Stamp, Version}
-use Rattle.catalog_rows.specs.Store.{is_ended}
+use Rattle.catalog_rows.specs.Store.{is_ended, has_committed}
 use Rattle.catalog_rows.specs.Places.{same_place, is_under}
 use Rattle.catalog_rows.specs.Numbers.{IsAscending, added, removed}
 use Rattle.catalog_rows.specs.Slots.{IsIn, version_numbered, numbers_at}
 use Rattle.catalog_rows.specs.declared.place.Place.{Place}
 use Rattle.catalog_rows.specs.declared.index.Index.{Index}
+use Rattle.catalog_rows.specs.declared.indexes.Indexes.{Indexes}
 use Rattle.catalog_rows.specs.declared.lists.Lists.{Lists}
 
 -- the numbers at a place
@@ -54,9 +55,27 @@ pub record IsBelow (number : ℕ) (index : Index) : Type 0 where
 abbrev pub IsNumbered : List (Option Version) → Index → Type 0
 IsNumbered slots index = (place : Place) → listed_at index place ≡ numbers_at (λ v. is_under place v.row) 1 slots
 
--- each version that stands is at its places
-abbrev pub IsCovered : List (Option Version) → Index → Type 0
-IsCovered slots index = (place : Place) (n : ℕ) → IfSome (version_numbered slots n) (λ v. is_under place v.row ≡ true → IsIn n (listed_at index place))
+-- a committed transaction wrote the version, and a committed one ended it: nobody sees it any more, unless that is taken back
+abbrev pub is_dead : List Bool → Version → Bool
+is_dead committed v = has_committed committed v.by.xid.0 && option_map_or (λ stamp. has_committed committed stamp.xid.0) v.ended false
+
+-- the numbers are in order, and have each version that is listed at a place and isn't dead
+pub record Serves (committed : List Bool) (slots : List (Option Version)) (place : Place) (list : List ℕ) : Type 0 where
+  pub order : IsAscending list
+  pub has : (n : ℕ) → IfSome (version_numbered slots n) (λ v. is_dead committed v ≡ false → is_under place v.row ≡ true → IsIn n list)
+
+-- the second index has no other numbers than the first, in order
+pub record IsOnly (indexes : Indexes) : Type 0 where
+  pub order : IsInOrder indexes.current
+  pub only : (place : Place) (n : ℕ) → IsIn n (listed_at indexes.current place) → IsIn n (listed_at indexes.all place)
+
+-- where the second index is used it has each version that isn't dead
+pub record IsCurrent (committed : List Bool) (slots : List (Option Version)) (indexes : Indexes) : Type 0 where
+  pub has : indexes.whole ≡ false → (place : Place) (n : ℕ) → IfSome (version_numbered slots n) (λ v. is_dead committed v ≡ false → is_under place v.row ≡ true → IsIn n (listed_at indexes.current place))
+
+-- what was current before is so after
+abbrev pub StaysCurrent : List (Option Version) → Indexes → List (Option Version) → Indexes → Type 0
+StaysCurrent slots old after new = (committed : List Bool) → IsCurrent committed slots old → IsCurrent committed after new
 
 -- who wrote and who ended a version has noted its number
 pub record IsNoted (touched : List (List ℕ)) (n : ℕ) (v : Version) : Type 0 where
@@ -65,7 +84,8 @@ pub record IsNoted (touched : List (List ℕ)) (n : ℕ) (v : Version) : Type 0 
 
 -- the lists have each version where it belongs
 pub record IsIndexed (slots : List (Option Version)) (lists : Lists) : Type 0 where
-  pub numbered : IsNumbered slots lists.index
+  pub numbered : IsNumbered slots lists.indexes.all
+  pub only : IsOnly lists.indexes
   pub noted : (n : ℕ) → IfSome (version_numbered slots n) (IsNoted lists.touched.items n)
 
 -- a change ends the version with a number
@@ -76,7 +96,25 @@ ends_at committed stamp change slots n = option_map_or (is_ended committed stamp
 abbrev pub AreNoted : List Bool → Stamp → List Change → List (Option Version) → Lists → Type 0
 AreNoted committed stamp changes slots lists = AllByRecursion (λ change. (n : ℕ) → ends_at committed stamp change slots n ≡ true → IsIn n (own_at lists.touched.items stamp.xid.0)) changes
 
--- the index stays, and of what is noted nothing is lost
+-- the indexes stay, and of what is noted nothing is lost
 pub record NotesMore (old new : Lists) : Type 0 where
-  pub index : new.index ≡ old.index
+  pub indexes : new.indexes ≡ old.indexes
   pub own : (x n : ℕ) → IsIn n (own_at old.touched.items x) → IsIn n (own_at new.touched.items x)
+
+-- the same numbers are at each place of both indexes
+pub record AreSame (old new : Indexes) : Type 0 where
+  pub all : IsSame old.all new.all
+  pub current : IsSame old.current new.current
+  pub whole : new.whole ≡ old.whole
+
+-- a number is added in both indexes at the places that a test picks, and at no others
+pub record AddsBoth (test : Place → Bool) (number : ℕ) (old new : Indexes) : Type 0 where
+  pub all : AddsWhere test number old.all new.all
+  pub current : AddsWhere test number old.current new.current
+  pub whole : new.whole ≡ old.whole
+
+-- a number is taken out of both indexes at the places that a test picks, and at no others
+pub record RemovesBoth (test : Place → Bool) (number : ℕ) (old new : Indexes) : Type 0 where
+  pub all : RemovesWhere test number old.all new.all
+  pub current : RemovesWhere test number old.current new.current
+  pub whole : new.whole ≡ old.whole

@@ -7,7 +7,7 @@ abbrev pub IsAscending : List ℕ → Type 0
 IsAscending [] = Unit {0}
 IsAscending (n ∷ numbers) = AllByRecursion (λ m. n < m) numbers × IsAscending numbers
 
--- a list with a number behind, if a test says so
+-- a list with a number added at its end, if a test says so
 abbrev pub added : Bool → ℕ → List ℕ → List ℕ
 added here number numbers = numbers ++ (if here then number ∷ [] else [])
 

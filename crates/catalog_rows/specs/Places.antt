@@ -11,77 +11,77 @@ use Rattle.base_types.specs.declared.row.Row.TheVariants as rows
 use Rattle.base_types.specs.declared.row_key.RowKey.TheVariants as keys
 use Rattle.base_types.specs.declared.scan.Purpose.TheVariants as scans
 use Rattle.catalog_rows.specs.Types.{Oid, Row, RowKey, Purpose}
-use Rattle.catalog_rows.specs.declared.place.Words.{Words}
-use Rattle.catalog_rows.specs.declared.place.Words.TheVariants as words
+use Rattle.catalog_rows.specs.declared.place.KeyKind.{KeyKind}
+use Rattle.catalog_rows.specs.declared.place.KeyKind.TheVariants as key_kinds
 use Rattle.catalog_rows.specs.declared.place.Place.{Place}
 
--- the number of the words
-abbrev pub words_number : Words → ℕ
-words_number words.RelationName = 1
-words_number words.Relation = 2
-words_number words.ColumnName = 3
-words_number words.Column = 4
-words_number words.Columns = 5
-words_number words.Default = 6
-words_number words.Defaults = 7
-words_number words.Constraint = 8
-words_number words.Constraints = 9
-words_number words.Index = 10
-words_number words.Indexes = 11
-words_number words.Trigger = 12
-words_number words.Triggers = 13
+-- the number of a kind of key
+abbrev pub kind_number : KeyKind → ℕ
+kind_number key_kinds.RelationName = 1
+kind_number key_kinds.Relation = 2
+kind_number key_kinds.ColumnName = 3
+kind_number key_kinds.Column = 4
+kind_number key_kinds.Columns = 5
+kind_number key_kinds.Default = 6
+kind_number key_kinds.Defaults = 7
+kind_number key_kinds.Constraint = 8
+kind_number key_kinds.Constraints = 9
+kind_number key_kinds.Index = 10
+kind_number key_kinds.Indexes = 11
+kind_number key_kinds.Trigger = 12
+kind_number key_kinds.Triggers = 13
 
 -- two places are one
 abbrev pub same_place : Place → Place → Bool
-same_place = eq_of_both (on (λ p. words_number p.words) nat_eq) (eq_of_both (on (λ p. p.name) (pointwise nat_eq)) (eq_of_both (on (λ p. p.column) nat_eq) (on (λ p. p.oid) nat_eq)))
+same_place = eq_of_both (on (λ p. kind_number p.kind) nat_eq) (eq_of_both (on (λ p. p.name) (pointwise nat_eq)) (eq_of_both (on (λ p. p.column) nat_eq) (on (λ p. p.oid) nat_eq)))
 
--- the place of these words and an oid
-abbrev pub oid_place : Words → Oid → Place
-oid_place words oid = record { words = words; oid = oid.0; column = 0; name = [] }
+-- the place of an oid, by keys of a kind
+abbrev pub oid_place : KeyKind → Oid → Place
+oid_place kind oid = record { kind = kind; oid = oid.0; column = 0; name = [] }
 
 -- the place of a relation's name
 abbrev pub relation_place : List ℕ → Place
-relation_place name = record { words = words.RelationName; oid = 0; column = 0; name = name }
+relation_place name = record { kind = key_kinds.RelationName; oid = 0; column = 0; name = name }
 
 -- the place of the name of a relation's column
 abbrev pub column_place : Oid → List ℕ → Place
-column_place rel name = record { words = words.ColumnName; oid = rel.0; column = 0; name = name }
+column_place rel name = record { kind = key_kinds.ColumnName; oid = rel.0; column = 0; name = name }
 
 -- the place of the row with a key
 abbrev pub key_place : RowKey → Place
-key_place (keys.Class oid) = oid_place words.Relation oid
-key_place (keys.Att rel num) = record { words = words.Column; oid = rel.0; column = num; name = [] }
-key_place (keys.Def oid) = oid_place words.Default oid
-key_place (keys.Ind oid) = oid_place words.Index oid
-key_place (keys.Con oid) = oid_place words.Constraint oid
-key_place (keys.Trg oid) = oid_place words.Trigger oid
+key_place (keys.Class oid) = oid_place key_kinds.Relation oid
+key_place (keys.Att rel num) = record { kind = key_kinds.Column; oid = rel.0; column = num; name = [] }
+key_place (keys.Def oid) = oid_place key_kinds.Default oid
+key_place (keys.Ind oid) = oid_place key_kinds.Index oid
+key_place (keys.Con oid) = oid_place key_kinds.Constraint oid
+key_place (keys.Trg oid) = oid_place key_kinds.Trigger oid
 
 -- the place of what a scan asks for
 abbrev pub scan_place : Purpose → Place
 scan_place (scans.RelName name) = relation_place name
-scan_place (scans.RelOid rel) = oid_place words.Relation rel
-scan_place (scans.Class rel) = oid_place words.Relation rel
+scan_place (scans.RelOid rel) = oid_place key_kinds.Relation rel
+scan_place (scans.Class rel) = oid_place key_kinds.Relation rel
 scan_place (scans.AttName rel name) = column_place rel name
-scan_place (scans.AttList rel) = oid_place words.Columns rel
-scan_place (scans.Attribute rel) = oid_place words.Columns rel
-scan_place (scans.AttrDef rel) = oid_place words.Defaults rel
-scan_place (scans.Constraint rel) = oid_place words.Constraints rel
-scan_place (scans.Index rel) = oid_place words.Indexes rel
-scan_place (scans.Trigger rel) = oid_place words.Triggers rel
-scan_place (scans.IndexRow rel) = oid_place words.Index rel
+scan_place (scans.AttList rel) = oid_place key_kinds.Columns rel
+scan_place (scans.Attribute rel) = oid_place key_kinds.Columns rel
+scan_place (scans.AttrDef rel) = oid_place key_kinds.Defaults rel
+scan_place (scans.Constraint rel) = oid_place key_kinds.Constraints rel
+scan_place (scans.Index rel) = oid_place key_kinds.Indexes rel
+scan_place (scans.Trigger rel) = oid_place key_kinds.Triggers rel
+scan_place (scans.IndexRow rel) = oid_place key_kinds.Index rel
 
 -- the place of all rows like this one of its relation
 abbrev pub owner_place : Row → Option Place
-owner_place (rows.Att of num own col_type stat live) = Some (oid_place words.Columns of)
-owner_place (rows.Def oid of num word) = Some (oid_place words.Defaults of)
-owner_place (rows.Ind index table state nums) = Some (oid_place words.Indexes table)
-owner_place (rows.Con oid of own valid what) = Some (oid_place words.Constraints of)
-owner_place (rows.Trg oid of own on) = Some (oid_place words.Triggers of)
+owner_place (rows.Att of num own col_type stat live) = Some (oid_place key_kinds.Columns of)
+owner_place (rows.Def oid of num word) = Some (oid_place key_kinds.Defaults of)
+owner_place (rows.Ind index table state nums) = Some (oid_place key_kinds.Indexes table)
+owner_place (rows.Con oid of own valid what) = Some (oid_place key_kinds.Constraints of)
+owner_place (rows.Trg oid of own on) = Some (oid_place key_kinds.Triggers of)
 owner_place row = None
 
 -- the place of another relation's constraints, to which a foreign key refers
 abbrev pub referred_place : Oid → ConKind → Option Place
-referred_place of (kinds.Foreign num refrel refnum) = if same_oid of refrel then None else Some (oid_place words.Constraints refrel)
+referred_place of (kinds.Foreign num refrel refnum) = if same_oid of refrel then None else Some (oid_place key_kinds.Constraints refrel)
 referred_place of (kinds.Check text) = None
 
 -- the place of a row's name, or of the relation that it refers to

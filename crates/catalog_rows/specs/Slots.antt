@@ -1,4 +1,4 @@
--- The slots of versions: each number has one, with its version if that stands.
+-- The slots of versions: each number has one, with its version unless an undo took that back.
 use Rattle.std.specs.Prelude.{ℕ, Bool, true, Option, Some, None, List, [], ◌∷◌, ◌++◌, ◌≡◌, ◌+◌, ◌⊎◌, map, slice_index_or, if◌then◌else◌}
 use Rattle.std.specs.List.{flat_map}
 use Rattle.catalog_rows.specs.Types.{Change, Stamp, Version}

@@ -10,8 +10,8 @@ use Rattle.row_visibility.specs.Seen.{is_own, seen_by, sees_version}
 use Rattle.catalog_rows.specs.Types.{Xid, Oid, Row, RowKey, Purpose, Change, Insert, Replace, Delete, Stamp, Version, Reader, Clash}
 use Rattle.row_visibility.specs.declared.clash.Clash.TheVariants as clashes
 
--- the versions that stand, in the order in which they were written, the number of each, how many were ever written, and by
--- Xid whether the transaction is committed
+-- the versions that no undo took back, in the order in which they were written, the number of each, how many were ever
+-- written, and by Xid whether the transaction is committed
 pub record Store : Type 0 where
   pub versions : List Version
   pub numbers : List ℕ

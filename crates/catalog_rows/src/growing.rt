@@ -1,5 +1,5 @@
 ghost use Rattle.std.specs.Prelude.{◌≡◌, ◌-◌, ◌++◌, ◌∷◌, ℕ, [], Some, None, take, vec_len, OnOk, OnErr};
-ghost use Rattle.catalog_rows.specs.Index.{IsIndexed, AreNoted, own_at};
+ghost use Rattle.catalog_rows.specs.Index.{IsIndexed, IsCurrent, StaysCurrent, AreNoted, own_at};
 ghost use Rattle.catalog_rows.specs.Slots.{IsIn, new_slots};
 
 use crate::lists::Lists;
@@ -15,8 +15,10 @@ pub(crate) fn grow(
     stamp: Stamp,
     changes: &[Change],
 ) -> Result<(), NoMemory>
-    requires { IsIndexed slots.old.items lists.old }
+    requires indexed { IsIndexed slots.old.items lists.old }
+    requires current { IsCurrent committed.now slots.old.items lists.old.indexes }
     ensures indexed { IsIndexed slots.new.items lists.new }
+    ensures current { StaysCurrent slots.old.items lists.old.indexes slots.new.items lists.new.indexes }
     ensures ok { OnOk result (slots.new.items ≡ slots.old.items ++ new_slots stamp changes.now) }
     ensures noted { OnOk result (AreNoted committed.now stamp changes.now slots.new.items lists.new) }
     ensures err { OnErr result (slots.new.items ≡ slots.old.items) }
@@ -39,9 +41,11 @@ fn grow_each(
     stamp: Stamp,
     changes: &[Change],
 ) -> Result<(), NoMemory>
-    requires { IsIndexed slots.old.items lists.old }
+    requires indexed { IsIndexed slots.old.items lists.old }
+    requires current { IsCurrent committed.now slots.old.items lists.old.indexes }
     ensures indexed { IsIndexed slots.new.items lists.new }
-    ensures front { take (vec_len slots.old) slots.new.items ≡ slots.old.items }
+    ensures current { StaysCurrent slots.old.items lists.old.indexes slots.new.items lists.new.indexes }
+    ensures before { take (vec_len slots.old) slots.new.items ≡ slots.old.items }
     ensures ok { OnOk result (slots.new.items ≡ slots.old.items ++ new_slots stamp changes.now) }
     ensures noted { OnOk result (AreNoted committed.now stamp changes.now slots.new.items lists.new) }
 {
@@ -59,8 +63,10 @@ fn grow_by(
     stamp: Stamp,
     change: &Change,
 ) -> Result<(), NoMemory>
-    requires { IsIndexed slots.old.items lists.old }
+    requires indexed { IsIndexed slots.old.items lists.old }
+    requires current { IsCurrent committed.now slots.old.items lists.old.indexes }
     ensures indexed { IsIndexed slots.new.items lists.new }
+    ensures current { StaysCurrent slots.old.items lists.old.indexes slots.new.items lists.new.indexes }
     ensures own { (x n : ℕ) → IsIn n (own_at lists.old.touched.items x) → IsIn n (own_at lists.new.touched.items x) }
     ensures ok { OnOk result (slots.new.items ≡ slots.old.items ++ new_slots stamp (change.now ∷ [])) }
     ensures noted { OnOk result (AreNoted committed.now stamp (change.now ∷ []) slots.new.items lists.new) }
@@ -90,6 +96,7 @@ fn add_version(
     requires indexed { IsIndexed slots.old.items lists.old }
     requires fresh { version.ended ≡ None }
     ensures indexed { IsIndexed slots.new.items lists.new }
+    ensures current { StaysCurrent slots.old.items lists.old.indexes slots.new.items lists.new.indexes }
     ensures own { (x n : ℕ) → IsIn n (own_at lists.old.touched.items x) → IsIn n (own_at lists.new.touched.items x) }
     ensures ok { OnOk result (slots.new.items ≡ slots.old.items ++ Some version ∷ []) }
     ensures err { OnErr result (slots.new.items ≡ slots.old.items) }
@@ -97,7 +104,7 @@ fn add_version(
     let number = slots.len() as u64 + 1;
     lists.note(version.by.xid, number)?;
     slots.reserve(1)?;
-    lists.index.add_row(&version.row, number)?;
+    lists.indexes.add_row(&version.row, number)?;
     slots.push_reserved(Some(version));
     Ok(())
 }
@@ -106,6 +113,7 @@ fn add_version(
 fn take_off(slots: &mut Vec<Option<Version>>, lists: &mut Lists, first: usize)
     requires { IsIndexed slots.old.items lists.old }
     ensures indexed { IsIndexed slots.new.items lists.new }
+    ensures current { StaysCurrent slots.old.items lists.old.indexes slots.new.items lists.new.indexes }
     ensures slots { slots.new.items ≡ take first slots.old.items }
 {
     let more = slots.len().saturating_sub(first);
@@ -118,10 +126,11 @@ fn take_off(slots: &mut Vec<Option<Version>>, lists: &mut Lists, first: usize)
 fn take_last(slots: &mut Vec<Option<Version>>, lists: &mut Lists)
     requires { IsIndexed slots.old.items lists.old }
     ensures indexed { IsIndexed slots.new.items lists.new }
+    ensures current { StaysCurrent slots.old.items lists.old.indexes slots.new.items lists.new.indexes }
     ensures slots { slots.new.items ≡ take (vec_len slots.old - 1) slots.old.items }
 {
     let number = slots.len() as u64;
     if let Some(slot) = slots.pop() {
-        lists.index.remove_version(slot, number);
+        lists.indexes.remove_version(slot, number);
     }
 }

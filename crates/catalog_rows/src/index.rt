@@ -1,15 +1,14 @@
 ghost use Rattle.std.specs.Prelude.{◌≡◌, [], OnOk, OnErr};
 ghost use Rattle.catalog_rows.specs.Places.{same_place, is_place, is_under};
-ghost use Rattle.catalog_rows.specs.Index.{listed_at, AddsWhere, AddsOrNot, RemovesWhere, IsBelow, IsInOrder, IsSame, is_listed};
+ghost use Rattle.catalog_rows.specs.Index.{listed_at, AddsWhere, AddsOrNot, RemovesWhere, IsBelow, IsInOrder, IsSame};
 
 use crate::numbers::Numbers;
 use crate::place::Place;
 use base_types::{NoMemory, Row};
-use row_visibility::Version;
 use std::alloc::Global;
 use std::collections::HashMap;
 
-// For each place the numbers of the standing versions whose rows are listed there, ascending.
+// For each place the numbers of the versions whose rows are listed there, ascending.
 #[derive(Drop)]
 pub(crate) struct Index {
     alloc: Global,
@@ -60,16 +59,6 @@ impl Index {
         self.remove(Some(Place::of_key(&row.key())), number);
         self.remove(Place::of_owner(row), number);
         self.remove(Place::of_other(row), number);
-    }
-
-    // Takes a number out at each place of a version, if there is one.
-    pub(crate) fn remove_version(&mut self, version: Option<Version>, number: u64)
-        requires { IsInOrder self.old }
-        ensures { RemovesWhere (is_listed version) number self.old self.new }
-    {
-        if let Some(version) = version {
-            self.remove_row(&version.row, number);
-        }
     }
 
     // Adds a number at each place of a row; out of memory, it may be added at some of them.

@@ -5,9 +5,10 @@
 //! takes away what the transaction added and opens again what it ended. A scan gives the rows of the
 //! versions that its reader sees, in the order of the scan's index.
 //!
-//! The promise to the layers above: contracts see a [`RowStore`] as its list of versions and which
-//! Xids are committed, and each call does exactly what the definitions of `specs/Store.antt` say of
-//! that list. So whoever can say which versions a history leaves has the store that serves it.
+//! The promise to the layers above: contracts see a [`RowStore`] as its versions with their numbers, how
+//! many were ever written, and which Xids are committed, and each call does exactly what the definitions
+//! of `specs/Store.antt` say of these. So whoever can say which versions a history leaves has the store
+//! that serves it.
 //!
 //! ```text
 //! let mut store = RowStore::new(alloc);
@@ -16,19 +17,25 @@
 //! let rows = store.scan(&purpose, Reader { xid: None, command: 1 })?;
 //! ```
 //!
-//! Only a scan passes over all versions. A look-up, a name's test and a change pass over the versions
-//! of the one row or name, and a rollback over those that its transaction wrote or ended: lists of slots
-//! say where these are (`src/lists.rt`), as the server's indexes do. The hash of a name stands for the
-//! name there.
+//! Each version has a number, from 1 in the order of writing. An index (`src/index.rt`) keeps the numbers
+//! by place: that of a row's key, of a relation's or a column's name, or of all rows of one catalog that
+//! belong to a relation. There are two (`src/indexes.rt`). The first has exactly the versions that no undo
+//! took back, and [`RowStore::under`] shows its list for a scan. Out of the second a commit takes those
+//! that committed transactions wrote and ended, since nobody sees them any more. So a scan, a look-up, a
+//! test of a name and a change pass over the versions of one place that somebody may see yet, as the
+//! server's do by its indexes once dead rows are pruned, and an undo over those that its transaction wrote or
+//! ended. A write first adds all its versions, takes them off again where memory is out, and only then
+//! ends others.
 //!
-//! Different from the server: all catalogs are one list that a scan passes over, without pages; versions
-//! that nobody can see any more stay; a unique name is tested by [`RowStore::name_clash`], which answers
-//! where the unique index of pg_class would wait (`_bt_check_unique` in
-//! `src/backend/access/nbtree/nbtinsert.c`).
+//! Different from the server: there are no pages; a commit prunes at once, and what it prunes keeps its
+//! slot; a unique name is tested by [`RowStore::name_clash`], which answers where the unique index of
+//! pg_class would wait (`_bt_check_unique` in `src/backend/access/nbtree/nbtinsert.c`).
 #![tactic(auto)]
 
+mod committing;
 mod growing;
 mod index;
+mod indexes;
 mod lists;
 mod naming;
 mod numbers;

@@ -1,11 +1,10 @@
-ghost use Rattle.std.specs.Prelude.{◌≡◌, ◌++◌, ◌∷◌, ℕ, true, Some, [], OnOk, OnErr};
-ghost use Rattle.catalog_rows.specs.Index.{own_at, ends_at, listed_at, IsNumbered, NotesMore};
+ghost use Rattle.std.specs.Prelude.{◌≡◌, ◌++◌, ◌∷◌, ℕ, true, false, Some, [], OnOk, OnErr};
+ghost use Rattle.catalog_rows.specs.Index.{own_at, ends_at, listed_at, IsCurrent, IsNumbered, IsOnly, NotesMore};
 ghost use Rattle.catalog_rows.specs.Slots.{IsIn};
 
-use crate::index::Index;
-use crate::place::Place;
+use crate::indexes::Indexes;
 use crate::slots::version_at;
-use crate::writing::{ended_key, is_ended};
+use crate::writing::is_ended;
 use base_types::{Change, Listed, NoMemory, Xid};
 use row_visibility::{Stamp, Version};
 use std::alloc::Global;
@@ -14,7 +13,7 @@ use std::alloc::Global;
 #[derive(Drop)]
 pub(crate) struct Lists {
     alloc: Global,
-    pub index: Index,
+    pub indexes: Indexes,
     // by Xid
     pub touched: Vec<Listed<u64>>,
 }
@@ -22,12 +21,13 @@ pub(crate) struct Lists {
 impl Lists {
     // Empty lists, which take no memory.
     pub(crate) fn new(alloc: Global) -> Lists
-        ensures index { (place : _) → listed_at result.index place ≡ [] }
+        ensures all { (place : _) → listed_at result.indexes.all place ≡ [] }
+        ensures current { (place : _) → listed_at result.indexes.current place ≡ [] }
         ensures own { (x : ℕ) → own_at result.touched.items x ≡ [] }
     {
         Lists {
             alloc,
-            index: Index::new(alloc),
+            indexes: Indexes::new(alloc),
             touched: Vec::new(alloc),
         }
     }
@@ -40,22 +40,21 @@ impl Lists {
         stamp: Stamp,
         change: &Change,
     ) -> Result<(), NoMemory>
-        requires { IsNumbered slots.now self.old.index }
+        requires numbered { IsNumbered slots.now self.old.indexes.all }
+        requires only { IsOnly self.old.indexes }
+        requires current { IsCurrent committed.now slots.now self.old.indexes }
         ensures notes { NotesMore self.old self.new }
         ensures ok { OnOk result ((n : ℕ) → ends_at committed.now stamp change.now slots.now n ≡ true → IsIn n (own_at self.new.touched.items stamp.xid.0)) }
     {
-        match ended_key(change) {
-            Some(key) => touch_ended(
-                self.alloc,
-                &mut self.touched,
-                self.index.at(Place::of_key(&key)),
-                slots,
-                committed,
-                stamp,
-                change,
-            ),
-            None => Ok(()),
-        }
+        touch_ended(
+            self.alloc,
+            &mut self.touched,
+            self.indexes.ends(change),
+            slots,
+            committed,
+            stamp,
+            change,
+        )
     }
 
     // Notes the number of a version of a transaction.
@@ -108,6 +107,7 @@ fn touch_if_ended(
 ) -> Result<(), NoMemory>
     ensures grows { (x j : ℕ) → IsIn j (own_at touched.old.items x) → IsIn j (own_at touched.new.items x) }
     ensures ok { OnOk result (ends_at committed.now stamp change.now slots.now number ≡ true → IsIn number (own_at touched.new.items stamp.xid.0)) }
+    ensures same { ends_at committed.now stamp change.now slots.now number ≡ false → touched.new ≡ touched.old }
 {
     match version_at(slots, number) {
         Some(version) if is_ended(&version, committed, stamp, change) => {

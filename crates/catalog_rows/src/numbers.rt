@@ -1,4 +1,4 @@
-ghost use Rattle.std.specs.Prelude.{◌≡◌, ◌++◌, ◌∷◌, ◌-◌, [], true, Some, length, slice_get, OnOk, OnErr};
+ghost use Rattle.std.specs.Prelude.{◌≡◌, ◌≢◌, ◌++◌, ◌∷◌, ◌-◌, [], true, false, Some, length, slice_get, OnOk, OnErr};
 ghost use Rattle.catalog_rows.specs.Numbers.{IsAscending, removed};
 
 use base_types::NoMemory;
@@ -58,7 +58,8 @@ impl Numbers {
 
     // Whether the number is the last one.
     fn is_last(&self, number: u64) -> bool
-        ensures { result ≡ true → slice_get self.now (length self.now - 1) ≡ Some number }
+        ensures yes { result ≡ true → slice_get self.now (length self.now - 1) ≡ Some number }
+        ensures no { result ≡ false → slice_get self.now (length self.now - 1) ≢ Some number }
     {
         match self.items.last() {
             Some(last) => *last == number,

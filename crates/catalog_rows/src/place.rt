@@ -4,14 +4,14 @@ ghost use Rattle.std.specs.Cmp.Lexicographic.{pointwise};
 ghost use Rattle.std.specs.Ordering.{on, eq_of_both};
 ghost use Rattle.std.specs.Cmp.Rules.{comparing, hashing};
 ghost use Rattle.std.proofs.Common.{rules};
-ghost use Rattle.catalog_rows.specs.Places.{words_number, oid_place, relation_place, column_place, key_place, scan_place, owner_place, referred_place, other_place};
+ghost use Rattle.catalog_rows.specs.Places.{kind_number, oid_place, relation_place, column_place, key_place, scan_place, owner_place, referred_place, other_place};
 
 use base_types::{ConKind, Name, Oid, Purpose, Row, RowKey, ShortText};
 use std::hash::{Hash, Hasher};
 
-// Which words the versions of a list have in common.
+// By what kind of key the versions of a list are found.
 #[derive(Clone, Copy)]
-pub(crate) enum Words {
+pub(crate) enum KeyKind {
     RelationName,
     Relation,
     ColumnName,
@@ -27,45 +27,45 @@ pub(crate) enum Words {
     Triggers,
 }
 
-impl Words {
-    // The number of these words.
+impl KeyKind {
+    // The number of this kind.
     fn number(self) -> u32
-        ensures { result ≡ words_number self }
+        ensures { result ≡ kind_number self }
     {
         match self {
-            Words::RelationName => 1,
-            Words::Relation => 2,
-            Words::ColumnName => 3,
-            Words::Column => 4,
-            Words::Columns => 5,
-            Words::Default => 6,
-            Words::Defaults => 7,
-            Words::Constraint => 8,
-            Words::Constraints => 9,
-            Words::Index => 10,
-            Words::Indexes => 11,
-            Words::Trigger => 12,
-            Words::Triggers => 13,
+            KeyKind::RelationName => 1,
+            KeyKind::Relation => 2,
+            KeyKind::ColumnName => 3,
+            KeyKind::Column => 4,
+            KeyKind::Columns => 5,
+            KeyKind::Default => 6,
+            KeyKind::Defaults => 7,
+            KeyKind::Constraint => 8,
+            KeyKind::Constraints => 9,
+            KeyKind::Index => 10,
+            KeyKind::Indexes => 11,
+            KeyKind::Trigger => 12,
+            KeyKind::Triggers => 13,
         }
     }
 }
 
-// What the versions of one list have in common: the oid, the column and the name, where the words have these.
+// What the versions of one list have in common: the oid, the column and the name, where keys of the kind have these.
 #[derive(Clone, Copy)]
 pub(crate) struct Place {
-    words: Words,
+    kind: KeyKind,
     oid: u32,
     column: u32,
     name: ShortText,
 }
 
 impl PartialEq for Place {
-    ghost eq = { eq_of_both (on (λ p. words_number p.words) nat_eq) (eq_of_both (on (λ p. p.name) (pointwise nat_eq)) (eq_of_both (on (λ p. p.column) nat_eq) (on (λ p. p.oid) nat_eq))) };
+    ghost eq = { eq_of_both (on (λ p. kind_number p.kind) nat_eq) (eq_of_both (on (λ p. p.name) (pointwise nat_eq)) (eq_of_both (on (λ p. p.column) nat_eq) (on (λ p. p.oid) nat_eq))) };
 
     ghost laws = { Prim.search (comparing, rules) depth 9 };
 
     fn eq(&self, other: &Place) -> bool {
-        self.words.number() == other.words.number()
+        self.kind.number() == other.kind.number()
             && self.name.as_bytes() == other.name.as_bytes()
             && self.column == other.column
             && self.oid == other.oid
@@ -77,12 +77,12 @@ impl Eq for Place {
 }
 
 impl Hash for Place {
-    ghost hash_input = { λ p. fed.u32 (words_number p.words) ++ fed.u32 p.oid ++ fed.u32 p.column ++ p.name ∷ [] };
+    ghost hash_input = { λ p. fed.u32 (kind_number p.kind) ++ fed.u32 p.oid ++ fed.u32 p.column ++ p.name ∷ [] };
 
     ghost respects_eq = { Prim.search (hashing, rules) };
 
     fn hash<H: Hasher>(&self, state: &mut H) {
-        state.write_u32(self.words.number());
+        state.write_u32(self.kind.number());
         state.write_u32(self.oid);
         state.write_u32(self.column);
         state.write(self.name.as_bytes());
@@ -90,12 +90,12 @@ impl Hash for Place {
 }
 
 impl Place {
-    // The place of these words and an oid.
-    fn of_oid(words: Words, oid: Oid) -> Place
-        ensures { result ≡ oid_place words oid }
+    // The place of an oid, by keys of this kind.
+    fn of_oid(kind: KeyKind, oid: Oid) -> Place
+        ensures { result ≡ oid_place kind oid }
     {
         Place {
-            words,
+            kind,
             oid: oid.0,
             column: 0,
             name: ShortText::new(&[]),
@@ -107,7 +107,7 @@ impl Place {
         ensures { result ≡ relation_place name.now }
     {
         Place {
-            words: Words::RelationName,
+            kind: KeyKind::RelationName,
             oid: 0,
             column: 0,
             name: ShortText::new(name.as_bytes()),
@@ -119,7 +119,7 @@ impl Place {
         ensures { result ≡ column_place rel name.now }
     {
         Place {
-            words: Words::ColumnName,
+            kind: KeyKind::ColumnName,
             oid: rel.0,
             column: 0,
             name: ShortText::new(name.as_bytes()),
@@ -131,17 +131,17 @@ impl Place {
         ensures { result ≡ key_place key.now }
     {
         match key {
-            RowKey::Class(oid) => Place::of_oid(Words::Relation, *oid),
+            RowKey::Class(oid) => Place::of_oid(KeyKind::Relation, *oid),
             RowKey::Att(rel, num) => Place {
-                words: Words::Column,
+                kind: KeyKind::Column,
                 oid: rel.0,
                 column: *num,
                 name: ShortText::new(&[]),
             },
-            RowKey::Def(oid) => Place::of_oid(Words::Default, *oid),
-            RowKey::Ind(oid) => Place::of_oid(Words::Index, *oid),
-            RowKey::Con(oid) => Place::of_oid(Words::Constraint, *oid),
-            RowKey::Trg(oid) => Place::of_oid(Words::Trigger, *oid),
+            RowKey::Def(oid) => Place::of_oid(KeyKind::Default, *oid),
+            RowKey::Ind(oid) => Place::of_oid(KeyKind::Index, *oid),
+            RowKey::Con(oid) => Place::of_oid(KeyKind::Constraint, *oid),
+            RowKey::Trg(oid) => Place::of_oid(KeyKind::Trigger, *oid),
         }
     }
 
@@ -151,14 +151,17 @@ impl Place {
     {
         match purpose {
             Purpose::RelName(name) => Place::of_relation(name),
-            Purpose::RelOid(rel) | Purpose::Class(rel) => Place::of_oid(Words::Relation, *rel),
+            Purpose::RelOid(rel) | Purpose::Class(rel) => Place::of_oid(KeyKind::Relation, *rel),
             Purpose::AttName(rel, name) => Place::of_column(*rel, name),
-            Purpose::AttList(rel) | Purpose::Attribute(rel) => Place::of_oid(Words::Columns, *rel),
-            Purpose::AttrDef(rel) => Place::of_oid(Words::Defaults, *rel),
-            Purpose::Constraint(rel) => Place::of_oid(Words::Constraints, *rel),
-            Purpose::Index(rel) => Place::of_oid(Words::Indexes, *rel),
-            Purpose::Trigger(rel) => Place::of_oid(Words::Triggers, *rel),
-            Purpose::IndexRow(rel) => Place::of_oid(Words::Index, *rel),
+            Purpose::AttList(rel) | Purpose::Attribute(rel) => Place::of_oid(
+                KeyKind::Columns,
+                *rel,
+            ),
+            Purpose::AttrDef(rel) => Place::of_oid(KeyKind::Defaults, *rel),
+            Purpose::Constraint(rel) => Place::of_oid(KeyKind::Constraints, *rel),
+            Purpose::Index(rel) => Place::of_oid(KeyKind::Indexes, *rel),
+            Purpose::Trigger(rel) => Place::of_oid(KeyKind::Triggers, *rel),
+            Purpose::IndexRow(rel) => Place::of_oid(KeyKind::Index, *rel),
         }
     }
 
@@ -168,11 +171,11 @@ impl Place {
     {
         match row {
             Row::Class { .. } => None,
-            Row::Att { rel, .. } => Some(Place::of_oid(Words::Columns, *rel)),
-            Row::Def { rel, .. } => Some(Place::of_oid(Words::Defaults, *rel)),
-            Row::Ind { table, .. } => Some(Place::of_oid(Words::Indexes, *table)),
-            Row::Con { rel, .. } => Some(Place::of_oid(Words::Constraints, *rel)),
-            Row::Trg { rel, .. } => Some(Place::of_oid(Words::Triggers, *rel)),
+            Row::Att { rel, .. } => Some(Place::of_oid(KeyKind::Columns, *rel)),
+            Row::Def { rel, .. } => Some(Place::of_oid(KeyKind::Defaults, *rel)),
+            Row::Ind { table, .. } => Some(Place::of_oid(KeyKind::Indexes, *table)),
+            Row::Con { rel, .. } => Some(Place::of_oid(KeyKind::Constraints, *rel)),
+            Row::Trg { rel, .. } => Some(Place::of_oid(KeyKind::Triggers, *rel)),
         }
     }
 
@@ -194,7 +197,7 @@ impl Place {
     {
         match what {
             ConKind::Foreign { refrel, .. } if rel.0 != refrel.0 => {
-                Some(Place::of_oid(Words::Constraints, *refrel))
+                Some(Place::of_oid(KeyKind::Constraints, *refrel))
             }
             _ => None,
         }

@@ -15,7 +15,7 @@ pub(crate) fn slot_of(slots: &[Option<Version>], number: u64) -> Option<usize>
     }
 }
 
-// The version of this number, where it stands.
+// The version of this number, if it is there.
 pub(crate) fn version_at(slots: &[Option<Version>], number: u64) -> Option<Version>
     ensures { result ≡ version_numbered slots.now number }
 {

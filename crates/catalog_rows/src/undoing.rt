@@ -1,56 +1,87 @@
-ghost use Rattle.std.specs.Prelude.{◌≡◌, ◌∷◌, [], None, map};
-ghost use Rattle.catalog_rows.specs.Store.{is_back as goes_back};
-ghost use Rattle.catalog_rows.specs.Index.{IsIndexed, IsNumbered, IsInOrder, RemovesWhere};
+ghost use Rattle.std.specs.Prelude.{◌≡◌, ◌∷◌, [], None, false, map};
+ghost use Rattle.catalog_rows.specs.Store.{has_committed as is_committed_in, is_back as goes_back};
+ghost use Rattle.catalog_rows.specs.Index.{IsIndexed, IsCurrent, IsNumbered, IsOnly};
 ghost use Rattle.catalog_rows.specs.Slots.{Settles, slot_back};
-ghost use Rattle.catalog_rows.specs.Given.{is_back_under};
+ghost use Rattle.catalog_rows.specs.Given.{if_back};
 
-use crate::index::Index;
+use crate::indexes::Indexes;
 use crate::lists::{Lists, own};
 use crate::slots::slot_of;
+use crate::store::has_committed;
 use base_types::Xid;
 use row_visibility::{Stamp, Version};
 
-// Takes back what the transaction did in its commands of this number and above.
-pub(crate) fn undo(slots: &mut [Option<Version>], lists: &mut Lists, xid: Xid, from: u32)
-    requires { IsIndexed slots.old lists.old }
+// Takes back what the transaction did in its commands of this number and above. If it is committed, versions that
+// nobody saw any more may be seen again.
+pub(crate) fn undo(
+    slots: &mut [Option<Version>],
+    lists: &mut Lists,
+    committed: &[bool],
+    xid: Xid,
+    from: u32,
+)
+    requires indexed { IsIndexed slots.old lists.old }
+    requires current { IsCurrent committed.now slots.old lists.old.indexes }
     ensures indexed { IsIndexed slots.new lists.new }
+    ensures current { IsCurrent committed.now slots.new lists.new.indexes }
     ensures slots { slots.new ≡ map (slot_back (goes_back xid from)) slots.old }
 {
-    take_back(slots, &mut lists.index, own(&lists.touched, xid), xid, from);
+    lists.indexes.whole |= has_committed(xid, committed);
+    take_back(
+        slots,
+        &mut lists.indexes,
+        own(&lists.touched, xid),
+        xid,
+        from,
+    );
 }
 
 // The same for these versions, the last first.
-fn take_back(slots: &mut [Option<Version>], index: &mut Index, list: &[u64], xid: Xid, from: u32)
-    requires { IsNumbered slots.old index.old }
-    ensures numbered { IsNumbered slots.new index.new }
+fn take_back(
+    slots: &mut [Option<Version>],
+    indexes: &mut Indexes,
+    list: &[u64],
+    xid: Xid,
+    from: u32,
+)
+    requires numbered { IsNumbered slots.old indexes.old.all }
+    requires only { IsOnly indexes.old }
+    ensures numbered { IsNumbered slots.new indexes.new.all }
+    ensures only { IsOnly indexes.new }
+    ensures current { (committed : _) → is_committed_in committed xid.0 ≡ false → IsCurrent committed slots.old indexes.old → IsCurrent committed slots.new indexes.new }
+    ensures whole { indexes.new.whole ≡ indexes.old.whole }
     ensures settles { Settles (slot_back (goes_back xid from)) list.now (None ∷ slots.old) (None ∷ slots.new) }
 {
     for turn in 0..list.len() {
-        restore(slots, index, list[list.len() - 1 - turn], xid, from);
+        restore(slots, indexes, list[list.len() - 1 - turn], xid, from);
     }
 }
 
-// The same for one version, if it stands.
-fn restore(slots: &mut [Option<Version>], index: &mut Index, number: u64, xid: Xid, from: u32)
-    requires { IsNumbered slots.old index.old }
-    ensures numbered { IsNumbered slots.new index.new }
+// The same for one version, if it is there.
+fn restore(slots: &mut [Option<Version>], indexes: &mut Indexes, number: u64, xid: Xid, from: u32)
+    requires numbered { IsNumbered slots.old indexes.old.all }
+    requires only { IsOnly indexes.old }
+    ensures numbered { IsNumbered slots.new indexes.new.all }
+    ensures only { IsOnly indexes.new }
+    ensures current { (committed : _) → is_committed_in committed xid.0 ≡ false → IsCurrent committed slots.old indexes.old → IsCurrent committed slots.new indexes.new }
+    ensures whole { indexes.new.whole ≡ indexes.old.whole }
     ensures settles { Settles (slot_back (goes_back xid from)) (number ∷ []) (None ∷ slots.old) (None ∷ slots.new) }
 {
     if let Some(at) = slot_of(slots, number) {
-        unlist(index, slots[at], number, xid, from);
+        indexes.remove_version(written_by(slots[at], xid, from), number);
         slots[at] = restored(slots[at], xid, from);
     }
 }
 
-// Takes the number of a version out of the lists, if it was added in such a command.
-fn unlist(index: &mut Index, version: Option<Version>, number: u64, xid: Xid, from: u32)
-    requires { IsInOrder index.old }
-    ensures { RemovesWhere (λ place. is_back_under (goes_back xid from) place version) number index.old index.new }
+// The version, if it was added in such a command.
+fn written_by(version: Option<Version>, xid: Xid, from: u32) -> Option<Version>
+    ensures { result ≡ if_back (goes_back xid from) version }
 {
-    if let Some(version) = version {
-        if is_back(version.by, xid, from) {
-            index.remove_row(&version.row, number);
-        }
+    let version = version?;
+    if is_back(version.by, xid, from) {
+        Some(version)
+    } else {
+        None
     }
 }
 

@@ -1,12 +1,10 @@
-ghost use Rattle.std.specs.Prelude.{◌≡◌, ◌<◌, ◌≤◌, ◌+◌, ◌++◌, ◌∷◌, [], None, false, fold, map, take, length, replicate, vec_len, vec_capacity};
+ghost use Rattle.std.specs.Prelude.{◌≡◌, ◌<◌, ◌≤◌, ◌+◌, ◌++◌, ◌∷◌, [], ℕ, None, true, false, fold, map, take, length, replicate, vec_len, vec_capacity};
 ghost use Rattle.row_visibility.specs.Seen.{seen_by};
 ghost use Rattle.catalog_rows.specs.Store.{counts, is_ended as does_end, ended_key as key_ended, added_row as row_added, end_if, option_items};
-ghost use Rattle.catalog_rows.specs.Index.{IsIndexed, IsCovered, AreNoted};
-ghost use Rattle.catalog_rows.specs.Slots.{Settles, slot_changed, new_slots, after_slots};
+ghost use Rattle.catalog_rows.specs.Index.{ends_at, IsIndexed, IsCurrent, AreNoted};
+ghost use Rattle.catalog_rows.specs.Slots.{IsIn, Settles, slot_changed, new_slots, after_slots};
 
-use crate::index::Index;
 use crate::lists::Lists;
-use crate::place::Place;
 use crate::slots::slot_of;
 use crate::store::has_committed;
 use base_types::{Change, Row, RowKey, Xid};
@@ -42,42 +40,42 @@ pub(crate) fn end_each(
     first: usize,
 )
     requires indexed { IsIndexed slots.old lists.now }
+    requires current { IsCurrent committed.now slots.old lists.now.indexes }
     requires added { slots.old ≡ take first slots.old ++ new_slots stamp changes.now }
     requires first { first ≤ length slots.old }
     requires noted { AreNoted committed.now stamp changes.now slots.old lists.now }
     ensures indexed { IsIndexed slots.new lists.now }
+    ensures current { IsCurrent committed.now slots.new lists.now.indexes }
     ensures slots { slots.new ≡ fold (after_slots committed.now stamp) (take first slots.old) changes.now }
 {
     let mut count = first;
     for change in changes {
-        end_versions(&mut slots[..count], &lists.index, committed, stamp, change);
-        count += count_added(change);
-    }
-}
-
-// Ends what a change replaces or deletes.
-fn end_versions(
-    slots: &mut [Option<Version>],
-    index: &Index,
-    committed: &[bool],
-    stamp: Stamp,
-    change: &Change,
-)
-    requires { IsCovered slots.old index.now }
-    ensures { slots.new ≡ map (slot_changed (end_if (does_end committed.now stamp change.now) stamp)) slots.old }
-{
-    if let Some(key) = ended_key(change) {
-        end_listed(
-            slots,
-            index.at(Place::of_key(&key)),
+        end_versions(
+            &mut slots[..count],
+            lists.indexes.ends(change),
             committed,
             stamp,
             change,
         );
+        count += count_added(change);
     }
 }
 
-// The same for the versions of a list.
+// Ends what a change replaces or deletes, among the listed versions.
+fn end_versions(
+    slots: &mut [Option<Version>],
+    list: &[u64],
+    committed: &[bool],
+    stamp: Stamp,
+    change: &Change,
+)
+    requires { (n : ℕ) → ends_at committed.now stamp change.now slots.old n ≡ true → IsIn n list.now }
+    ensures { slots.new ≡ map (slot_changed (end_if (does_end committed.now stamp change.now) stamp)) slots.old }
+{
+    end_listed(slots, list, committed, stamp, change);
+}
+
+// The same, without the condition.
 fn end_listed(
     slots: &mut [Option<Version>],
     list: &[u64],

@@ -1,6 +1,6 @@
 use crate::row_texts::changes_of;
 use crate::values::name;
-use base_types::{Change, Oid, Purpose, RowKey, Xid};
+use base_types::{Change, Kind, NoMemory, Oid, Purpose, Row, RowKey, Xid};
 use catalog_rows::RowStore;
 use row_visibility::{Clash, Reader, Stamp, StampState, is_own, sees, visible};
 use std::alloc::Global;
@@ -49,6 +49,10 @@ enum Call {
     Sees(&'static [u8], u32, u32),
     // Whether there is a relation for who reads what is committed.
     Finds(u32),
+    // Whether these are the numbers of the versions of a relation.
+    Numbers(u32, &'static [u64]),
+    // Whether these are the numbers of the versions of the columns of a relation.
+    Columns(u32, &'static [u64]),
 }
 
 // What a call is answered, and its number.
@@ -69,6 +73,8 @@ fn answer(alloc: Global, store: &mut RowStore, call: Call) -> Answer {
         Call::Clash(text, own) => clash(store, text, own),
         Call::Sees(text, own, command) => seen(store, text, reader(own, command)),
         Call::Finds(oid) => found(store, oid),
+        Call::Numbers(oid, wanted) => numbers(store, &Purpose::Class(Oid(oid)), wanted),
+        Call::Columns(oid, wanted) => numbers(store, &Purpose::AttList(Oid(oid)), wanted),
     }
 }
 
@@ -128,12 +134,28 @@ fn found(store: &RowStore, oid: u32) -> Answer {
     }
 }
 
+fn numbers(store: &RowStore, purpose: &Purpose, wanted: &[u64]) -> Answer {
+    let under = store.under(purpose);
+    if under == wanted {
+        DONE
+    } else {
+        ("others, so many", under.len())
+    }
+}
+
 // Calls on a store without rows, and what each is answered.
-const CALLS: [(&str, &[(Call, Answer)]); 4] = [
+const CALLS: [(&str, &[(Call, Answer)]); 8] = [
     ("two creators", TWO_CREATORS),
     ("two creators, the second first", OTHER_CREATORS),
     ("a rollback and the name again", NAME_AGAIN),
     ("a replaced row and its undo", REPLACED),
+    ("versions under a key", UNDER),
+    (
+        "a transaction replaces its own row, and an undo",
+        OWN_REPLACED,
+    ),
+    ("versions that nobody sees any more", DEAD),
+    ("an undo of what is committed", OPENED_AGAIN),
 ];
 
 const TWO_CREATORS: &[(Call, Answer)] = &[
@@ -199,6 +221,69 @@ const REPLACED: &[(Call, Answer)] = &[
     (Call::Finds(16384), ("none", 0)),
 ];
 
+const UNDER: &[(Call, Answer)] = &[
+    (Call::Write(1, 1, b"+class(16384,t,r,-)"), DONE),
+    (Call::Write(1, 2, b"=class(16384,t,r,50)"), DONE),
+    (Call::Write(1, 3, b"+class(16385,u,r,-)"), DONE),
+    (Call::Numbers(16384, &[1, 2]), DONE),
+    (Call::Numbers(16385, &[3]), DONE),
+    (Call::Numbers(16386, &[]), DONE),
+    (Call::Columns(16384, &[]), DONE),
+    (
+        Call::Write(2, 1, b"-class(16385) +att(16384,1,a,int4,-1,l)"),
+        DONE,
+    ),
+    (Call::Numbers(16385, &[3]), DONE),
+    (Call::Columns(16384, &[4]), DONE),
+];
+
+const OWN_REPLACED: &[(Call, Answer)] = &[
+    (Call::Write(1, 1, b"+class(16384,t,r,-)"), DONE),
+    (Call::Write(1, 2, b"=class(16384,u,r,-)"), DONE),
+    (Call::Sees(b"u", 1, 3), ("rows", 1)),
+    (Call::Undo(1, 2), DONE),
+    (Call::Numbers(16384, &[1]), DONE),
+    (Call::Sees(b"u", 1, 3), ("rows", 0)),
+    (Call::Sees(b"t", 1, 3), ("rows", 1)),
+    // a number isn't used again
+    (Call::Write(1, 4, b"=class(16384,u,r,-)"), DONE),
+    (Call::Numbers(16384, &[1, 3]), DONE),
+    (Call::Undo(1, 1), DONE),
+    (Call::Numbers(16384, &[]), DONE),
+    (Call::Sees(b"t", 1, 9), ("rows", 0)),
+];
+
+const DEAD: &[(Call, Answer)] = &[
+    (Call::Write(1, 1, b"+class(16384,t,r,-)"), DONE),
+    (Call::Commit(1), DONE),
+    (Call::Write(2, 1, b"=class(16384,u,r,-)"), DONE),
+    (Call::Commit(2), DONE),
+    (Call::Numbers(16384, &[1, 2]), DONE),
+    (Call::Sees(b"t", 0, 9), ("rows", 0)),
+    (Call::Sees(b"u", 0, 9), ("rows", 1)),
+    (Call::Clash(b"t", 0), ("none", 0)),
+    (Call::Write(3, 1, b"=class(16384,t,r,-)"), DONE),
+    (Call::Undo(3, 1), DONE),
+    (Call::Finds(16384), ("found", 16384)),
+    (Call::Write(4, 1, b"-class(16384)"), DONE),
+    (Call::Commit(4), DONE),
+    (Call::Numbers(16384, &[1, 2]), DONE),
+    (Call::Finds(16384), ("none", 0)),
+];
+
+const OPENED_AGAIN: &[(Call, Answer)] = &[
+    (Call::Write(1, 1, b"+class(16384,t,r,-)"), DONE),
+    (Call::Commit(1), DONE),
+    (Call::Write(2, 1, b"=class(16384,u,r,-)"), DONE),
+    (Call::Commit(2), DONE),
+    (Call::Sees(b"t", 0, 9), ("rows", 0)),
+    (Call::Undo(2, 1), DONE),
+    (Call::Numbers(16384, &[1]), DONE),
+    (Call::Sees(b"t", 0, 9), ("rows", 1)),
+    (Call::Clash(b"t", 0), ("row", 16384)),
+    (Call::Clash(b"u", 0), ("none", 0)),
+];
+
 #[test]
 fn a_store_answers_its_calls(rt: HostRuntime) {
     for (name, calls) in CALLS {
@@ -208,4 +293,56 @@ fn a_store_answers_its_calls(rt: HostRuntime) {
             assert!(rt; is_so, "{name}");
         }
     }
+}
+
+const MANY: u32 = 100_000;
+
+// A transaction writes as many versions, of the tables from this one on, each the next by the step.
+fn insert_many(store: &mut RowStore, step: u32) -> Result<(), NoMemory> {
+    for i in 0..MANY {
+        let oid = Oid(i.wrapping_mul(step).wrapping_add(16384));
+        let row = Row::Class {
+            oid,
+            name: name(b"t"),
+            kind: Kind::Table,
+            fill: None,
+        };
+        store.apply(Xid(1), 1, &[Change::Insert(row)])?;
+    }
+    Ok(())
+}
+
+// How many versions of a table there are, or nothing where memory was out.
+fn count_after(store: &mut RowStore, step: u32, oid: u32) -> Option<usize> {
+    match insert_many(store, step) {
+        Ok(()) => Some(store.under(&Purpose::Class(Oid(oid))).len()),
+        Err(_) => None,
+    }
+}
+
+// How many versions of a table are left after the transaction's last command, or all that it did, is taken back.
+fn count_left(store: &mut RowStore, from: u32, oid: u32) -> usize {
+    store.undo(Xid(1), from);
+    store.under(&Purpose::Class(Oid(oid))).len()
+}
+
+// Many versions of one table, written and taken back.
+fn many_of_one(store: &mut RowStore) -> bool {
+    count_after(store, 0, 16384) == Some(100_000)
+        && count_left(store, 2, 16384) == 100_000
+        && count_left(store, 1, 16384) == 0
+}
+
+// One version of each of many tables, written, found and taken back.
+fn one_of_many(store: &mut RowStore) -> bool {
+    count_after(store, 1, 116_383) == Some(1)
+        && numbers(store, &Purpose::Class(Oid(116_383)), &[100_000]) == DONE
+        && seen(store, b"u", reader(1, 2)) == ("rows", 0)
+        && count_left(store, 1, 116_383) == 0
+}
+
+#[test]
+fn many_versions_and_many_keys(rt: HostRuntime) {
+    assert!(rt; many_of_one(&mut RowStore::new(rt.alloc())));
+    assert!(rt; one_of_many(&mut RowStore::new(rt.alloc())));
 }
