@@ -79,10 +79,6 @@ ends_next s nexts.Publish ends = ends
 ends_next s (nexts.TakeBack from) ends = ends
 ends_next s (nexts.Release from) ends = ends
 
--- after the last command
-pub after_all : (s : Backend) (next : Next) (first : ℕ) → slice_get s.progress.commands s.progress.finished ≡ None → end_of_running s.progress.running ≡ TakesBack first → ComesOfBack first s.progress next → IsNextOf s next
-after_all s next first past end comes = ends_next s next (AfterAll past (ap (is_next_of_end s.progress (end_event s.progress next)) end ∙ comes))
-
 -- in a command that has come out and owes nothing, at rest
 pub out_owes : (p : Progress) (command : Command) → IsFree p command → lacks_any p ≡ false → owes_nothing command p ≡ true
 out_owes p command free lacks = λ i. is_empty (free.first i) && is_empty (owed_at (free.due i)) && not (lacks i)
@@ -224,41 +220,3 @@ build_next p command scan free goes is = record {
   where
     next : IsBuildNext p.kept p.opened scan
     next = build_some p.kept p.opened scan is
-
--- a command that has failed has come out, and lacks nothing
-pub failed_out : (p : Progress) → has_failed p ≡ true → (is_out p ≡ true) × (lacks_any p ≡ false)
-failed_out p failed = (by_outcome (outcome_of (plan_at p.exec)) failed, ap (λ t. not t && (lacks_opened p.kept p.opened || not (is_empty (act_missing p (plan_at p.exec))))) failed)
-  where
-    by_outcome : (o : Outcome) → elim o as (λ x. Bool) [ Badly ↦ true | other ↦ false ] ≡ true → is_settled o ≡ true
-    by_outcome Badly is = refl
-    by_outcome Well is = absurd (cc is)
-    by_outcome Unsettled is = absurd (cc is)
-
--- where its last entry asks for nothing and no first look is owed
-pub is_free : (p : Progress) (command : Command) (owes : Bool) → slice_get p.commands p.finished ≡ Some command → p.due ≡ dues.Nothing → not owes ≡ is_empty (owed_first p command) → owes ≡ false → IsFree p command
-is_free p command owes at due is none = record { at = at; due = due; first = empty_list (owed_first p command) (sym is ∙ ap not none) }
-
-pub look_first : (p : Progress) (command : Command) (owes : Bool) → slice_get p.commands p.finished ≡ Some command → p.due ≡ dues.Nothing → not owes ≡ is_empty (owed_first p command) → owes ≡ true → OwesLookNow p
-look_first p command owes at due is some = record { command = command; at = at; owes = inr (due, λ none. absurd (both_ways _ (sym is ∙ ap not some) (ap (λ l. is_empty l) none))) }
-
--- a command whose plan is done
-pub done_out : (p : Progress) → want_of (plan_at p.exec) ≡ wants.Done → has_failed p ≡ false → lacks_opened p.kept p.opened ≡ false → (is_out p ≡ true) × (lacks_any p ≡ false)
-done_out p want goes whole = by_plan (plan_at p.exec) refl want
-  where
-    by_plan : (q : Plan) → plan_at p.exec ≡ q → want_of q ≡ wants.Done → (is_out p ≡ true) × (lacks_any p ≡ false)
-    by_plan Done at is = (ap (λ x. is_settled (outcome_of x)) at, λ i. not (goes i) && (whole i || not (is_empty (act_missing p (at i)))))
-    by_plan NotBuilt at is = absurd (stage_built p.exec at)
-    by_plan (Fails error) at is = absurd (cc is)
-    by_plan (Absent name) at is = absurd (cc is)
-    by_plan (Do (Lookup name mode) rest) at is = absurd (cc is)
-    by_plan (Do act rest) at is = absurd (cc is)
-
--- a write comes next where no descriptor lacks a scan
-pub write_next : (p : Progress) (command : Command) → IsFree p command → want_of (plan_at p.exec) ≡ wants.Write → has_failed p ≡ false → lacks_opened p.kept p.opened ≡ false → IsWriteNext p
-write_next p command free want goes whole = record { command = command; free = free; owes = out_owes p command free (by_plan (plan_at p.exec) refl want); wants = want }
-  where
-    by_plan : (q : Plan) → plan_at p.exec ≡ q → want_of q ≡ wants.Write → lacks_any p ≡ false
-    by_plan (Do (Write draft) rest) at is = λ i. not (goes i) && (whole i || not (is_empty (act_missing p (at i))))
-    by_plan (Do (Lookup name mode) rest) at is = absurd (cc is)
-    by_plan (Do act rest) at is = absurd (cc is)
-    by_plan q at is = absurd (cc is)
