@@ -1,5 +1,5 @@
 -- Another backend's entry changes nothing of where a backend is.
-use Rattle.std.proofs.Common.{◌≡◌, ◌∙◌, ◌==◌, ℕ, Bool, true, false, Option, Some, None, List, [], ◌∷◌, ◌++◌, sym, ap, subst, length, drop, All, get_or, refl}
+use Rattle.std.proofs.Common.{◌≡◌, ◌∙◌, ◌==◌, ℕ, Bool, true, false, Option, Some, None, List, [], ◌∷◌, ◌++◌, sym, ap, subst, drop, All, get_or, refl}
 use Rattle.std.specs.Option.{option_map_or}
 use Rattle.base_types.specs.Scenario.{Scenario}
 use Rattle.base_types.specs.declared.scan.Purpose.TheVariants as scans
@@ -7,14 +7,11 @@ use Rattle.ddl_effect.specs.Plans.{Plan, Absent, Do, Lookup}
 use Rattle.ddl_effect.specs.Stages.{plan_at}
 use Rattle.ddl_effect.specs.Commands.{commands_of}
 use Rattle.history_model.specs.Orderly.{MayComeNext}
-use Rattle.history_model.specs.Read.{place_read}
 use Rattle.history_model.proofs.Reading.{life_of-other, place_read-other}
-use Rattle.cacheless.specs.Facts.{facts_of}
 use Rattle.cacheless.specs.Lines.{lines_from, lines_of_backend}
 use Rattle.cacheless.specs.Session.{Session}
 use Rattle.cacheless.specs.Sessions.{session_of}
-use Rattle.cacheless.specs.Settled.{finished_as, settled}
-use Rattle.cacheless.specs.State.{session_at}
+use Rattle.cacheless.specs.Settled.{settled}
 use Rattle.cacheless.specs.TableWrites.{WritesTables}
 use Rattle.cacheless.proofs.JudgedLines.{session_placed, finished_lines-more, line_stays}
 use Rattle.cacheless.proofs.Others.{holds-other, not_started-other}
@@ -22,7 +19,7 @@ use Rattle.cacheless.proofs.Reading.{facts_of-other, session_of-other}
 use Rattle.cacheless.proofs.StaysOnCourse.{has_written-other}
 use Rattle.backend_core.specs.Types.{Entry, KeptScan, Life, Backend}
 use Rattle.backend_core.specs.declared.life.Life.TheVariants as lives
-use Rattle.backend_core.specs.Agrees.{IsPlayed, KeptAt, PlaceFits, Keeps, command_at, AwaitsEntry, HasNotJoined, HasLeft, Stands}
+use Rattle.backend_core.specs.Agrees.{IsPlayed, KeptAt, PlaceFits, command_at, AwaitsEntry, HasNotJoined, HasLeft, Stands}
 use Rattle.backend_core.specs.Fits.{Fits}
 use Rattle.backend_core.proofs.Own.{waiting, waiting_is}
 
