@@ -81,6 +81,9 @@ reserved_write s p same next = subst IsWriteNext (sym same.is)
     (subst (λ l. IsWriteNext (record s { locks = record { items = l; room = p.locks.room } })) (sym same.locks_are)
     (record { command = next.command; free = record { at = next.free.at; due = next.free.due; first = next.free.first }; owes = next.owes; wants = next.wants }))
 
+pub reserved_id : (s p : Progress) → IsLockedIn s.locks.items s p → p.id ≡ s.id
+reserved_id s p same = ap (λ (x : Progress). x.id) same.is
+
 -- what another form of the backend entered it entered
 pub alike_enters : (scenario : Scenario) (old new : List Entry) (had has : ℕ → ℕ) (was alike now : Backend) → alike.progress.id ≡ was.progress.id → Enters scenario old new had has alike now → Enters scenario old new had has was now
 alike_enters scenario old new had has was alike now same enters = record { makes = subst (MakesEntry scenario old new had has) same enters.makes; id = enters.id ∙ same; agrees = enters.agrees }

@@ -1,26 +1,25 @@
 -- A commit becomes visible, and publishes its messages.
-use Rattle.std.proofs.Common.{◌≡◌, ◌≤◌, ◌+◌, ◌∙◌, ◌==◌, ◌∷◌, ◌++◌, ℕ, Bool, true, false, Option, Some, None, List, [], refl, sym, ap, subst, length, drop, take, min, is_some, All, arith}
-use Rattle.std.specs.Option.{option_map, option_map_or, unwrap_or}
-use Rattle.std.proofs.lemmas.Bool.{both_ways, eq-eqb}
+use Rattle.std.proofs.Common.{◌≡◌, ◌+◌, ◌∙◌, ◌==◌, ℕ, Bool, true, false, Option, Some, None, List, [], refl, sym, ap, subst, length, take, is_some, All}
+use Rattle.std.specs.Option.{option_map_or, unwrap_or}
+use Rattle.std.proofs.lemmas.Bool.{eq-eqb}
 use Rattle.std.proofs.lemmas.List.{length-take, take_min}
 use Rattle.event_kinds.specs.declared.entry.Event.TheVariants as events
-use Rattle.inval_messages.specs.Lists.{Written, has_write_from, unsent_after}
+use Rattle.inval_messages.specs.Lists.{Written, unsent_after}
 use Rattle.history_model.specs.Drawn.{next_oid}
 use Rattle.history_model.specs.Legal.{FollowsVisible, FollowsGone}
-use Rattle.history_model.specs.Lives.{last_event_of}
 use Rattle.history_model.specs.Sent.{unsent_in, unsent_of}
-use Rattle.history_model.specs.Transactions.{Running, begun, has_xid, is_visible, running_transaction_of}
+use Rattle.history_model.specs.Transactions.{Running, begun, has_xid, is_visible}
 use Rattle.seg_calls.specs.Calls.{entry_of, ArePublishedNext, MayCall, Appends}
 use Rattle.cacheless.specs.declared.progress.OwnTransaction.{OwnTransaction}
-use Rattle.cacheless.specs.Ends.{Ends, Commits, TakesBack, xid_of}
-use Rattle.cacheless.specs.Facts.{Facts, facts_of, facts_by}
+use Rattle.cacheless.specs.Ends.{Ends, Commits, TakesBack}
+use Rattle.cacheless.specs.Facts.{Facts, facts_of}
 use Rattle.cacheless.specs.Holds.{HasEntered}
 use Rattle.cacheless.specs.OnCourse.{AllOnCourse}
 use Rattle.cacheless.specs.Owed.{Owes, owed_after, owed_of, builds_owed}
-use Rattle.cacheless.specs.Plays.{MayPlayIn, IsEnd}
+use Rattle.cacheless.specs.Plays.{MayPlayIn}
 use Rattle.cacheless.specs.Session.{Session, Well, outcome_of}
 use Rattle.cacheless.specs.Sessions.{ends_command}
-use Rattle.cacheless.specs.State.{running_of, published_at, lists_at, unsent_at}
+use Rattle.cacheless.specs.State.{running_of, lists_at, unsent_at}
 use Rattle.cacheless.proofs.Releases.{owes_none_built}
 use Rattle.backend_core.specs.Types.{Xid, Command, Scenario, Entry, Event, Message, OwnLock, Progress, Backend}
 use Rattle.backend_core.specs.Agrees.{IsPlayed, KeptAt, command_at, AwaitsEntry}

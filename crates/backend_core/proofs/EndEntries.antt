@@ -1,42 +1,39 @@
 -- The entries of an end of a backend that waits.
-use Rattle.std.proofs.Common.{◌≡◌, ◌≤◌, ◌<◌, ◌+◌, ◌∙◌, ◌&&◌, ◌∷◌, ◌++◌, ◌⊎◌, inl, inr, ℕ, Bool, true, false, not, Option, Some, None, List, [], refl, sym, ap, subst, length, drop, slice_get, is_some, All, arith}
+use Rattle.std.proofs.Common.{◌≡◌, ◌≤◌, ◌+◌, ◌∙◌, ◌&&◌, ℕ, Bool, true, false, Option, Some, None, List, [], refl, sym, ap, subst, length, drop, is_some, All, arith}
 use Rattle.std.specs.Option.{option_map_or}
 use Rattle.std.proofs.lemmas.Bool.{both_ways}
 use Rattle.std.proofs.lemmas.Option.{slice_get_within, get_or_from_slice_get}
 use Rattle.event_kinds.specs.declared.entry.Event.TheVariants as events
-use Rattle.ddl_effect.specs.Commands.{commands_of}
-use Rattle.ddl_effect.specs.Stages.{plan_at}
 use Rattle.history_model.specs.Drawn.{next_oid}
 use Rattle.history_model.specs.Lapped.{FetchesFrom}
-use Rattle.history_model.specs.Legal.{FollowsVisible, FollowsGone, AllowsEvent, MayFollow}
-use Rattle.history_model.specs.Lives.{Alive, FollowsLife, life_by, life_of, last_event_of}
+use Rattle.history_model.specs.Legal.{FollowsVisible, FollowsGone, AllowsEvent}
+use Rattle.history_model.specs.Lives.{Alive, FollowsLife, life_by, last_event_of}
 use Rattle.history_model.specs.Read.{is_scan_of}
-use Rattle.history_model.specs.Transactions.{Running, is_visible, running_transaction_of}
+use Rattle.history_model.specs.Transactions.{is_visible, running_transaction_of}
 use Rattle.history_model.specs.Writes.{is_empty}
 use Rattle.seg_calls.specs.Calls.{entry_of, MayCall, Appends}
 use Rattle.cacheless.specs.declared.progress.OwnTransaction.{OwnTransaction}
-use Rattle.cacheless.specs.Ends.{End, Ends, Commits, TakesBack}
-use Rattle.cacheless.specs.Facts.{Facts, facts_of, facts_by}
+use Rattle.cacheless.specs.Facts.{facts_of, facts_by}
 use Rattle.cacheless.specs.Holds.{HasEntered, with_own}
-use Rattle.cacheless.specs.May.{is_next_of_back, is_next_of_end, owes_nothing, may_end_at, may_end_last, may_play_at, may_last_at, may_play_now}
+use Rattle.cacheless.specs.May.{is_next_of_back, is_next_of_end, owes_nothing, may_end_at, may_play_at, may_last_at, may_play_now}
 use Rattle.cacheless.specs.OnCourse.{AllOnCourse}
 use Rattle.cacheless.specs.Plays.{MayPlayIn}
 use Rattle.cacheless.specs.Runs.{runs}
 use Rattle.cacheless.specs.Schedule.{LooksTruly}
-use Rattle.cacheless.specs.Session.{Session, number_of, outcome_of, is_settled}
+use Rattle.cacheless.specs.Session.{Session}
 use Rattle.cacheless.specs.Sessions.{ends_command, noted, entered}
-use Rattle.cacheless.specs.State.{owed_at, has_write_since, is_out, end_of_running, session_at}
+use Rattle.cacheless.specs.State.{owed_at, has_write_since, is_out, end_of_running}
 use Rattle.cacheless.proofs.Deciding.{holds_decides}
 use Rattle.cacheless.proofs.NextOnCourse.{entered_noted}
 use Rattle.cacheless.proofs.OwnEntries.{IsNoted}
 use Rattle.cacheless.proofs.Tests.{both_true}
-use Rattle.backend_core.specs.Types.{Purpose, Command, Scenario, Entry, Event, KeptScan, Progress, Backend}
+use Rattle.backend_core.specs.Types.{Purpose, Command, Scenario, Entry, Event, Progress, Backend}
 use Rattle.backend_core.specs.Agrees.{IsPlayed, KeptAt, command_at, AwaitsEntry}
 use Rattle.backend_core.specs.Fits.{Fits}
 use Rattle.backend_core.specs.Steps.{EndsNext, InCommand, AfterAll, Enters}
 use Rattle.backend_core.proofs.EndsNow.{EndsBy, ends_by}
 use Rattle.backend_core.proofs.Entered.{fits_at, keeps_still}
-use Rattle.backend_core.proofs.Own.{waiting, waiting_course, AtEnd, own_enters, end_left}
+use Rattle.backend_core.proofs.Own.{waiting, AtEnd, own_enters, end_left}
 
 may_end : (next : ℕ) (command : Command) (p : Progress) (event : Event) → ends_command event ≡ true → may_end_at command p event ≡ true → may_play_at next command p event ≡ true
 may_end next command p (events.Visible xid) ends may = may

@@ -1,14 +1,13 @@
 -- What the choice keeps with an entry of an end.
-use Rattle.std.proofs.Common.{◌≡◌, ◌≤◌, ◌+◌, ◌∙◌, ◌==◌, ◌&&◌, ◌||◌, ◌⊎◌, inl, inr, ℕ, Bool, true, false, not, Option, Some, None, List, [], ◌∷◌, ◌++◌, cond, refl, sym, ap, subst, length, map, is_none, is_some, if◌then◌else◌, arith}
+use Rattle.std.proofs.Common.{◌≡◌, ◌≤◌, ◌+◌, ◌∙◌, ◌==◌, ◌&&◌, ◌||◌, inl, inr, ℕ, Bool, true, false, Option, Some, None, List, [], ◌∷◌, ◌++◌, cond, refl, sym, ap, subst, map, is_none, is_some, if◌then◌else◌, arith}
 use Rattle.std.specs.Option.{option_map, option_map_or}
-use Rattle.std.specs.Prelude.{nat_le, nat_lt}
+use Rattle.std.specs.Prelude.{nat_lt}
 use Rattle.std.proofs.Math.Bool.{and-false}
 use Rattle.std.proofs.lemmas.Bool.{both_ways, eq-eqb, le-leb, lt-leb, ltb-true, false_from_ne_true}
 use Rattle.base_types.specs.declared.command.Command.TheVariants as commands
 use Rattle.event_kinds.specs.declared.entry.Event.TheVariants as events
 use Rattle.inval_messages.specs.Lists.{Written, has_write_from, lists_before}
 use Rattle.ddl_effect.specs.Blocks.{Block, Outside, Inside, Failed}
-use Rattle.ddl_effect.specs.Commands.{plan_of}
 use Rattle.ddl_effect.specs.Plans.{Plan, Done, Fails, Absent, NotBuilt, Do}
 use Rattle.history_model.specs.Sent.{ends_transaction}
 use Rattle.history_model.specs.Transactions.{Running, begun, after_release, is_visible}
@@ -18,10 +17,10 @@ use Rattle.cacheless.specs.Facts.{Facts}
 use Rattle.cacheless.specs.Owed.{Owes, OwesLook, OwesScan, owed_at_start, owed_after, begins, builds_owed, act_owed, scans_owed, owed_of}
 use Rattle.cacheless.specs.Plays.{started_in}
 use Rattle.cacheless.specs.Runs.{runs}
-use Rattle.cacheless.specs.Session.{Session, Outcome, Well, Badly, Unsettled, none_open, number_of, outcome_of, is_settled}
+use Rattle.cacheless.specs.Session.{Session, Outcome, Well, Badly, Unsettled, number_of, outcome_of, is_settled}
 use Rattle.backend_core.specs.Types.{Purpose, Command, Event, OwnLock}
-use Rattle.backend_core.specs.Fits.{looks_due, LooksFit, first_at, RunsAlone, RunsBy, TransactionFits, OnCommit, OnTakingBack, IsPast, Fits}
-use Rattle.backend_core.proofs.EndsNow.{end_by, EndsBy, IsCommit, end_from, first_begun, end_first, over_after}
+use Rattle.backend_core.specs.Fits.{looks_due, first_at, RunsBy, TransactionFits, OnCommit, OnTakingBack, Fits}
+use Rattle.backend_core.proofs.EndsNow.{end_by, EndsBy, IsCommit, end_from, end_first, over_after}
 
 -- the session after an entry of an end, with its locks
 abbrev pub later_at : Session → List OwnLock → ℕ → Session
@@ -196,11 +195,6 @@ none_from from (w ∷ lists) = by_test (nat_lt w.command from) refl (none_from f
     by_test : (t : Bool) → nat_lt w.command from ≡ t → has_write_from from (lists_before from lists) ≡ false → has_write_from from (cond t (w ∷ lists_before from lists) (lists_before from lists)) ≡ false
     by_test true below rest = ap (λ t. t || has_write_from from (lists_before from lists)) (lt-leb from w.command (ltb-true w.command from below)) ∙ rest
     by_test false below rest = rest
-
--- and were there before
-pub some_before : (from : ℕ) (lists : List Written) → has_write_from 0 (lists_before from lists) ≡ true → has_write_from 0 lists ≡ true
-some_before from [] is = is
-some_before from (w ∷ lists) is = ap (λ t. t || has_write_from 0 lists) (le-leb 0 w.command (omega arith))
 
 -- the transaction has ended
 pub ended_running : (own : Option Running) (n from : ℕ) → option_map_or (λ t. t.first) own n ≡ from → after_release from (begun n own) ≡ None

@@ -1,5 +1,5 @@
 -- A backend leaves.
-use Rattle.std.proofs.Common.{◌≡◌, ◌≤◌, ◌+◌, ◌∙◌, ◌∷◌, ◌++◌, ◌==◌, ℕ, Bool, true, false, Option, Some, None, List, [], refl, sym, ap, subst, length, drop, slice_get, is_some, arith, All, get_or}
+use Rattle.std.proofs.Common.{◌≡◌, ◌+◌, ◌∙◌, ◌∷◌, ◌++◌, ℕ, Option, Some, None, List, [], refl, sym, ap, subst, length, slice_get, is_some, arith, All, get_or}
 use Rattle.std.specs.Option.{option_map_or}
 use Rattle.std.proofs.lemmas.Bool.{eq-eqb, both_ways}
 use Rattle.event_kinds.specs.declared.entry.Event.TheVariants as events
@@ -12,26 +12,25 @@ use Rattle.history_model.specs.Transactions.{is_visible}
 use Rattle.history_model.proofs.Prefixes.{EachEntry-more}
 use Rattle.history_model.proofs.Reading.{life_of-own}
 use Rattle.seg_calls.specs.Calls.{entry_of, MayCall, Appends}
-use Rattle.cacheless.specs.Facts.{Facts, facts_of}
-use Rattle.cacheless.specs.Holds.{HasEntered, with_own}
-use Rattle.cacheless.specs.Lines.{lines_from, lines_of_backend}
+use Rattle.cacheless.specs.Facts.{facts_of}
+use Rattle.cacheless.specs.Holds.{HasEntered}
+use Rattle.cacheless.specs.Lines.{lines_from}
 use Rattle.cacheless.specs.OnCourse.{AllOnCourse}
 use Rattle.cacheless.specs.Plays.{MayPlayIn}
 use Rattle.cacheless.specs.Session.{Session}
-use Rattle.cacheless.specs.Sessions.{noted, entered, session_of}
+use Rattle.cacheless.specs.Sessions.{entered, session_of}
 use Rattle.cacheless.specs.Settled.{settled}
 use Rattle.cacheless.specs.State.{running_of, session_at}
 use Rattle.cacheless.proofs.CommandEnds.{left_none}
 use Rattle.cacheless.proofs.JudgedLines.{finished_lines-more}
-use Rattle.cacheless.proofs.NextOnCourse.{entered_noted}
 use Rattle.cacheless.proofs.ReadPlaces.{place_read-more}
-use Rattle.backend_core.specs.Types.{Event, KeptScan, Scenario, Entry, Progress, Backend}
+use Rattle.backend_core.specs.Types.{Event, Scenario, Entry, Progress, Backend}
 use Rattle.backend_core.specs.declared.life.Life.TheVariants as lives
 use Rattle.backend_core.specs.Agrees.{IsPlayed, command_at, KeptAt, AwaitsEntry, HasLeft}
 use Rattle.backend_core.specs.Coherent.{IsCoherent}
-use Rattle.backend_core.specs.Steps.{MakesEntry, Steps}
+use Rattle.backend_core.specs.Steps.{Steps}
 use Rattle.backend_core.proofs.Coherent.{stands_coherent}
-use Rattle.backend_core.proofs.Own.{waiting, waiting_is, OwnEntry, own_makes}
+use Rattle.backend_core.proofs.Own.{waiting, waiting_is, own_makes}
 
 -- it runs no transaction then
 none_runs : (scenario : Scenario) (seen : List Entry) (s : Backend) → AwaitsEntry scenario seen s → s.progress.running ≡ None → (facts_of seen s.progress.id).running ≡ None

@@ -15,7 +15,7 @@ use Rattle.history_model.specs.Held.{held_of}
 use Rattle.history_model.specs.Transactions.{begun}
 use Rattle.seg_calls.specs.Calls.{entry_of, MayRequest, Appends, Locks}
 use Rattle.cacheless.specs.Facts.{Facts, facts_of, facts_by}
-use Rattle.cacheless.specs.Holds.{Rests, HasEntered, with_own}
+use Rattle.cacheless.specs.Holds.{HasEntered, with_own}
 use Rattle.cacheless.specs.May.{owes_nothing, names_relation, is_lock_at, may_play_at, may_last_at}
 use Rattle.cacheless.specs.OnCourse.{AllOnCourse}
 use Rattle.cacheless.specs.Owed.{owed_of}
@@ -24,7 +24,7 @@ use Rattle.cacheless.specs.Session.{Session, number_of, outcome_of, is_settled}
 use Rattle.cacheless.specs.Sessions.{entered}
 use Rattle.cacheless.specs.Settled.{if_locked, looked_up}
 use Rattle.cacheless.specs.Silently.{gives_next}
-use Rattle.cacheless.specs.State.{owed_at, IsLockedIn}
+use Rattle.cacheless.specs.State.{owed_at}
 use Rattle.cacheless.proofs.AloneLocks.{session_holds}
 use Rattle.cacheless.proofs.NextKeeps as keeping
 use Rattle.cacheless.proofs.SameRows.{oid_decides}
@@ -33,7 +33,7 @@ use Rattle.backend_core.specs.Agrees.{IsPlayed, command_at, KeptAt, AwaitsEntry}
 use Rattle.backend_core.specs.Fits.{looks_due, LooksFit}
 use Rattle.backend_core.specs.Steps.{IsLockNext, Enters}
 use Rattle.backend_core.proofs.ActsRun.{act_runs}
-use Rattle.backend_core.proofs.Alike.{reserved_awaits, reserved_lock, alike_enters}
+use Rattle.backend_core.proofs.Alike.{alike_enters}
 use Rattle.backend_core.proofs.Chosen.{Acts, may_request, now_plays}
 use Rattle.backend_core.proofs.Entered.{fits_at, keeps_still}
 use Rattle.backend_core.proofs.Failing.{IsActing, held_shows, failed_enters}
@@ -76,6 +76,12 @@ locks_act facts Done rel mode asks = absurd asks
 locks_act facts (Fails error) rel mode asks = absurd asks
 locks_act facts (Absent name) rel mode asks = absurd asks
 locks_act facts NotBuilt rel mode asks = absurd asks
+
+-- the entry of a lock that is refused, by what the call answered
+pub held_appends : (old new : List Entry) (had has : ℕ → ℕ) (b c : ℕ) (rel : Oid) (mode : Mode) (refusal : LockRefusal) (holder of : ℕ) (held under : Mode) → refusal ≡ Conflict holder held → of ≡ holder → under ≡ held → Locks old new had has b c rel mode (Err refusal)
+    → Appends old new had has (entry_of b c (events.LockHeld rel mode of under))
+held_appends old new had has b c rel mode refusal holder of held under is holder_is held_is locks =
+    subst (λ e. Appends old new had has (entry_of b c e)) (λ i. events.LockHeld rel mode (sym holder_is i) (sym held_is i)) (subst (λ r. Locks old new had has b c rel mode (Err r)) is locks)
 
 -- all that a lock rests on
 module _ (scenario : Scenario) (old : List Entry) (was : Backend) (waits : AwaitsEntry scenario old was) (played : IsPlayed scenario old) (courses : AllOnCourse scenario old) (rel : Oid) (mode : Mode) (next : IsLockNext was.progress rel mode) where
@@ -124,18 +130,18 @@ module _ (scenario : Scenario) (old : List Entry) (was : Backend) (waits : Await
   pub lock_drawn : rel.0 < next_oid old
   lock_drawn = keeping.lock_drawn old was.progress.id s next.command rel mode played.sound (follows scenario old was waits courses next.command next.free.at) asks.0 asks.1
 
-  -- a lock that is granted
-  module _ (new : List Entry) (had has : ℕ → ℕ) (p : Progress) (kept : p.kept ≡ was.progress.kept) where
+  -- a lock that is granted, to a backend that had the room for it made
+  module _ (first : Backend) (id : was.progress.id ≡ first.progress.id) (new : List Entry) (had has : ℕ → ℕ) (p : Progress) (kept : p.kept ≡ was.progress.kept) where
     pub granted_enters : HasEntered scenario old was.progress (events.LockOk rel mode) waits.rests p → p.given_at ≡ was.progress.given_at
-        → Appends old new had has (entry_of was.progress.id (was.progress.finished + 1) (events.LockOk rel mode)) → Enters scenario old new had has was (record was { progress = p; answer = None })
-    granted_enters goes given_at appends =
+        → Appends old new had has (entry_of was.progress.id (was.progress.finished + 1) (events.LockOk rel mode)) → Enters scenario old new had has first (record was { progress = p; answer = None })
+    granted_enters goes given_at appends = alike_enters scenario old new had has first was (record was { progress = p; answer = None }) id (
         own_enters scenario old new had has was (record was { progress = p; answer = None }) event waits played courses (record { plays = plays event next.may; truly = tt; queue = tt }) goes
         (keeps_still scenario old was event waits p goes (record was { progress = p; answer = None }) refl refl (λ scan. refl) (subst (All (KeptAt old was.progress.id)) (sym kept) waits.keeps.kept)
         (ap (λ (x : Session). x.left) goes.session) (ap (λ (x : Session). x.read) goes.session) given_at)
         (fits_at scenario old was event waits p goes was.looked was.looked_to_build
         (inside_fits scenario old was waits courses next.command next.free.at later now was.looked was.looked_to_build same refl (λ from is. cc is) (record { blocks = refl; finished = refl; blocked = refl; ended = refl; left = λ is there. refl }) acting.runs (Acts acting.unsettled)
         (record { enough = omega (arith, before.enough, ap looks_due acting.owed, started); within = omega (arith, before.within, ap looks_due acting.owed, started) })))
-        refl (Inside refl refl) (λ inside. refl) appends
+        refl (Inside refl refl) (λ inside. refl) appends)
       where
         event : Event
         event = events.LockOk rel mode
@@ -151,43 +157,6 @@ module _ (scenario : Scenario) (old : List Entry) (was : Backend) (waits : Await
 
     -- and one that is refused
     pub refused_enters : (holder : ℕ) (held : Mode) → HasEntered scenario old was.progress (events.LockHeld rel mode holder held) waits.rests p
-        → Appends old new had has (entry_of was.progress.id (was.progress.finished + 1) (events.LockHeld rel mode holder held)) → Enters scenario old new had has was (record was { progress = p; answer = None })
-    refused_enters holder held goes appends = failed_enters scenario old new had has was p (events.LockHeld rel mode holder held) (errors.Locked rel holder held) next.command waits played courses acting
-        (held_shows scenario old was s rel mode holder held) (plays (events.LockHeld rel mode holder held) next.may) goes kept appends
-
--- the same once there is room for the lock
-module _ (scenario : Scenario) (old : List Entry) (was : Backend) (room : Progress) (same : IsLockedIn was.progress.locks.items was.progress room) (waits : AwaitsEntry scenario old was) (played : IsPlayed scenario old) (courses : AllOnCourse scenario old) (rel : Oid) (mode : Mode) (next : IsLockNext was.progress rel mode) where
-  abbrev roomy : Backend
-  roomy = record was { progress = room }
-
-  pub roomy_awaits : AwaitsEntry scenario old roomy
-  roomy_awaits = reserved_awaits scenario old was room same waits
-
-  roomy_next : IsLockNext room rel mode
-  roomy_next = reserved_lock was.progress room rel mode same next
-
-  pub asks_request : MayRequest scenario old room.id (room.finished + 1)
-  asks_request = lock_request scenario old roomy roomy_awaits played courses rel mode roomy_next
-
-  pub asks_free : has_lock room.locks.items rel mode ≡ false
-  asks_free = lock_free scenario old roomy roomy_awaits played courses rel mode roomy_next
-
-  pub asks_new : holds (held_of old) room.id rel mode ≡ false
-  asks_new = lock_new scenario old roomy roomy_awaits played courses rel mode roomy_next
-
-  pub asks_drawn : rel.0 < next_oid old
-  asks_drawn = lock_drawn scenario old roomy roomy_awaits played courses rel mode roomy_next
-
-  pub asks_granted : (new : List Entry) (had has : ℕ → ℕ) (p : Progress) → ((rests : Rests scenario old room) → HasEntered scenario old room (events.LockOk rel mode) rests p) → p.kept ≡ room.kept → p.given_at ≡ room.given_at
-      → Appends old new had has (entry_of room.id (room.finished + 1) (events.LockOk rel mode)) → Enters scenario old new had has was (record was { progress = p; answer = None })
-  asks_granted new had has p goes kept given_at appends = alike_enters scenario old new had has was roomy (record was { progress = p; answer = None }) (ap (λ (x : Progress). x.id) same.is)
-      (granted_enters scenario old roomy roomy_awaits played courses rel mode roomy_next new had has p kept (goes roomy_awaits.rests) given_at appends)
-
-  -- for what the call answered
-  pub asks_refused : (new : List Entry) (had has : ℕ → ℕ) (p : Progress) (refusal : LockRefusal) (holder of : ℕ) (held under : Mode) → refusal ≡ Conflict holder held → of ≡ holder → under ≡ held → Locks old new had has room.id (room.finished + 1) rel mode (Err refusal)
-      → ((rests : Rests scenario old room) → HasEntered scenario old room (events.LockHeld rel mode of under) rests p) → p.kept ≡ room.kept → Enters scenario old new had has was (record was { progress = p; answer = None })
-  asks_refused new had has p refusal holder of held under is holder_is held_is locks goes kept = alike_enters scenario old new had has was roomy (record was { progress = p; answer = None }) (ap (λ (x : Progress). x.id) same.is)
-      (refused_enters scenario old roomy roomy_awaits played courses rel mode roomy_next new had has p kept of under (goes roomy_awaits.rests)
-      (subst (λ h. Appends old new had has (entry_of room.id (room.finished + 1) (events.LockHeld rel mode h under))) (sym holder_is)
-      (subst (λ m. Appends old new had has (entry_of room.id (room.finished + 1) (events.LockHeld rel mode holder m))) (sym held_is)
-      (subst (λ r. Locks old new had has room.id (room.finished + 1) rel mode (Err r)) is locks))))
+        → Appends old new had has (entry_of was.progress.id (was.progress.finished + 1) (events.LockHeld rel mode holder held)) → Enters scenario old new had has first (record was { progress = p; answer = None })
+    refused_enters holder held goes appends = alike_enters scenario old new had has first was (record was { progress = p; answer = None }) id (failed_enters scenario old new had has was p (events.LockHeld rel mode holder held) (errors.Locked rel holder held) next.command waits played courses acting
+        (held_shows scenario old was s rel mode holder held) (plays (events.LockHeld rel mode holder held) next.may) goes kept appends)

@@ -1,35 +1,28 @@
 -- What comes next of a command's acts, and of its end.
-use Rattle.std.proofs.Common.{◌≡◌, ◌≢◌, ◌∙◌, ℕ, Bool, true, false, not, ◌&&◌, ◌||◌, ◌==◌, Option, Some, None, List, [], ◌∷◌, cond, refl, sym, ap, subst, filter, length, take, is_some, slice_get, if◌then◌else◌}
+use Rattle.std.proofs.Common.{◌≡◌, ◌∙◌, ℕ, Bool, true, false, not, ◌&&◌, ◌||◌, Option, Some, None, List, [], ◌∷◌, cond, refl, sym, ap, subst, filter, is_some, if◌then◌else◌}
 use Rattle.std.specs.List.{find, list_any}
 use Rattle.std.specs.Option.{option_map_or}
 use Rattle.std.proofs.Math.Bool.{or-true}
-use Rattle.std.proofs.lemmas.Bool.{both_ways, eq-eqb}
-use Rattle.base_types.specs.Modes.{mode_number}
+use Rattle.std.proofs.lemmas.Bool.{both_ways}
 use Rattle.base_types.specs.Scans.{same_scan, is_build_scan, build_scans}
-use Rattle.base_types.specs.declared.row.Row.TheVariants as rows
 use Rattle.base_types.specs.declared.scan.Purpose.TheVariants as scans
 use Rattle.base_types.proofs.SameScan.{same_scan-itself}
-use Rattle.event_kinds.specs.declared.entry.Event.TheVariants as events
-use Rattle.lock_modes.specs.Own.{has_lock}
 use Rattle.ddl_effect.specs.Plans.{Plan, Act, Done, Fails, Absent, NotBuilt, Do, Lookup, Open, Column, Read, Lock, Write}
 use Rattle.ddl_effect.specs.Stages.{plan_at, want_of_act, want_of}
 use Rattle.ddl_effect.specs.declared.want.Want.{Want}
 use Rattle.ddl_effect.specs.declared.want.Want.TheVariants as wants
 use Rattle.history_model.specs.Writes.{is_empty}
 use Rattle.cacheless.specs.Locks.{is_locked}
-use Rattle.cacheless.specs.May.{has_failed, is_first_missing, is_next_of_act, is_next_at, lacks_opened, lacks_any, owes_nothing, names_relation, is_lock_at, may_lock_at, releases, shows, is_next_sent, takes_back}
+use Rattle.cacheless.specs.May.{has_failed, is_first_missing, is_next_of_act, is_next_at, lacks_opened, lacks_any, owes_nothing}
 use Rattle.cacheless.specs.OpenedReads.{ReadsOpened}
 use Rattle.cacheless.specs.Session.{Badly, outcome_of}
-use Rattle.cacheless.specs.Settled.{if_locked, looked_up}
 use Rattle.cacheless.specs.Silently.{gives_at, gives_next, IsAtRest}
-use Rattle.cacheless.specs.State.{is_kept, missing, builds_missing, act_missing, is_visible_at, has_write_since, unsent_at, xid_at}
+use Rattle.cacheless.specs.State.{is_kept, builds_missing, act_missing}
 use Rattle.cacheless.proofs.Same.{lacks_opened_is}
 use Rattle.cacheless.proofs.SilentActs.{empty_list}
 use Rattle.cacheless.proofs.Tests.{both_true}
-use Rattle.backend_core.specs.Types.{Oid, Mode, Kind, Message, Row, Purpose, Command, Event, KeptScan, OwnLock, Progress}
-use Rattle.backend_core.specs.declared.next.Next.TheVariants as nexts
-use Rattle.backend_core.specs.Steps.{IsFree, IsScanNext, IsLockNext, ComesOfCommit, ComesOfBack}
-use Rattle.backend_core.specs.Words.{unlocked_of}
+use Rattle.backend_core.specs.Types.{Oid, Mode, Kind, Row, Purpose, Command, Progress}
+use Rattle.backend_core.specs.Steps.{IsFree, IsScanNext}
 use Rattle.backend_core.proofs.KeptReads.{kept_opened}
 use Rattle.backend_core.proofs.Nexting.{out_owes, find_all, each_builds}
 

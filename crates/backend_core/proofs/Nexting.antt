@@ -1,87 +1,49 @@
 -- What a backend does next.
-use Rattle.std.proofs.Common.{◌≡◌, ◌≢◌, ◌∙◌, ℕ, Bool, true, false, not, ◌&&◌, ◌||◌, ◌==◌, Option, Some, None, List, [], ◌∷◌, ◌++◌, cond, refl, sym, ap, subst, append_assoc, length, take, is_none, is_some, slice_get, ◌⊎◌, inl, inr, if◌then◌else◌}
+use Rattle.std.proofs.Common.{◌≡◌, ◌∙◌, ℕ, Bool, true, false, not, ◌&&◌, ◌||◌, Option, Some, None, List, [], ◌∷◌, ◌++◌, cond, refl, sym, ap, subst, append_assoc, is_some, slice_get}
 use Rattle.std.specs.List.{find, list_any, AllByRecursion}
-use Rattle.std.specs.Option.{option_map_or}
-use Rattle.std.proofs.lemmas.Bool.{both_ways}
+use Rattle.std.specs.Option.{IsSomeAnd, option_map_or}
 use Rattle.std.proofs.lemmas.List.{append-nil}
 use Rattle.base_types.specs.Scans.{same_scan, is_build_scan, build_scans}
 use Rattle.base_types.specs.declared.kind.Kind.TheVariants.{Table, Index}
-use Rattle.base_types.specs.declared.row.Row.TheVariants as rows
-use Rattle.base_types.specs.declared.scan.Purpose.TheVariants as scans
 use Rattle.base_types.proofs.SameScan.{same_scan-itself}
-use Rattle.event_kinds.specs.declared.entry.Event.TheVariants as events
-use Rattle.ddl_effect.specs.Blocks.{Inside, Blocks}
+use Rattle.ddl_effect.specs.Blocks.{Inside}
 use Rattle.ddl_effect.specs.Commands.{plan_of, commands_of}
-use Rattle.ddl_effect.specs.Plans.{Plan, Act, Done, Fails, Absent, NotBuilt, Do, Lookup, Open, Column, Read, Lock, Write, after_act}
-use Rattle.ddl_effect.specs.Stages.{plan_at, want_of}
-use Rattle.ddl_effect.specs.declared.want.Want.TheVariants as wants
+use Rattle.ddl_effect.specs.Plans.{Plan, Act, Done, Fails, Absent, NotBuilt, Do, Lookup, Open, Column, Read, Lock, Write}
+use Rattle.ddl_effect.specs.Stages.{plan_at}
 use Rattle.history_model.specs.Writes.{is_empty}
-use Rattle.cacheless.specs.declared.progress.Due.TheVariants as dues
-use Rattle.cacheless.specs.ActsDone.{after_given, reached, made_first, made_in, opening_by}
-use Rattle.cacheless.specs.Ends.{End, Ends, Commits, TakesBack}
-use Rattle.cacheless.specs.May.{owes_no_end, has_failed, is_first_missing, is_next_of_act, is_next_at, lacks_opened, lacks_any, owes_nothing, may_lock_at, may_end_at, is_next_sent, is_next_of_commit, is_next_of_back, is_next_of_end}
+use Rattle.cacheless.specs.ActsDone.{reached, made_in, opening_by}
+use Rattle.cacheless.specs.Ends.{End, Commits, TakesBack}
+use Rattle.cacheless.specs.May.{owes_no_end, has_failed, is_first_missing, is_next_of_act, lacks_opened, lacks_any, owes_nothing, is_next_of_end}
 use Rattle.cacheless.specs.OnCourse.{Way, Begun, Wrote, Unbuilt, Over, FollowsPlan, IsOnCourse, AllOnCourse}
 use Rattle.cacheless.specs.OpenedReads.{ReadsOpened}
 use Rattle.cacheless.specs.Runs.{runs}
 use Rattle.cacheless.specs.Settled.{opened_by}
-use Rattle.cacheless.specs.Session.{Session, Outcome, Unsettled, Well, Badly, none_open, outcome_of, is_settled}
-use Rattle.cacheless.specs.Silently.{gives_at, gives_next, acts_on, is_ends, is_finished_at, IsAtRest}
-use Rattle.cacheless.specs.State.{owed_at, owed_first, is_kept, builds_missing, act_missing, is_out, end_at, end_of_running, is_visible_at, has_write_since, unsent_at}
+use Rattle.cacheless.specs.Session.{none_open}
+use Rattle.cacheless.specs.Silently.{is_ends, IsAtRest}
+use Rattle.cacheless.specs.State.{owed_at, is_kept, act_missing, is_out, end_at}
 use Rattle.cacheless.proofs.OpenedReads.{reads_out, reads_first, reads_after}
-use Rattle.cacheless.proofs.ReadsBuilds.{stage_built}
-use Rattle.cacheless.proofs.SilentActs.{empty_list}
-use Rattle.cacheless.proofs.Tests.{and_true, both_true, not_both}
-use Rattle.backend_core.specs.Types.{Oid, Mode, Kind, Message, Row, Purpose, Command, CommandError, Opening, KeptScan, Scenario, Entry, Next, Progress, Backend}
+use Rattle.cacheless.proofs.Tests.{both_true, not_both}
+use Rattle.backend_core.specs.Types.{Oid, Kind, Event, Row, Purpose, Command, CommandError, Opening, KeptScan, Scenario, Entry, Next, Progress, Backend}
 use Rattle.backend_core.specs.declared.next.Next.TheVariants as nexts
-use Rattle.backend_core.specs.Agrees.{IsPlayed, command_at, AwaitsEntry}
-use Rattle.backend_core.specs.Steps.{IsFree, OwesLookNow, IsScanNext, IsLockNext, IsWriteNext, EndsNext, InCommand, AfterAll, end_event, IsNextOf, ComesOfCommit, ComesOfBack}
-use Rattle.backend_core.specs.Words.{lacking_first, build_first, unlocked_of}
-use Rattle.backend_core.proofs.KeptReads.{kept_opened}
+use Rattle.backend_core.specs.Agrees.{command_at, AwaitsEntry}
+use Rattle.backend_core.specs.Steps.{IsFree, IsScanNext, EndsNext, InCommand, end_event, IsNextOf, ComesOfCommit, ComesOfBack}
+use Rattle.backend_core.specs.Words.{lacking_first, build_first}
 use Rattle.backend_core.proofs.Own.{waiting, waiting_course}
 
--- a failure of memory ends nothing
-fail_ends : (p : Progress) (end : End) → is_next_of_end p events.Fail end ≡ true → ⊥
-fail_ends p Ends is = cc is
-fail_ends p (Commits first) is = by_written (has_write_since first p) is
-  where
-    by_visible : (t : Bool) → elim t as (λ x. Bool) [ true ↦ is_next_sent first (unsent_at p) events.Fail | false ↦ false ] ≡ true → ⊥
-    by_visible true next = by_unsent (unsent_at p) next
-      where
-        by_unsent : (l : List Message) → is_next_sent first l events.Fail ≡ true → ⊥
-        by_unsent [] none = cc none
-        by_unsent (m ∷ l) none = cc none
-    by_visible false next = cc next
-
-    by_written : (t : Bool) → elim t as (λ x. Bool) [ true ↦ elim (is_visible_at p) as (λ x. Bool) [ true ↦ is_next_sent first (unsent_at p) events.Fail | false ↦ false ] | false ↦ false ] ≡ true → ⊥
-    by_written true next = by_visible (is_visible_at p) next
-    by_written false next = cc next
-fail_ends p (TakesBack from) is = by_written (has_write_since from p) is
-  where
-    by_written : (t : Bool) → elim t as (λ x. Bool) [ true ↦ false | false ↦ false ] ≡ true → ⊥
-    by_written true next = cc next
-    by_written false next = cc next
-
-no_end : (p : Progress) → EndsNext p events.Fail → ⊥
-no_end p (InCommand command free out owes may) = fail_ends p (end_at p command) (and_true _ (is_next_of_end p events.Fail (end_at p command)) may).1
-no_end p (AfterAll past comes) = fail_ends p (end_of_running p.running) comes
-
 -- an end's entry comes next
-pub ends_next : (s : Backend) (next : Next) → EndsNext s.progress (end_event s.progress next) → IsNextOf s next
-ends_next s nexts.Look ends = absurd (no_end s.progress ends)
-ends_next s (nexts.LookBeforeScan builds) ends = absurd (no_end s.progress ends)
-ends_next s nexts.Fetch ends = absurd (no_end s.progress ends)
-ends_next s (nexts.Scan scan builds) ends = absurd (no_end s.progress ends)
-ends_next s (nexts.Lock rel mode) ends = absurd (no_end s.progress ends)
-ends_next s nexts.Write ends = absurd (no_end s.progress ends)
-ends_next s nexts.Leave ends = absurd (no_end s.progress ends)
-ends_next s (nexts.Commit xid) ends = ends
-ends_next s nexts.Publish ends = ends
-ends_next s (nexts.TakeBack from) ends = ends
-ends_next s (nexts.Release from) ends = ends
+ends_next : (s : Backend) (next : Next) → IsSomeAnd (end_event s.progress next) (EndsNext s.progress) → IsNextOf s next
+ends_next s nexts.Look ends = absurd ends
+ends_next s (nexts.LookBeforeScan builds) ends = absurd ends
+ends_next s nexts.Fetch ends = absurd ends
+ends_next s (nexts.Scan scan builds) ends = absurd ends
+ends_next s (nexts.Lock rel mode) ends = absurd ends
+ends_next s nexts.Write ends = absurd ends
+ends_next s nexts.Leave ends = absurd ends
+ends_next s next ends = ends
 
--- after the last command
-pub after_all : (s : Backend) (next : Next) (first : ℕ) → slice_get s.progress.commands s.progress.finished ≡ None → end_of_running s.progress.running ≡ TakesBack first → ComesOfBack first s.progress next → IsNextOf s next
-after_all s next first past end comes = ends_next s next (AfterAll past (ap (is_next_of_end s.progress (end_event s.progress next)) end ∙ comes))
+some_weaker : (o : Option Event) (P Q : Event → Type 0) → ((event : Event) → P event → Q event) → IsSomeAnd o P → IsSomeAnd o Q
+some_weaker None P Q all some = some
+some_weaker (Some event) P Q all some = all event some
 
 -- in a command that has come out and owes nothing, at rest
 pub out_owes : (p : Progress) (command : Command) → IsFree p command → lacks_any p ≡ false → owes_nothing command p ≡ true
@@ -100,14 +62,16 @@ end_is p command end still free out lacks is = by_tests p.ended (is_ends end) re
     by_tests false true a b none = absurd (not_both _ (both_true (is_out p && (p.ended || is_ends end)) (owes_nothing command p) (both_true (is_out p) (p.ended || is_ends end) out (λ i. a i || b i)) (out_owes p command free lacks)) none)
 
 pub commits_next : (s : Backend) (command : Command) (next : Next) (first : ℕ) → IsAtRest s.progress → IsFree s.progress command → is_out s.progress ≡ true → lacks_any s.progress ≡ false → end_at s.progress command ≡ Commits first → ComesOfCommit first s.progress next → IsNextOf s next
-commits_next s command next first still free out lacks end comes = ends_next s next (InCommand command free out (out_owes s.progress command free lacks) (both_true _ (is_next_of_end s.progress (end_event s.progress next) (end_at s.progress command))
+commits_next s command next first still free out lacks end comes = ends_next s next (some_weaker (end_event s.progress next) _ (EndsNext s.progress) (λ event is. InCommand command free out (out_owes s.progress command free lacks)
+    (both_true (not s.progress.ended && owes_no_end command s.progress (end_at s.progress command)) (is_next_of_end s.progress event (end_at s.progress command))
     (both_true (not s.progress.ended) (owes_no_end command s.progress (end_at s.progress command)) (ap not (end_is s.progress command (Commits first) still free out lacks end).0) (ap (owes_no_end command s.progress) end ∙ out_owes s.progress command free lacks))
-    (ap (is_next_of_end s.progress (end_event s.progress next)) end ∙ comes)))
+    (ap (is_next_of_end s.progress event) end ∙ is))) comes)
 
 pub takes_back_next : (s : Backend) (command : Command) (next : Next) (from : ℕ) → IsAtRest s.progress → IsFree s.progress command → is_out s.progress ≡ true → lacks_any s.progress ≡ false → end_at s.progress command ≡ TakesBack from → ComesOfBack from s.progress next → IsNextOf s next
-takes_back_next s command next from still free out lacks end comes = ends_next s next (InCommand command free out (out_owes s.progress command free lacks) (both_true _ (is_next_of_end s.progress (end_event s.progress next) (end_at s.progress command))
+takes_back_next s command next from still free out lacks end comes = ends_next s next (some_weaker (end_event s.progress next) _ (EndsNext s.progress) (λ event is. InCommand command free out (out_owes s.progress command free lacks)
+    (both_true (not s.progress.ended && owes_no_end command s.progress (end_at s.progress command)) (is_next_of_end s.progress event (end_at s.progress command))
     (both_true (not s.progress.ended) (owes_no_end command s.progress (end_at s.progress command)) (ap not (end_is s.progress command (TakesBack from) still free out lacks end).0) (ap (owes_no_end command s.progress) end ∙ ap (λ d. is_empty (owed_at d)) free.due))
-    (ap (is_next_of_end s.progress (end_event s.progress next)) end ∙ comes)))
+    (ap (is_next_of_end s.progress event) end ∙ is))) comes)
 
 -- the plans of commands read what they have opened, however far they are
 reads_reached : (gave : List (List Row)) (opened : List Opening) (plan : Plan) → ReadsOpened opened plan → ReadsOpened (opened ++ made_in opening_by gave plan) (reached gave plan)
@@ -224,41 +188,3 @@ build_next p command scan free goes is = record {
   where
     next : IsBuildNext p.kept p.opened scan
     next = build_some p.kept p.opened scan is
-
--- a command that has failed has come out, and lacks nothing
-pub failed_out : (p : Progress) → has_failed p ≡ true → (is_out p ≡ true) × (lacks_any p ≡ false)
-failed_out p failed = (by_outcome (outcome_of (plan_at p.exec)) failed, ap (λ t. not t && (lacks_opened p.kept p.opened || not (is_empty (act_missing p (plan_at p.exec))))) failed)
-  where
-    by_outcome : (o : Outcome) → elim o as (λ x. Bool) [ Badly ↦ true | other ↦ false ] ≡ true → is_settled o ≡ true
-    by_outcome Badly is = refl
-    by_outcome Well is = absurd (cc is)
-    by_outcome Unsettled is = absurd (cc is)
-
--- where its last entry asks for nothing and no first look is owed
-pub is_free : (p : Progress) (command : Command) (owes : Bool) → slice_get p.commands p.finished ≡ Some command → p.due ≡ dues.Nothing → not owes ≡ is_empty (owed_first p command) → owes ≡ false → IsFree p command
-is_free p command owes at due is none = record { at = at; due = due; first = empty_list (owed_first p command) (sym is ∙ ap not none) }
-
-pub look_first : (p : Progress) (command : Command) (owes : Bool) → slice_get p.commands p.finished ≡ Some command → p.due ≡ dues.Nothing → not owes ≡ is_empty (owed_first p command) → owes ≡ true → OwesLookNow p
-look_first p command owes at due is some = record { command = command; at = at; owes = inr (due, λ none. absurd (both_ways _ (sym is ∙ ap not some) (ap (λ l. is_empty l) none))) }
-
--- a command whose plan is done
-pub done_out : (p : Progress) → want_of (plan_at p.exec) ≡ wants.Done → has_failed p ≡ false → lacks_opened p.kept p.opened ≡ false → (is_out p ≡ true) × (lacks_any p ≡ false)
-done_out p want goes whole = by_plan (plan_at p.exec) refl want
-  where
-    by_plan : (q : Plan) → plan_at p.exec ≡ q → want_of q ≡ wants.Done → (is_out p ≡ true) × (lacks_any p ≡ false)
-    by_plan Done at is = (ap (λ x. is_settled (outcome_of x)) at, λ i. not (goes i) && (whole i || not (is_empty (act_missing p (at i)))))
-    by_plan NotBuilt at is = absurd (stage_built p.exec at)
-    by_plan (Fails error) at is = absurd (cc is)
-    by_plan (Absent name) at is = absurd (cc is)
-    by_plan (Do (Lookup name mode) rest) at is = absurd (cc is)
-    by_plan (Do act rest) at is = absurd (cc is)
-
--- a write comes next where no descriptor lacks a scan
-pub write_next : (p : Progress) (command : Command) → IsFree p command → want_of (plan_at p.exec) ≡ wants.Write → has_failed p ≡ false → lacks_opened p.kept p.opened ≡ false → IsWriteNext p
-write_next p command free want goes whole = record { command = command; free = free; owes = out_owes p command free (by_plan (plan_at p.exec) refl want); wants = want }
-  where
-    by_plan : (q : Plan) → plan_at p.exec ≡ q → want_of q ≡ wants.Write → lacks_any p ≡ false
-    by_plan (Do (Write draft) rest) at is = λ i. not (goes i) && (whole i || not (is_empty (act_missing p (at i))))
-    by_plan (Do (Lookup name mode) rest) at is = absurd (cc is)
-    by_plan (Do act rest) at is = absurd (cc is)
-    by_plan q at is = absurd (cc is)

@@ -1,5 +1,5 @@
 -- Another backend's entry changes nothing of where a backend is.
-use Rattle.std.proofs.Common.{◌≡◌, ◌∙◌, ◌==◌, ℕ, Bool, true, false, Option, Some, None, List, [], ◌∷◌, ◌++◌, sym, ap, subst, length, drop, All, get_or, refl}
+use Rattle.std.proofs.Common.{◌≡◌, ◌∙◌, ◌==◌, ℕ, Bool, true, false, Option, Some, None, List, [], ◌∷◌, ◌++◌, sym, ap, subst, drop, All, get_or, refl}
 use Rattle.std.specs.Option.{option_map_or}
 use Rattle.base_types.specs.Scenario.{Scenario}
 use Rattle.base_types.specs.declared.scan.Purpose.TheVariants as scans
@@ -7,22 +7,19 @@ use Rattle.ddl_effect.specs.Plans.{Plan, Absent, Do, Lookup}
 use Rattle.ddl_effect.specs.Stages.{plan_at}
 use Rattle.ddl_effect.specs.Commands.{commands_of}
 use Rattle.history_model.specs.Orderly.{MayComeNext}
-use Rattle.history_model.specs.Read.{place_read}
 use Rattle.history_model.proofs.Reading.{life_of-other, place_read-other}
-use Rattle.cacheless.specs.Facts.{facts_of}
 use Rattle.cacheless.specs.Lines.{lines_from, lines_of_backend}
 use Rattle.cacheless.specs.Session.{Session}
 use Rattle.cacheless.specs.Sessions.{session_of}
-use Rattle.cacheless.specs.Settled.{finished_as}
-use Rattle.cacheless.specs.State.{session_at}
+use Rattle.cacheless.specs.Settled.{settled}
 use Rattle.cacheless.specs.TableWrites.{WritesTables}
 use Rattle.cacheless.proofs.JudgedLines.{session_placed, finished_lines-more, line_stays}
-use Rattle.cacheless.proofs.Others.{holds-other, rests-other, not_started-other}
+use Rattle.cacheless.proofs.Others.{holds-other, not_started-other}
 use Rattle.cacheless.proofs.Reading.{facts_of-other, session_of-other}
 use Rattle.cacheless.proofs.StaysOnCourse.{has_written-other}
 use Rattle.backend_core.specs.Types.{Entry, KeptScan, Life, Backend}
 use Rattle.backend_core.specs.declared.life.Life.TheVariants as lives
-use Rattle.backend_core.specs.Agrees.{IsPlayed, KeptAt, PlaceFits, Keeps, command_at, AwaitsEntry, HasNotJoined, HasLeft, Stands}
+use Rattle.backend_core.specs.Agrees.{IsPlayed, KeptAt, PlaceFits, command_at, AwaitsEntry, HasNotJoined, HasLeft, Stands}
 use Rattle.backend_core.specs.Fits.{Fits}
 use Rattle.backend_core.proofs.Own.{waiting, waiting_is}
 
@@ -39,7 +36,6 @@ place-other history e b (Absent name) read at other fits = place_read-other hist
 place-other history e b plan read at other fits = tt
 
 awaits-other : (scenario : Scenario) (seen : List Entry) (e : Entry) (s : Backend) → (e.backend == s.progress.id) ≡ false → AwaitsEntry scenario seen s → AwaitsEntry scenario (seen ++ e ∷ []) s
-unfolding rests-other holds-other
 awaits-other scenario seen e s other waits = record {
   keeps = let k = waits.keeps in record {
     alive = k.alive;
@@ -48,7 +44,15 @@ awaits-other scenario seen e s other waits = record {
     kept = kept-other seen e s.progress.id s.progress.kept other k.kept;
     given_at = place-other seen e s.progress.id (plan_at s.progress.exec) s.progress.read s.progress.given_at other k.given_at;
   };
-  rests = rests-other scenario seen e s.progress other waits.rests;
+  rests = record {
+    holds = let holds = waits.rests.holds in record (holds-other scenario seen e s.progress other holds) {
+      rest = holds.rest;
+      count = holds.count;
+      is = session_of-other scenario seen e s.progress.id other ∙ holds.is ∙ ap (λ f. Some (settled f (drop s.progress.finished s.progress.commands) (waiting waits))) (sym (facts_of-other seen e s.progress.id other));
+      sought = holds.sought;
+    };
+    still = waits.rests.still;
+  };
   fits = subst (λ f. Fits f (command_at s) (waiting waits) s.looked s.looked_to_build) (sym (facts_of-other seen e s.progress.id other)) waits.fits;
   tells = record {
     lines = waits.tells.lines ∙ ap (lines_from scenario seen s.progress.id 1 (waiting waits).finished) waits.rests.holds.commands ∙ sym (finished_lines-more scenario seen e s.progress.id (waiting waits) (waiting_is scenario seen s waits))

@@ -1,5 +1,5 @@
 -- The locks of a transaction are released.
-use Rattle.std.proofs.Common.{◌≡◌, ◌≤◌, ◌<◌, ◌+◌, ◌∙◌, ◌∷◌, ◌++◌, ◌⊎◌, inl, inr, ℕ, suc, zero, Bool, true, false, Option, Some, None, List, [], cond, refl, sym, ap, subst, length, drop, is_some, All, arith}
+use Rattle.std.proofs.Common.{◌≡◌, ◌≤◌, ◌+◌, ◌∙◌, ◌∷◌, ◌⊎◌, inl, inr, ℕ, Bool, true, false, Option, Some, None, List, [], cond, refl, sym, ap, subst, length, drop, All, arith}
 use Rattle.std.specs.Option.{option_map, option_map_or}
 use Rattle.std.specs.Prelude.{nat_lt}
 use Rattle.std.proofs.lemmas.Bool.{both_ways, ltb-true, false_from_ne_true}
@@ -14,13 +14,13 @@ use Rattle.cacheless.specs.Ends.{Commits, TakesBack}
 use Rattle.cacheless.specs.Facts.{Facts, facts_of, facts_by}
 use Rattle.cacheless.specs.Holds.{HasEntered}
 use Rattle.cacheless.specs.OnCourse.{AllOnCourse}
-use Rattle.cacheless.specs.Session.{Session, number_of}
+use Rattle.cacheless.specs.Session.{Session}
 use Rattle.backend_core.specs.Types.{Command, Scenario, Entry, Event, OwnLock, Message, Progress, Backend}
 use Rattle.backend_core.specs.Agrees.{IsPlayed, KeptAt, command_at, AwaitsEntry}
 use Rattle.backend_core.specs.Fits.{first_at, Fits}
 use Rattle.backend_core.specs.Steps.{EndsNext, Enters}
 use Rattle.backend_core.proofs.EndEntries.{end_now, end_call, built_at, end_enters}
-use Rattle.backend_core.proofs.EndsNow.{end_by, EndsBy, LetsGo, AllSent, NoWrite, lets_go, from_of, first_begun, end_first, commit_end, back_end}
+use Rattle.backend_core.proofs.EndsNow.{end_by, EndsBy, LetsGo, AllSent, NoWrite, lets_go, from_of, end_first, commit_end, back_end}
 use Rattle.backend_core.proofs.FitsEnds.{fits_released, ended_running, ended_lists}
 use Rattle.backend_core.proofs.Own.{waiting}
 

@@ -1,22 +1,20 @@
 -- What was written is taken back.
-use Rattle.std.proofs.Common.{◌≡◌, ◌≤◌, ◌+◌, ◌∙◌, ◌∷◌, ◌++◌, ℕ, Bool, true, false, Option, Some, None, List, [], refl, sym, ap, subst, length, is_some, All, arith}
+use Rattle.std.proofs.Common.{◌≡◌, ◌+◌, ◌∙◌, ℕ, Bool, true, false, Option, Some, None, List, [], refl, sym, ap, subst, length, is_some, All}
 use Rattle.std.specs.Option.{option_map_or}
 use Rattle.std.proofs.lemmas.Bool.{both_ways, false_from_ne_true}
 use Rattle.std.proofs.lemmas.List.Elements.{All-filter}
 use Rattle.event_kinds.specs.declared.entry.Event.TheVariants as events
-use Rattle.inval_messages.specs.Lists.{has_write_from, lists_before, lists_from, cats_in, rels_in}
+use Rattle.inval_messages.specs.Lists.{has_write_from, lists_from, cats_in, rels_in}
 use Rattle.inval_messages.specs.Messages.{is_spared}
-use Rattle.ddl_effect.specs.Commands.{plan_of}
-use Rattle.ddl_effect.specs.Plans.{Done}
 use Rattle.history_model.specs.Legal.{FollowsVisible, FollowsGone}
-use Rattle.history_model.specs.Transactions.{Running, begun, is_visible}
+use Rattle.history_model.specs.Transactions.{Running, is_visible}
 use Rattle.seg_calls.specs.Calls.{entry_of, MayCall, Appends}
-use Rattle.cacheless.specs.Ends.{Commits, TakesBack, end_of}
+use Rattle.cacheless.specs.Ends.{Commits, TakesBack}
 use Rattle.cacheless.specs.Facts.{Facts, facts_of, facts_by}
 use Rattle.cacheless.specs.Holds.{HasEntered}
 use Rattle.cacheless.specs.OnCourse.{AllOnCourse}
 use Rattle.cacheless.specs.Owed.{Owes, owed_after, owed_of, builds_owed}
-use Rattle.cacheless.specs.Session.{Session, Well, none_open, outcome_of}
+use Rattle.cacheless.specs.Session.{Session, Well, outcome_of}
 use Rattle.cacheless.specs.State.{lists_at, kept_spared}
 use Rattle.cacheless.proofs.Releases.{ends_built}
 use Rattle.backend_core.specs.Types.{Command, Scenario, Entry, Event, OwnLock, Message, KeptScan, Progress, Backend}
@@ -25,7 +23,7 @@ use Rattle.backend_core.specs.Fits.{first_at, Fits}
 use Rattle.backend_core.specs.Steps.{EndsNext, Enters}
 use Rattle.backend_core.proofs.EndEntries.{end_now, end_call, end_enters}
 use Rattle.backend_core.proofs.EndsNow.{end_by, EndsBy, takes_now, commit_end, back_end}
-use Rattle.backend_core.proofs.FitsEnds.{later_at, GoesOn, end_same, fits_ending, takes_back_on, write_from_first, none_from, some_before, goes_first, begun_xid, begun_visible, written_runs}
+use Rattle.backend_core.proofs.FitsEnds.{later_at, GoesOn, end_same, fits_ending, takes_back_on, write_from_first, none_from, goes_first, begun_xid, begun_visible, written_runs}
 use Rattle.backend_core.proofs.Own.{waiting, follows}
 
 -- a transaction that is taken back isn't visible

@@ -15,7 +15,6 @@ use Rattle.inval_messages.specs.Lists.{Written}
 use Rattle.ddl_effect.specs.Commands.{writing}
 use Rattle.ddl_effect.specs.Plans.{Done, Write}
 use Rattle.ddl_effect.specs.Stages.{plan_at}
-use Rattle.ddl_effect.specs.declared.exec.Exec.TheVariants as stages
 use Rattle.history_model.specs.Drawn.{next_oid}
 use Rattle.history_model.specs.Held.{held_of}
 use Rattle.history_model.specs.Transactions.{begun}
@@ -32,7 +31,7 @@ use Rattle.cacheless.specs.Owed.{owed_of}
 use Rattle.cacheless.specs.Plays.{started_in, IsWrite, IsClash, MayPlay, MayPlayIn}
 use Rattle.cacheless.specs.Session.{Session, number_of, outcome_of, is_settled}
 use Rattle.cacheless.specs.Sessions.{written, entered}
-use Rattle.cacheless.specs.State.{owed_at, lists_at, kept_spared, locks_made, messages_in, clash_event, error_of, IsLockedIn}
+use Rattle.cacheless.specs.State.{owed_at, lists_at, kept_spared, locks_made, messages_in, clash_event, error_of}
 use Rattle.cacheless.proofs.AloneLocks.{session_holds}
 use Rattle.cacheless.proofs.EnteredFetches.{all-spared}
 use Rattle.cacheless.proofs.Listed.{lists_before_it}
@@ -44,7 +43,7 @@ use Rattle.backend_core.specs.Agrees.{IsPlayed, KeptAt, PlaceFits, AwaitsEntry}
 use Rattle.backend_core.specs.Fits.{looks_due, LooksFit}
 use Rattle.backend_core.specs.Steps.{IsWriteNext, MakesEntry, Enters, IsRefused}
 use Rattle.backend_core.proofs.ActsRun.{act_runs}
-use Rattle.backend_core.proofs.Alike.{reserved_awaits, reserved_write, drafted_awaits, drafted_write, alike_enters}
+use Rattle.backend_core.proofs.Alike.{alike_enters}
 use Rattle.backend_core.proofs.Chosen.{Acts, may_request, started_still}
 use Rattle.backend_core.proofs.Entered.{fits_at, keeps_at, kept_stays}
 use Rattle.backend_core.proofs.Failing.{IsActing, clash_shows, failed_enters}
@@ -59,7 +58,7 @@ none_held b rel next (g ∷ held) new drawn =
     ∙ ap (λ t. (t && same_mode g.mode AccessExclusive) || false) (and-false (g.backend == b))
 
 -- the entry of a write that is refused for a name
-pub clashes_as : (old new : List Entry) (had has : ℕ → ℕ) (b c : ℕ) (draft : Draft) (name : List ℕ) (clash : Clash) → Writes old new had has b c draft (Err (refusals.Clash name clash)) → Clashes old new had has b draft name (entry_of b c (clash_event name clash))
+clashes_as : (old new : List Entry) (had has : ℕ → ℕ) (b c : ℕ) (draft : Draft) (name : List ℕ) (clash : Clash) → Writes old new had has b c draft (Err (refusals.Clash name clash)) → Clashes old new had has b draft name (entry_of b c (clash_event name clash))
 clashes_as old new had has b c draft name (clashes.Row rel) writes = writes
 clashes_as old new had has b c draft name (clashes.Running xid) writes = writes
 
@@ -112,9 +111,6 @@ module _ (scenario : Scenario) (old : List Entry) (was : Backend) (draft : Draft
   pub new_free : (rel : Oid) → rel.0 ≡ next_oid old → has_lock was.progress.locks.items rel AccessExclusive ≡ false
   new_free rel new = sym (session_holds scenario old was.progress.id s played.sound (waiting_is scenario old was waits) rel AccessExclusive) ∙ none_held was.progress.id rel (next_oid old) (held_of old) new (locks_exclude old played.sound).drawn
 
-  pub new_locked : (rel : Oid) → rel.0 ≡ next_oid old → flat_map (locked_by (was.progress.finished + 1)) (items_drawn old draft) ≡ locks_made draft.new_oids rel (was.progress.finished + 1)
-  new_locked rel new = suits.locks rel [] new
-
   write_own : (xid : Xid) → OwnEntry scenario old was (events.Write xid (items_drawn old draft)) waits
   write_own xid = record {
     plays = subst (λ o. MayPlayIn (next_oid old) facts o s (events.Write xid (items_drawn old draft))) (sym next.free.at) (owed_none, subst (λ p. IsWrite (next_oid old) p (items_drawn old draft)) (sym at) refl);
@@ -123,11 +119,12 @@ module _ (scenario : Scenario) (old : List Entry) (was : Backend) (draft : Draft
   }
 
   -- out of memory, its entry is made
-  pub write_makes : (new : List Entry) (had has : ℕ → ℕ) (xid : Xid) → Appends old new had has (entry_of was.progress.id (was.progress.finished + 1) (events.Write xid (items_drawn old draft))) → MakesEntry scenario old new had has was.progress.id
-  write_makes new had has xid appends = own_makes scenario old new had has was (events.Write xid (items_drawn old draft)) waits played courses (write_own xid) appends
+  pub wrote_refused : {E : Type 0} (first : Backend) → was.progress.id ≡ first.progress.id → (new : List Entry) (had has : ℕ → ℕ) (result : Result (Unit {0}) E) (made : Made) → MakesWrite old new had has was.progress.id (was.progress.finished + 1) draft made → OnErr result (IsRefused scenario old new had has first.progress.id)
+  wrote_refused first id new had has result made makes = made_refused scenario old new had has first.progress.id result
+      (subst (MakesEntry scenario old new had has) id (own_makes scenario old new had has was (events.Write made.xid (items_drawn old draft)) waits played courses (write_own made.xid) makes.appends))
 
   -- after it the backend agrees
-  pub wrote_enters : (new : List Entry) (had has : ℕ → ℕ) (p : Progress) (xid : Xid) (messages : List Message) → HasEntered scenario old was.progress (events.Write xid (items_drawn old draft)) waits.rests p → p.kept ≡ kept_spared messages was.progress.kept
+  wrote_enters : (new : List Entry) (had has : ℕ → ℕ) (p : Progress) (xid : Xid) (messages : List Message) → HasEntered scenario old was.progress (events.Write xid (items_drawn old draft)) waits.rests p → p.kept ≡ kept_spared messages was.progress.kept
       → Appends old new had has (entry_of was.progress.id (was.progress.finished + 1) (events.Write xid (items_drawn old draft))) → Enters scenario old new had has was (record was { progress = p; answer = None })
   wrote_enters new had has p xid messages goes kept appends =
       own_enters scenario old new had has was (record was { progress = p; answer = None }) event waits played courses (write_own xid) goes
@@ -158,51 +155,16 @@ module _ (scenario : Scenario) (old : List Entry) (was : Backend) (draft : Draft
       started : started_in (number_of now) later ≡ started_in (number_of s) facts
       started = ap (λ q. started_in (length (written q s).finished + 1) later) at ∙ started_still (number_of s) (was.progress.finished + 1) facts.running acting.runs
 
+  -- so it does where memory for it isn't refused
+  pub wrote_agrees : {E : Type 0} (first : Backend) → was.progress.id ≡ first.progress.id → (new : List Entry) (had has : ℕ → ℕ) (p : Progress) (result : Result (Unit {0}) E) (made : Made) (messages : List Message) → MakesWrite old new had has was.progress.id (was.progress.finished + 1) draft made → messages ≡ made.messages.items → OnOk result (p.kept ≡ kept_spared messages was.progress.kept)
+      → OnOk result ((scenario : Scenario) (seen : List Entry) (items : List Item) → (rests : Rests scenario seen was.progress) → messages ≡ messages_in seen was.progress.id items → flat_map (locked_by (was.progress.finished + 1)) items ≡ locks_made draft.new_oids made.first_oid (was.progress.finished + 1) → HasEntered scenario seen was.progress (events.Write made.xid items) rests p)
+      → OnOk result (Enters scenario old new had has first (record was { progress = p; answer = None }))
+  wrote_agrees first id new had has p (Ok x) made messages makes are kept goes = alike_enters scenario old new had has first was (record was { progress = p; answer = None }) id (wrote_enters new had has p made.xid messages (goes scenario old (items_drawn old draft) waits.rests (are ∙ makes.messages) (suits.locks made.first_oid [] makes.first)) kept makes.appends)
+  wrote_agrees first id new had has p (Err e) made messages makes are kept goes = tt
+
   -- and after one that is refused
-  pub clash_enters : (new : List Entry) (had has : ℕ → ℕ) (p : Progress) (name : List ℕ) (clash : Clash) → HasEntered scenario old was.progress (clash_event name clash) waits.rests p → p.kept ≡ was.progress.kept
-      → Clashes old new had has was.progress.id draft name (entry_of was.progress.id (was.progress.finished + 1) (clash_event name clash)) → Enters scenario old new had has was (record was { progress = p; answer = None })
-  clash_enters new had has p name clash goes kept refused = failed_enters scenario old new had has was p (clash_event name clash) (error_of name clash) next.command waits played courses acting (clash_shows scenario old was s name clash)
+  pub clash_enters : (first : Backend) → was.progress.id ≡ first.progress.id → (new : List Entry) (had has : ℕ → ℕ) (p : Progress) (name : List ℕ) (clash : Clash) → HasEntered scenario old was.progress (clash_event name clash) waits.rests p → p.kept ≡ was.progress.kept
+      → Writes old new had has was.progress.id (was.progress.finished + 1) draft (Err (refusals.Clash name clash)) → Enters scenario old new had has first (record was { progress = p; answer = None })
+  clash_enters first id new had has p name clash goes kept writes = let refused = clashes_as old new had has was.progress.id (was.progress.finished + 1) draft name clash writes in alike_enters scenario old new had has first was (record was { progress = p; answer = None }) id (failed_enters scenario old new had has was p (clash_event name clash) (error_of name clash) next.command waits played courses acting (clash_shows scenario old was s name clash)
       (subst (λ o. MayPlayIn (next_oid old) facts o s (clash_event name clash)) (sym next.free.at)
-      (clash_plays (next_oid old) facts next.command s name clash owed_none (subst (λ p. IsClash facts (next_oid old) p name) (sym at) (suits.names name refused.is_new)))) goes kept refused.appends
-
--- the same once there is room for a lock, and its draft is at hand
-module _ (scenario : Scenario) (old : List Entry) (was : Backend) (room : Progress) (same : IsLockedIn was.progress.locks.items was.progress room) (draft : Draft) (at : plan_at room.exec ≡ writing draft) (waits : AwaitsEntry scenario old was) (played : IsPlayed scenario old) (courses : AllOnCourse scenario old) (next : IsWriteNext was.progress) where
-  abbrev drafting : Backend
-  drafting = record was { progress = record room { exec = stages.Writing draft } }
-
-  pub drafting_awaits : AwaitsEntry scenario old drafting
-  drafting_awaits = drafted_awaits scenario old (record was { progress = room }) draft at (reserved_awaits scenario old was room same waits)
-
-  drafting_next : IsWriteNext drafting.progress
-  drafting_next = drafted_write room draft at (reserved_write was.progress room same next)
-
-  pub drafting_request : MayRequest scenario old room.id (room.finished + 1)
-  drafting_request = write_request scenario old drafting draft refl drafting_awaits played courses drafting_next
-
-  pub drafting_writes : MayWrite old room.id (room.finished + 1) draft
-  drafting_writes = may_write scenario old drafting draft refl drafting_awaits played courses drafting_next
-
-  pub drafting_before : AllByRecursion (λ list. list.command < room.finished + 1) (lists_at drafting.progress)
-  drafting_before = lists_before scenario old drafting draft refl drafting_awaits played courses drafting_next
-
-  pub drafting_free : (rel : Oid) → rel.0 ≡ next_oid old → has_lock room.locks.items rel AccessExclusive ≡ false
-  drafting_free = new_free scenario old drafting draft refl drafting_awaits played courses drafting_next
-
-  module _ (new : List Entry) (had has : ℕ → ℕ) where
-    -- for what the call answered, and what the backend then made of it
-    pub drafting_wrote : {E : Type 0} (p : Progress) (result : Result (Unit {0}) E) (made : Made) (messages : List Message) → MakesWrite old new had has room.id (room.finished + 1) draft made → messages ≡ made.messages.items → OnOk result (p.kept ≡ kept_spared messages room.kept)
-        → OnOk result ((scenario : Scenario) (seen : List Entry) (items : List Item) → (rests : Rests scenario seen drafting.progress) → messages ≡ messages_in seen room.id items → flat_map (locked_by (room.finished + 1)) items ≡ locks_made draft.new_oids made.first_oid (room.finished + 1) → HasEntered scenario seen drafting.progress (events.Write made.xid items) rests p)
-        → OnOk result (Enters scenario old new had has was (record was { progress = p; answer = None }))
-    drafting_wrote p (Ok x) made messages makes are kept goes = alike_enters scenario old new had has was drafting (record was { progress = p; answer = None }) (ap (λ (x : Progress). x.id) same.is)
-        (wrote_enters scenario old drafting draft refl drafting_awaits played courses drafting_next new had has p made.xid messages
-        (goes scenario old (items_drawn old draft) drafting_awaits.rests (are ∙ makes.messages) (new_locked scenario old drafting draft refl drafting_awaits played courses drafting_next made.first_oid makes.first)) kept makes.appends)
-    drafting_wrote p (Err e) made messages makes are kept goes = tt
-
-    pub drafting_refused : {E : Type 0} (result : Result (Unit {0}) E) (made : Made) → MakesWrite old new had has room.id (room.finished + 1) draft made → OnErr result (IsRefused scenario old new had has was.progress.id)
-    drafting_refused result made makes = made_refused scenario old new had has was.progress.id result
-        (subst (MakesEntry scenario old new had has) (ap (λ (x : Progress). x.id) same.is) (write_makes scenario old drafting draft refl drafting_awaits played courses drafting_next new had has made.xid makes.appends))
-
-    pub drafting_clashed : (p : Progress) (name : List ℕ) (clash : Clash) → Writes old new had has room.id (room.finished + 1) draft (Err (refusals.Clash name clash)) → ((rests : Rests scenario old drafting.progress) → HasEntered scenario old drafting.progress (clash_event name clash) rests p) → p.kept ≡ room.kept
-        → Enters scenario old new had has was (record was { progress = p; answer = None })
-    drafting_clashed p name clash writes goes kept = alike_enters scenario old new had has was drafting (record was { progress = p; answer = None }) (ap (λ (x : Progress). x.id) same.is)
-        (clash_enters scenario old drafting draft refl drafting_awaits played courses drafting_next new had has p name clash (goes drafting_awaits.rests) kept (clashes_as old new had has room.id (room.finished + 1) draft name clash writes))
+      (clash_plays (next_oid old) facts next.command s name clash owed_none (subst (λ p. IsClash facts (next_oid old) p name) (sym at) (suits.names name refused.is_new)))) goes kept refused.appends)

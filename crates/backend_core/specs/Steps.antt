@@ -1,5 +1,6 @@
 -- What a step of a backend does, and what it does next.
-use Rattle.std.specs.Prelude.{◌≡◌, ◌≢◌, ◌≤◌, ◌+◌, ◌⊎◌, ◌++◌, ◌∷◌, ℕ, Bool, true, false, Some, None, List, [], slice_get, length, take}
+use Rattle.std.specs.Prelude.{◌≡◌, ◌≢◌, ◌≤◌, ◌+◌, ◌⊎◌, ◌++◌, ◌∷◌, ℕ, Bool, true, false, Option, Some, None, List, [], slice_get, length, take}
+use Rattle.std.specs.Option.{IsSomeAnd}
 use Rattle.base_types.specs.Scans.{is_build_scan}
 use Rattle.event_kinds.specs.declared.entry.Event.TheVariants as events
 use Rattle.ddl_effect.specs.Stages.{plan_at, want_of}
@@ -87,13 +88,13 @@ pub record IsLookNext (builds : Bool) (s : Backend) : Type 0 where
   pub next : IsScanNext s.progress scan builds
   pub unlooked : is_looked_for builds s ≡ false
 
--- the event of an end
-abbrev pub end_event : Progress → Next → Event
-end_event s (nexts.Commit xid) = events.Visible xid
-end_event s nexts.Publish = events.Publish (length (take 64 (unsent_at s)))
-end_event s (nexts.TakeBack from) = events.Gone from
-end_event s (nexts.Release from) = events.Release from
-end_event s next = events.Fail
+-- the event, where it is one of an end
+abbrev pub end_event : Progress → Next → Option Event
+end_event s (nexts.Commit xid) = Some (events.Visible xid)
+end_event s nexts.Publish = Some (events.Publish (length (take 64 (unsent_at s))))
+end_event s (nexts.TakeBack from) = Some (events.Gone from)
+end_event s (nexts.Release from) = Some (events.Release from)
+end_event s next = None
 
 -- what comes next, with all that it needs
 abbrev pub IsNextOf : Backend → Next → Type 0
@@ -104,12 +105,12 @@ IsNextOf s (nexts.Scan scan builds) = IsScanNext s.progress scan builds × (is_l
 IsNextOf s (nexts.Lock rel mode) = IsLockNext s.progress rel mode
 IsNextOf s nexts.Write = IsWriteNext s.progress
 IsNextOf s nexts.Leave = (slice_get s.progress.commands s.progress.finished ≡ None) × (s.progress.running ≡ None)
-IsNextOf s next = EndsNext s.progress (end_event s.progress next)
+IsNextOf s next = IsSomeAnd (end_event s.progress next) (EndsNext s.progress)
 
 -- the next entry of a commit of the transaction with this first command
 abbrev pub ComesOfCommit : ℕ → Progress → Next → Type 0
-ComesOfCommit first s next = is_next_of_commit first s (end_event s next) ≡ true
+ComesOfCommit first s next = IsSomeAnd (end_event s next) (λ event. is_next_of_commit first s event ≡ true)
 
 -- the next entry of taking back the commands from this one on
 abbrev pub ComesOfBack : ℕ → Progress → Next → Type 0
-ComesOfBack from s next = is_next_of_back from s (end_event s next) ≡ true
+ComesOfBack from s next = IsSomeAnd (end_event s next) (λ event. is_next_of_back from s event ≡ true)
