@@ -77,7 +77,7 @@ module _ (scenario : Scenario) (seen : List Entry) (s : Backend) (waits : Awaits
   built = subst (λ c. runs c ≡ true) (get_or_from_slice_get s.progress.commands s.progress.finished command command at) (waits.keeps.built s.progress.finished command (slice_get_within s.progress.commands s.progress.finished command at))
 
   -- the blocks haven't refused it, where it hasn't failed
-  pub unblocked_here : outcome_of (plan_at s.progress.exec) ≢ Badly → s.progress.blocked ≡ false
+  unblocked_here : outcome_of (plan_at s.progress.exec) ≢ Badly → s.progress.blocked ≡ false
   unblocked_here goes = by_test s.progress.blocked refl
     where
       by_test : (t : Bool) → s.progress.blocked ≡ t → s.progress.blocked ≡ false
