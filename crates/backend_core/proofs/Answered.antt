@@ -28,7 +28,7 @@ use Rattle.cacheless.proofs.ToldAnswers.{HasComeOut}
 use Rattle.cacheless.proofs.ToldFields.{map_same}
 use Rattle.backend_core.specs.Types.{Oid, Field, Command, Opening, KeptScan, Scenario, Entry, Progress}
 use Rattle.backend_core.specs.Agrees.{KeptAt}
-use Rattle.backend_core.specs.Answering.{kept_for, shown_kept, shown_all, of_open, answer_done, answer_left, answer_at}
+use Rattle.backend_core.specs.Answering.{kept_for, shown_kept, shown_all, shown_one, of_open, answer_done, answer_left, answer_at}
 
 -- how the code keeps a scan
 abbrev pub keeps : Keeps KeptScan
@@ -56,7 +56,7 @@ all_same : (p : Progress) (opened : List Opening) → of_open (shown_all p.kept 
 all_same p [] = refl
 all_same p (o ∷ opened) = ap (answers.Shown o.kind o.rel) (map_same (λ field. Unit {0}) (shown_kept p.kept p.locks.items o) (told_field (rows_kept keeps p.kept) (place_kept keeps p.kept p.given_at) p.locks.items o) (λ field _. field_same p o field) (fields_of o.kind) (all_true (fields_of o.kind)))
 
-one_same : (p : Progress) (field : Field) (opened : List Opening) → of_open (λ o. answers.One (shown_kept p.kept p.locks.items o field)) opened ≡ told_open (told_fields (rows_kept keeps p.kept) (place_kept keeps p.kept p.given_at) p.locks.items (Some field)) opened
+one_same : (p : Progress) (field : Field) (opened : List Opening) → of_open (shown_one p.kept p.locks.items field) opened ≡ told_open (told_fields (rows_kept keeps p.kept) (place_kept keeps p.kept p.given_at) p.locks.items (Some field)) opened
 one_same p field [] = refl
 one_same p field (o ∷ opened) = ap answers.One (field_same p o field)
 
