@@ -1,5 +1,5 @@
 -- What a backend answers is its line.
-use Rattle.std.proofs.Common.{◌≡◌, ◌≤◌, ◌+◌, ◌∙◌, ℕ, true, Option, Some, None, List, [], ◌∷◌, refl, sym, ap, length, All, if◌then◌else◌}
+use Rattle.std.proofs.Common.{◌≡◌, ◌≤◌, ◌+◌, ◌∙◌, ℕ, true, Option, Some, None, Result, Ok, Err, IfOk, List, [], ◌∷◌, refl, sym, ap, length, slice_get, All, if◌then◌else◌}
 use Rattle.std.specs.List.{AllByRecursion}
 use Rattle.std.specs.Option.{option_map_or}
 use Rattle.std.proofs.lemmas.List.Elements.{recursion_from_All}
@@ -26,9 +26,18 @@ use Rattle.cacheless.specs.Told.{told_field, told_fields, told_open, told_well, 
 use Rattle.cacheless.proofs.KeptTells.{Keeps, rows_kept, place_kept, AreKept, line_kept}
 use Rattle.cacheless.proofs.ToldAnswers.{HasComeOut}
 use Rattle.cacheless.proofs.ToldFields.{map_same}
-use Rattle.backend_core.specs.Types.{Oid, Field, Command, Opening, KeptScan, Scenario, Entry, Progress}
+use Rattle.backend_core.specs.Types.{Oid, Field, Command, Answer, Opening, KeptScan, Scenario, Entry, Progress}
 use Rattle.backend_core.specs.Agrees.{KeptAt}
-use Rattle.backend_core.specs.Answering.{kept_for, shown_kept, shown_all, of_open, answer_done, answer_left, answer_at}
+use Rattle.backend_core.specs.Answering.{kept_for, shown_kept, shown_all, shown_one, of_open, answer_done, answer_left, answer_at}
+
+-- what is answered of the descriptor that is open
+first_open : (shown : Opening → Answer) (opened : List Opening) (o : Opening) → Some o ≡ slice_get opened 0 → shown o ≡ of_open shown opened
+first_open shown [] o is = absurd (cc is)
+first_open shown (x ∷ opened) o is = ap shown (let same : o ≡ x = cc is in same)
+
+pub answers_open : {E : Type 0} (shown : Opening → Answer) (opened : List Opening) (o : Opening) (result : Result Answer E) → Some o ≡ slice_get opened 0 → IfOk result (λ answer. answer ≡ shown o) → IfOk result (λ answer. answer ≡ of_open shown opened)
+answers_open shown opened o (Ok answer) is told = told ∙ first_open shown opened o is
+answers_open shown opened o (Err error) is told = tt
 
 -- how the code keeps a scan
 abbrev pub keeps : Keeps KeptScan
@@ -56,7 +65,7 @@ all_same : (p : Progress) (opened : List Opening) → of_open (shown_all p.kept 
 all_same p [] = refl
 all_same p (o ∷ opened) = ap (answers.Shown o.kind o.rel) (map_same (λ field. Unit {0}) (shown_kept p.kept p.locks.items o) (told_field (rows_kept keeps p.kept) (place_kept keeps p.kept p.given_at) p.locks.items o) (λ field _. field_same p o field) (fields_of o.kind) (all_true (fields_of o.kind)))
 
-one_same : (p : Progress) (field : Field) (opened : List Opening) → of_open (λ o. answers.One (shown_kept p.kept p.locks.items o field)) opened ≡ told_open (told_fields (rows_kept keeps p.kept) (place_kept keeps p.kept p.given_at) p.locks.items (Some field)) opened
+one_same : (p : Progress) (field : Field) (opened : List Opening) → of_open (shown_one p.kept p.locks.items field) opened ≡ told_open (told_fields (rows_kept keeps p.kept) (place_kept keeps p.kept p.given_at) p.locks.items (Some field)) opened
 one_same p field [] = refl
 one_same p field (o ∷ opened) = ap answers.One (field_same p o field)
 

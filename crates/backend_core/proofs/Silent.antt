@@ -1,5 +1,5 @@
 -- What a backend does without an entry.
-use Rattle.std.proofs.Common.{◌≡◌, ◌≢◌, ◌≤◌, ◌+◌, ◌∙◌, ◌&&◌, ◌⊎◌, inl, inr, ℕ, Bool, true, false, not, Option, Some, None, List, [], ◌∷◌, ◌++◌, refl, sym, ap, subst, length, drop, slice_get, is_some, is_none, All, arith}
+use Rattle.std.proofs.Common.{◌≡◌, ◌≢◌, ◌≤◌, ◌+◌, ◌∙◌, ◌&&◌, ◌⊎◌, inl, inr, ℕ, Bool, true, false, not, Option, Some, None, Result, Ok, Err, OnOk, List, [], ◌∷◌, ◌++◌, refl, sym, ap, subst, length, drop, slice_get, is_some, is_none, All, arith}
 use Rattle.std.proofs.lemmas.Bool.{both_ways, and_parts}
 use Rattle.std.proofs.lemmas.List.{length_push, take_all}
 use Rattle.rel_desc.specs.Answers.{answer_text}
@@ -33,7 +33,7 @@ use Rattle.cacheless.proofs.SilentActs.{empty_list, on_its_way, its_place, made_
 use Rattle.cacheless.proofs.ToldAnswers.{has_come_out}
 use Rattle.cacheless.proofs.SettledCourse.{HasSession, act_enters, finish_enters}
 use Rattle.backend_core.specs.Types.{Row, Command, Scenario, Entry, Event, Line, Progress, Backend}
-use Rattle.backend_core.specs.Agrees.{KeptAt, PlaceFits, Keeps, command_at, is_to_answer_at, IsJudgedHere, AgreesNow, AwaitsEntry}
+use Rattle.backend_core.specs.Agrees.{KeptAt, PlaceFits, Keeps, command_at, is_to_answer_at, IsJudgedHere, AgreesNow, GoesOn, AwaitsEntry}
 use Rattle.backend_core.specs.Answering.{IsToldText}
 use Rattle.backend_core.specs.Fits.{Fits}
 use Rattle.backend_core.proofs.Answered.{are_kept, told_line}
@@ -144,6 +144,12 @@ act_agrees scenario seen was p now acted kept given_at = record {
     going : s.ended ≡ false
     going = acts_going scenario seen was.progress.id s acted.command now.course at_finished unsettled
 
+-- the same of a call that may have been refused memory
+pub act_goes : {E : Type 0} (was : Backend) (p : Progress) (result : Result (Unit {0}) E) → OnOk result ((scenario : Scenario) (seen : List Entry) (held : Holds scenario seen was.progress) → HasActed scenario seen was.progress held p) → OnOk result (p.kept ≡ was.progress.kept) → OnOk result (p.given_at ≡ was.progress.given_at)
+    → OnOk result ((scenario : Scenario) (seen : List Entry) → AgreesNow scenario seen was → GoesOn scenario seen was (record was { progress = p }))
+act_goes was p (Ok x) acted kept given_at = λ scenario seen now. record { agrees = act_agrees scenario seen was p now (acted scenario seen now.holds) kept given_at; id = (acted scenario seen now.holds).moves.id }
+act_goes was p (Err e) acted kept given_at = tt
+
 -- it passes to its next command
 pub pass_agrees : (scenario : Scenario) (seen : List Entry) (was : Backend) (p : Progress) (lines : List Line) (text : List ℕ) (now : AgreesNow scenario seen was) (passed : HasPassed scenario seen was.progress now.holds p) → p.kept ≡ was.progress.kept
     → lines ≡ was.lines ++ record { backend = was.progress.id; command = was.progress.finished + 1; text = text } ∷ [] → elim was.answer as (λ x. Type 0) [ Some told ↦ text ≡ told | None ↦ (command : Command) → command_at was ≡ Some command → IsToldText was.progress command text ]
@@ -217,6 +223,14 @@ pass_agrees scenario seen was p lines text now passed kept pushed tells = record
         told (Some before) is same = (λ i. record { backend = was.progress.id; command = number_of s; text = same i }) ∙ now.tells.answer before passed.command is passed.at
         told None is says = answered_line scenario seen was passed.command text now passed.at (and_parts (is_settled (outcome_of s.left)) _ over.0).0 (sym (owes_nothing_is (facts_of seen was.progress.id) passed.command was.progress now.holds.rest now.holds.facts) ∙ over.1) is (says passed.command passed.at)
 
+-- the same of the call, which takes the answer first
+pub pass_goes : (was taken : Backend) (p : Progress) (lines : List Line) (text : List ℕ) → taken ≡ record was { answer = None } → ((scenario : Scenario) (seen : List Entry) (held : Holds scenario seen taken.progress) → HasPassed scenario seen taken.progress held p) → p.kept ≡ taken.progress.kept
+    → lines ≡ taken.lines ++ record { backend = taken.progress.id; command = taken.progress.finished + 1; text = text } ∷ [] → elim was.answer as (λ x. Type 0) [ Some told ↦ text ≡ told | None ↦ (command : Command) → command_at was ≡ Some command → IsToldText was.progress command text ]
+    → (scenario : Scenario) (seen : List Entry) → AgreesNow scenario seen was → GoesOn scenario seen was (record taken { progress = p; looked = false; looked_to_build = false; lines = lines })
+pass_goes was taken p lines text is passes kept pushed tells = subst (λ (x : Backend). ((scenario : Scenario) (seen : List Entry) (held : Holds scenario seen x.progress) → HasPassed scenario seen x.progress held p) → p.kept ≡ x.progress.kept → lines ≡ x.lines ++ record { backend = x.progress.id; command = x.progress.finished + 1; text = text } ∷ []
+    → (scenario : Scenario) (seen : List Entry) → AgreesNow scenario seen was → GoesOn scenario seen was (record x { progress = p; looked = false; looked_to_build = false; lines = lines })) (sym is)
+    (λ passed stays more scenario seen now. record { agrees = pass_agrees scenario seen was p lines text now (passed scenario seen now.holds) stays more tells; id = (passed scenario seen now.holds).id }) passes kept pushed
+
 -- where nothing is left to be done without an entry it is answered, if it is to be
 pub rest_awaits : (scenario : Scenario) (seen : List Entry) (s : Backend) → AgreesNow scenario seen s → IsAtRest s.progress → (is_to_answer_at s.progress ≡ true → is_some s.answer ≡ true) → AwaitsEntry scenario seen s
 rest_awaits scenario seen s now still answered = record {
@@ -226,6 +240,10 @@ rest_awaits scenario seen s now still answered = record {
   tells = now.tells;
   answered = answered;
 }
+
+pub nothing : {X : Type 0} (o : Option X) → is_some o ≡ false → o ≡ None
+nothing None is = refl
+nothing (Some x) is = absurd (cc is)
 
 -- it works out what its command answers
 pub answer_agrees : (scenario : Scenario) (seen : List Entry) (s : Backend) (command : Command) (text : List ℕ) → AgreesNow scenario seen s → command_at s ≡ Some command → is_to_answer_at s.progress ≡ true → s.answer ≡ None → IsToldText s.progress command text → AgreesNow scenario seen (record s { answer = Some text })

@@ -83,6 +83,11 @@ pub record AgreesNow (scenario : Scenario) (seen : List Entry) (s : Backend) : T
   pub here : (command : Command) → command_at s ≡ Some command → is_some s.answer ≡ false → IsJudgedHere seen s.progress.id (session_at s.progress holds.rest)
   pub last : length seen ≤ holds.rest.last
 
+-- it has gone on without an entry
+pub record GoesOn (scenario : Scenario) (seen : List Entry) (was now : Backend) : Type 0 where
+  pub agrees : AgreesNow scenario seen now
+  pub id : now.progress.id ≡ was.progress.id
+
 -- a backend that goes on only with an entry
 pub record AwaitsEntry (scenario : Scenario) (seen : List Entry) (s : Backend) : Type 0 where
   pub keeps : Keeps seen s

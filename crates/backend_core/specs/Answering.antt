@@ -32,6 +32,10 @@ shown_kept kept locks o field = shown_by locks o field (kept_for kept (read_by f
 abbrev pub shown_all : List KeptScan → List OwnLock → Opening → Answer
 shown_all kept locks o = answers.Shown o.kind o.rel (map (shown_kept kept locks o) (fields_of o.kind))
 
+-- one of them
+abbrev pub shown_one : List KeptScan → List OwnLock → Field → Opening → Answer
+shown_one kept locks field o = answers.One (shown_kept kept locks o field)
+
 -- an answer of the descriptor that is open
 abbrev pub of_open : (Opening → Answer) → List Opening → Answer
 of_open shown [] = answers.Ok
@@ -40,7 +44,7 @@ of_open shown (o ∷ opened) = shown o
 -- what a command answers that came out well
 abbrev pub answer_done : Progress → Command → Answer
 answer_done s (commands.Show name None) = of_open (shown_all s.kept s.locks.items) s.opened
-answer_done s (commands.Show name (Some field)) = of_open (λ o. answers.One (shown_kept s.kept s.locks.items o field)) s.opened
+answer_done s (commands.Show name (Some field)) = of_open (shown_one s.kept s.locks.items field) s.opened
 answer_done s commands.Commit = commit_answer s.blocks.block
 answer_done s command = answers.Ok
 

@@ -3,11 +3,10 @@ ghost use Rattle.std.specs.List.{list_any};
 ghost use Rattle.std.specs.Option.{option_copied};
 ghost use Rattle.base_types.specs.Modes.{conflicts as do_conflict};
 ghost use Rattle.base_types.specs.Scans.{same_oid};
-ghost use Rattle.rel_desc.specs.declared.answer.Answer.TheVariants as answers;
 ghost use Rattle.lock_modes.specs.Own.{clear_modes};
 ghost use Rattle.cacheless.specs.Protected.{protects};
 ghost use Rattle.cacheless.specs.State.{is_out};
-ghost use Rattle.backend_core.specs.Answering.{kept_for, shown_kept, shown_all as all_shown, of_open, answer_done, answer_at, IsToldText};
+ghost use Rattle.backend_core.specs.Answering.{kept_for, shown_kept, shown_all as all_shown, shown_one as one_shown, of_open, answer_done, answer_at, IsToldText};
 
 use crate::Backend;
 use base_types::{
@@ -80,19 +79,16 @@ impl Backend {
 
     // One field of the descriptor that is open.
     fn shown_open_field(&self, alloc: Global, field: Field) -> Result<Answer, NoMemory>
-        ensures { IfOk result (λ answer. answer ≡ of_open (λ o. answers.One (shown_kept self.now.progress.kept self.now.progress.locks.items o field)) self.now.progress.opened) }
+        ensures { IfOk result (λ answer. answer ≡ of_open (one_shown self.now.progress.kept self.now.progress.locks.items field) self.now.progress.opened) }
     {
         match self.progress.opened.as_slice().first() {
-            Some(o) => {
-                let shown = shown_field(
-                    alloc,
-                    &self.progress.kept,
-                    &self.progress.locks,
-                    *o,
-                    field,
-                )?;
-                Ok(Answer::One(shown))
-            }
+            Some(o) => shown_one(
+                alloc,
+                &self.progress.kept,
+                &self.progress.locks,
+                *o,
+                field,
+            ),
             None => Ok(Answer::Ok),
         }
     }
@@ -116,6 +112,19 @@ fn shown_all(
         rel: o.rel,
         fields,
     })
+}
+
+// One of its fields.
+fn shown_one(
+    alloc: Global,
+    kept: &KeptScans,
+    locks: &OwnLocks,
+    o: Opening,
+    field: Field,
+) -> Result<Answer, NoMemory>
+    ensures { IfOk result (λ answer. answer ≡ one_shown kept.now locks.now.items field o) }
+{
+    Ok(Answer::One(shown_field(alloc, kept, locks, o, field)?))
 }
 
 // A field of an open descriptor.

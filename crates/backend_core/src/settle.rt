@@ -16,7 +16,7 @@ use std::alloc::Global;
 
 impl Backend {
     ghost use Rattle.cacheless.specs.Runs.{runs};
-    ghost use Rattle.backend_core.specs.Agrees.{AgreesNow, AwaitsEntry, is_to_answer_at};
+    ghost use Rattle.backend_core.specs.Agrees.{AgreesNow, GoesOn, AwaitsEntry, is_to_answer_at};
     ghost use Rattle.backend_core.specs.Answering.{IsToldText};
 
     // Goes on as far as it can without an entry. The segment is there for what is said of it.
@@ -37,9 +37,8 @@ impl Backend {
     // It does its next act.
     fn act(&mut self) -> Result<(), NoMemory>
         requires acts { Acts self.old.progress }
-        ensures keeps { OnOk result ((scenario : Scenario) (seen : List Entry) → AgreesNow scenario seen self.old → AgreesNow scenario seen self.new) }
+        ensures keeps { OnOk result ((scenario : Scenario) (seen : List Entry) → AgreesNow scenario seen self.old → GoesOn scenario seen self.old self.new) }
         ensures less { OnOk result (left_of self.new.progress < left_of self.old.progress) }
-        ensures same { OnOk result (self.new.progress.id ≡ self.old.progress.id) }
     {
         self.progress.act()
     }
@@ -49,9 +48,8 @@ impl Backend {
         requires built { All (λ command. runs command ≡ true) self.old.progress.commands }
         requires few { length self.old.progress.commands ≤ 20000 }
         requires finishes { Finishes self.old.progress }
-        ensures keeps { OnOk result ((scenario : Scenario) (seen : List Entry) → AgreesNow scenario seen self.old → AgreesNow scenario seen self.new) }
+        ensures keeps { OnOk result ((scenario : Scenario) (seen : List Entry) → AgreesNow scenario seen self.old → GoesOn scenario seen self.old self.new) }
         ensures less { OnOk result (left_of self.new.progress < left_of self.old.progress) }
-        ensures same { OnOk result (self.new.progress.id ≡ self.old.progress.id) }
     {
         let text = self.take_answer(alloc)?;
         self.lines.push(Line {
@@ -87,7 +85,10 @@ impl Backend {
         ensures waits { OnOk result ((scenario : Scenario) (seen : List Entry) → AgreesNow scenario seen self.old → AwaitsEntry scenario seen self.new) }
         ensures same { OnOk result (self.new.progress.id ≡ self.old.progress.id) }
     {
-        if self.answer.is_some() || !self.is_to_answer() {
+        if self.answer.is_some() {
+            return Ok(());
+        }
+        if !self.is_to_answer() {
             return Ok(());
         }
         match self.command() {
