@@ -161,9 +161,9 @@ build_some kept (o ∷ opened) scan is = by_first (find (λ d. not (is_kept kept
     }
 
 -- the first scan that is lacked, of lists that are these
-pub first_built : (kept mine : List KeptScan) (opened given : List Opening) (lacking : Option Opening) (o : Opening) (result : Option Purpose) → mine ≡ kept → given ≡ opened → lacking ≡ lacking_first mine given → lacking ≡ Some o → result ≡ find (λ d. not (is_kept mine d)) (build_scans o.kind o.rel) → result ≡ build_first kept opened
-first_built kept mine opened given lacking o result mine_is given_is lacking_is some result_is = result_is ∙ ap (λ l. find (λ d. not (is_kept l d)) (build_scans o.kind o.rel)) mine_is
-    ∙ sym (ap (λ x. elim x as (λ y. Option Purpose) [ Some q ↦ find (λ d. not (is_kept kept d)) (build_scans q.kind q.rel) | None ↦ None ]) ((λ i. lacking_first (sym mine_is i) (sym given_is i)) ∙ sym lacking_is ∙ some))
+pub first_built : (kept : List KeptScan) (opened given : List Opening) (lacking : Option Opening) (o : Opening) (result : Option Purpose) → given ≡ opened → lacking ≡ lacking_first kept given → lacking ≡ Some o → result ≡ find (λ d. not (is_kept kept d)) (build_scans o.kind o.rel) → result ≡ build_first kept opened
+first_built kept opened given lacking o result given_is lacking_is some result_is =
+    result_is ∙ sym (ap (λ x. elim x as (λ y. Option Purpose) [ Some q ↦ find (λ d. not (is_kept kept d)) (build_scans q.kind q.rel) | None ↦ None ]) (ap (lacking_first kept) (sym given_is) ∙ sym lacking_is ∙ some))
 
 -- where no scan is found none is lacked
 pub build_none : (kept : List KeptScan) (opened : List Opening) → build_first kept opened ≡ None → lacks_opened kept opened ≡ false

@@ -1,14 +1,9 @@
-use Rattle.std.proofs.Common.{◌∙◌, sym, ap, not, refl, inl, inr, List}
-use Rattle.std.specs.List.{find}
-use Rattle.base_types.specs.Scans.{build_scans}
-use Rattle.cacheless.specs.State.{is_kept}
-use Rattle.backend_core.specs.Types.{KeptScan}
+use Rattle.std.proofs.Common.{◌∙◌, sym, refl, inl, inr}
 use Rattle.backend_core.proofs.NextActs.{open_next, read_none, fails_none}
 use Rattle.backend_core.proofs.backend.Backend.next_of_want.Goals as goal
 
 pub next_of_build-requires : goal.next_of_build-requires
-next_of_build-requires c = record { next = open_next c.args.self.now.progress _ c.requires.still c.requires.free c.requires.whole _ _ _ (c.requires.want ∙ c.in-Open.is)
-    (ap (λ (l : List KeptScan). find (λ d. not (is_kept l d)) (build_scans c.in-Open.kind c.in-Open.rel)) (sym c.as_slice.ensures) ∙ sym c.first_missing.ensures ∙ c.in-Some.is) }
+next_of_build-requires c = record { next = open_next c.args.self.now.progress _ c.requires.still c.requires.free c.requires.whole _ _ _ (c.requires.want ∙ c.in-Open.is) (sym c.first_missing.ensures ∙ c.in-Some.is) }
 
 pub unreachable-requires-in-Read : goal.unreachable-requires-in-Read
 unreachable-requires-in-Read c = elim c.in-Read.is [
