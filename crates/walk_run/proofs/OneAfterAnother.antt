@@ -68,7 +68,7 @@ goes_on_step s t h h' h'' bs' bs'' b same number goes running made =
     let makes : Makes s h' h'' bs' bs'' b = subst (λ x. Makes x h' h'' bs' bs'' b) same made in
     let n : (b - 1) + 1 ≡ b = omega (arith, number.0) in
     let at = goes.stand.each (b - 1) makes.was makes.is in
-    let id : makes.was.id ≡ b = at.id ∙ n in
+    let id : makes.was.progress.id ≡ b = at.id ∙ n in
     let alive : has_stopped h' b ≡ false = ap (has_stopped h') (sym n) ∙ stopped_at s h' ((b - 1) + 1) makes.was at ∙ running makes.was makes.is in
     record {
       stand = subst (AllStand s h'') (sym makes.set) (stand_more s h' h'' makes.had makes.has bs' (b - 1) makes.was makes.now goes.stand makes.is makes.steps);
