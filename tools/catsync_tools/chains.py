@@ -59,24 +59,14 @@ class Chains:
     """The chains of all backends."""
 
     def __init__(self, steps: List[Placed]):
-        last = {step.backend: step for step in steps}
-        self.backends = tuple(sorted(last))
-        lasts = [last[backend] for backend in self.backends]
-        if any(step.chain is None or step.chain[0] != self.backends for step in lasts):
-            self.find_chains(steps, lasts)
-        self.all: List[Chain] = [step.chain[1] for step in lasts]
-        self.start = (0,) * len(lasts)
-        self.end = tuple(step.turn for step in lasts)
-
-    def find_chains(self, steps: List[Placed], lasts: List[Placed]):
-        """Keeps each chain with its last step: all of it is decided by what comes before that."""
+        self.backends = sorted({step.backend for step in steps})
         numbers = {backend: number for number, backend in enumerate(self.backends)}
         befores: List[List[Dict[int, int]]] = [[] for _ in numbers]
         for step in steps:
             befores[numbers[step.backend]].append({numbers[backend]: count for backend, count in step.before.items()})
-        for own, step in enumerate(lasts):
-            if step.chain is None or step.chain[0] != self.backends:
-                step.chain = self.backends, Chain(own, befores)
+        self.all = [Chain(own, befores) for own in range(len(befores))]
+        self.start = (0,) * len(befores)
+        self.end = tuple(len(own) for own in befores)
 
     def least(self, place):
         """How many turns there are from a place to the end at least."""

@@ -11,44 +11,47 @@ from .access import Access
 class Placed:
     """A step in a history: whose it is, its access, how many steps of each backend come before it, itself included, its
     command, and its text; that of a step made of several (serial.py) has a line for each."""
-    __slots__ = ("backend", "access", "before", "command", "text", "turn", "after", "chain")
+    __slots__ = ("backend", "access", "before", "command", "text", "turn", "is_stop", "needed", "begun", "turns")
 
     def __init__(self, backend, access: Access, before: Dict[int, int], command, text):
         self.backend, self.access, self.before, self.command, self.text = backend, access, before, command, text
         self.turn = before[backend]     # its number among the steps of its backend
-        self.after = None               # what is known of the backend's next step (walks.py)
-        self.chain = None               # its backend's steps up to it (chains.py)
+        self.is_stop = text == "stop" or text.endswith("\nstop")
+        # for turns that each go as far as they can (chains.py): how many of the backend's own steps it needs by way of
+        # others' steps, how many were made before its turn, and the turns up to it
+        self.needed, self.begun, self.turns = 0, 0, 1
 
     def comes_before(self, other):
         """Whether it comes before a later step of the history."""
         return other.before.get(self.backend, 0) >= self.turn
 
-    @property
-    def is_stop(self):
-        """Whether its backend stops here."""
-        return self.text == "stop" or self.text.endswith("\nstop")
-
 
 class History:
     """Steps with what comes before each, and the races of each with earlier steps. Its last steps can be taken off."""
 
-    def __init__(self, accesses=None):
-        self.accesses = accesses
+    def __init__(self):
         self.steps: List[Placed] = []
         self.met: List[Set[int]] = []                       # for each step the places of those that it meets
         self.previous: List[Optional[int]] = []             # for each step the place of its backend's step before it
         self.latest: Dict[int, int] = {}                    # for each backend the place of its latest step
         self.did: Dict[tuple, Dict[int, int]] = {}          # for each access and backend the place of the latest step
         self.replaced: List[List[Tuple[dict, Optional[int]]]] = []  # for each step what was in `did` before it
-        if accesses is not None:
-            accesses.start()
+        self.past = None                                    # what it has led to (walks.py)
 
-    def add(self, step):
-        """One more step of a run."""
-        backend, command, text = step
-        access = self.accesses.of(step)
+    def place(self, backend, access: Access, command, text):
+        """One more step."""
         met = self.met_by(backend, access)
-        self.append(Placed(backend, access, self.before(backend, met), command, text), met)
+        step = Placed(backend, access, self.before(backend, met), command, text)
+        if backend in self.latest:
+            self.find_turn(step, self.steps[self.latest[backend]], met)
+        self.append(step, met)
+
+    def find_turn(self, step: Placed, previous: Placed, met):
+        """Whether a step can be made in the turn of its backend's step before it."""
+        step.needed = max([previous.needed] + [self.steps[at].before.get(step.backend, 0) for at in met])
+        step.begun, step.turns = previous.begun, previous.turns
+        if step.needed > step.begun:
+            step.begun, step.turns = previous.turn, previous.turns + 1
 
     def met_by(self, backend, access: Access):
         """The places of the latest steps of other backends that an access meets."""
@@ -111,3 +114,12 @@ def put_back(places, backend, place):
         del places[backend]
     else:
         places[backend] = place
+
+
+def history_of(steps, accesses):
+    """The history of the steps of a run."""
+    history = History()
+    accesses.start()
+    for backend, command, text in steps:
+        history.place(backend, accesses.of((backend, command, text)), command, text)
+    return history

@@ -8,7 +8,7 @@ from typing import Dict, NamedTuple, Optional, Pattern, Tuple
 from .access import Accesses
 from .findings import PLACE, Answers, Findings, without_places
 from .jobs import Jobs
-from .history import History
+from .history import history_of
 from .orders import WHOLE, Search
 from .program import Program
 from .runner import Runner
@@ -55,7 +55,8 @@ class Exploration:
         self.runner = Runner(source, self.program)
         self.longest = self.runner.longest      # steps of a random schedule, before all go on to their stop
         self.accesses = Accesses(settings.places, self.runner.past)
-        self.walks = KnownWalks(self.runner.run, self.accesses, settings.places)
+        walks = Walks if settings.places else KnownWalks
+        self.walks = walks(self.runner.run, self.accesses)
         self.findings = Findings(settings.places)
         self.serial: Dict[Answers, str] = {}    # the answers of serial orders, each with the first kind that has them
         self.is_serial_over = True
@@ -85,13 +86,6 @@ class Exploration:
         """Whether a serial order of commands has these answers."""
         return without_places(answers) in self.serial
 
-    def history(self, run):
-        """The history of a run."""
-        history = History(self.accesses)
-        for step in run.steps:
-            history.add(step)
-        return history
-
     # Serial orders
 
     def run_serial(self):
@@ -116,7 +110,7 @@ class Exploration:
                 break
             self.serial.setdefault(without_places(answers), kind)
             self.progress.show(piece.schedules, MOST_SERIAL, "%d serial orders of %s" % (piece.schedules, kind))
-            if self.add(piece, answers, self.history(runs.last).steps):
+            if self.add(piece, answers, history_of(runs.last.steps, self.accesses).steps):
                 break
         self.findings.merge(piece.findings.sets)
         self.found = piece.found
@@ -165,7 +159,7 @@ class Exploration:
             for number in numbers:
                 draw = random.Random("%s/%d" % (self.settings.seed, number))
                 run = self.runner.run(*random_schedule(draw, self.runner.backends, self.longest))
-                found = self.add(piece, run.answers, self.history(run).steps)
+                found = self.add(piece, run.answers, history_of(run.steps, self.accesses).steps)
                 yield piece
                 if found:
                     return

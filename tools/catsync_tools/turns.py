@@ -112,6 +112,6 @@ class Search:
 
 def fewest_turns(steps: List[Placed], most=None, most_tried=MOST_TRIED):
     """The fewest turns in which these steps can be made, if they are at most so many."""
-    chains, most = Chains(steps), len(steps) if most is None else most
-    least = chains.least(chains.start)
-    return Shortest(None, least, 0) if least > most else Search(chains).find(most, most_tried)
+    most = len(steps) if most is None else most
+    least = sum(last.turns for last in {step.backend: step for step in steps}.values())
+    return Shortest(None, least, 0) if least > most else Search(Chains(steps)).find(most, most_tried)
