@@ -185,6 +185,7 @@ class Exploration:
         try:
             with contextlib.closing(jobs.run()) as going:
                 for number, schedules[number] in going:
+                    self.program.interrupts.check()
                     self.show(sum(schedules), shown or most, kind)
                     if self.first_found(jobs) is not None:
                         break
