@@ -173,6 +173,8 @@ FAULTY = (
     (b"backends 1\nsteps 2 to end\nend\n", "line 2: '2 to end': the script has 1 backend"),
     (b"backends 1\n1: begin\nsteps 1 to 2\nend\n", "line 3: '1 to 2': backend 1 has 1 command"),
     (b"backends 1\n1: begin\nsteps 1 to 0\nend\n", "line 3: '1 to 0': backend 1 has 1 command"),
+    (b"backends 1\n1: begin\n1: LOCK t IN SHARE MODE NOWAIT;\nend\n", "line 3: 'nowait' isn't the model's: here no lock waits, "),
+    (b"backends 1\n1: lock t nowait -- at once\nend\n", "line 2: 'nowait' isn't the model's"),
     (b"backends 1\n1: begin\nexpect 1.2 ok\nend\n", "line 3: there is no command 2 of backend 1"),
     (b"backends 1\n1: begin\nexpect 1 ok\nend\n", "line 3: an expectation must read 'expect B.C TEXT', "),
 )
@@ -184,6 +186,8 @@ UNREACHABLE = (
      "line 4: '2 to lock' can't be reached: no such entry comes before its stop"),
     (b"backends 1\n-- a\n1: creat table t ()\nsteps 1 to 1\nend\n", "catsync: line 3"),
     (b"backends 1\nsetup 2: begin\nend\n", "catsync: line 2"),
+    (b"backends 1\n-- a\n1: creat table t ()\nend\n", "catsync: line 3: BadCommand: "),
+    (b"backends 1\n1: show caf\xe9\nsteps 1*4\nend\n", "catsync: line 2: BadByte: "), (b"end\n", "catsync: line 1: NoBackends: "),
 )
 
 

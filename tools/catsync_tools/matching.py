@@ -1,7 +1,6 @@
 """Whether a script can be an output's: its commands and its schedule are held against what the output's lines say. Where only a
 run would tell, as with a schedule by name, nothing is said."""
 from .faults import Fault
-from .items import Count
 from .spellings import respelled, tokens_of
 
 TYPES = {"boolean": "bool", "smallint": "int2", "integer": "int4", "int": "int4", "bigint": "int8"}
@@ -81,7 +80,12 @@ def check_stops(path, source, output):
 def check_schedule(path, source, output):
     """A Fault where other backends make the steps than the script's schedule says."""
     items = source.items
-    if source.setup or not all(isinstance(item.until, Count) for item in items):
+    if source.has_names:
+        return
+    if not items:
+        for entry, following in zip(output.entries, output.entries[1:]):
+            if entry.backend != following.backend and entry.event.kind != "stop":
+                refuse_schedule(path, entry.backend, following)
         return
     stopped = set()
     wanted = [item.backend for item in items for _ in range(min(item.until.count, len(output.entries)))]
@@ -91,11 +95,11 @@ def check_schedule(path, source, output):
             continue
         entry = next(entries, None)
         if entry is None or entry.backend != backend:
-            return refuse_schedule(path, backend, entry)
+            refuse_schedule(path, backend, entry)
         if entry.event.kind == "stop":
             stopped.add(backend)
     left = next(entries, None)
-    if items and left is not None:
+    if left is not None:
         raise Fault("%s: not the script of this output: its steps end before line %d: %s" % (path, left.number, left.line))
 
 
