@@ -15,7 +15,7 @@ def check_script(path, source, output):
     check_places(path, source, output)
     for number, line in lines_of(output):
         text = source.commands.get((line.backend, line.command))
-        if text is not None and not can_be_of(tokens_of(respelled(text)), line):
+        if text is not None and not can_be_of([token for token in tokens_of(respelled(text)) if token != ";"], line):
             raise Fault("%s: not the script of this output: line %d can't be of '%d: %s': %s" % (
                 path, number, line.backend, " ".join(text.split()), line.line))
     check_stops(path, source, output)
