@@ -177,7 +177,7 @@ class Made:
         return Run(b"", [(backend, command + (text == "stop"), text) for backend, command, text in made], ())
 
 
-def history_of(steps, backends):
+def history_in_turns(steps, backends):
     """The history of backends with these steps, in this order of turns."""
     left = {backend: list(own) for backend, own in steps.items()}
     return history_of([(backend, 1, left[backend].pop(0)) for backend in backends], Accesses())
@@ -300,13 +300,13 @@ class FewestTurns(unittest.TestCase):
         steps = {backend: [draw.choice(self.STEPS) for _ in range(length)] for backend, length in enumerate(lengths, 1)}
         order = [backend for backend, own in steps.items() for _ in own]
         draw.shuffle(order)
-        return steps, history_of(steps, order)
+        return steps, history_in_turns(steps, order)
 
     def check(self, steps, history, least):
         """The search finds the fewest turns, they keep the order, and it finds none where fewer are wanted."""
         turns = fewest_turns(history.steps).turns
         self.assertEqual(len(turns), least)
-        self.assertEqual(order_of(history_of(steps, backends_of(turns))), order_of(history))
+        self.assertEqual(order_of(history_in_turns(steps, backends_of(turns))), order_of(history))
         self.assertEqual(fewest_turns(history.steps, least).turns, turns)
         self.assertIsNone(fewest_turns(history.steps, least - 1).turns)
 
@@ -317,7 +317,7 @@ class FewestTurns(unittest.TestCase):
             steps, _ = self.drawn(draw, lengths)
             least, histories = {}, {}
             for order in interleavings({backend: len(own) for backend, own in steps.items()}):
-                history = history_of(steps, order)
+                history = history_in_turns(steps, order)
                 key = order_of(history)
                 histories[key] = history
                 least[key] = min(least.get(key, len(order)), len(turns_of(order)))
@@ -349,7 +349,7 @@ class FewestTurns(unittest.TestCase):
         steps, history = self.drawn(draw, [100] * 8)
         shortest = fewest_turns(history.steps)
         self.assertEqual(len(shortest.turns), shortest.least)
-        self.assertEqual(order_of(history_of(steps, backends_of(shortest.turns))), order_of(history))
+        self.assertEqual(order_of(history_in_turns(steps, backends_of(shortest.turns))), order_of(history))
 
     def test_search_that_is_given_up(self):
         """It has turns that keep the order, knows how many there are at least, and says that fewer may do."""
@@ -357,7 +357,7 @@ class FewestTurns(unittest.TestCase):
         for _ in range(40):
             steps, history = self.drawn(draw, (8, 8, 8))
             least, given_up, found = least_turns(history.steps), fewest_turns(history.steps, most_tried=0), Found()
-            self.assertEqual(order_of(history_of(steps, backends_of(given_up.turns))), order_of(history))
+            self.assertEqual(order_of(history_in_turns(steps, backends_of(given_up.turns))), order_of(history))
             self.assertLessEqual(given_up.least, least)
             self.assertGreaterEqual(len(given_up.turns), least)
             found.add(history.steps, 0)

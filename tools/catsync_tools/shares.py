@@ -8,7 +8,7 @@ interleavings the steps have which are left, so what the shares are depends on t
 import heapq
 from collections import Counter
 from math import lgamma
-from typing import List, NamedTuple, Tuple
+from typing import Dict, List, NamedTuple, Set, Tuple
 
 from .history import History, Placed
 from .orders import Share, asleep_after, awake_after, awake_first
@@ -25,8 +25,12 @@ def guess(place):
     """The logarithm of about how many orders a share has: that of the interleavings of the steps that are left and meet
     one of another backend. Where nothing that is left wakes a sleeper it is less than 0: there may well be none."""
     left = place.steps[len(place.share.first):]
-    counts = Counter(step.backend for step in left if any(
-        step.access.meets_one_of(other.access) for other in left if other.backend != step.backend))
+    doing: Dict[tuple, Set[int]] = {}
+    for step in left:
+        for what in step.access.does:
+            doing.setdefault(what, set()).add(step.backend)
+    counts = Counter(step.backend for step in left
+                     if any(what in doing and doing[what] != {step.backend} for what in step.access.meets))
     if any(not any(own.meets_one_of(step.access) for step in left if step.backend != backend)
            for backend, own in place.share.asleep.items()):
         return -1.0
