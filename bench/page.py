@@ -45,7 +45,7 @@ document.title = told.join(' / ') + ' / ' + document.body.dataset.entry;
 def script_of(entries):
     """A script whose history has at least so many entries."""
     draw, lines = random.Random(1), ["backends %d" % BACKENDS]
-    for number in range(entries // 20):
+    for number in range(entries // 10):
         backend, table = draw.randint(1, BACKENDS), "t%d" % draw.randint(1, 20)
         lines.append("%d: %s" % (backend, draw.choice((
             "create table %s (a int4, b text)" % table, "show " + table, "show " + table,

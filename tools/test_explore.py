@@ -771,27 +771,36 @@ class Explorer(unittest.TestCase):
 
     def test_signal_at_any_time(self):
         """A part that is told to stop at any time leaves the file as it was, or has in it what it has found, whole."""
-        draw = random.Random(int(os.environ.get("CATSYNC_SIGNAL_SEED", "1")))
+        draw, count = random.Random(7), int(os.environ.get("CATSYNC_SIGNALS", "8"))
         with tempfile.TemporaryDirectory() as folder:
-            path, told = os.path.join(folder, "part"), set()
-            for _ in range(int(os.environ.get("CATSYNC_SIGNALS", "8"))):
+            path, begun = os.path.join(folder, "part"), time.monotonic()
+            self.assertEqual(self.stopped(path, None, None), (0, b""))
+            whole, took = content_of(path), time.monotonic() - begun
+            for _ in range(count):
                 with open(path, "w", encoding="utf-8") as file:
                     file.write("old")
-                with open(os.path.join(TOP, "examples", "three_at_once.script"), "rb") as script:
-                    explorer = subprocess.Popen(
-                        [os.path.join(TOOLS, "explore"), "--program", PROGRAM, "--part", "1/99", "--out", path], stdin=script,
-                        stdout=subprocess.PIPE, stderr=subprocess.PIPE)
-                with explorer:
-                    time.sleep(draw.uniform(0, 2.5))
-                    explorer.send_signal(draw.choice((signal.SIGTERM, signal.SIGINT)))
-                    said = explorer.communicate()[1]
-                text = content_of(path).decode()
-                told.add((explorer.returncode, said))
+                number = draw.choice((signal.SIGTERM, signal.SIGINT))
+                ended = self.stopped(path, draw.uniform(0, 1.1 * took), number)
+                text = content_of(path)
                 self.assertEqual(os.listdir(folder), ["part"])
-                if text != "old":
-                    self.assertEqual(call("explore", "--merge", path)[::2], (0, ""))
-            self.assertLessEqual(told, {(0, b""), (130, b""), (130, b"explore: interrupted\n"), (-signal.SIGTERM, b""),
-                                        (-signal.SIGINT, b"")})
+                if text not in (b"old", whole):
+                    self.assertEqual(ended, (130, b""))
+                    self.assertRegex(call("explore", "--merge", path)[1].decode(), "^stopped after [0-9]+ orders?: ")
+                elif text == b"old":
+                    self.assertIn(ended[0], (130, -number))
+
+    def stopped(self, path, seconds, number):
+        """Exit status and standard error of a part of a search that writes a file, and is sent a signal after so long."""
+        with open(os.path.join(TOP, "examples", "second_show.script"), "rb") as script:
+            explorer = subprocess.Popen(
+                [os.path.join(TOOLS, "explore"), "--program", PROGRAM, "--part", "1/1", "--out", path], stdin=script,
+                stdout=subprocess.PIPE, stderr=subprocess.PIPE, preexec_fn=lambda: signal.signal(signal.SIGINT, signal.SIG_DFL))
+        with explorer:
+            if number is not None:
+                time.sleep(seconds)
+                explorer.send_signal(number)
+            said = explorer.communicate()[1]
+        return explorer.returncode, said
 
     def test_interrupt_of_a_part(self):
         """On Ctrl-C, and on a batch system's SIGTERM, a part prints what it has found, and the parts are merged as a search
