@@ -1,5 +1,5 @@
 #!/usr/bin/env bash
-# A search of more than a million orders, once in parts and once in one run: bench/parts.sh [FOLDER [PARTS [JOBS]]]
+# A large search, once in parts and once in one run: bench/parts.sh [FOLDER [PARTS [JOBS]]]
 #
 # Five sessions create a table of one name. The parts are files in FOLDER, where those that are there already are kept, so that
 # it can be stopped and started again; JOBS of them are made at once. At the end what they are merged to is compared with what
