@@ -5,7 +5,7 @@ _catsync_options() {
     catsync) echo walk --help --version ;;
     schedule) echo --program --help ;;
     explore)
-        echo --most --random --seed --find --interleaved --places --picture --html --jobs --part --merge --program --help
+        echo --most --random --seed --find --interleaved --places --picture --html --jobs --part --out --merge --program --help
         ;;
     expect) echo --most --program --help ;;
     picture) echo --html --script --brief --width --from --to --help ;;

@@ -13,14 +13,18 @@ import signal
 import subprocess
 import sys
 import tempfile
+import time
 import unittest
+import unittest.mock
 
 from testing import HAS_PROGRAM, NO_PROGRAM, PROGRAM, TOOLS, TOP, call, content_of
 
 from catsync_tools.access import Accesses
 from catsync_tools.chains import Chains
+from catsync_tools.faults import Fault
 from catsync_tools.findings import Found, without_places
-from catsync_tools.orders import History, Search
+from catsync_tools.history import history_of
+from catsync_tools.orders import Search
 from catsync_tools.program import Program, Run
 from catsync_tools.progress import Progress
 from catsync_tools.report import led_to
@@ -30,6 +34,7 @@ from catsync_tools.serial import SerialRuns, WholeAccesses, commands_of, transac
 from catsync_tools.shares import shares
 from catsync_tools.sources import read_source
 from catsync_tools.turns import Tried, fewest_turns
+from catsync_tools.walks import KnownWalks, Walks
 
 
 # The search for orders, without the program.
@@ -74,10 +79,7 @@ class Orders(unittest.TestCase):
         """The orders of all interleavings."""
         orders = set()
         for order in interleavings({backend: len(own) for backend, own in steps.items()}):
-            history = History(Accesses())
-            for step in self.program(steps)(order, []).steps:
-                history.add(step)
-            orders.add(order_of(history))
+            orders.add(order_of(history_of(self.program(steps)(order, []).steps, Accesses())))
         return orders
 
     def test_each_order_once(self):
@@ -88,11 +90,11 @@ class Orders(unittest.TestCase):
             steps = {backend: [draw.choice(self.STEPS) for _ in range(length - 1)] + ["stop"]
                      for backend, length in enumerate(lengths, 1)}
             with self.subTest(steps):
-                search = Search(self.program(steps), sorted(steps), Accesses())
-                found = [order_of(history) for run, history in search.orders() if run]
-                self.assertEqual(len(found), len(set(found)))
-                self.assertEqual(set(found), self.all_orders(steps))
-
+                for walks in (Walks, KnownWalks):
+                    search = Search(walks(self.program(steps), Accesses()), sorted(steps))
+                    found = [order_of(history) for answers, history in search.orders() if answers is not None]
+                    self.assertEqual(len(found), len(set(found)))
+                    self.assertEqual(set(found), self.all_orders(steps))
 
     def test_shares(self):
         """Shares have each order between them, and none twice."""
@@ -102,9 +104,9 @@ class Orders(unittest.TestCase):
                 steps = {backend: [draw.choice(self.STEPS) for _ in range(length - 1)] + ["stop"]
                          for backend, length in enumerate(draw.choice(((3, 3, 2), (5, 4))), 1)}
                 with self.subTest((count, steps)):
-                    run, backends = self.program(steps), sorted(steps)
-                    found = [order_of(history) for share in shares(run, backends, Accesses(), count)
-                             for made, history in Search(run, backends, Accesses(), share).orders() if made]
+                    walks, backends = KnownWalks(self.program(steps), Accesses()), sorted(steps)
+                    found = [order_of(history) for share in shares(walks, backends, count)
+                             for answers, history in Search(walks, backends, share).orders() if answers is not None]
                     self.assertEqual(len(found), len(set(found)))
                     self.assertEqual(set(found), self.all_orders(steps))
 
@@ -118,8 +120,8 @@ class Orders(unittest.TestCase):
                 runner = Made(commands)
                 runs = SerialRuns(runner, {backend: list(range(1, len(own) + 1)) for backend, own in commands.items()})
                 found = []
-                for run, history in Search(runs.run, runner.backends, WholeAccesses(())).orders():
-                    if run is not None:
+                for answers, history in Search(Walks(runs.run, WholeAccesses(())), runner.backends).orders():
+                    if answers is not None:
                         self.assertEqual(runs.last.steps, runner.whole([step.backend for step in history.steps]).steps)
                         found.append(order_of(history))
                 self.assertEqual(len(found), len(set(found)))
@@ -128,14 +130,13 @@ class Orders(unittest.TestCase):
 
     def whole_history(self, run):
         """The history of whole commands of a run in which they are made one after the other."""
-        history, wholes = History(WholeAccesses(())), []
+        wholes = []
         for backend, command, text in run.steps:
             if text != "stop" and (not wholes or wholes[-1][:2] != (backend, command)):
                 wholes.append((backend, command, []))
             wholes[-1][2].append(text)
-        for backend, command, texts in wholes:
-            history.add((backend, [command] * len(texts), "\n".join(texts)))
-        return history
+        return history_of([(backend, [command] * len(texts), "\n".join(texts)) for backend, command, texts in wholes],
+                          WholeAccesses(()))
 
 
 class Groups(unittest.TestCase):
@@ -176,13 +177,10 @@ class Made:
         return Run(b"", [(backend, command + (text == "stop"), text) for backend, command, text in made], ())
 
 
-def history_of(steps, backends):
+def history_in_turns(steps, backends):
     """The history of backends with these steps, in this order of turns."""
     left = {backend: list(own) for backend, own in steps.items()}
-    history = History(Accesses())
-    for backend in backends:
-        history.add((backend, 1, left[backend].pop(0)))
-    return history
+    return history_of([(backend, 1, left[backend].pop(0)) for backend in backends], Accesses())
 
 
 def backends_of(turns):
@@ -190,10 +188,10 @@ def backends_of(turns):
     return [backend for backend, count in turns for _ in range(count)]
 
 
-def least_turns(history):
-    """The fewest turns that keep a history's order, with each step that can come next tried at each place."""
+def least_turns(steps):
+    """The fewest turns that keep the order of a history's steps, with each step that can come next tried at each place."""
     befores = {}
-    for step in history.steps:
+    for step in steps:
         befores.setdefault(step.backend, []).append(step.before)
 
     @functools.lru_cache(maxsize=None)
@@ -210,6 +208,88 @@ def least_turns(history):
     return after(tuple((backend, 0) for backend in sorted(befores)), None)
 
 
+class Known(unittest.TestCase):
+    """Walks of which only those are run that have a step which isn't known."""
+
+    class Locks:
+        """Backends that each lock a relation, two of them by turns, and look for messages that others publish: what comes out
+        depends on who was first."""
+
+        def __init__(self, rels):
+            self.rels, self.runs = rels, 0
+
+        def run(self, first, rest):
+            """Steps in this order: a lock, then a release, a message and the stop, or a stop at once."""
+            self.runs += 1
+            left = {backend: None for backend in self.rels}
+            holders, made, published, order = {}, [], 0, list(first)
+            order += [backend for backend in rest for _ in range(9)]
+            for backend in order:
+                number, rel = left[backend] or 0, self.rels[backend]
+                if number == 0:
+                    text = "look no" if published == 0 else "look yes"
+                elif number == 1 and text_of(made, backend) == "look yes":
+                    text, number = "fetch %d" % published, 0
+                elif number == 1:
+                    text = "lock %d ax %s" % (rel, "held %d ax" % holders[rel] if rel in holders else "ok")
+                    number = 4 if rel in holders else 1
+                    holders.setdefault(rel, backend)
+                elif number == 2:
+                    text, published = "publish 1", published + 1
+                elif number == 3:
+                    text = "release 1"
+                    holders.pop(rel)
+                elif number in (4, 5):
+                    text = "stop"
+                    number = 8
+                else:
+                    continue
+                left[backend] = number + 1
+                made.append((backend, 1, text))
+            return Run(b"", made, tuple("l %d 1 %s" % (backend, " ".join(text for other, _, text in made if other == backend))
+                                        for backend in sorted(left)))
+
+    def outcomes(self, walks, rels):
+        """Each order's steps by backend, and its answers."""
+        return [(order_of(history), answers, sorted((step.backend, step.turn, step.text) for step in history.steps))
+                for answers, history in Search(walks, sorted(rels)).orders() if answers is not None]
+
+    def test_same_orders(self):
+        """All orders, steps and answers are those of walks that are each run, in the same order, with fewer runs."""
+        for rels in ({1: 7, 2: 7}, {1: 7, 2: 8}, {1: 7, 2: 7, 3: 7}, {1: 7, 2: 8, 3: 7}):
+            with self.subTest(rels):
+                each, known = self.Locks(rels), self.Locks(rels)
+                self.assertEqual(self.outcomes(KnownWalks(known.run, Accesses()), rels),
+                                 self.outcomes(Walks(each.run, Accesses()), rels))
+                self.assertLessEqual(known.runs, each.runs)
+
+    def test_forgetting(self):
+        """The same where all is forgotten now and then, and where it matters who has read messages."""
+        rels = {1: 7, 2: 7, 3: 8}
+        wanted = self.outcomes(Walks(self.Locks(rels).run, Accesses()), rels)
+        for name, value in (("MOST_KNOWN", 5), ("FEW", 0), ("FEW", 1), ("RUN_ANYWAY", 1)):
+            with self.subTest(name), unittest.mock.patch("catsync_tools.walks." + name, value):
+                self.assertEqual(self.outcomes(KnownWalks(self.Locks(rels).run, Accesses()), rels), wanted)
+
+    def test_a_program_that_differs(self):
+        """A program that makes other steps in the same order is found out."""
+        class Other(self.Locks):
+            """Answers that depend on how often it was run."""
+
+            def run(self, first, rest):
+                """Steps in this order."""
+                run = super().run(first, rest)
+                return run._replace(answers=("l 1 1 %d" % self.runs,) + run.answers[1:])
+        walks = KnownWalks(Other({1: 7, 2: 7}).run, Accesses())
+        with self.assertRaisesRegex(Fault, "two schedules of one order have other answers, so it isn't one: l 1 1 "):
+            self.outcomes(walks, {1: 7, 2: 7})
+
+
+def text_of(made, backend):
+    """The latest step of a backend."""
+    return [text for other, _, text in made if other == backend][-1]
+
+
 class FewestTurns(unittest.TestCase):
     """The search for the fewest turns, whatever the steps are."""
 
@@ -220,13 +300,13 @@ class FewestTurns(unittest.TestCase):
         steps = {backend: [draw.choice(self.STEPS) for _ in range(length)] for backend, length in enumerate(lengths, 1)}
         order = [backend for backend, own in steps.items() for _ in own]
         draw.shuffle(order)
-        return steps, history_of(steps, order)
+        return steps, history_in_turns(steps, order)
 
     def check(self, steps, history, least):
         """The search finds the fewest turns, they keep the order, and it finds none where fewer are wanted."""
         turns = fewest_turns(history.steps).turns
         self.assertEqual(len(turns), least)
-        self.assertEqual(order_of(history_of(steps, backends_of(turns))), order_of(history))
+        self.assertEqual(order_of(history_in_turns(steps, backends_of(turns))), order_of(history))
         self.assertEqual(fewest_turns(history.steps, least).turns, turns)
         self.assertIsNone(fewest_turns(history.steps, least - 1).turns)
 
@@ -237,7 +317,7 @@ class FewestTurns(unittest.TestCase):
             steps, _ = self.drawn(draw, lengths)
             least, histories = {}, {}
             for order in interleavings({backend: len(own) for backend, own in steps.items()}):
-                history = history_of(steps, order)
+                history = history_in_turns(steps, order)
                 key = order_of(history)
                 histories[key] = history
                 least[key] = min(least.get(key, len(order)), len(turns_of(order)))
@@ -251,7 +331,7 @@ class FewestTurns(unittest.TestCase):
         for _ in range(60):
             steps, history = self.drawn(draw, draw.choice(((12, 12), (8, 8, 8), (10, 9, 8), (5, 5, 5, 5), (6, 6, 5, 4))))
             with self.subTest(steps):
-                self.check(steps, history, least_turns(history))
+                self.check(steps, history, least_turns(history.steps))
 
     def test_places_that_are_passed_over(self):
         """A place is passed over for one that has all its steps and no more turns, and for no other."""
@@ -269,15 +349,15 @@ class FewestTurns(unittest.TestCase):
         steps, history = self.drawn(draw, [100] * 8)
         shortest = fewest_turns(history.steps)
         self.assertEqual(len(shortest.turns), shortest.least)
-        self.assertEqual(order_of(history_of(steps, backends_of(shortest.turns))), order_of(history))
+        self.assertEqual(order_of(history_in_turns(steps, backends_of(shortest.turns))), order_of(history))
 
     def test_search_that_is_given_up(self):
         """It has turns that keep the order, knows how many there are at least, and says that fewer may do."""
         draw, unsure = random.Random(2), 0
         for _ in range(40):
             steps, history = self.drawn(draw, (8, 8, 8))
-            least, given_up, found = least_turns(history), fewest_turns(history.steps, most_tried=0), Found()
-            self.assertEqual(order_of(history_of(steps, backends_of(given_up.turns))), order_of(history))
+            least, given_up, found = least_turns(history.steps), fewest_turns(history.steps, most_tried=0), Found()
+            self.assertEqual(order_of(history_in_turns(steps, backends_of(given_up.turns))), order_of(history))
             self.assertLessEqual(given_up.least, least)
             self.assertGreaterEqual(len(given_up.turns), least)
             found.add(history.steps, 0)
@@ -380,12 +460,11 @@ class Counting(Exploration):
         super().__init__(*words)
         self.least = {}
 
-    def add(self, piece, run, steps):
+    def add(self, piece, answers, steps):
         """One more schedule."""
-        key = without_places(run.answers)
-        history = self.history(run)
-        self.least[key] = min(self.least.get(key, (99, 99)), (least_turns(history), len(steps)))
-        return super().add(piece, run, steps)
+        key = without_places(answers)
+        self.least[key] = min(self.least.get(key, (99, 99)), (least_turns(steps), len(steps)))
+        return super().add(piece, answers, steps)
 
 
 @unittest.skipUnless(HAS_PROGRAM, NO_PROGRAM)
@@ -630,6 +709,8 @@ class Explorer(unittest.TestCase):
                  (["--part", "1/2", "--find", "x"], TWO_CREATORS, "--find doesn't go with --part; explore --help says more"),
                  (["--find", ""], TWO_CREATORS, "--find needs a text; "),
                  (["--html"], TWO_CREATORS, "--html is for --picture; "),
+                 (["--out", "x"], TWO_CREATORS, "--out is for --part; "),
+                 (["--part", "1/2", "--out", "/no/such/part"], TWO_CREATORS, "/no/such/part: writing failed: "),
                  (["--picture", "/dev/null/a"], TWO_CREATORS, "/dev/null/a: the folder can't be made: "),
                  (["--picture", "/proc"], TWO_CREATORS, "/proc/set1.svg: writing failed: "),
                  (["--program", "/no/such/program"], TWO_CREATORS, "/no/such/program: "),
@@ -687,6 +768,39 @@ class Explorer(unittest.TestCase):
         report = Report(text.decode())
         self.assertRegex(report.head, "^stopped after [0-9]+ orders?: ")
         self.assertTrue(report.answers)
+
+    def test_signal_at_any_time(self):
+        """A part that is told to stop at any time leaves the file as it was, or has in it what it has found, whole."""
+        draw, count = random.Random(7), int(os.environ.get("CATSYNC_SIGNALS", "8"))
+        with tempfile.TemporaryDirectory() as folder:
+            path, begun = os.path.join(folder, "part"), time.monotonic()
+            self.assertEqual(self.stopped(path, None, None), (0, b""))
+            whole, took = content_of(path), time.monotonic() - begun
+            for _ in range(count):
+                with open(path, "w", encoding="utf-8") as file:
+                    file.write("old")
+                number = draw.choice((signal.SIGTERM, signal.SIGINT))
+                ended = self.stopped(path, draw.uniform(0, 1.1 * took), number)
+                text = content_of(path)
+                self.assertEqual(os.listdir(folder), ["part"])
+                if text not in (b"old", whole):
+                    self.assertEqual(ended, (130, b""))
+                    self.assertRegex(call("explore", "--merge", path)[1].decode(), "^stopped after [0-9]+ orders?: ")
+                elif text == b"old":
+                    self.assertIn(ended[0], (130, -number))
+
+    def stopped(self, path, seconds, number):
+        """Exit status and standard error of a part of a search that writes a file, and is sent a signal after so long."""
+        with open(os.path.join(TOP, "examples", "second_show.script"), "rb") as script:
+            explorer = subprocess.Popen(
+                [os.path.join(TOOLS, "explore"), "--program", PROGRAM, "--part", "1/1", "--out", path], stdin=script,
+                stdout=subprocess.PIPE, stderr=subprocess.PIPE, preexec_fn=lambda: signal.signal(signal.SIGINT, signal.SIG_DFL))
+        with explorer:
+            if number is not None:
+                time.sleep(seconds)
+                explorer.send_signal(number)
+            said = explorer.communicate()[1]
+        return explorer.returncode, said
 
     def test_interrupt_of_a_part(self):
         """On Ctrl-C, and on a batch system's SIGTERM, a part prints what it has found, and the parts are merged as a search

@@ -60,6 +60,31 @@ class Help(unittest.TestCase):
                     self.assertNotIn(b"Traceback", done.stdout)
                     self.assertEqual(done.returncode, 2)
 
+    def test_directory_as_input(self):
+        """Nor where standard input is a directory: one line, if the tool reads it, and --help all the same."""
+        for name in NAMES:
+            tool, given = os.path.join(TOOLS, name), os.open("/", os.O_RDONLY)
+            with self.subTest(name):
+                done = subprocess.run([tool], stdin=given, stdout=subprocess.PIPE, stderr=subprocess.PIPE)
+                self.assertEqual((done.returncode, done.stdout), (2, b""))
+                self.assertTrue(done.stderr.decode().startswith(name + ": "), done.stderr)
+                if name != "server":
+                    self.assertEqual(done.stderr.decode(), "%s: reading failed: Is a directory\n" % name)
+                self.assertEqual(subprocess.run([tool, "--help"], stdin=given, stdout=subprocess.PIPE).returncode, 0)
+            os.close(given)
+            with self.subTest((name, "closed")):
+                done = subprocess.run(["sh", "-c", "exec %s <&-" % tool], stdout=subprocess.PIPE, stderr=subprocess.PIPE)
+                self.assertEqual((done.returncode, done.stdout, done.stderr.count(b"\n")), (2, b"", 1))
+
+    def test_help_of_the_gate(self):
+        """./prove --help is usage too; and what ./catsync runs is said."""
+        done = subprocess.run([os.path.join(TOP, "prove"), "--help"], stdout=subprocess.PIPE, stderr=subprocess.PIPE)
+        self.assertEqual((done.returncode, done.stderr), (0, b""))
+        self.assertIn(b"\n  ./prove --quick ", done.stdout)
+        done = subprocess.run([os.path.join(TOP, "catsync"), "--version"], stdout=subprocess.PIPE, stderr=subprocess.PIPE)
+        self.assertEqual((done.returncode, done.stderr), (0, b""))
+        self.assertRegex(done.stdout, rb"^catsync \S+: runs (the program built without proof|crates/catsync/out/catsync), ")
+
     def test_man_page(self):
         """The man page has each tool with all of its options, and no others."""
         text = content_of(MAN).decode().replace("\\-", "-")

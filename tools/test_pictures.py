@@ -22,10 +22,13 @@ sys.path.insert(0, os.path.dirname(os.path.abspath(__file__)))
 
 from testing import TOOLS, TOP, call, content_of
 
+from catsync_tools.faults import Fault
 from catsync_tools.layout import Span
+from catsync_tools.matching import check_script
 from catsync_tools.messages import COLUMNS, NAMES, OIDS, Row, hash_of, messages_of
 from catsync_tools.outputs import read_output
 from catsync_tools.picture import picture_of, script_of
+from catsync_tools.sources import read_source
 from catsync_tools.steps import steps_of
 from catsync_tools.story import story_of
 from catsync_tools.why import plain, sentences_of
@@ -631,6 +634,21 @@ FAULTY_OUTPUTS = (
 )
 
 
+# Changes of examples/two_backends.script that its output can't be of.
+TWICE = "2: show t\n2: show t\n"
+OTHER_SCRIPTS = (
+    (TWICE, "2: show t\n2: show u\n", "line 17 can't be of '2: show u': h 2 2 scan relname t rows 1"),
+    (TWICE, "2: show t\n2: show t columns\n", "line 37 can't be of '2: show t columns': l 2 2 table 16384; "),
+    (TWICE, "2: show t\n2: begin\n", "line 17 can't be of '2: begin'"),
+    (TWICE, "2: show t\n", "line 14 of the output is of command 2 of backend 2, which the script hasn't"),
+    (TWICE, TWICE + "2: show t\n", "backend 2 has 3 commands there, and stops in line 33 after 2"),
+    ("(a int4)", "(b int4)", "line 3 can't be of '1: create table t .b int4.'"), ("(a int4)", "(a text)", "line 3 can't be of "),
+    ("1*4 2*6", "1*5 2*5", "its steps have backend 1 in line 5, and not h 2 0 start"),
+    ("2*20 1\n", "2*19\n", "its steps end before line 33: h 2 3 stop"),
+    ("steps 1*4 2*6 1*3 2*20 1\n", "", "its steps have backend 1 in line 5, and not h 2 0 start"),
+)
+
+
 class FaultyOutputs(unittest.TestCase):
     """What isn't an output is refused with one line, and nothing is drawn."""
 
@@ -672,6 +690,21 @@ class FaultyOutputs(unittest.TestCase):
                     self.assertTrue(error.startswith("picture: " + said), error)
                     self.assertEqual(error.count("\n"), 1)
         self.assertEqual(call("picture", "--to", "5000", given=long)[0], 0)
+
+    def test_script_of_another_output(self):
+        """A script that can't be the output's is refused, and each example's own one isn't."""
+        outputs = {path: read_output(content_of(path)) for path in OUTPUTS}
+        sources = {path: read_source(content_of(path.replace(".output", ".script"))) for path in OUTPUTS
+                   if os.path.exists(path.replace(".output", ".script"))}
+        for path, source in sources.items():
+            check_script("own", source, outputs[path])
+        given = content_of(os.path.join(TOP, "examples", "two_backends.script")).decode()
+        output = outputs[os.path.join(TOP, "examples", "two_backends.output")]
+        for old, new, said in OTHER_SCRIPTS:
+            with self.subTest(new):
+                self.assertIn(old, given)
+                with self.assertRaisesRegex(Fault, "^other: .*" + said):
+                    check_script("other", read_source(given.replace(old, new, 1).encode()), output)
 
     def test_closed_streams(self):
         """A standard stream that is closed is a fault too."""

@@ -30,9 +30,8 @@ SPELLINGS = (
     ("abort", "rollback"), ("Abort Work", "rollback"), ("rollback transaction", "rollback"),
     ("rollback work to savepoint s", "rollback to s"), ("abort to s", "rollback to s"),
     ("lock t", "lock table t in access exclusive mode"), ("lock table t", "lock table t in access exclusive mode"),
-    ("lock only t nowait", "lock table t in access exclusive mode"),
+    ("lock only t", "lock table t in access exclusive mode"),
     ("lock t in share row exclusive mode", "lock table t in share row exclusive mode"),
-    ("lock table t in share mode nowait", "lock table t in share mode"),
     ("alter table t add b text", "alter table t add column b text"),
     ("alter table only t add column b text", "alter table t add column b text"),
     ("alter table public.t drop b", "alter table t drop column b"),
@@ -93,11 +92,16 @@ class Spellings(unittest.TestCase):
                 self.assertEqual(respelled(" " + written), " " + written)
 
     def test_scripts_by_the_grammar(self):
-        """They stay byte for byte, and the program isn't run."""
+        """They stay byte for byte; and where the program refuses one, its fault is told."""
         for path in EXAMPLES:
             with self.subTest(path):
-                self.assertEqual(call("schedule", "--program", "/no/such/program", given=content_of(path)),
-                                 (0, content_of(path), ""))
+                self.assertEqual(counted_script(read_source(content_of(path)), None), content_of(path))
+        for path in EXAMPLES if HAS_PROGRAM else []:
+            with self.subTest(path):
+                refused = path.replace(".script", ".error")
+                self.assertEqual(call("schedule", "--program", PROGRAM, given=content_of(path)),
+                                 (2, b"", "schedule: " + content_of(refused).decode()) if os.path.exists(refused)
+                                 else (0, content_of(path), ""))
         for given in (b"backends 1\r\n1: show t;\r\nsteps 1*2 1\r\nEND\r\n\r\n-- caf\xe9", b"backends 1\nend",
                       b"\n--\xff\n backends  2 \n\n1 : show t\nsteps 1 * 3 2\nend\n\n"):
             with self.subTest(given):
@@ -169,6 +173,8 @@ FAULTY = (
     (b"backends 1\nsteps 2 to end\nend\n", "line 2: '2 to end': the script has 1 backend"),
     (b"backends 1\n1: begin\nsteps 1 to 2\nend\n", "line 3: '1 to 2': backend 1 has 1 command"),
     (b"backends 1\n1: begin\nsteps 1 to 0\nend\n", "line 3: '1 to 0': backend 1 has 1 command"),
+    (b"backends 1\n1: begin\n1: LOCK t IN SHARE MODE NOWAIT;\nend\n", "line 3: 'nowait' isn't the model's: here no lock waits, "),
+    (b"backends 1\n1: lock t nowait -- at once\nend\n", "line 2: 'nowait' isn't the model's"),
     (b"backends 1\n1: begin\nexpect 1.2 ok\nend\n", "line 3: there is no command 2 of backend 1"),
     (b"backends 1\n1: begin\nexpect 1 ok\nend\n", "line 3: an expectation must read 'expect B.C TEXT', "),
 )
@@ -180,6 +186,8 @@ UNREACHABLE = (
      "line 4: '2 to lock' can't be reached: no such entry comes before its stop"),
     (b"backends 1\n-- a\n1: creat table t ()\nsteps 1 to 1\nend\n", "catsync: line 3"),
     (b"backends 1\nsetup 2: begin\nend\n", "catsync: line 2"),
+    (b"backends 1\n-- a\n1: creat table t ()\nend\n", "catsync: line 3: BadCommand: "),
+    (b"backends 1\n1: show caf\xe9\nsteps 1*4\nend\n", "catsync: line 2: BadByte: "), (b"end\n", "catsync: line 1: NoBackends: "),
 )
 
 
@@ -217,8 +225,8 @@ class FaultyScripts(unittest.TestCase):
         """Closed standard streams are faults too, and none ends in a traceback."""
         tool = "%s %s/schedule" % (sys.executable, TOOLS)
         for line, status, said in ((tool + " <&-", 2, "schedule: reading failed: standard input is closed\n"),
-                                   ("echo end | %s >&-" % tool, 2, "schedule: writing failed: standard output is closed\n"),
-                                   ("echo end | %s >/dev/full" % tool, 2, "schedule: writing failed: No space left on device\n"),
+                                   ("printf 'backends 1\\nend\\n' | %s >&-" % tool, 2, "schedule: writing failed: standard output is closed\n"),
+                                   ("printf 'backends 1\\nend\\n' | %s >/dev/full" % tool, 2, "schedule: writing failed: No space left on device\n"),
                                    ("echo x | %s 2>&-" % tool, 2, "")):
             with self.subTest(line):
                 done = subprocess.run(["bash", "-c", line], stdout=subprocess.PIPE, stderr=subprocess.PIPE)

@@ -39,10 +39,17 @@ RELATIONS = {"class": (0,), "att": (0,), "def": (1,), "ind": (0, 1), "con": (1,)
 REFERRED = 6            # in the row of a foreign key
 
 
+# The roles in which a step reads its resource, and those in which it may change it.
+READ = ("follow", "lock", "write", "scan")
+CHANGE = ("publish", "lock", "release", "write", "outcome", "commit")
+
+
 class Access(NamedTuple):
-    """What a step does, and what it meets."""
+    """What a step does, and what it meets; and the resources that it reads, and that it may change."""
     does: FrozenSet[tuple]
     meets: FrozenSet[tuple]
+    reads: Tuple[tuple, ...] = ()
+    changes: Tuple[tuple, ...] = ()
 
     def meets_one_of(self, other):
         """Whether the order of two steps may matter."""
@@ -51,7 +58,15 @@ class Access(NamedTuple):
 
 def access_of(pairs):
     """The access of resources with roles."""
-    return Access(frozenset(pairs), frozenset((resource, role) for resource, own in pairs for role in MEET[own]))
+    return Access(frozenset(pairs), frozenset((resource, role) for resource, own in pairs for role in MEET[own]),
+                  tuple(resource for resource, own in pairs if own in READ),
+                  tuple(resource for resource, own in pairs if own in CHANGE))
+
+
+def created(event):
+    """The relations that a write creates, and locks."""
+    return [int(change.columns[0]) for change in event.parts.get("changes", ())
+            if change.catalog == "class" and change.sign == "+"]
 
 
 def rows_of(change):
@@ -89,12 +104,11 @@ class Own:
         """A lock is granted."""
         self.locks.append((command, ("locks", rel)))
 
-    def write(self, command, changes):
+    def write(self, command, event):
         """Rows are changed, and new relations locked."""
-        for change in changes:
-            self.rows += [(command, row) for row in rows_of(change)]
-            if change.catalog == "class" and change.sign == "+":
-                self.lock(command, int(change.columns[0]))
+        self.rows += [(command, row) for change in event.parts["changes"] for row in rows_of(change)]
+        for rel in created(event):
+            self.lock(command, rel)
 
     def release(self, first):
         """The relations of which locks are released."""
@@ -175,5 +189,5 @@ def write_pairs(event, command, own):
         own.take_back(parts["from"])
         return [(NAMES, "outcome")]
     if kind == "write":
-        own.write(command, parts["changes"])
+        own.write(command, event)
     return [(NAMES, "write")]

@@ -6,7 +6,7 @@ backend can have, so the chains tell for each place how many turns there have to
 """
 from typing import Dict, List, Tuple
 
-from .orders import Placed
+from .history import Placed
 
 Place = Tuple[int, ...]
 ChainTurns = List[Tuple[int, int]]  # chains, each with how many steps its turn has

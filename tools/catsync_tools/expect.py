@@ -15,6 +15,7 @@ from .scripts import steps_line
 from .sentences import counted
 from .sources import Source, read_source
 from .turns import fewest_turns
+from .walks import KnownWalks
 
 FAILED = 1
 MOST_ORDERS = 5000
@@ -90,15 +91,16 @@ class Trial:
     def run_orders(self):
         """Runs all orders, as long as there is something to learn."""
         runner, count = Runner(self.source, self.program), 0
-        for run, history in Search(runner.run, runner.backends, Accesses(False, runner.past)).orders():
+        walks = KnownWalks(runner.run, Accesses(False, runner.past))
+        for answers, history in Search(walks, runner.backends).orders():
             if not self.left:
                 return
-            if run is None:
+            if answers is None:
                 continue
             if count == self.most:
                 return self.give_up("none of %s has it, but there are more: --most N" % counted(count, "order"))
             count += 1
-            self.take(Answers(run.answers), history)
+            self.take(Answers(answers), history)
         self.left = [one for one in self.left if one.runs == SOME]
         self.give_up("none of all %s has it" % counted(count, "order"))
 

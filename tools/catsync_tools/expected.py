@@ -7,7 +7,7 @@ from .faults import Fault
 OWN, SOME, NEVER = "own", "some", "never"
 NONE = "no answer"                  # what is said of a command that isn't finished
 
-_PLACE = re.compile(r" as of [0-9]+")
+_PLACE = re.compile(r" as of (?:[0-9]+|_)")
 _PART = re.compile(r"([0-9]{1,9})[ \t]*\.[ \t]*([0-9]{1,9})[ \t]+(\S.*)")
 _AND = re.compile(r"[ \t]+and[ \t]+(?=[0-9]+[ \t]*\.)")
 _FORM = "'expect B.C TEXT', 'expect some B.C TEXT' or 'expect never B.C TEXT', with 'and B.C TEXT' for more of one run"

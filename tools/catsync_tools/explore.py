@@ -52,6 +52,7 @@ def arguments_of(words):
     parser.option("--html", action="store_true", help="pictures are pages")
     parser.option("--jobs", type=count_of, metavar="N", help="use N processors (all; with --part one)")
     parser.option("--part", type=part_of, metavar="K/N", help="do part K of N parts of the search, and print it for --merge")
+    parser.option("--out", metavar="FILE", help="with --part: write FILE, whole or not at all")
     parser.option("--merge", action="store_true", help="print what the parts in FILEs found; no script is read")
     parser.option("files", nargs="*", metavar="FILE", help=argparse.SUPPRESS)
     parser.option("--program", metavar="FILE", help="run FILE in place of the proved executable")
@@ -74,6 +75,8 @@ def check(parser, options):
         parser.error("--merge needs FILEs" if options.merge else "FILEs are for --merge")
     if "" in options.find:
         parser.error("--find needs a text")
+    if options.out and not options.part:
+        parser.error("--out is for --part")
     if options.html and not options.picture:
         parser.error("--html is for --picture")
 
@@ -89,13 +92,15 @@ def main(words):
                         options.jobs or (1 if options.part else processors()))
     exploration = Exploration(settings, source, options.program or proved_program(), Progress())
     status = 0
+    exploration.program.interrupts.hold()
     try:
         explore(options, exploration)
     except KeyboardInterrupt:
         status = INTERRUPTED
+    exploration.program.interrupts.end()
     exploration.progress.clear()
     if options.part:
-        write_output(part_text(part_found(options, exploration, data)))
+        write_part(options, part_text(part_found(options, exploration, data)))
         return status
     return tell_find(options, exploration, status) if options.find else tell_sets(options, exploration, status)
 
@@ -128,6 +133,14 @@ def part_found(options, exploration, data):
     serial = {"\n".join(key): kind for key, kind in exploration.serial.items()} if options.part[0] == 1 else None
     return Part(data.decode("utf-8", "surrogateescape"), options.places, options.random, options.seed, options.part[0],
                 options.part[1], exploration.is_over, exploration.schedules, serial, exploration.is_serial_over, sets)
+
+
+def write_part(options, text):
+    """Writes what a part found."""
+    if options.out:
+        write_file(options.out, text)
+    else:
+        write_output(text)
 
 
 def tell_sets(options, exploration, status):

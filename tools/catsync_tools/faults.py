@@ -1,4 +1,5 @@
 """Faults of the input or the command line: one line on standard error, and an exit status other than 0."""
+import errno
 import os
 import signal
 import sys
@@ -35,6 +36,8 @@ def read_input():
     """All of standard input, as bytes."""
     if sys.stdin is None:
         raise Fault("reading failed: standard input is closed")
+    if os.environ.get("CATSYNC_INPUT") == "directory":      # the launcher's word
+        raise Fault("reading failed: %s" % os.strerror(errno.EISDIR))
     try:
         return sys.stdin.buffer.read()
     except OSError as error:

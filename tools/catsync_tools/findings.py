@@ -12,7 +12,7 @@ Answers = Tuple[str, ...]
 LARGEST: Size = (sys.maxsize, sys.maxsize)
 PLACES_EACH = 20            # that searches may try beyond the first for each schedule
 
-PLACE = re.compile(r" as of [0-9]+")
+PLACE = re.compile(r" as of (?:[0-9]+|_)")
 
 
 def without_places(answers):
@@ -62,9 +62,9 @@ class Findings:
         """What two runs with the same answers have in common."""
         return tuple(answers) if self.places else without_places(answers)
 
-    def add(self, answers, steps):
-        """One more run's answers, and its steps."""
-        found = self.sets.setdefault(self.key(answers), Found())
+    def add(self, key: Answers, steps):
+        """One more run's answers, as its set has them, and its steps."""
+        found = self.sets.setdefault(key, Found())
         self.left += PLACES_EACH
         self.left -= found.add(steps, self.left)
 

@@ -1,12 +1,10 @@
 """The orders of a script's steps: all of them, those counted once that only swap steps which don't meet (access.py).
 
-An order is known by its history. Within it a step comes before another if it is of the same backend and earlier, or if it
-is earlier and their accesses meet, or by way of steps between. Histories in which the same steps come before the same
-steps are one order.
+An order is known by its history (history.py): histories in which the same steps come before the same steps are one order.
 
-A run can't be stopped half-way and continued, so each order costs one run from the start. Which runs are made is decided
-by races: two steps of different backends which meet, with no step that comes between them. For each race of a history
-there has to be a history in which the later step comes first; where none is due, a run is put down in which it does
+A run can't be stopped half-way and continued, so the steps of an order are made from the start, or known (walks.py). Which
+are made is decided by races: two steps of different backends which meet, with no step that comes between them. For each race
+of a history there has to be a history in which the later step comes first; where none is due, one is put down in which it does
 (`Branch.want`). A backend whose next step was tried at some place, with all that can follow, sleeps there: it isn't tried
 again until a step that meets its own has been made. So no order is run twice; a run in which all that haven't stopped are
 asleep is given up, since its order was run before. This search is known as dynamic partial order reduction with source
@@ -14,75 +12,8 @@ sets and sleep sets (Abdulla, Aronis, Jonsson, Sagonas: Optimal dynamic partial 
 """
 from typing import Dict, List, NamedTuple, Set
 
-from .access import Access, Accesses
-from .faults import Fault
-
-
-class Placed(NamedTuple):
-    """A step in a history: whose it is, its access, how many steps of each backend come before it, itself included, and
-    its text; that of a step made of several (serial.py) has a line for each."""
-    backend: int
-    access: Access
-    before: Dict[int, int]
-    text: str
-
-    @property
-    def turn(self):
-        """Its number among the steps of its backend."""
-        return self.before[self.backend]
-
-    def comes_before(self, other):
-        """Whether it comes before a later step of the history."""
-        return other.before.get(self.backend, 0) >= self.turn
-
-
-class History:
-    """Steps with what comes before each, and the races of each with earlier steps."""
-
-    def __init__(self, accesses: Accesses):
-        self.accesses = accesses
-        self.steps: List[Placed] = []
-        self.met: List[Set[int]] = []
-        self.previous: List[Set[int]] = []
-        self.latest: Dict[int, int] = {}
-        self.did: Dict[tuple, Dict[int, int]] = {}
-        accesses.start()
-
-    def add(self, step):
-        """One more step."""
-        backend, access = step[0], self.accesses.of(step)
-        met = {at for what in access.meets for other, at in self.did.get(what, {}).items() if other != backend}
-        previous = {self.latest[backend]} if backend in self.latest else set()
-        before = merged([self.steps[at].before for at in met | previous])
-        before[backend] = before.get(backend, 0) + 1
-        for what in access.does:
-            self.did.setdefault(what, {})[backend] = len(self.steps)
-        self.latest[backend] = len(self.steps)
-        self.steps.append(Placed(backend, access, before, step[2]))
-        self.met.append(met)
-        self.previous.append(previous)
-
-    def races(self, second):
-        """The earlier steps that meet this one, with none that comes between them."""
-        between = self.met[second] | self.previous[second]
-        return [first for first in self.met[second]
-                if not any(at > first and self.steps[first].comes_before(self.steps[at]) for at in between)]
-
-    def reversal(self, first, second):
-        """The steps after the first that don't come after it, up to the second, and the second: made in the first's
-        place they make the second come before it."""
-        earlier = self.steps[first]
-        return [step for step in self.steps[first + 1:second] if not earlier.comes_before(step)] + [self.steps[second]]
-
-
-def merged(befores):
-    """For each backend the most steps that one of them has."""
-    most: Dict[int, int] = {}
-    for before in befores:
-        for backend, count in before.items():
-            if count > most.get(backend, 0):
-                most[backend] = count
-    return most
+from .access import Access
+from .history import History, Placed
 
 
 def initials(steps):
@@ -105,7 +36,7 @@ def asleep_after(asleep, access):
 
 def awake_after(backends, steps: List[Placed], asleep):
     """The backends that haven't stopped in these steps, and don't sleep after them."""
-    stopped = {step.backend for step in steps if step.text.split("\n")[-1] == "stop"}
+    stopped = {step.backend for step in steps if step.is_stop}
     return [backend for backend in backends if backend not in stopped and backend not in asleep]
 
 
@@ -147,17 +78,16 @@ WHOLE = Share([], {})
 
 
 class Search:
-    """Runs all orders of a share, one after the other. Its first steps are made in each run, and their races are left
+    """Makes all orders of a share, one after the other. Their first steps are the same, and the races of these are left
     alone."""
 
-    def __init__(self, run, backends, accesses: Accesses, share: Share = WHOLE):
-        self.run = run              # a function of whose the first steps are, and of who then goes on to the stop
+    def __init__(self, walks, backends, share: Share = WHOLE):
+        self.walks = walks          # makes the steps (walks.py)
         self.backends = backends
-        self.accesses = accesses
         self.first = list(share.first)
         self.asleep = dict(share.asleep)
         self.branches: List[Branch] = []
-        self.history = History(self.accesses)
+        self.history = History()
 
     @property
     def place(self):
@@ -165,14 +95,15 @@ class Search:
         return len(self.first) + len(self.branches)
 
     def orders(self):
-        """The run of each order with its history; a run that was given up comes as None."""
+        """The answers of each order with its history, until the next one is asked for; an order that was given up has None
+        for its answers."""
         branch, steps = Branch(0, self.asleep), []
         while branch is not None:
-            run = self.run(*self.schedule(branch, steps))
-            branch, steps = self.take(run, branch), []
+            made, rest = self.schedule(branch, steps)
+            branch, steps = self.make(made, rest, branch), []
             if branch is not None and not self.is_stuck(branch):
                 continue
-            yield (run if branch is None else None), self.history
+            yield (self.walks.answers(self.history, made, rest) if branch is None else None), self.history
             branch, steps = self.go_back()
 
     def is_stuck(self, branch):
@@ -187,21 +118,18 @@ class Search:
         made = self.first + [known.backend for known in self.branches] + [step.backend for step in steps]
         return made, awake_first(self.backends, asleep)
 
-    def take(self, run, branch):
-        """Goes through a run that leaves the one before it at this branch, and puts down what its races ask for. None, or
-        where the run goes on with a sleeper the branch at which another has to go on."""
+    def make(self, made, rest, branch):
+        """Makes the steps of a schedule that leaves the history at this branch, and puts down what their races ask for. None,
+        or where a sleeper goes on the branch at which another has to."""
         place = self.place
-        known, self.history = self.history.steps[:place], History(self.accesses)
-        for at, step in enumerate(run.steps):
-            self.history.add(step)
+        for at, step in self.walks.go(self.history, place, made, rest):
             if at < place:
-                self.compare(at, known, step)
                 continue
             if at > place:
-                branch = Branch(step[0], asleep_after(branch.asleep, self.history.steps[at - 1].access))
-            if step[0] in branch.asleep:
+                branch = Branch(step.backend, asleep_after(branch.asleep, self.history.steps[at - 1].access))
+            if step.backend in branch.asleep:
                 return branch
-            branch.backend = step[0]
+            branch.backend = step.backend
             self.branches.append(branch)
             self.put_down_races(at)
         return None
@@ -211,12 +139,6 @@ class Search:
         for first in self.history.races(second):
             if first >= len(self.first):
                 self.branches[first - len(self.first)].want(self.history.reversal(first, second))
-
-    def compare(self, at, known, step):
-        """The program makes the same steps in the same order."""
-        same = (known[at].backend, known[at].text) if known else (self.first[at], step[2])
-        if same != (step[0], step[2]):
-            raise Fault("the program made another step %d in the same order: %s" % (at + 1, step[2]))
 
     def go_back(self):
         """Goes back to the last place at which steps are to be tried: its branch, which is taken off, and the steps."""

@@ -3,6 +3,7 @@ from .arguments import Arguments
 from .drawing import draw, picture
 from .faults import Fault, read_file, read_input, write_output
 from .layout import WIDTH, Commands, Span, Wanted
+from .matching import check_script
 from .outputs import read_output
 from .page import PAGE_WIDTH, page
 from .sources import read_source
@@ -48,13 +49,8 @@ def script_of(path, output) -> Commands:
         source = read_source(data)
     except Fault as fault:
         raise Fault("%s: %s" % (path, fault))
-    commands = {place: " ".join(without_comment(text).rstrip("; \t").split()) for place, text in source.commands.items()}
-    for entry in output.entries:
-        if entry.command > 0 and entry.event.kind not in ("gone", "release", "stop") and (
-                entry.backend, entry.command) not in commands:
-            raise Fault("%s: line %d of the output is of command %d of backend %d, which the script hasn't" % (
-                path, entry.number, entry.command, entry.backend))
-    return commands
+    check_script(path, source, output)
+    return {place: " ".join(without_comment(text).rstrip("; \t").split()) for place, text in source.commands.items()}
 
 
 def picture_of(output, html, span, commands=None, brief=False, width=None):

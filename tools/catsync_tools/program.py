@@ -7,6 +7,7 @@ import tempfile
 from typing import List, NamedTuple, Tuple
 
 from .faults import Fault
+from .interrupts import Interrupts
 
 TOP = os.path.dirname(os.path.dirname(os.path.dirname(os.path.abspath(__file__))))
 PROVED = os.path.join(TOP, "crates", "catsync", "out", "catsync")
@@ -50,7 +51,7 @@ class Program:
     """The program, and how often it was run."""
 
     def __init__(self, path):
-        self.path, self.runs = path, 0
+        self.path, self.runs, self.interrupts = path, 0, Interrupts()
         self.renew()
 
     def renew(self):
@@ -74,11 +75,11 @@ class Program:
 
     def run(self, script):
         """What the program prints for a script; a Fault says why it was refused."""
-        self.runs += 1
-        self.give(script)
-        output, status = self.wait()
-        if status in (-signal.SIGINT, -signal.SIGTERM):
-            raise KeyboardInterrupt
+        output, status = self.result(script)
+        while status in (-signal.SIGINT, -signal.SIGTERM):
+            if not self.interrupts.is_over:
+                raise KeyboardInterrupt
+            output, status = self.result(script)
         if status != 0:
             raise Fault(self.refusal(status))
         try:
@@ -89,6 +90,18 @@ class Program:
         if not steps:
             raise Fault("%s: what it prints isn't an output of catsync" % self.path)
         return Run(output, steps, tuple(line for line in lines if line.startswith("l ")))
+
+    def result(self, script):
+        """What the program prints for a script, and its exit status. Where that is interrupted the program may go on for a
+        while, and keeps its files."""
+        self.runs += 1
+        self.interrupts.check()
+        try:
+            self.give(script)
+            return self.wait()
+        except KeyboardInterrupt:
+            self.renew()
+            raise
 
     def wait(self):
         """Starts the program and waits for its end; its output and its exit status."""

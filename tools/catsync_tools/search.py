@@ -8,7 +8,8 @@ from typing import Dict, NamedTuple, Optional, Pattern, Tuple
 from .access import Accesses
 from .findings import PLACE, Answers, Findings, without_places
 from .jobs import Jobs
-from .orders import WHOLE, History, Search
+from .history import history_of
+from .orders import WHOLE, Search
 from .program import Program
 from .runner import Runner
 from .schedules import random_schedule
@@ -16,6 +17,7 @@ from .scripts import Turns
 from .serial import SerialRuns, WholeAccesses, commands_of, transactions_of
 from .shares import shares
 from .turns import fewest_turns
+from .walks import KnownWalks, Walks
 
 FIRST = 256             # orders, before a search is split
 SHARES = 64             # of a search that is split
@@ -53,6 +55,8 @@ class Exploration:
         self.runner = Runner(source, self.program)
         self.longest = self.runner.longest      # steps of a random schedule, before all go on to their stop
         self.accesses = Accesses(settings.places, self.runner.past)
+        walks = Walks if settings.places else KnownWalks
+        self.walks = walks(self.runner.run, self.accesses)
         self.findings = Findings(settings.places)
         self.serial: Dict[Answers, str] = {}    # the answers of serial orders, each with the first kind that has them
         self.is_serial_over = True
@@ -62,31 +66,25 @@ class Exploration:
 
     # What is found
 
-    def add(self, piece: Piece, run, steps):
+    def add(self, piece: Piece, answers, steps):
         """One more schedule of a task; whether it is the one that is looked for."""
         piece.schedules += 1
-        piece.findings.add(run.answers, steps)
-        if self.settings.wanted and self.is_wanted(run):
+        piece.findings.add(piece.findings.key(answers), steps)
+        if self.settings.wanted and self.is_wanted(answers, steps):
             piece.found = fewest_turns(steps).turns
         return piece.found is not None
 
-    def is_wanted(self, run):
-        """Whether each text that is looked for is in an entry or an answer of a run."""
-        if self.settings.only_interleaved and self.is_serial(run.answers):
+    def is_wanted(self, answers, steps):
+        """Whether each text that is looked for is in an entry or an answer of a schedule."""
+        if self.settings.only_interleaved and self.is_serial(answers):
             return False
-        lines = lines_of(run)
+        entries = self.runner.past + [(step.backend, step.command, step.text) for step in steps]
+        lines = ["h %d %d %s" % entry for entry in entries] + [PLACE.sub("", answer) for answer in answers]
         return all(any(wanted.search(line) for line in lines) for wanted in self.settings.wanted)
 
     def is_serial(self, answers):
         """Whether a serial order of commands has these answers."""
         return without_places(answers) in self.serial
-
-    def history(self, run):
-        """The history of a run."""
-        history = History(self.accesses)
-        for step in run.steps:
-            history.add(step)
-        return history
 
     # Serial orders
 
@@ -103,16 +101,16 @@ class Exploration:
         """Runs the serial orders of transactions or of commands."""
         runs = SerialRuns(self.runner, groups)
         piece = Piece(self.settings.places)
-        search = Search(runs.run, self.runner.backends, WholeAccesses(self.runner.past))
-        for run, _ in search.orders():
-            if run is None:
+        search = Search(Walks(runs.run, WholeAccesses(self.runner.past)), self.runner.backends)
+        for answers, _ in search.orders():
+            if answers is None:
                 continue
             if piece.schedules == MOST_SERIAL:
                 self.is_serial_over = False
                 break
-            self.serial.setdefault(without_places(run.answers), kind)
+            self.serial.setdefault(without_places(answers), kind)
             self.progress.show(piece.schedules, MOST_SERIAL, "%d serial orders of %s" % (piece.schedules, kind))
-            if self.add(piece, runs.last, self.history(runs.last).steps):
+            if self.add(piece, answers, history_of(runs.last.steps, self.accesses).steps):
                 break
         self.findings.merge(piece.findings.sets)
         self.found = piece.found
@@ -125,10 +123,9 @@ class Exploration:
             """What is found, after each order."""
             piece = Piece(self.settings.places)
             yield piece
-            search = Search(self.runner.run, self.runner.backends, Accesses(self.settings.places, self.runner.past), share)
-            for run, history in search.orders():
-                if run is not None:
-                    found = self.add(piece, run, history.steps)
+            for answers, history in Search(self.walks, self.runner.backends, share).orders():
+                if answers is not None:
+                    found = self.add(piece, answers, history.steps)
                     yield piece
                     if found:
                         return
@@ -144,7 +141,7 @@ class Exploration:
 
     def shares(self, count):
         """The shares of the search."""
-        return shares(self.runner.run, self.runner.backends, Accesses(self.settings.places, self.runner.past), count)
+        return shares(self.walks, self.runner.backends, count)
 
     def run_part(self, part, count):
         """Runs one part of the search, of so many."""
@@ -162,7 +159,7 @@ class Exploration:
             for number in numbers:
                 draw = random.Random("%s/%d" % (self.settings.seed, number))
                 run = self.runner.run(*random_schedule(draw, self.runner.backends, self.longest))
-                found = self.add(piece, run, self.history(run).steps)
+                found = self.add(piece, run.answers, history_of(run.steps, self.accesses).steps)
                 yield piece
                 if found:
                     return
@@ -188,6 +185,7 @@ class Exploration:
         try:
             with contextlib.closing(jobs.run()) as going:
                 for number, schedules[number] in going:
+                    self.program.interrupts.check()
                     self.show(sum(schedules), shown or most, kind)
                     if self.first_found(jobs) is not None:
                         break

@@ -8,14 +8,14 @@ interleavings the steps have which are left, so what the shares are depends on t
 import heapq
 from collections import Counter
 from math import lgamma
-from typing import List, NamedTuple, Tuple
+from typing import Dict, List, NamedTuple, Set, Tuple
 
-from .access import Accesses
-from .orders import History, Placed, Share, asleep_after, awake_after, awake_first
+from .history import History, Placed
+from .orders import Share, asleep_after, awake_after, awake_first
 
 
 class Place(NamedTuple):
-    """A place that can be split: its share, the run that goes on from it, and who is awake there."""
+    """A place that can be split: its share, the steps of it and of what may follow, and who is awake there."""
     share: Share
     steps: List[Placed]
     awake: List[int]
@@ -25,8 +25,12 @@ def guess(place):
     """The logarithm of about how many orders a share has: that of the interleavings of the steps that are left and meet
     one of another backend. Where nothing that is left wakes a sleeper it is less than 0: there may well be none."""
     left = place.steps[len(place.share.first):]
-    counts = Counter(step.backend for step in left if any(
-        step.access.meets_one_of(other.access) for other in left if other.backend != step.backend))
+    doing: Dict[tuple, Set[int]] = {}
+    for step in left:
+        for what in step.access.does:
+            doing.setdefault(what, set()).add(step.backend)
+    counts = Counter(step.backend for step in left
+                     if any(what in doing and doing[what] != {step.backend} for what in step.access.meets))
     if any(not any(own.meets_one_of(step.access) for step in left if step.backend != backend)
            for backend, own in place.share.asleep.items()):
         return -1.0
@@ -36,15 +40,14 @@ def guess(place):
 class Splitter:
     """Splits the places of a search."""
 
-    def __init__(self, run, backends, accesses: Accesses):
-        self.run, self.backends, self.accesses = run, backends, accesses
+    def __init__(self, walks, backends):
+        self.walks, self.backends = walks, backends
 
     def place(self, share):
         """The place of a share."""
-        run = self.run(share.first, awake_first(self.backends, share.asleep))
-        history = History(self.accesses)
-        for step in run.steps:
-            history.add(step)
+        history = History()
+        for _ in self.walks.go(history, 0, share.first, awake_first(self.backends, share.asleep)):
+            pass
         return Place(share, history.steps, awake_after(self.backends, history.steps[:len(share.first)], share.asleep))
 
     def split(self, place):
@@ -61,9 +64,9 @@ class Splitter:
         return found
 
 
-def shares(run, backends, accesses: Accesses, count) -> List[Share]:
+def shares(walks, backends, count) -> List[Share]:
     """So many shares that have all orders between them, or a few more; fewer where there are no more orders."""
-    splitter = Splitter(run, backends, accesses)
+    splitter = Splitter(walks, backends)
     number, done = 0, []
     first = splitter.place(Share([], {}))
     places: List[Tuple[float, int, Place]] = [(0, 0, first)]

@@ -18,7 +18,7 @@ from .expected import Expectation, check_expectation, read_expectation
 from .faults import Fault
 from .items import Answered, Count, Item, check_item, read_items
 from .scripts import Script
-from .spellings import respelled, without_comment, words_of
+from .spellings import refused, respelled, without_comment, words_of
 
 OTHER, COMMAND, STEPS, EXPECT = "other", "command", "steps", "expect"
 
@@ -129,6 +129,8 @@ class Reader:
         place, backend, command = _COMMAND.fullmatch(text).groups()
         if self.latest == STEPS:
             raise Fault("line %d: no command may follow a steps line" % self.number)
+        if refused(command):
+            raise Fault("line %d: %s" % (self.number, refused(command)))
         spelled = respelled(command)
         self.counts[int(backend)] = self.counts.get(int(backend), 0) + 1
         self.source.commands[int(backend), self.counts[int(backend)]] = command.strip()

@@ -22,8 +22,8 @@ FORMS = tuple((re.compile(pattern), form) for pattern, form in (
     ("(?:commit|end)" + _WORK, "commit"),
     ("(?:rollback|abort)" + _WORK, "rollback"),
     ("(?:rollback work|rollback transaction|abort%s) to (?:savepoint )?(%s)" % (_WORK, NAME), r"rollback to \1"),
-    ("lock (?:table )?(?:only )?(%s)(?: nowait)?" % _TABLE, r"lock table \1 in access exclusive mode"),
-    ("lock (?:table )?(?:only )?(%s) (in [a-z ]+ mode)(?: nowait)?" % _TABLE, r"lock table \1 \2"),
+    ("lock (?:table )?(?:only )?(%s)" % _TABLE, r"lock table \1 in access exclusive mode"),
+    ("lock (?:table )?(?:only )?(%s) (in [a-z ]+ mode)" % _TABLE, r"lock table \1 \2"),
     ("alter table only (%s) (.*)" % _other_than("add", "drop", "rename", "alter", "set"), r"alter table \1 \2"),
     (_OF_TABLE + "add (%s) ([a-z0-9]+)" % _COLUMN, r"\1 add column \2 \3"),
     (_OF_TABLE + "drop (%s)" % _COLUMN, r"\1 drop column \2"),
@@ -74,6 +74,14 @@ def in_forms(text):
         if found:
             text = found.expand(form)
     return text
+
+
+def refused(text):
+    """Why a command that PostgreSQL has is none here, where that isn't for the program to say."""
+    tokens = [token for token in tokens_of(text) if token != ";"]
+    if tokens[:1] == ["lock"] and tokens[-1] == "nowait" and len(tokens) > 2:
+        return "'nowait' isn't the model's: here no lock waits, and each is refused at once as with 'nowait'; leave it out"
+    return None
 
 
 def respelled(text):

@@ -13,7 +13,7 @@ import heapq
 from typing import Dict, List, NamedTuple, Optional, Tuple
 
 from .chains import Chains, ChainTurns, Place
-from .orders import Placed
+from .history import Placed
 from .scripts import Turns
 
 MOST_TRIED = 20000      # places, before a search is given up
@@ -57,9 +57,9 @@ class Tried:
 class Search:
     """The search for the steps of one order."""
 
-    def __init__(self, steps: List[Placed]):
-        self.chains = Chains(steps)
-        self.tried = Tried(self.chains)
+    def __init__(self, chains: Chains):
+        self.chains = chains
+        self.tried = Tried(chains)
         self.turns: Dict[Place, int] = {}
         self.way: Dict[Place, Tuple[Optional[Place], ChainTurns]] = {}
         self.queue: List[Tuple[int, int, Place]] = []
@@ -112,4 +112,6 @@ class Search:
 
 def fewest_turns(steps: List[Placed], most=None, most_tried=MOST_TRIED):
     """The fewest turns in which these steps can be made, if they are at most so many."""
-    return Search(steps).find(len(steps) if most is None else most, most_tried)
+    most = len(steps) if most is None else most
+    least = sum(last.turns for last in {step.backend: step for step in steps}.values())
+    return Shortest(None, least, 0) if least > most else Search(Chains(steps)).find(most, most_tried)

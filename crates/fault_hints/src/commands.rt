@@ -119,6 +119,8 @@ fn push_help(text: &mut String, found: &[u8], wanted: &[Symbol]) -> Result<(), N
         text.push_str("\")")?;
     } else if found.starts_with(b"--") {
         text.push_str(" (a comment has a line of its own)")?;
+    } else if let Some(why) = why_unknown(found, wanted) {
+        text.push_str(why)?;
     } else if is_wanted(wanted, Symbol::Type) {
         push_words(text, "types", &TYPES)?;
     } else if is_wanted(wanted, Symbol::Field) && Name::new(found).is_ok() {
@@ -166,6 +168,18 @@ fn first_near(found: &[u8], words: &[&'static str]) -> Option<&'static str> {
         if is_near(found, word.as_bytes()) {
             return Some(*word);
         }
+    }
+    None
+}
+
+// What helps with a word of PostgreSQL's that no form has.
+fn why_unknown(found: &[u8], wanted: &[Symbol]) -> Option<&'static str> {
+    if is(found, "type") && is_wanted(wanted, Symbol::Word("set")) {
+        return Some(" (no command changes a column's type: drop the column, and add another)");
+    }
+    let is_option = is(found, "cascade") || is(found, "restrict") || is(found, "nowait");
+    if is_option && is_wanted(wanted, Symbol::End) && !is_wanted(wanted, Symbol::Field) {
+        return Some(" (PostgreSQL's, but not in this grammar: leave it out)");
     }
     None
 }

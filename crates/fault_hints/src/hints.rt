@@ -1,6 +1,7 @@
 use crate::bytes::byte_hint;
 use crate::commands::command_hint;
 use crate::lines::line_at;
+use crate::tool_lines::{backend_hint, steps_hint};
 use base_types::NoMemory;
 use script_text::ScriptCause;
 use std::alloc::Global;
@@ -11,6 +12,7 @@ use std::alloc::Global;
 /// - `BadCommand`: after which words no form of a command goes on, what could stand there, and what
 ///   stands there; with the word that is near, or the reason, where one is known.
 /// - `BadByte`: the byte, and its column from 1.
+/// - `BadSteps`, `UnknownBackend`: which tool reads a line of this form, where one does.
 ///
 /// `text` is the script, and `line` the line's number, from 1. `Err` where out of memory.
 pub fn hint(
@@ -22,6 +24,8 @@ pub fn hint(
     match cause {
         ScriptCause::BadCommand => command_hint(alloc, line_at(text, line)),
         ScriptCause::BadByte => byte_hint(alloc, line_at(text, line)),
+        ScriptCause::BadSteps => steps_hint(alloc, line_at(text, line)),
+        ScriptCause::UnknownBackend => backend_hint(alloc, line_at(text, line)),
         _ => Ok(None),
     }
 }

@@ -25,6 +25,7 @@ mod lines;
 mod near;
 mod symbols;
 mod tokens;
+mod tool_lines;
 mod unbuilt;
 
 pub use hints::hint;
