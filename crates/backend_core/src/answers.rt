@@ -10,7 +10,8 @@ ghost use Rattle.backend_core.specs.Answering.{kept_for, shown_kept, shown_all a
 
 use crate::Backend;
 use base_types::{
-    Command, Field, Kind, Listed, NoMemory, Oid, Purpose, Row, field_text, fields_of, read_by, writers,
+    Command, Field, Kind, Listed, NoMemory, Oid, Purpose, Row, field_text, fields_of, read_by,
+    writers,
 };
 use cacheless::{KeptScan, KeptScans, Opening};
 use ddl_effect::Want;
@@ -67,12 +68,7 @@ impl Backend {
         ensures { IfOk result (λ answer. answer ≡ of_open (all_shown self.now.progress.kept self.now.progress.locks.items) self.now.progress.opened) }
     {
         match self.progress.opened.as_slice().first() {
-            Some(o) => shown_all(
-                alloc,
-                &self.progress.kept,
-                &self.progress.locks,
-                *o,
-            ),
+            Some(o) => shown_all(alloc, &self.progress.kept, &self.progress.locks, *o),
             None => Ok(Answer::Ok),
         }
     }
@@ -82,13 +78,7 @@ impl Backend {
         ensures { IfOk result (λ answer. answer ≡ of_open (one_shown self.now.progress.kept self.now.progress.locks.items field) self.now.progress.opened) }
     {
         match self.progress.opened.as_slice().first() {
-            Some(o) => shown_one(
-                alloc,
-                &self.progress.kept,
-                &self.progress.locks,
-                *o,
-                field,
-            ),
+            Some(o) => shown_one(alloc, &self.progress.kept, &self.progress.locks, *o, field),
             None => Ok(Answer::Ok),
         }
     }

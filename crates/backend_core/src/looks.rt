@@ -143,10 +143,7 @@ impl Backend {
     fn built_relation(&self) -> Option<Oid>
         ensures { result ≡ relation_built self.now.progress }
     {
-        match first_lacking(
-            &self.progress.kept,
-            self.progress.opened.as_slice(),
-        ) {
+        match first_lacking(&self.progress.kept, self.progress.opened.as_slice()) {
             Some(o) => Some(o.rel),
             None => match self.progress.exec.next() {
                 Want::Open { rel, .. } => Some(rel),

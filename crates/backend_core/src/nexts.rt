@@ -120,11 +120,7 @@ impl Backend {
         match want {
             Want::Lookup { name, mode } => self.next_of_lookup(command, *name, *mode),
             Want::Column { rel, name } => self.next_of_name(Purpose::AttName(*rel, *name)),
-            Want::Open { rel, kind } => match first_missing(
-                &self.progress.kept,
-                *kind,
-                *rel,
-            ) {
+            Want::Open { rel, kind } => match first_missing(&self.progress.kept, *kind, *rel) {
                 Some(scan) => self.next_of_build(scan),
                 None => unreachable!(),
             },
