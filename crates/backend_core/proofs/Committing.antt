@@ -131,7 +131,7 @@ module _ (scenario : Scenario) (old : List Entry) (was : Backend) (event : Event
   commit_fits locks at free standing = fits_ending before after_commit (command_at was) (waiting waits) was.looked was.looked_to_build event locks at waits.fits now goes
       (λ is. begun_xid (was.progress.finished + 1) before.running (waits.fits.written is))
       (λ is. commits_on before after_commit (command_at was) (waiting waits) was.looked was.looked_to_build event locks at waits.fits now goes commit (built_at scenario old was waits) refl
-          (commit_built before (command_at was) (waiting waits) was.looked was.looked_to_build (next_oid old) event ends waits.fits (end_plays scenario old was waits event ends next) commit))
+      (commit_built before (command_at was) (waiting waits) was.looked was.looked_to_build (next_oid old) event ends waits.fits (end_plays scenario old was waits event ends next) commit))
       (λ from is. absurd (standing from is))
     where
       now : EndsBy before (command_at was) (waiting waits) event

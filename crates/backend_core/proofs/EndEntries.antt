@@ -125,7 +125,7 @@ built_at scenario seen s waits command at = subst (λ c. runs c ≡ true) (get_o
 pub end_enters : (scenario : Scenario) (old new : List Entry) (had has : ℕ → ℕ) (was : Backend) (event : Event) (p : Progress) (waits : AwaitsEntry scenario old was) → ends_command event ≡ true → IsPlayed scenario old → AllOnCourse scenario old → EndsNext was.progress event
     → HasEntered scenario old was.progress event waits.rests p → All (KeptAt old was.progress.id) p.kept → p.given_at ≡ was.progress.given_at
     → Fits (facts_by old was.progress.id (was.progress.finished + 1) event (facts_of old was.progress.id)) (command_at was)
-        (entered (facts_of (with_own old was.progress event) was.progress.id) (drop was.progress.finished was.progress.commands) (length old + 1) (was.progress.finished + 1) event (waiting waits)) was.looked was.looked_to_build
+    (entered (facts_of (with_own old was.progress event) was.progress.id) (drop was.progress.finished was.progress.commands) (length old + 1) (was.progress.finished + 1) event (waiting waits)) was.looked was.looked_to_build
     → Appends old new had has (entry_of was.progress.id (was.progress.finished + 1) event) → Enters scenario old new had has was (record was { progress = p })
 end_enters scenario old new had has was event p waits ends played courses next goes kept given_at fits appends =
     own_enters scenario old new had has was (record was { progress = p }) event waits played courses (record { plays = end_plays scenario old was waits event ends next; truly = plain.truly; queue = plain.queue }) goes

@@ -205,7 +205,7 @@ pub look_before_enters : (scenario : Scenario) (old new : List Entry) (had has :
 look_before_enters scenario old new had has was p some_wait builds looked to_build waits played courses next is looked_is to_build_is goes kept given_at appends =
     look_agrees scenario old was waits courses next.next.command next.next.free.at some_wait looked to_build
     (counts_scan (facts_of old was.progress.id) (waiting waits) next.next.command builds was.looked was.looked_to_build looked to_build looked_is to_build_is (waits.rests.holds.facts.owed ∙ ap owed_at next.next.free.due)
-        (scan_runs scenario old was waits courses next.next.command next.next.free.at next.scan next.next.next next.next.free.first) (unlooked builds next.unlooked))
+    (scan_runs scenario old was waits courses next.next.command next.next.free.at next.scan next.next.next next.next.free.first) (unlooked builds next.unlooked))
     new had has p played is (scan_busy was.progress next.next.command next.next.lacks) goes kept given_at appends
   where
     unlooked : (t : Bool) → is_looked_for t was ≡ false → elim t as (λ x. Bool) [ true ↦ was.looked_to_build | false ↦ was.looked ] ≡ false

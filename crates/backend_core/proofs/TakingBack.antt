@@ -82,7 +82,7 @@ module _ (scenario : Scenario) (old : List Entry) (was : Backend) (from : ℕ) (
       (λ is. begun_xid (was.progress.finished + 1) facts.running written)
       (λ is. absurd (both_ways _ hidden (sym (begun_visible (was.progress.finished + 1) facts.running) ∙ is)))
       (λ n is. let same : from ≡ n = (let both : Some (events.Gone from) ≡ Some (events.Gone n) = is in cc both) in
-          takes_back_on facts later (command_at was) s was.looked was.looked_to_build (events.Gone from) locks at waits.fits now n goes_on (takes.0 ∙ ap TakesBack same) (subst (λ k. has_write_from k later.lists ≡ false) same (none_from from facts.lists)) (none_built courses locks at))
+      takes_back_on facts later (command_at was) s was.looked was.looked_to_build (events.Gone from) locks at waits.fits now n goes_on (takes.0 ∙ ap TakesBack same) (subst (λ k. has_write_from k later.lists ≡ false) same (none_from from facts.lists)) (none_built courses locks at))
 
 -- what holds of each scan that was kept holds of each that is kept still
 spared_twice : (P : KeptScan → Type 0) (cats rels : List Message) (kept : List KeptScan) → All P kept → All P (kept_spared rels (kept_spared cats kept))

@@ -7,8 +7,10 @@ use Rattle.backend_core.proofs.NextActs.{open_next, read_none, fails_none}
 use Rattle.backend_core.proofs.backend.Backend.next_of_want.Goals as goal
 
 pub next_of_build-requires : goal.next_of_build-requires
-next_of_build-requires c = record { next = open_next c.args.self.now.progress _ c.requires.still c.requires.free c.requires.whole _ _ _ (c.requires.want ∙ c.in-Open.is)
-    (ap (λ (l : List KeptScan). find (λ d. not (is_kept l d)) (build_scans c.in-Open.kind c.in-Open.rel)) (sym c.as_slice.ensures) ∙ sym c.first_missing.ensures ∙ c.in-Some.is) }
+next_of_build-requires c = record {
+  next = open_next c.args.self.now.progress _ c.requires.still c.requires.free c.requires.whole _ _ _ (c.requires.want ∙ c.in-Open.is)
+      (ap (λ (l : List KeptScan). find (λ d. not (is_kept l d)) (build_scans c.in-Open.kind c.in-Open.rel)) (sym c.as_slice.ensures) ∙ sym c.first_missing.ensures ∙ c.in-Some.is);
+}
 
 pub unreachable-requires-in-Read : goal.unreachable-requires-in-Read
 unreachable-requires-in-Read c = elim c.in-Read.is [
