@@ -26,7 +26,7 @@ use Rattle.backend_core.specs.Agrees.{IsPlayed, KeptAt, command_at, AwaitsEntry}
 use Rattle.backend_core.specs.Fits.{Fits}
 use Rattle.backend_core.specs.Steps.{EndsNext, Enters}
 use Rattle.backend_core.proofs.EndEntries.{end_plays, end_now, end_call, built_at, end_enters}
-use Rattle.backend_core.proofs.EndsNow.{end_by, is_end, EndsBy, IsCommit, ShowsNow, shows_now, PublishesNow, publishes_now, back_end}
+use Rattle.backend_core.proofs.EndsNow.{end_by, is_end, EndsBy, IsCommit, ShowsNow, PublishesNow, comes_now, back_end}
 use Rattle.backend_core.proofs.FitsEnds.{later_at, GoesOn, fits_ending, commits_on, write_from_first, goes_first, begun_xid, written_runs}
 use Rattle.backend_core.proofs.Own.{waiting}
 
@@ -74,7 +74,7 @@ commit_call scenario seen s xid waits next = end_call scenario seen s waits (eve
     facts = facts_of seen s.progress.id
 
     now : ShowsNow facts (end_by facts (command_at s) (waiting waits)) xid
-    now = shows_now facts (end_by facts (command_at s) (waiting waits)) xid (end_now scenario seen s waits (events.Visible xid) refl next).comes
+    now = comes_now facts (end_by facts (command_at s) (waiting waits)) (events.Visible xid) (end_now scenario seen s waits (events.Visible xid) refl next).comes
 
 -- what is published next
 unsent_own : (lists : List Written) (own : Option OwnTransaction) → is_some own ≡ true → unsent_in lists (running_of own) ≡ unsent_after (option_map_or (λ t. t.published) own 0) lists
@@ -102,7 +102,7 @@ module _ (scenario : Scenario) (seen : List Entry) (s : Backend) (messages : Lis
   facts = facts_of seen s.progress.id
 
   pub publish_now : PublishesNow facts (end_by facts (command_at s) (waiting waits)) (length messages)
-  publish_now = publishes_now facts (end_by facts (command_at s) (waiting waits)) (length messages) (end_now scenario seen s waits (events.Publish (length messages)) refl publish_next).comes
+  publish_now = comes_now facts (end_by facts (command_at s) (waiting waits)) (events.Publish (length messages)) (end_now scenario seen s waits (events.Publish (length messages)) refl publish_next).comes
 
   unsent_same : unsent_of seen s.progress.id ≡ unsent_at s.progress
   unsent_same = ap (unsent_in facts.lists) waits.rests.holds.facts.running ∙ ap (λ l. unsent_in l (running_of s.progress.running)) waits.rests.holds.facts.lists
@@ -157,7 +157,7 @@ commit_enters scenario old new had has was xid p waits played courses next goes 
     facts = facts_of old was.progress.id
 
     now : ShowsNow facts (end_by facts (command_at was) (waiting waits)) xid
-    now = shows_now facts (end_by facts (command_at was) (waiting waits)) xid (end_now scenario old was waits event refl next).comes
+    now = comes_now facts (end_by facts (command_at was) (waiting waits)) event (end_now scenario old was waits event refl next).comes
 
 -- the state after a publish
 pub publish_enters : (scenario : Scenario) (old new : List Entry) (had has : ℕ → ℕ) (was : Backend) (messages : List Message) (p : Progress) (waits : AwaitsEntry scenario old was) → IsPlayed scenario old → AllOnCourse scenario old

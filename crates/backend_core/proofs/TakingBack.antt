@@ -22,7 +22,7 @@ use Rattle.backend_core.specs.Agrees.{IsPlayed, KeptAt, command_at, AwaitsEntry}
 use Rattle.backend_core.specs.Fits.{first_at, Fits}
 use Rattle.backend_core.specs.Steps.{EndsNext, Enters}
 use Rattle.backend_core.proofs.EndEntries.{end_now, end_call, end_enters}
-use Rattle.backend_core.proofs.EndsNow.{end_by, EndsBy, takes_now, commit_end, back_end}
+use Rattle.backend_core.proofs.EndsNow.{end_by, EndsBy, comes_now, commit_end, back_end}
 use Rattle.backend_core.proofs.FitsEnds.{later_at, GoesOn, end_same, fits_ending, takes_back_on, write_from_first, none_from, goes_first, begun_xid, begun_visible, written_runs}
 use Rattle.backend_core.proofs.Own.{waiting, follows}
 
@@ -50,7 +50,7 @@ module _ (scenario : Scenario) (old : List Entry) (was : Backend) (from : ℕ) (
   now = end_now scenario old was waits (events.Gone from) refl next
 
   takes : (end_by facts (command_at was) s ≡ TakesBack from) × (has_write_from from facts.lists ≡ true)
-  takes = takes_now facts (end_by facts (command_at was) s) from now.comes
+  takes = comes_now facts (end_by facts (command_at was) s) (events.Gone from) now.comes
 
   hidden : is_visible facts.running ≡ false
   hidden = back_hidden facts (command_at was) s was.looked was.looked_to_build from waits.fits takes.0
