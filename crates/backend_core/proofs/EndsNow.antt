@@ -231,7 +231,7 @@ module _ (facts : Facts) (o : Option Command) (s : Session) (looked to_build : B
       by_blocked false blocked end = by_block s.blocks.block refl blocked runs_by ∙ cc end
 
   -- an end with an entry is the end of the transaction as a whole
-  pub first_of_end : (from : ℕ) → end_from (end_of facts command s) ≡ Some from → first_begun facts s ≡ from
+  first_of_end : (from : ℕ) → end_from (end_of facts command s) ≡ Some from → first_begun facts s ≡ from
   first_of_end from is = by_outcome (outcome_of s.left) refl is
     where
       by_outcome : (x : Outcome) → outcome_of s.left ≡ x → end_from (elim x as (λ y. End) [ Well ↦ end_well facts command s | Badly ↦ end_badly s | Unsettled ↦ Ends ]) ≡ Some from → first_begun facts s ≡ from

@@ -100,7 +100,7 @@ module _ (scenario : Scenario) (old : List Entry) (was : Backend) (from : ℕ) (
   release_call = end_call scenario old was waits (events.Release from) refl next (released (is_visible facts.running) from) (release_gone facts (command_at was) s was.looked was.looked_to_build from waits.fits lets)
       (low_from facts.running (was.progress.finished + 1) from first_is (subst (λ n. first_at facts ≤ n + 1) waits.rests.holds.count waits.fits.first), may_release lets)
 
-  pub release_fits : (locks : List OwnLock) (at : ℕ) → Fits (facts_by old was.progress.id (was.progress.finished + 1) (events.Release from) facts) (command_at was) (record s { ended = true; locks = locks; last = at }) was.looked was.looked_to_build
+  release_fits : (locks : List OwnLock) (at : ℕ) → Fits (facts_by old was.progress.id (was.progress.finished + 1) (events.Release from) facts) (command_at was) (record s { ended = true; locks = locks; last = at }) was.looked was.looked_to_build
   release_fits locks at = fits_released facts (facts_by old was.progress.id (was.progress.finished + 1) (events.Release from) facts) (command_at was) s was.looked was.looked_to_build (events.Release from) locks at waits.fits now from
       (ended_running facts.running (was.progress.finished + 1) from first_is) refl (ended_lists facts.running facts.lists (was.progress.finished + 1) from first_is waits.fits.written) (from_of facts (end_by facts (command_at was) s) from lets)
 
