@@ -1,44 +1,31 @@
 -- What comes next by the choice may come next by the history and the script.
-use Rattle.std.proofs.Common.{◌≡◌, ◌≢◌, ◌≤◌, ◌<◌, ◌+◌, ◌*◌, ◌∙◌, ◌⊎◌, inl, inr, ◌==◌, ◌&&◌, ℕ, Bool, true, false, not, Option, Some, None, List, [], ◌∷◌, ◌++◌, refl, sym, ap, subst, length, slice_get, is_none, is_some, arith, map, cond}
+use Rattle.std.proofs.Common.{◌≡◌, ◌≤◌, ◌+◌, ◌*◌, ◌∙◌, ◌⊎◌, inl, inr, ◌==◌, ◌&&◌, ℕ, Bool, true, false, not, Option, Some, None, List, [], ◌∷◌, refl, sym, ap, subst, length, is_some, arith}
 use Rattle.std.specs.Option.{option_map_or}
 use Rattle.std.specs.Prelude.{nat_le}
 use Rattle.std.proofs.Math.Bool.{and-false}
 use Rattle.std.proofs.lemmas.Bool.{both_ways, eq-eqb, le-leb}
 use Rattle.base_types.specs.declared.scan.Purpose.TheVariants as scans
 use Rattle.event_kinds.specs.declared.entry.Event.TheVariants as events
-use Rattle.ddl_effect.specs.Commands.{commands_of}
-use Rattle.ddl_effect.specs.Plans.{Plan, Act, Do, Lookup, Lock, Write, Done, Fails, Absent, NotBuilt}
-use Rattle.ddl_effect.specs.Stages.{plan_at, want_of}
 use Rattle.ddl_effect.specs.declared.want.Want.TheVariants as wants
 use Rattle.history_model.specs.Drawn.{next_oid}
 use Rattle.history_model.specs.Legal.{AllowsEvent}
-use Rattle.history_model.specs.Lives.{life_of, last_event_of}
-use Rattle.history_model.specs.Log.{is_waiting}
 use Rattle.history_model.specs.Transactions.{Running, begun, is_visible}
 use Rattle.history_model.specs.Writes.{is_empty}
 use Rattle.seg_calls.specs.Calls.{entry_of, took_back, MayCall, MayRequest}
 use Rattle.seg_calls.proofs.Allowed.{is_start, request_follows}
-use Rattle.cacheless.specs.declared.progress.Due.{Due}
 use Rattle.cacheless.specs.declared.progress.Due.TheVariants as dues
 use Rattle.cacheless.specs.Facts.{Facts, facts_of}
-use Rattle.cacheless.specs.Holds.{Holds, Rests, FactsFit}
-use Rattle.cacheless.specs.May.{HasRoom, started_at, may_look_at, lacks_any, owes_nothing, may_play_now, is_lock_at, may_lock_at}
+use Rattle.cacheless.specs.May.{lacks_any, owes_nothing, may_play_now}
 use Rattle.cacheless.specs.Owed.{Owes as Owing, OwesLook, OwesFetch, OwesScan, owed_after, owed_of}
-use Rattle.cacheless.specs.Plays.{started_in, has_looked, may_look, MayPlay, MayPlayIn}
+use Rattle.cacheless.specs.Plays.{started_in, may_look, MayPlayIn}
 use Rattle.cacheless.specs.Ends.{TakesBack, end_of, end_of_all}
-use Rattle.cacheless.specs.Schedule.{LooksTruly}
-use Rattle.cacheless.specs.Session.{Session, number_of, outcome_of, is_settled}
-use Rattle.cacheless.specs.State.{owed_at, owed_first, one_if, is_out, session_at}
+use Rattle.cacheless.specs.Session.{Session}
+use Rattle.cacheless.specs.State.{owed_at, owed_first, one_if, is_out}
 use Rattle.cacheless.proofs.Deciding.{holds_decides}
-use Rattle.cacheless.proofs.Same.{next_same, owes_nothing_is}
-use Rattle.cacheless.proofs.SilentActs.{empty_list}
-use Rattle.cacheless.proofs.Tests.{and_true, not_both}
-use Rattle.backend_core.specs.Types.{Purpose, Command, Scenario, Entry, Event, Progress, Backend}
-use Rattle.backend_core.specs.Agrees.{IsPlayed, command_at, AwaitsEntry}
-use Rattle.backend_core.specs.Fits.{looks_due, looks_owed, LooksFit, OnCommit, OnTakingBack, IsPast, Fits}
-use Rattle.backend_core.specs.Steps.{IsFree, OwesLookNow, IsLookNext, IsScanNext, IsLockNext, IsWriteNext}
-use Rattle.backend_core.specs.Words.{is_looked_for}
-use Rattle.backend_core.proofs.Own.{waiting, waiting_course, OwnEntry}
+use Rattle.cacheless.proofs.Same.{owes_nothing_is}
+use Rattle.backend_core.specs.Types.{Command, Scenario, Entry, Event, Progress, Backend}
+use Rattle.backend_core.specs.Agrees.{command_at, AwaitsEntry}
+use Rattle.backend_core.proofs.Own.{waiting}
 
 pub one_at_most : (t : Bool) → one_if t ≤ 1
 one_at_most true = omega arith

@@ -26,7 +26,7 @@ use Rattle.backend_core.specs.Agrees.{IsPlayed, KeptAt, command_at, AwaitsEntry}
 use Rattle.backend_core.specs.Fits.{Fits}
 use Rattle.backend_core.specs.Steps.{EndsNext, Enters}
 use Rattle.backend_core.proofs.EndEntries.{end_plays, end_now, end_call, built_at, end_enters}
-use Rattle.backend_core.proofs.EndsNow.{end_by, is_end, EndsBy, IsCommit, ShowsNow, shows_now, PublishesNow, publishes_now, back_end}
+use Rattle.backend_core.proofs.EndsNow.{end_by, is_end, EndsBy, IsCommit, ShowsNow, PublishesNow, comes_now, back_end}
 use Rattle.backend_core.proofs.FitsEnds.{later_at, GoesOn, fits_ending, commits_on, write_from_first, goes_first, begun_xid, written_runs}
 use Rattle.backend_core.proofs.Own.{waiting}
 
@@ -40,20 +40,16 @@ xid_own (Some t) xid some is = by_xid t.xid some is
     by_xid (Some x) there at = eq-eqb x xid (sym at)
 
 -- where a commit comes next nothing was taken back
-commit_stands : (facts : Facts) (o : Option Command) (s : Session) (looked to_build : Bool) (event : Event) → Fits facts o s looked to_build → IsCommit facts (end_by facts o s) → FollowsGone facts.last event
-commit_stands facts o s looked to_build event fits commit = by_last facts.last refl
+none_gone : (facts : Facts) (o : Option Command) (s : Session) (looked to_build : Bool) (event : Event) → Fits facts o s looked to_build → IsCommit facts (end_by facts o s) → FollowsGone facts.last event
+none_gone facts o s looked to_build event fits commit = by_last facts.last refl
   where
     by_last : (last : Option Event) → facts.last ≡ last → FollowsGone last event
     by_last (Some (events.Gone from)) is = absurd (let no : TakesBack from ≡ Commits commit.first = sym (back_end facts o s looked to_build from fits is) ∙ commit.is in cc no)
     by_last last is = tt
 
 module _ (facts : Facts) (o : Option Command) (s : Session) (looked to_build : Bool) (next : ℕ) (event : Event) (ends : ends_command event ≡ true) (fits : Fits facts o s looked to_build) (plays : MayPlayIn next facts o s event) (commit : IsCommit facts (end_by facts o s)) where
-  -- its transaction has an Xid
-  pub commit_written : option_map_or (λ t. is_some t.xid) facts.running false ≡ true
-  commit_written = fits.written (write_from_first commit.first facts.lists commit.written)
-
-  -- and its command owes no scan
-  pub commit_built : outcome_of s.left ≡ Well → builds_owed facts s.opened ≡ []
+  -- its command owes no scan
+  commit_built : outcome_of s.left ≡ Well → builds_owed facts s.opened ≡ []
   commit_built well = by_command o plays commit
     where
       by_command : (x : Option Command) → MayPlayIn next facts x s event → IsCommit facts (end_by facts x s) → builds_owed facts s.opened ≡ []
@@ -67,14 +63,14 @@ module _ (facts : Facts) (o : Option Command) (s : Session) (looked to_build : B
 -- it may be entered
 pub commit_call : (scenario : Scenario) (seen : List Entry) (s : Backend) (xid : Xid) → AwaitsEntry scenario seen s → EndsNext s.progress (events.Visible xid) → MayCall scenario seen (entry_of s.progress.id (s.progress.finished + 1) (events.Visible xid))
 commit_call scenario seen s xid waits next = end_call scenario seen s waits (events.Visible xid) refl next (subst (λ v. FollowsVisible v (events.Visible xid)) (sym now.hidden) tt)
-    (commit_stands facts (command_at s) (waiting waits) s.looked s.looked_to_build (events.Visible xid) waits.fits now.commit)
+    (none_gone facts (command_at s) (waiting waits) s.looked s.looked_to_build (events.Visible xid) waits.fits now.commit)
     (xid_own facts.running xid.0 (waits.fits.written (write_from_first now.commit.first facts.lists now.commit.written)) now.xid_is, write_from_first now.commit.first facts.lists now.commit.written)
   where
     facts : Facts
     facts = facts_of seen s.progress.id
 
     now : ShowsNow facts (end_by facts (command_at s) (waiting waits)) xid
-    now = shows_now facts (end_by facts (command_at s) (waiting waits)) xid (end_now scenario seen s waits (events.Visible xid) refl next).comes
+    now = comes_now facts (end_by facts (command_at s) (waiting waits)) (events.Visible xid) (end_now scenario seen s waits (events.Visible xid) refl next).comes
 
 -- what is published next
 unsent_own : (lists : List Written) (own : Option OwnTransaction) → is_some own ≡ true → unsent_in lists (running_of own) ≡ unsent_after (option_map_or (λ t. t.published) own 0) lists
@@ -95,14 +91,14 @@ shown false count = tt
 
 -- the messages of a publish that comes next
 module _ (scenario : Scenario) (seen : List Entry) (s : Backend) (messages : List Message) (waits : AwaitsEntry scenario seen s) (next : EndsNext s.progress (events.Publish (length (take 64 (unsent_at s.progress))))) (is : messages ≡ take 64 (unsent_at s.progress)) where
-  pub publish_next : EndsNext s.progress (events.Publish (length messages))
+  publish_next : EndsNext s.progress (events.Publish (length messages))
   publish_next = subst (λ l. EndsNext s.progress (events.Publish (length l))) (sym is) next
 
   abbrev facts : Facts
   facts = facts_of seen s.progress.id
 
-  pub publish_now : PublishesNow facts (end_by facts (command_at s) (waiting waits)) (length messages)
-  publish_now = publishes_now facts (end_by facts (command_at s) (waiting waits)) (length messages) (end_now scenario seen s waits (events.Publish (length messages)) refl publish_next).comes
+  publish_now : PublishesNow facts (end_by facts (command_at s) (waiting waits)) (length messages)
+  publish_now = comes_now facts (end_by facts (command_at s) (waiting waits)) (events.Publish (length messages)) (end_now scenario seen s waits (events.Publish (length messages)) refl publish_next).comes
 
   unsent_same : unsent_of seen s.progress.id ≡ unsent_at s.progress
   unsent_same = ap (unsent_in facts.lists) waits.rests.holds.facts.running ∙ ap (λ l. unsent_in l (running_of s.progress.running)) waits.rests.holds.facts.lists
@@ -111,7 +107,7 @@ module _ (scenario : Scenario) (seen : List Entry) (s : Backend) (messages : Lis
   -- it may be entered
   pub publish_call : MayCall scenario seen (entry_of s.progress.id (s.progress.finished + 1) (events.Publish (length messages)))
   publish_call = end_call scenario seen s waits (events.Publish (length messages)) refl publish_next (shown (is_visible facts.running) (length messages))
-      (commit_stands facts (command_at s) (waiting waits) s.looked s.looked_to_build (events.Publish (length messages)) waits.fits publish_now.commit) (publish_now.visible, publish_now.some, publish_now.most)
+      (none_gone facts (command_at s) (waiting waits) s.looked s.looked_to_build (events.Publish (length messages)) waits.fits publish_now.commit) (publish_now.visible, publish_now.some, publish_now.most)
 
   -- and these are the next
   pub publish_these : ArePublishedNext seen s.progress.id messages
@@ -124,10 +120,10 @@ module _ (scenario : Scenario) (old : List Entry) (was : Backend) (event : Event
   before = facts_of old was.progress.id
 
   -- the facts after it
-  abbrev pub after_commit : Facts
+  abbrev after_commit : Facts
   after_commit = record before { last = Some event; running = Some (record { first = (begun (was.progress.finished + 1) before.running).first; xid = (begun (was.progress.finished + 1) before.running).xid; published = published; visible = visible }) }
 
-  pub commit_fits : (locks : List OwnLock) (at : ℕ) → owed_after (Some event) ≡ [] → ((from : ℕ) → Some event ≡ Some (events.Gone from) → ⊥) → Fits after_commit (command_at was) (later_at (waiting waits) locks at) was.looked was.looked_to_build
+  commit_fits : (locks : List OwnLock) (at : ℕ) → owed_after (Some event) ≡ [] → ((from : ℕ) → Some event ≡ Some (events.Gone from) → ⊥) → Fits after_commit (command_at was) (later_at (waiting waits) locks at) was.looked was.looked_to_build
   commit_fits locks at free standing = fits_ending before after_commit (command_at was) (waiting waits) was.looked was.looked_to_build event locks at waits.fits now goes
       (λ is. begun_xid (was.progress.finished + 1) before.running (waits.fits.written is))
       (λ is. commits_on before after_commit (command_at was) (waiting waits) was.looked was.looked_to_build event locks at waits.fits now goes commit (built_at scenario old was waits) refl
@@ -157,7 +153,7 @@ commit_enters scenario old new had has was xid p waits played courses next goes 
     facts = facts_of old was.progress.id
 
     now : ShowsNow facts (end_by facts (command_at was) (waiting waits)) xid
-    now = shows_now facts (end_by facts (command_at was) (waiting waits)) xid (end_now scenario old was waits event refl next).comes
+    now = comes_now facts (end_by facts (command_at was) (waiting waits)) event (end_now scenario old was waits event refl next).comes
 
 -- the state after a publish
 pub publish_enters : (scenario : Scenario) (old new : List Entry) (had has : ℕ → ℕ) (was : Backend) (messages : List Message) (p : Progress) (waits : AwaitsEntry scenario old was) → IsPlayed scenario old → AllOnCourse scenario old

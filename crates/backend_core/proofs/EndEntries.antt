@@ -97,7 +97,7 @@ module _ (scenario : Scenario) (seen : List Entry) (s : Backend) (waits : Awaits
   end_now = ends_by (next_oid seen) (facts_of seen s.progress.id) (command_at s) (waiting waits) s.looked s.looked_to_build event ends waits.fits end_plays
 
   -- its command is answered
-  pub end_answered : (command : Command) → command_at s ≡ Some command → is_some s.answer ≡ true
+  end_answered : (command : Command) → command_at s ≡ Some command → is_some s.answer ≡ true
   end_answered command at = by_case next
     where
       by_case : EndsNext s.progress event → is_some s.answer ≡ true

@@ -85,70 +85,11 @@ pub record IsCommit (facts : Facts) (end : End) : Type 0 where
   pub is : end ≡ Commits first
   pub written : has_write_from first facts.lists ≡ true
 
--- what it sends next
-record Sends (facts : Facts) (first : ℕ) (event : Event) : Type 0 where
-  visible : is_visible facts.running ≡ true
-  sends : next_sent first (length (unsent_in facts.lists facts.running)) ≡ event
-
--- whatever comes next of an end but a visibility step
-data EndCase (facts : Facts) (end : End) (event : Event) : Type 0 where
-  Shows : (commit : IsCommit facts end) → is_visible facts.running ≡ false → event ≡ events.Visible (record { 0 = xid_of facts }) → EndCase facts end event
-  Sent : (commit : IsCommit facts end) → Sends facts commit.first event → EndCase facts end event
-  Bare : (from : ℕ) → (end ≡ Commits from) ⊎ (end ≡ TakesBack from) → has_write_from from facts.lists ≡ false → event ≡ events.Release from → EndCase facts end event
-  Takes : (from : ℕ) → end ≡ TakesBack from → has_write_from from facts.lists ≡ true → event ≡ events.Gone from → EndCase facts end event
-
-end_case : (facts : Facts) (end : End) (event : Event) → next_of_end facts end ≡ Some event → EndCase facts end event
-end_case facts Ends event is = absurd (cc is)
-end_case facts (Commits first) event is = by_written (has_write_from first facts.lists) refl is
-  where
-    by_visible : (t : Bool) → is_visible facts.running ≡ t → has_write_from first facts.lists ≡ true → Some (elim t as (λ x. Event) [ true ↦ next_sent first (length (unsent_in facts.lists facts.running)) | false ↦ events.Visible (record { 0 = xid_of facts }) ]) ≡ Some event → EndCase facts (Commits first) event
-    by_visible true shown written one = Sent (record { first = first; is = refl; written = written }) (record { visible = shown; sends = cc one })
-    by_visible false hidden written one = Shows (record { first = first; is = refl; written = written }) hidden (cc one)
-
-    by_written : (t : Bool) → has_write_from first facts.lists ≡ t → Some (elim t as (λ x. Event) [ true ↦ elim (is_visible facts.running) [ true ↦ next_sent first (length (unsent_in facts.lists facts.running)) | false ↦ events.Visible (record { 0 = xid_of facts }) ] | false ↦ events.Release first ]) ≡ Some event → EndCase facts (Commits first) event
-    by_written true written one = by_visible (is_visible facts.running) refl written one
-    by_written false bare one = Bare first (inl refl) bare (cc one)
-end_case facts (TakesBack from) event is = by_written (has_write_from from facts.lists) refl is
-  where
-    by_written : (t : Bool) → has_write_from from facts.lists ≡ t → Some (elim t as (λ x. Event) [ true ↦ events.Gone from | false ↦ events.Release from ]) ≡ Some event → EndCase facts (TakesBack from) event
-    by_written true written one = Takes from refl written (cc one)
-    by_written false bare one = Bare from (inr refl) bare (cc one)
-
--- how many messages a publish sends of so many
-sends_most : (first unsent count : ℕ) → next_sent first unsent ≡ events.Publish count → (1 ≤ count) × (count ≡ min 64 unsent)
-sends_most first zero count is = absurd (cc is)
-sends_most first (suc n) count is = by_test (nat_le (suc n) 64) refl is
-  where
-    by_test : (t : Bool) → nat_le (suc n) 64 ≡ t → events.Publish (if t then suc n else 64) ≡ events.Publish count → (1 ≤ count) × (count ≡ min 64 (suc n))
-    by_test true low one = let same : suc n ≡ count = cc one in (omega (arith, same), omega (arith, same, leb-true (suc n) 64 low))
-    by_test false high one = let same : 64 ≡ count = cc one in (omega (arith, same), omega (arith, same, leb-false (suc n) 64 high))
-
-no_release : (first unsent from : ℕ) → next_sent first unsent ≡ events.Release from → (unsent ≡ 0) × (first ≡ from)
-no_release first zero from is = (refl, cc is)
-no_release first (suc n) from is = absurd (cc is)
-
-no_visible : (first unsent : ℕ) (xid : Xid) → next_sent first unsent ≡ events.Visible xid → ⊥
-no_visible first zero xid is = cc is
-no_visible first (suc n) xid is = cc is
-
-no_gone : (first unsent from : ℕ) → next_sent first unsent ≡ events.Gone from → ⊥
-no_gone first zero from is = cc is
-no_gone first (suc n) from is = cc is
-
 -- the visibility step
 pub record ShowsNow (facts : Facts) (end : End) (xid : Xid) : Type 0 where
   pub commit : IsCommit facts end
   pub hidden : is_visible facts.running ≡ false
   pub xid_is : xid.0 ≡ xid_of facts
-
-pub shows_now : (facts : Facts) (end : End) (xid : Xid) → next_of_end facts end ≡ Some (events.Visible xid) → ShowsNow facts end xid
-shows_now facts end xid is = by_case (end_case facts end (events.Visible xid) is)
-  where
-    by_case : EndCase facts end (events.Visible xid) → ShowsNow facts end xid
-    by_case (Shows commit hidden one) = record { commit = commit; hidden = hidden; xid_is = ap (λ (x : Xid). x.0) (let same : xid ≡ record { 0 = xid_of facts } = cc one in same) }
-    by_case (Sent commit sends) = absurd (no_visible commit.first _ xid sends.sends)
-    by_case (Bare from of bare one) = absurd (cc one)
-    by_case (Takes from of written one) = absurd (cc one)
 
 -- a publish
 pub record PublishesNow (facts : Facts) (end : End) (count : ℕ) : Type 0 where
@@ -156,25 +97,6 @@ pub record PublishesNow (facts : Facts) (end : End) (count : ℕ) : Type 0 where
   pub visible : is_visible facts.running ≡ true
   pub some : 1 ≤ count
   pub most : count ≡ min 64 (length (unsent_in facts.lists facts.running))
-
-pub publishes_now : (facts : Facts) (end : End) (count : ℕ) → next_of_end facts end ≡ Some (events.Publish count) → PublishesNow facts end count
-publishes_now facts end count is = by_case (end_case facts end (events.Publish count) is)
-  where
-    by_case : EndCase facts end (events.Publish count) → PublishesNow facts end count
-    by_case (Shows commit hidden one) = absurd (cc one)
-    by_case (Sent commit sends) = let most = sends_most commit.first (length (unsent_in facts.lists facts.running)) count sends.sends in record { commit = commit; visible = sends.visible; some = most.0; most = most.1 }
-    by_case (Bare from of bare one) = absurd (cc one)
-    by_case (Takes from of written one) = absurd (cc one)
-
--- writes are taken back
-pub takes_now : (facts : Facts) (end : End) (from : ℕ) → next_of_end facts end ≡ Some (events.Gone from) → (end ≡ TakesBack from) × (has_write_from from facts.lists ≡ true)
-takes_now facts end from is = by_case (end_case facts end (events.Gone from) is)
-  where
-    by_case : EndCase facts end (events.Gone from) → (end ≡ TakesBack from) × (has_write_from from facts.lists ≡ true)
-    by_case (Shows commit hidden one) = absurd (cc one)
-    by_case (Sent commit sends) = absurd (no_gone commit.first _ from sends.sends)
-    by_case (Bare first of bare one) = absurd (cc one)
-    by_case (Takes first of written one) = let same : first ≡ from = cc one in (of ∙ ap TakesBack same, subst (λ n. has_write_from n facts.lists ≡ true) same written)
 
 -- the first command of what an end releases
 abbrev pub end_from : End → Option ℕ
@@ -184,21 +106,48 @@ end_from (TakesBack from) = Some from
 
 -- the release, once all is sent or where nothing is written
 pub data LetsGo (facts : Facts) (end : End) (from : ℕ) : Type 0 where
-  AllSent : end ≡ Commits from → has_write_from from facts.lists ≡ true → is_visible facts.running ≡ true → length (unsent_in facts.lists facts.running) ≡ 0 → LetsGo facts end from
+  AllSent : end ≡ Commits from → is_visible facts.running ≡ true → length (unsent_in facts.lists facts.running) ≡ 0 → LetsGo facts end from
   NoWrite : (end ≡ Commits from) ⊎ (end ≡ TakesBack from) → has_write_from from facts.lists ≡ false → LetsGo facts end from
 
-pub lets_go : (facts : Facts) (end : End) (from : ℕ) → next_of_end facts end ≡ Some (events.Release from) → LetsGo facts end from
-lets_go facts end from is = by_case (end_case facts end (events.Release from) is)
+-- what each event that comes next of an end tells of it
+abbrev pub ComesNow : Facts → End → Event → Type 0
+ComesNow facts end (events.Visible xid) = ShowsNow facts end xid
+ComesNow facts end (events.Publish count) = PublishesNow facts end count
+ComesNow facts end (events.Gone from) = (end ≡ TakesBack from) × (has_write_from from facts.lists ≡ true)
+ComesNow facts end (events.Release from) = LetsGo facts end from
+ComesNow facts end event = ⊥
+
+-- how many messages a publish sends of so many
+sends_most : (unsent : ℕ) → (if nat_le unsent 64 then unsent else 64) ≡ min 64 unsent
+sends_most n = by_test (nat_le n 64) refl
   where
-    by_case : EndCase facts end (events.Release from) → LetsGo facts end from
-    by_case (Shows commit hidden one) = absurd (cc one)
-    by_case (Sent commit sends) = let both = no_release commit.first (length (unsent_in facts.lists facts.running)) from sends.sends in
-        AllSent (commit.is ∙ ap Commits both.1) (subst (λ n. has_write_from n facts.lists ≡ true) both.1 commit.written) sends.visible both.0
-    by_case (Bare first of bare one) = let same : first ≡ from = cc one in subst (LetsGo facts end) same (NoWrite of bare)
-    by_case (Takes first of written one) = absurd (cc one)
+    by_test : (t : Bool) → nat_le n 64 ≡ t → (if t then n else 64) ≡ min 64 n
+    by_test true low = omega (arith, leb-true n 64 low)
+    by_test false high = omega (arith, leb-false n 64 high)
+
+pub comes_now : (facts : Facts) (end : End) (event : Event) → next_of_end facts end ≡ Some event → ComesNow facts end event
+comes_now facts Ends event is = absurd (cc is)
+comes_now facts (Commits first) event is = by_written (has_write_from first facts.lists) refl is
+  where
+    sent : (n : ℕ) → length (unsent_in facts.lists facts.running) ≡ n → has_write_from first facts.lists ≡ true → is_visible facts.running ≡ true → ComesNow facts (Commits first) (next_sent first n)
+    sent zero none written shown = AllSent refl shown none
+    sent (suc n) some written shown = record { commit = record { first = first; is = refl; written = written }; visible = shown; some = omega (arith, sends_most (suc n)); most = sends_most (suc n) ∙ ap (min 64) (sym some) }
+
+    by_visible : (t : Bool) → is_visible facts.running ≡ t → has_write_from first facts.lists ≡ true → Some (elim t as (λ x. Event) [ true ↦ next_sent first (length (unsent_in facts.lists facts.running)) | false ↦ events.Visible (record { 0 = xid_of facts }) ]) ≡ Some event → ComesNow facts (Commits first) event
+    by_visible true shown written one = subst (ComesNow facts (Commits first)) (cc one) (sent (length (unsent_in facts.lists facts.running)) refl written shown)
+    by_visible false hidden written one = subst (ComesNow facts (Commits first)) (let same : events.Visible (record { 0 = xid_of facts }) ≡ event = cc one in same) (record { commit = record { first = first; is = refl; written = written }; hidden = hidden; xid_is = refl })
+
+    by_written : (t : Bool) → has_write_from first facts.lists ≡ t → Some (elim t as (λ x. Event) [ true ↦ elim (is_visible facts.running) [ true ↦ next_sent first (length (unsent_in facts.lists facts.running)) | false ↦ events.Visible (record { 0 = xid_of facts }) ] | false ↦ events.Release first ]) ≡ Some event → ComesNow facts (Commits first) event
+    by_written true written one = by_visible (is_visible facts.running) refl written one
+    by_written false bare one = subst (ComesNow facts (Commits first)) (let same : events.Release first ≡ event = cc one in same) (NoWrite (inl refl) bare)
+comes_now facts (TakesBack from) event is = by_written (has_write_from from facts.lists) refl is
+  where
+    by_written : (t : Bool) → has_write_from from facts.lists ≡ t → Some (elim t as (λ x. Event) [ true ↦ events.Gone from | false ↦ events.Release from ]) ≡ Some event → ComesNow facts (TakesBack from) event
+    by_written true written one = subst (ComesNow facts (TakesBack from)) (let same : events.Gone from ≡ event = cc one in same) (refl, written)
+    by_written false bare one = subst (ComesNow facts (TakesBack from)) (let same : events.Release from ≡ event = cc one in same) (NoWrite (inr refl) bare)
 
 pub from_of : (facts : Facts) (end : End) (from : ℕ) → LetsGo facts end from → end_from end ≡ Some from
-from_of facts end from (AllSent is written visible none) = ap end_from is
+from_of facts end from (AllSent is visible none) = ap end_from is
 from_of facts end from (NoWrite (inl is) bare) = ap end_from is
 from_of facts end from (NoWrite (inr is) bare) = ap end_from is
 
@@ -282,7 +231,7 @@ module _ (facts : Facts) (o : Option Command) (s : Session) (looked to_build : B
       by_blocked false blocked end = by_block s.blocks.block refl blocked runs_by ∙ cc end
 
   -- an end with an entry is the end of the transaction as a whole
-  pub first_of_end : (from : ℕ) → end_from (end_of facts command s) ≡ Some from → first_begun facts s ≡ from
+  first_of_end : (from : ℕ) → end_from (end_of facts command s) ≡ Some from → first_begun facts s ≡ from
   first_of_end from is = by_outcome (outcome_of s.left) refl is
     where
       by_outcome : (x : Outcome) → outcome_of s.left ≡ x → end_from (elim x as (λ y. End) [ Well ↦ end_well facts command s | Badly ↦ end_badly s | Unsettled ↦ Ends ]) ≡ Some from → first_begun facts s ≡ from

@@ -1,7 +1,6 @@
 -- What a backend keeps with its own entry.
-use Rattle.std.proofs.Common.{◌≡◌, ◌≤◌, ◌+◌, ◌∙◌, ◌==◌, ℕ, Bool, true, false, Some, None, List, [], ◌∷◌, ◌++◌, refl, sym, ap, subst, length, drop, slice_get, get_or, All, arith}
+use Rattle.std.proofs.Common.{◌≡◌, ◌≤◌, ◌+◌, ◌∙◌, ℕ, Bool, true, false, List, [], ◌∷◌, ◌++◌, refl, sym, ap, subst, length, drop, slice_get, get_or, All, arith}
 use Rattle.std.proofs.lemmas.Bool.{eq-eqb, lt-ltb}
-use Rattle.std.proofs.lemmas.List.{length_push}
 use Rattle.base_types.specs.declared.scan.Purpose.TheVariants as scans
 use Rattle.ddl_effect.specs.Plans.{Plan, Absent, Do, Lookup}
 use Rattle.ddl_effect.specs.Stages.{plan_at}
@@ -16,7 +15,7 @@ use Rattle.cacheless.specs.Sessions.{entered}
 use Rattle.cacheless.specs.State.{session_at}
 use Rattle.cacheless.proofs.Reading.{facts_of-own}
 use Rattle.cacheless.proofs.ReadPlaces.{place_read-more}
-use Rattle.backend_core.specs.Types.{Purpose, Command, Scenario, Entry, Event, KeptScan, Progress, Backend}
+use Rattle.backend_core.specs.Types.{Purpose, Scenario, Entry, Event, KeptScan, Progress, Backend}
 use Rattle.backend_core.specs.Agrees.{command_at, KeptAt, PlaceFits, Keeps, AwaitsEntry}
 use Rattle.backend_core.specs.Fits.{Fits}
 use Rattle.backend_core.proofs.Own.{waiting}

@@ -14,7 +14,7 @@ use Rattle.history_model.specs.Lapped.{is_lapped}
 use Rattle.history_model.specs.Lives.{Alive, life_by, last_event_of}
 use Rattle.history_model.specs.Log.{log_of, position_of, fetched_by}
 use Rattle.history_model.specs.Read.{is_scan_of}
-use Rattle.history_model.specs.Transactions.{Running, begun, is_visible}
+use Rattle.history_model.specs.Transactions.{begun, is_visible}
 use Rattle.history_model.specs.Writes.{is_empty}
 use Rattle.seg_calls.specs.Calls.{entry_of, due_to, MayCall, Appends, Fetches}
 use Rattle.cacheless.specs.declared.progress.Due.TheVariants as dues
@@ -29,16 +29,16 @@ use Rattle.cacheless.specs.State.{owed_at, one_if, kept_spared}
 use Rattle.cacheless.proofs.NextOnCourse.{entered_noted}
 use Rattle.cacheless.proofs.ReadPlaces.{place_read-more}
 use Rattle.base_types.specs.declared.scan.Purpose.TheVariants as scans
-use Rattle.backend_core.specs.Types.{Purpose, Command, Scenario, Entry, Event, Message, KeptScan, Progress, Backend}
+use Rattle.backend_core.specs.Types.{Purpose, Command, Scenario, Entry, Event, Message, Progress, Backend}
 use Rattle.backend_core.specs.Agrees.{IsPlayed, command_at, KeptAt, PlaceFits, AwaitsEntry}
 use Rattle.backend_core.specs.Fits.{looks_due, LooksFit, Fits}
 use Rattle.backend_core.specs.Steps.{Enters}
 use Rattle.backend_core.specs.Words.{has_begun, marks_build}
-use Rattle.backend_core.proofs.Chosen.{Busy, due_busy, may_call, hidden, one_at_most, started_by, started_still}
+use Rattle.backend_core.proofs.Chosen.{Busy, due_busy, may_call, hidden, one_at_most, started_still}
 use Rattle.backend_core.proofs.Entered.{fits_at, keeps_at, kept_stays, place_stays}
-use Rattle.backend_core.proofs.FitsEntries.{StaysInside, StaysAt, Goes, fits_inside}
+use Rattle.backend_core.proofs.FitsEntries.{StaysAt, Goes, fits_inside}
 use Rattle.backend_core.proofs.Looking.{begun_written}
-use Rattle.backend_core.proofs.Own.{waiting, follows, going, OwnEntry, KeepsAnswer, Inside as StaysWithin, own_enters}
+use Rattle.backend_core.proofs.Own.{waiting, follows, going, OwnEntry, Inside as StaysWithin, own_enters}
 
 -- a backend whose fetch is due
 record IsDue (seen : List Entry) (s : Backend) : Type 0 where

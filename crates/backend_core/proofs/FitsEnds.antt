@@ -41,7 +41,7 @@ of_first f x a b same = as_map a ∙ ap (λ o. option_map_or f o x) same ∙ sym
     as_map None = refl
     as_map (Some t) = refl
 
-pub first_same : (facts later : Facts) → GoesOn facts later → first_at later ≡ first_at facts
+first_same : (facts later : Facts) → GoesOn facts later → first_at later ≡ first_at facts
 first_same facts later goes = of_first (λ n. n) 0 later.running facts.running goes.same
 
 none_some : {X : Type 0} (o : Option X) → is_some o ≡ true → is_none o ≡ false
@@ -73,7 +73,7 @@ end_same facts later command s locks at goes = by_outcome (outcome_of s.left)
     by_outcome Unsettled = refl
 
 -- nothing is owed before its next entry
-pub owed_later : (facts later : Facts) (command : Command) (s : Session) (locks : List OwnLock) (at : ℕ) → GoesOn facts later → is_settled (outcome_of s.left) ≡ true → (outcome_of s.left ≡ Well → builds_owed later s.opened ≡ []) → owed_of later command (later_at s locks at) ≡ []
+owed_later : (facts later : Facts) (command : Command) (s : Session) (locks : List OwnLock) (at : ℕ) → GoesOn facts later → is_settled (outcome_of s.left) ≡ true → (outcome_of s.left ≡ Well → builds_owed later s.opened ≡ []) → owed_of later command (later_at s locks at) ≡ []
 owed_later facts later command s locks at goes out built =
     ap (λ l. l ++ owed_after later.last ++ map OwesScan (scans_owed later (later_at s locks at))) start ∙ ap (λ l. l ++ map OwesScan (scans_owed later (later_at s locks at))) goes.free ∙ ap (map OwesScan) (by_plan s.left out built)
   where

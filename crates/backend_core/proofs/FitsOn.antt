@@ -1,33 +1,23 @@
 -- What the choice keeps where a backend goes on without an entry.
-use Rattle.std.proofs.Common.{◌≡◌, ◌≤◌, ◌<◌, ◌+◌, ◌∙◌, ◌==◌, ◌&&◌, ◌||◌, ◌∷◌, ◌++◌, ◌⊎◌, inl, inr, ℕ, Bool, true, false, not, Option, Some, None, List, [], refl, sym, ap, subst, length, map, is_none, is_some, arith}
+use Rattle.std.proofs.Common.{◌≡◌, ◌≤◌, ◌+◌, ◌∙◌, ◌==◌, ◌&&◌, ◌++◌, inl, inr, ℕ, Bool, true, false, Option, Some, None, List, [], refl, sym, ap, subst, map, is_none, is_some, arith}
 use Rattle.std.specs.Option.{option_map_or}
 use Rattle.std.proofs.lemmas.Bool.{both_ways, ne_eqb, and_parts}
 use Rattle.std.proofs.lemmas.List.{length_push}
-use Rattle.ddl_effect.specs.Blocks.{Block, Level, Outside, Inside, Failed, refused_by, innermost}
-use Rattle.ddl_effect.specs.Plans.{Act, Plan, Fails, Do}
+use Rattle.ddl_effect.specs.Blocks.{Block, Outside, Inside, Failed, innermost}
+use Rattle.ddl_effect.specs.Plans.{Act, Plan, Do}
 use Rattle.event_kinds.specs.declared.entry.Event.TheVariants as events
 use Rattle.history_model.specs.Transactions.{Running, is_visible}
 use Rattle.history_model.specs.Writes.{is_empty}
 use Rattle.cacheless.specs.Facts.{Facts}
-use Rattle.cacheless.specs.Session.{Session, number_of, outcome_of, is_settled, first_of, plan_admitted, plan_first, refused_first}
-use Rattle.cacheless.specs.Owed.{Owes, OwesScan, owed_at_start, owed_after, scans_owed, owed_of}
+use Rattle.cacheless.specs.Session.{Session, number_of, outcome_of, is_settled}
+use Rattle.cacheless.specs.Owed.{OwesScan, owed_at_start, owed_after, scans_owed, owed_of}
 use Rattle.cacheless.specs.Ends.{End, Ends, Commits, TakesBack, end_of, end_of_all, end_left, next_of_end}
 use Rattle.cacheless.specs.Settled.{act_done, is_finished, blocks_after, finished_as, next_session}
 use Rattle.cacheless.specs.Plays.{started_in}
-use Rattle.cacheless.specs.Types.{CommandError}
 use Rattle.cacheless.proofs.SilentActs.{both_empty, empty_list}
 use Rattle.backend_core.specs.Types.{Row, Command, Event}
-use Rattle.backend_core.specs.Fits.{looks_due, first_at, TransactionFits, RunsBy, RunsAlone, OnCommit, OnTakingBack, IsPast, Fits}
+use Rattle.backend_core.specs.Fits.{looks_due, first_at, TransactionFits, RunsBy, IsPast, Fits}
 use Rattle.backend_core.proofs.NextTransaction.{NextBy, next_ended, LevelsFit, levels_next, next_silent}
-
--- a command that the blocks refuse has failed
-pub refused_fails : (o : Option Command) (s : Session) → is_some (refused_first s.blocks o) ≡ true → is_settled (outcome_of (plan_first s.blocks o)) ≡ true
-refused_fails None s is = absurd (cc)
-refused_fails (Some command) s is = by_error (refused_by s.blocks command) is
-  where
-    by_error : (error : Option CommandError) → is_some error ≡ true → is_settled (outcome_of (plan_admitted error command)) ≡ true
-    by_error None some = absurd (cc)
-    by_error (Some error) some = refl
 
 -- an act that is done without an entry
 pub fits_act : (facts : Facts) (o : Option Command) (s : Session) (looked to_build : Bool) (command : Command) (act : Act) (further : List Row → Plan) (given : List Row) → o ≡ Some command → s.left ≡ Do act further → s.ended ≡ false → Fits facts o s looked to_build → Fits facts o (act_done act given (further given) s) looked to_build

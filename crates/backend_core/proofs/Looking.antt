@@ -1,8 +1,7 @@
 -- The looks of a backend.
-use Rattle.std.proofs.Common.{◌≡◌, ◌≢◌, ◌≤◌, ◌<◌, ◌+◌, ◌*◌, ◌∙◌, ◌⊎◌, inl, inr, ◌==◌, ◌&&◌, ◌||◌, ℕ, Bool, true, false, not, Option, Some, None, List, [], ◌∷◌, ◌++◌, refl, sym, ap, subst, length, drop, is_none, is_some, All, arith}
+use Rattle.std.proofs.Common.{◌≡◌, ◌≢◌, ◌≤◌, ◌+◌, ◌*◌, ◌∙◌, ◌⊎◌, inl, inr, ◌&&◌, ◌||◌, ℕ, Bool, true, false, not, Option, Some, None, List, [], ◌∷◌, refl, sym, ap, subst, length, drop, is_none, is_some, All, arith}
 use Rattle.std.specs.Option.{option_map_or}
 use Rattle.std.proofs.Math.Bool.{and-false}
-use Rattle.std.proofs.lemmas.Bool.{eq-eqb}
 use Rattle.event_kinds.specs.declared.entry.Event.TheVariants as events
 use Rattle.ddl_effect.specs.Blocks.{Block, Outside, Inside, Failed, no_block, ends_block, refused_by}
 use Rattle.history_model.specs.Drawn.{next_oid}
@@ -17,7 +16,7 @@ use Rattle.cacheless.specs.declared.progress.Due.TheVariants as dues
 use Rattle.cacheless.specs.declared.progress.OwnTransaction.{OwnTransaction}
 use Rattle.cacheless.specs.Facts.{Facts, facts_of, facts_by}
 use Rattle.cacheless.specs.Holds.{HasEntered, with_own}
-use Rattle.cacheless.specs.May.{lacks_any, owes_nothing}
+use Rattle.cacheless.specs.May.{lacks_any}
 use Rattle.cacheless.specs.OnCourse.{AllOnCourse}
 use Rattle.cacheless.specs.Owed.{Owes as Owing, OwesLook, owed_after, begins}
 use Rattle.cacheless.specs.Plays.{started_in, MayPlayIn}
@@ -33,8 +32,8 @@ use Rattle.backend_core.specs.Words.{is_looked_for}
 use Rattle.backend_core.proofs.ActsRun.{scan_runs}
 use Rattle.backend_core.proofs.Chosen.{Busy, Owes, due_busy, may_call, hidden, one_at_most, started_most, started_by, started_now, started_still, look_may}
 use Rattle.backend_core.proofs.Entered.{fits_at, keeps_still}
-use Rattle.backend_core.proofs.FitsEntries.{StaysInside, StaysAt, RunsHere, Goes, Starts, fits_inside}
-use Rattle.backend_core.proofs.Own.{waiting, going, OwnEntry, KeepsAnswer, Inside as StaysWithin, own_enters}
+use Rattle.backend_core.proofs.FitsEntries.{RunsHere, Goes, Starts, fits_inside}
+use Rattle.backend_core.proofs.Own.{waiting, going, Inside as StaysWithin, own_enters}
 
 not_empty : {X : Type 0} (xs : List X) → xs ≢ [] → is_empty xs ≡ false
 not_empty [] some = absurd (some refl)

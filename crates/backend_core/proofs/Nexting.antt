@@ -50,7 +50,7 @@ pub out_owes : (p : Progress) (command : Command) → IsFree p command → lacks
 out_owes p command free lacks = λ i. is_empty (free.first i) && is_empty (owed_at (free.due i)) && not (lacks i)
 
 -- its end is still to be made
-pub end_is : (p : Progress) (command : Command) (end : End) → IsAtRest p → IsFree p command → is_out p ≡ true → lacks_any p ≡ false → end_at p command ≡ end → (p.ended ≡ false) × (is_ends end ≡ false)
+end_is : (p : Progress) (command : Command) (end : End) → IsAtRest p → IsFree p command → is_out p ≡ true → lacks_any p ≡ false → end_at p command ≡ end → (p.ended ≡ false) × (is_ends end ≡ false)
 end_is p command end still free out lacks is = by_tests p.ended (is_ends end) refl refl unfinished
   where
     unfinished : (is_out p && (p.ended || is_ends end) && owes_nothing command p) ≡ false
@@ -139,7 +139,7 @@ pub record IsBuildNext (kept : List KeptScan) (opened : List Opening) (scan : Pu
   pub first : list_any (λ o. is_first_missing scan kept o.kind o.rel) opened ≡ true
   pub build : is_build_scan scan ≡ true
 
-pub build_some : (kept : List KeptScan) (opened : List Opening) (scan : Purpose) → build_first kept opened ≡ Some scan → IsBuildNext kept opened scan
+build_some : (kept : List KeptScan) (opened : List Opening) (scan : Purpose) → build_first kept opened ≡ Some scan → IsBuildNext kept opened scan
 build_some kept [] scan is = absurd (cc is)
 build_some kept (o ∷ opened) scan is = by_first (find (λ d. not (is_kept kept d)) (build_scans o.kind o.rel)) refl is (build_some kept opened scan)
   where

@@ -1,5 +1,5 @@
 -- A backend's own entry, whichever it is.
-use Rattle.std.proofs.Common.{◌≡◌, ◌≢◌, ◌≤◌, ◌+◌, ◌∙◌, ◌⊎◌, inl, inr, ◌==◌, ℕ, Bool, true, false, Option, Some, None, List, [], ◌∷◌, ◌++◌, refl, sym, ap, subst, length, drop, slice_get, is_some, arith, if◌then◌else◌}
+use Rattle.std.proofs.Common.{◌≡◌, ◌≤◌, ◌+◌, ◌∙◌, ℕ, true, false, Some, None, List, [], ◌∷◌, ◌++◌, refl, sym, ap, subst, length, drop, slice_get, is_some, arith}
 use Rattle.std.proofs.lemmas.Bool.{eq-eqb, both_ways}
 use Rattle.std.proofs.lemmas.List.{length_push}
 use Rattle.event_kinds.specs.declared.entry.Event.TheVariants as events
@@ -10,7 +10,7 @@ use Rattle.history_model.specs.Lives.{last_event_of}
 use Rattle.history_model.proofs.Reading.{last_event_of-own}
 use Rattle.seg_calls.specs.Calls.{places_for, Appends}
 use Rattle.cacheless.specs.Facts.{Facts, facts_of}
-use Rattle.cacheless.specs.Holds.{Holds, Rests, HasEntered, entry_of, with_own}
+use Rattle.cacheless.specs.Holds.{HasEntered, entry_of, with_own}
 use Rattle.cacheless.specs.Judged.{ArePlaced}
 use Rattle.cacheless.specs.Lines.{line_of, lines_from}
 use Rattle.cacheless.specs.MayEnter.{SuitsHistory}
@@ -29,7 +29,7 @@ use Rattle.cacheless.proofs.OwnEntries.{IsNoted}
 use Rattle.cacheless.proofs.Resting.{settled_at_rest}
 use Rattle.cacheless.proofs.StaysOnCourse.{MayCome}
 use Rattle.backend_core.specs.Types.{Command, Scenario, Entry, Event, Backend}
-use Rattle.backend_core.specs.Agrees.{IsPlayed, command_at, Keeps, AnswerFits, Tells, IsJudgedHere, AgreesNow, AwaitsEntry}
+use Rattle.backend_core.specs.Agrees.{IsPlayed, command_at, Keeps, AnswerFits, IsJudgedHere, AgreesNow, AwaitsEntry}
 use Rattle.backend_core.specs.Fits.{Fits}
 use Rattle.backend_core.specs.Steps.{MakesEntry, Enters}
 use Rattle.backend_core.proofs.Played.{IsPlayed-more}

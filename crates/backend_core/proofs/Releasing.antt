@@ -20,7 +20,7 @@ use Rattle.backend_core.specs.Agrees.{IsPlayed, KeptAt, command_at, AwaitsEntry}
 use Rattle.backend_core.specs.Fits.{first_at, Fits}
 use Rattle.backend_core.specs.Steps.{EndsNext, Enters}
 use Rattle.backend_core.proofs.EndEntries.{end_now, end_call, built_at, end_enters}
-use Rattle.backend_core.proofs.EndsNow.{end_by, EndsBy, LetsGo, AllSent, NoWrite, lets_go, from_of, end_first, commit_end, back_end}
+use Rattle.backend_core.proofs.EndsNow.{end_by, EndsBy, LetsGo, AllSent, NoWrite, comes_now, from_of, end_first, commit_end, back_end}
 use Rattle.backend_core.proofs.FitsEnds.{fits_released, ended_running, ended_lists}
 use Rattle.backend_core.proofs.Own.{waiting}
 
@@ -62,7 +62,7 @@ release_gone : (facts : Facts) (o : Option Command) (s : Session) (looked to_bui
 release_gone facts o s looked to_build from fits lets = by_last facts.last refl
   where
     by_case : (n : ℕ) → end_by facts o s ≡ TakesBack n → LetsGo facts (end_by facts o s) from → from ≡ n
-    by_case n back (AllSent commits written visible sent) = absurd (let no : Commits from ≡ TakesBack n = sym commits ∙ back in cc no)
+    by_case n back (AllSent commits visible sent) = absurd (let no : Commits from ≡ TakesBack n = sym commits ∙ back in cc no)
     by_case n back (NoWrite (inl commits) bare) = absurd (let no : Commits from ≡ TakesBack n = sym commits ∙ back in cc no)
     by_case n back (NoWrite (inr takes) bare) = let both : TakesBack from ≡ TakesBack n = sym takes ∙ back in cc both
 
@@ -85,14 +85,14 @@ module _ (scenario : Scenario) (old : List Entry) (was : Backend) (from : ℕ) (
   now = end_now scenario old was waits (events.Release from) refl next
 
   lets : LetsGo facts (end_by facts (command_at was) s) from
-  lets = lets_go facts (end_by facts (command_at was) s) from now.comes
+  lets = comes_now facts (end_by facts (command_at was) s) (events.Release from) now.comes
 
   first_is : option_map_or (λ (t : Running). t.first) facts.running (was.progress.finished + 1) ≡ from
   first_is = ap (λ n. option_map_or (λ (t : Running). t.first) facts.running (n + 1)) (sym waits.rests.holds.count)
       ∙ end_first facts (command_at was) s was.looked was.looked_to_build from (built_at scenario old was waits) waits.fits now.going (from_of facts (end_by facts (command_at was) s) from lets)
 
   may_release : LetsGo facts (end_by facts (command_at was) s) from → MayRelease (is_visible facts.running) old was.progress.id from
-  may_release (AllSent commits written visible sent) = subst (λ v. MayRelease v old was.progress.id from) (sym visible) (first_visible facts.running (was.progress.finished + 1) from visible first_is, all_left facts.lists facts.running sent)
+  may_release (AllSent commits visible sent) = subst (λ v. MayRelease v old was.progress.id from) (sym visible) (first_visible facts.running (was.progress.finished + 1) from visible first_is, all_left facts.lists facts.running sent)
   may_release (NoWrite end bare) = subst (λ v. MayRelease v old was.progress.id from) (sym (bare_hidden facts (command_at was) s was.looked was.looked_to_build from waits.fits end bare)) bare
 
   -- it may be entered
@@ -100,7 +100,7 @@ module _ (scenario : Scenario) (old : List Entry) (was : Backend) (from : ℕ) (
   release_call = end_call scenario old was waits (events.Release from) refl next (released (is_visible facts.running) from) (release_gone facts (command_at was) s was.looked was.looked_to_build from waits.fits lets)
       (low_from facts.running (was.progress.finished + 1) from first_is (subst (λ n. first_at facts ≤ n + 1) waits.rests.holds.count waits.fits.first), may_release lets)
 
-  pub release_fits : (locks : List OwnLock) (at : ℕ) → Fits (facts_by old was.progress.id (was.progress.finished + 1) (events.Release from) facts) (command_at was) (record s { ended = true; locks = locks; last = at }) was.looked was.looked_to_build
+  release_fits : (locks : List OwnLock) (at : ℕ) → Fits (facts_by old was.progress.id (was.progress.finished + 1) (events.Release from) facts) (command_at was) (record s { ended = true; locks = locks; last = at }) was.looked was.looked_to_build
   release_fits locks at = fits_released facts (facts_by old was.progress.id (was.progress.finished + 1) (events.Release from) facts) (command_at was) s was.looked was.looked_to_build (events.Release from) locks at waits.fits now from
       (ended_running facts.running (was.progress.finished + 1) from first_is) refl (ended_lists facts.running facts.lists (was.progress.finished + 1) from first_is waits.fits.written) (from_of facts (end_by facts (command_at was) s) from lets)
 

@@ -1,8 +1,6 @@
 -- What a backend does without an entry.
-use Rattle.std.proofs.Common.{◌≡◌, ◌≢◌, ◌≤◌, ◌+◌, ◌∙◌, ◌&&◌, ◌⊎◌, inl, inr, ℕ, Bool, true, false, not, Option, Some, None, Result, Ok, Err, OnOk, List, [], ◌∷◌, ◌++◌, refl, sym, ap, subst, length, drop, slice_get, is_some, is_none, All, arith}
+use Rattle.std.proofs.Common.{◌≡◌, ◌≤◌, ◌+◌, ◌∙◌, ◌&&◌, inr, ℕ, Bool, true, false, Option, Some, None, Result, Ok, Err, OnOk, List, [], ◌∷◌, ◌++◌, refl, sym, ap, subst, length, drop, slice_get, is_some, is_none, All, arith}
 use Rattle.std.proofs.lemmas.Bool.{both_ways, and_parts}
-use Rattle.std.proofs.lemmas.List.{length_push, take_all}
-use Rattle.rel_desc.specs.Answers.{answer_text}
 use Rattle.ddl_effect.specs.Commands.{commands_of}
 use Rattle.base_types.specs.declared.scan.Purpose.TheVariants as scans
 use Rattle.event_kinds.specs.declared.entry.Event.TheVariants as events
@@ -11,15 +9,14 @@ use Rattle.ddl_effect.specs.Stages.{plan_at}
 use Rattle.history_model.specs.Lives.{life_of, last_event_of}
 use Rattle.history_model.specs.Writes.{is_empty}
 use Rattle.cacheless.specs.Ends.{end_left}
-use Rattle.cacheless.specs.Facts.{Facts, facts_of}
-use Rattle.cacheless.specs.Holds.{Holds, Rests, HasActed, HasPassed}
+use Rattle.cacheless.specs.Facts.{facts_of}
+use Rattle.cacheless.specs.Holds.{Holds, HasActed, HasPassed}
 use Rattle.cacheless.specs.Lines.{line_of, lines_from}
 use Rattle.cacheless.specs.OnCourse.{is_absent, is_over, OnItsWay, EntersCourse}
 use Rattle.cacheless.specs.Runs.{runs}
 use Rattle.cacheless.specs.Session.{Session, number_of, first_of, outcome_of, is_settled, plan_first}
-use Rattle.cacheless.specs.Sessions.{session_of}
-use Rattle.cacheless.specs.Settled.{act_done, is_finished, blocks_after, finished_as, next_session, settled}
-use Rattle.cacheless.specs.Silently.{Finishes, IsAtRest}
+use Rattle.cacheless.specs.Settled.{act_done, blocks_after, finished_as, next_session, settled}
+use Rattle.cacheless.specs.Silently.{IsAtRest}
 use Rattle.cacheless.specs.State.{is_out, session_at}
 use Rattle.cacheless.specs.May.{owes_nothing}
 use Rattle.cacheless.specs.Owed.{owed_of}
@@ -33,7 +30,7 @@ use Rattle.cacheless.proofs.SilentActs.{empty_list, on_its_way, its_place, made_
 use Rattle.cacheless.proofs.ToldAnswers.{has_come_out}
 use Rattle.cacheless.proofs.SettledCourse.{HasSession, act_enters, finish_enters}
 use Rattle.backend_core.specs.Types.{Row, Command, Scenario, Entry, Event, Line, Progress, Backend}
-use Rattle.backend_core.specs.Agrees.{KeptAt, PlaceFits, Keeps, command_at, is_to_answer_at, IsJudgedHere, AgreesNow, GoesOn, AwaitsEntry}
+use Rattle.backend_core.specs.Agrees.{KeptAt, PlaceFits, command_at, is_to_answer_at, IsJudgedHere, AgreesNow, GoesOn, AwaitsEntry}
 use Rattle.backend_core.specs.Answering.{IsToldText}
 use Rattle.backend_core.specs.Fits.{Fits}
 use Rattle.backend_core.proofs.Answered.{are_kept, told_line}

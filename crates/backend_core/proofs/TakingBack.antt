@@ -22,17 +22,17 @@ use Rattle.backend_core.specs.Agrees.{IsPlayed, KeptAt, command_at, AwaitsEntry}
 use Rattle.backend_core.specs.Fits.{first_at, Fits}
 use Rattle.backend_core.specs.Steps.{EndsNext, Enters}
 use Rattle.backend_core.proofs.EndEntries.{end_now, end_call, end_enters}
-use Rattle.backend_core.proofs.EndsNow.{end_by, EndsBy, takes_now, commit_end, back_end}
+use Rattle.backend_core.proofs.EndsNow.{end_by, EndsBy, comes_now, commit_end, back_end}
 use Rattle.backend_core.proofs.FitsEnds.{later_at, GoesOn, end_same, fits_ending, takes_back_on, write_from_first, none_from, goes_first, begun_xid, begun_visible, written_runs}
 use Rattle.backend_core.proofs.Own.{waiting, follows}
 
 -- a transaction that is taken back isn't visible
-pub back_hidden : (facts : Facts) (o : Option Command) (s : Session) (looked to_build : Bool) (from : ℕ) → Fits facts o s looked to_build → end_by facts o s ≡ TakesBack from → is_visible facts.running ≡ false
+back_hidden : (facts : Facts) (o : Option Command) (s : Session) (looked to_build : Bool) (from : ℕ) → Fits facts o s looked to_build → end_by facts o s ≡ TakesBack from → is_visible facts.running ≡ false
 back_hidden facts o s looked to_build from fits back = false_from_ne_true (is_visible facts.running) (λ is. let no : Commits (first_at facts) ≡ TakesBack from = sym (commit_end facts o s looked to_build fits is) ∙ back in cc no)
 
 -- and what was taken back isn't there any more
-back_stands : (facts : Facts) (o : Option Command) (s : Session) (looked to_build : Bool) (from : ℕ) → Fits facts o s looked to_build → end_by facts o s ≡ TakesBack from → has_write_from from facts.lists ≡ true → FollowsGone facts.last (events.Gone from)
-back_stands facts o s looked to_build from fits back written = by_last facts.last refl
+not_gone : (facts : Facts) (o : Option Command) (s : Session) (looked to_build : Bool) (from : ℕ) → Fits facts o s looked to_build → end_by facts o s ≡ TakesBack from → has_write_from from facts.lists ≡ true → FollowsGone facts.last (events.Gone from)
+not_gone facts o s looked to_build from fits back written = by_last facts.last refl
   where
     by_last : (last : Option Event) → facts.last ≡ last → FollowsGone last (events.Gone from)
     by_last (Some (events.Gone n)) is = absurd (let same : n ≡ from = (let both : TakesBack n ≡ TakesBack from = sym (back_end facts o s looked to_build n fits is) ∙ back in cc both) in
@@ -50,14 +50,14 @@ module _ (scenario : Scenario) (old : List Entry) (was : Backend) (from : ℕ) (
   now = end_now scenario old was waits (events.Gone from) refl next
 
   takes : (end_by facts (command_at was) s ≡ TakesBack from) × (has_write_from from facts.lists ≡ true)
-  takes = takes_now facts (end_by facts (command_at was) s) from now.comes
+  takes = comes_now facts (end_by facts (command_at was) s) (events.Gone from) now.comes
 
   hidden : is_visible facts.running ≡ false
   hidden = back_hidden facts (command_at was) s was.looked was.looked_to_build from waits.fits takes.0
 
   -- it may be entered
   pub take_back_call : MayCall scenario old (entry_of was.progress.id (was.progress.finished + 1) (events.Gone from))
-  take_back_call = end_call scenario old was waits (events.Gone from) refl next (subst (λ v. FollowsVisible v (events.Gone from)) (sym hidden) tt) (back_stands facts (command_at was) s was.looked was.looked_to_build from waits.fits takes.0 takes.1) takes.1
+  take_back_call = end_call scenario old was waits (events.Gone from) refl next (subst (λ v. FollowsVisible v (events.Gone from)) (sym hidden) tt) (not_gone facts (command_at was) s was.looked was.looked_to_build from waits.fits takes.0 takes.1) takes.1
 
   abbrev later : Facts
   later = facts_by old was.progress.id (was.progress.finished + 1) (events.Gone from) facts
@@ -77,7 +77,7 @@ module _ (scenario : Scenario) (old : List Entry) (was : Backend) (from : ℕ) (
       by_command (Some command) is = ends_built later command (later_at s locks at) (follows scenario old was waits courses command is).plain well
           (ap (λ e. elim e as (λ x. List Owes) [ TakesBack n ↦ owed_after later.last | end ↦ owed_of later command (later_at s locks at) ]) (end_same facts later command s locks at goes_on ∙ ap (λ o. end_by facts o s) (sym is) ∙ takes.0))
 
-  pub take_back_fits : AllOnCourse scenario old → (locks : List OwnLock) (at : ℕ) → Fits later (command_at was) (later_at s locks at) was.looked was.looked_to_build
+  take_back_fits : AllOnCourse scenario old → (locks : List OwnLock) (at : ℕ) → Fits later (command_at was) (later_at s locks at) was.looked was.looked_to_build
   take_back_fits courses locks at = fits_ending facts later (command_at was) s was.looked was.looked_to_build (events.Gone from) locks at waits.fits now goes_on
       (λ is. begun_xid (was.progress.finished + 1) facts.running written)
       (λ is. absurd (both_ways _ hidden (sym (begun_visible (was.progress.finished + 1) facts.running) ∙ is)))
