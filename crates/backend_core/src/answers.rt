@@ -14,10 +14,10 @@ use base_types::{
     same_scan, writers,
 };
 use cacheless::{KeptScan, Opening};
+use command_answers::{Answer, CommandError, Shown, answer_text};
 use ddl_effect::Want;
 use event_kinds::LineText;
 use lock_modes::OwnLocks;
-use rel_desc::{Answer, CommandError, Shown, Value, answer_text};
 use std::alloc::Global;
 
 impl Backend {
@@ -145,7 +145,7 @@ fn shown_field(
     };
     Ok(Shown {
         field,
-        value: Value::new(field_text(alloc, field, o.rel, rows)?),
+        value: LineText::new(field_text(alloc, field, o.rel, rows)?),
         at: if is_protected(locks, o.rel, o.kind, field) {
             None
         } else {
