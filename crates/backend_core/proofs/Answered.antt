@@ -8,8 +8,8 @@ use Rattle.base_types.specs.Scans.{is_build_scan}
 use Rattle.base_types.specs.declared.command.Command.TheVariants as commands
 use Rattle.base_types.specs.declared.field.Field.TheVariants as fields
 use Rattle.base_types.specs.declared.scan.Purpose.TheVariants as scans
-use Rattle.rel_desc.specs.Answers.{answer_text}
-use Rattle.rel_desc.specs.declared.answer.Answer.TheVariants as answers
+use Rattle.command_answers.specs.Answers.{answer_text}
+use Rattle.command_answers.specs.declared.answer.Answer.TheVariants as answers
 use Rattle.lock_modes.specs.Own.{clear_modes}
 use Rattle.ddl_effect.specs.Plans.{Plan, Done, Fails, Absent, NotBuilt, Do}
 use Rattle.ddl_effect.specs.Stages.{plan_at}

@@ -6,7 +6,7 @@ use Rattle.std.proofs.lemmas.Bool.{leb-true, leb-false}
 use Rattle.base_types.specs.declared.command.Command.TheVariants as commands
 use Rattle.event_kinds.specs.declared.entry.Event.TheVariants as events
 use Rattle.inval_messages.specs.Lists.{has_write_from}
-use Rattle.ddl_effect.specs.Blocks.{Block, Level, Blocks, Outside, Inside, Failed, refused_in, refused_by, innermost, blocks_well, blocks_badly}
+use Rattle.txn_blocks.specs.Blocks.{Block, Level, Blocks, Outside, Inside, Failed, refused_in, refused_by, innermost, blocks_well, blocks_badly}
 use Rattle.ddl_effect.specs.Commands.{plan_of}
 use Rattle.ddl_effect.specs.Plans.{Done}
 use Rattle.history_model.specs.Sent.{unsent_in}

@@ -3,7 +3,7 @@ use Rattle.std.proofs.Common.{◌≡◌, ◌≤◌, ◌+◌, ◌∙◌, ◌==◌
 use Rattle.std.specs.Option.{option_map_or}
 use Rattle.std.proofs.lemmas.Bool.{both_ways, ne_eqb, and_parts}
 use Rattle.std.proofs.lemmas.List.{length_push}
-use Rattle.ddl_effect.specs.Blocks.{Block, Outside, Inside, Failed, innermost}
+use Rattle.txn_blocks.specs.Blocks.{Block, Outside, Inside, Failed, innermost}
 use Rattle.ddl_effect.specs.Plans.{Act, Plan, Do}
 use Rattle.event_kinds.specs.declared.entry.Event.TheVariants as events
 use Rattle.history_model.specs.Transactions.{Running, is_visible}

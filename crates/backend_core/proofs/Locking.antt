@@ -3,7 +3,7 @@ use Rattle.std.proofs.Common.{◌≡◌, ◌<◌, ◌+◌, ◌∙◌, ◌&&◌, 
 use Rattle.std.proofs.lemmas.Bool.{and_parts}
 use Rattle.base_types.specs.declared.row.Row.TheVariants as rows
 use Rattle.event_kinds.specs.declared.entry.Event.TheVariants as events
-use Rattle.rel_desc.specs.declared.error.CommandError.TheVariants as errors
+use Rattle.command_answers.specs.declared.error.CommandError.TheVariants as errors
 use Rattle.lock_modes.specs.Grants.{holds}
 use Rattle.lock_modes.specs.Own.{has_lock}
 use Rattle.lock_modes.specs.declared.granted.LockRefusal.{LockRefusal}

@@ -3,7 +3,7 @@ use Rattle.std.proofs.Common.{◌≡◌, ◌∙◌, ◌||◌, ℕ, List, [], sym
 use Rattle.std.proofs.lemmas.Bool.{both_ways}
 use Rattle.std.proofs.lemmas.List.Elements.{All-nil}
 use Rattle.command_lists.specs.Lists.{all_lists}
-use Rattle.ddl_effect.specs.Blocks.{no_block}
+use Rattle.txn_blocks.specs.Blocks.{no_block}
 use Rattle.ddl_effect.specs.Stages.{plan_at}
 use Rattle.history_model.specs.Read.{rows_read}
 use Rattle.cacheless.specs.Facts.{facts_of}

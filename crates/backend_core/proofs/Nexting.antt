@@ -6,7 +6,7 @@ use Rattle.std.proofs.lemmas.List.{append-nil}
 use Rattle.base_types.specs.Scans.{same_scan, is_build_scan, build_scans}
 use Rattle.base_types.specs.declared.kind.Kind.TheVariants.{Table, Index}
 use Rattle.base_types.proofs.SameScan.{same_scan-itself}
-use Rattle.ddl_effect.specs.Blocks.{Inside}
+use Rattle.txn_blocks.specs.Blocks.{Inside}
 use Rattle.ddl_effect.specs.Commands.{plan_of, commands_of}
 use Rattle.ddl_effect.specs.Plans.{Plan, Act, Done, Fails, Absent, NotBuilt, Do, Lookup, Open, Column, Read, Lock, Write}
 use Rattle.ddl_effect.specs.Stages.{plan_at}

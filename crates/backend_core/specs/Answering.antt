@@ -5,10 +5,10 @@ use Rattle.std.specs.Option.{option_map_or}
 use Rattle.base_types.specs.Fields.{field_text, fields_of, read_by}
 use Rattle.base_types.specs.Scans.{same_scan}
 use Rattle.base_types.specs.declared.command.Command.TheVariants as commands
-use Rattle.rel_desc.specs.Answers.{answer_text}
-use Rattle.rel_desc.specs.declared.answer.Answer.TheVariants as answers
-use Rattle.rel_desc.specs.declared.answer.Shown.{Shown}
-use Rattle.rel_desc.specs.declared.error.CommandError.TheVariants.{NoRelation}
+use Rattle.command_answers.specs.Answers.{answer_text}
+use Rattle.command_answers.specs.declared.answer.Answer.TheVariants as answers
+use Rattle.command_answers.specs.declared.answer.Shown.{Shown}
+use Rattle.command_answers.specs.declared.error.CommandError.TheVariants.{NoRelation}
 use Rattle.lock_modes.specs.Own.{clear_modes}
 use Rattle.ddl_effect.specs.Plans.{Plan, Fails, Absent}
 use Rattle.ddl_effect.specs.Stages.{plan_at}

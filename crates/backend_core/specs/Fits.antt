@@ -3,7 +3,7 @@ use Rattle.std.specs.Prelude.{◌≡◌, ◌≤◌, ◌+◌, ◌*◌, ◌⊎◌,
 use Rattle.std.specs.Option.{option_map_or}
 use Rattle.event_kinds.specs.declared.entry.Event.TheVariants as events
 use Rattle.inval_messages.specs.Lists.{has_write_from}
-use Rattle.ddl_effect.specs.Blocks.{Block, Outside, Inside, Failed, Blocks, is_open, innermost}
+use Rattle.txn_blocks.specs.Blocks.{Block, Outside, Inside, Failed, Blocks, is_open, innermost}
 use Rattle.history_model.specs.Transactions.{is_visible}
 use Rattle.history_model.specs.Writes.{is_empty}
 use Rattle.cacheless.specs.Facts.{Facts}

@@ -14,10 +14,10 @@ use base_types::{
     writers,
 };
 use cacheless::{KeptScan, KeptScans, Opening};
+use command_answers::{Answer, CommandError, Shown, answer_text};
 use ddl_effect::Want;
 use event_kinds::LineText;
 use lock_modes::OwnLocks;
-use rel_desc::{Answer, CommandError, Shown, Value, answer_text};
 use std::alloc::Global;
 
 impl Backend {
@@ -134,7 +134,7 @@ fn shown_field(
     };
     Ok(Shown {
         field,
-        value: Value::new(field_text(alloc, field, o.rel, rows)?),
+        value: LineText::new(field_text(alloc, field, o.rel, rows)?),
         at: if is_protected(locks, o.rel, o.kind, field) {
             None
         } else {

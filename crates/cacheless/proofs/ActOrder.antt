@@ -14,10 +14,9 @@ use Rattle.base_types.specs.declared.kind.Kind.TheVariants.{Table}
 use Rattle.base_types.specs.declared.mode.Mode.TheVariants.{AccessShare, ShareUpdateExclusive}
 use Rattle.base_types.specs.declared.row.Row.TheVariants as rows
 use Rattle.base_types.specs.declared.scan.Purpose.TheVariants as scans
-use Rattle.rel_desc.specs.declared.error.CommandError.TheVariants as errors
+use Rattle.command_answers.specs.declared.error.CommandError.TheVariants as errors
 use Rattle.ddl_effect.specs.Plans.{Plan, Done, Fails, Absent, NotBuilt, Do, Lookup, Open, Column, Read, Lock, Write, is_built}
 use Rattle.ddl_effect.specs.Commands.{plan_of, found, looking_up, if_passes, if_no_column, first_twice, writing, opening, showing, showing_field, is_table, locking, new_table, altering, column_there, with_column, column_free, reading, changing, adding, add_column, dropping, drop_column, with_name, renaming, rename_column, targeting, set_statistics, filling, set_fillfactor}
-use Rattle.cacheless.specs.Runs.{runs}
 use Rattle.cacheless.specs.Types.{Oid, Mode, AccessExclusive, Kind, Row, Purpose, Command, CommandError, Draft, Opening}
 use Rattle.cacheless.specs.ActsDone.{after_given, reached, made_first, made_in, opening_by, relation_by}
 use Rattle.cacheless.proofs.EffectAlong.{plain_row, GoesByRelation}
@@ -172,27 +171,6 @@ follows_order held (commands.RenameColumn name column to) built = order_altering
 follows_order held (commands.SetStatistics name column stat) built = order_altering name ShareUpdateExclusive (set_statistics column stat) refl (open_set_statistics column stat)
 follows_order held (commands.SetFillfactor name fill) built = order_altering name ShareUpdateExclusive (set_fillfactor fill) refl (open_set_fillfactor fill)
 follows_order held command built = absurd (cc)
-
--- the commands that the program runs have one
-built_creating : (passes : Bool) (twice : Option (List ℕ)) (draft : Draft) → is_built (if_passes passes errors.TooManyColumns (if_no_column twice (writing draft))) ≡ true
-built_creating false twice draft = refl
-built_creating true None draft = refl
-built_creating true (Some column) draft = refl
-
-pub runs_built : (held : List Oid) (command : Command) → runs command ≡ true → is_built (plan_of held command) ≡ true
-runs_built held commands.Begin is = refl
-runs_built held commands.Commit is = refl
-runs_built held commands.Rollback is = refl
-runs_built held (commands.Show name None) is = refl
-runs_built held (commands.Show name (Some field)) is = refl
-runs_built held (commands.LockTable name mode) is = refl
-runs_built held (commands.CreateTable name columns) is = built_creating (nat_le (length columns) MOST_COLUMNS) (first_twice [] (map (λ (c : NewColumn). c.name) columns)) (new_table name columns)
-runs_built held (commands.AddColumn name column col_type) is = refl
-runs_built held (commands.DropColumn name column) is = refl
-runs_built held (commands.RenameColumn name column to) is = refl
-runs_built held (commands.SetStatistics name column stat) is = refl
-runs_built held (commands.SetFillfactor name fill) is = refl
-runs_built held command is = absurd (cc)
 
 -- it goes on by relations alone
 goes_open : (most : ℕ) (rel : Oid) (kind : Kind) (plan : Plan) → FollowsOpen most rel kind plan → GoesByRelation plan

@@ -2,7 +2,7 @@
 use Rattle.std.proofs.Common.{◌≡◌, ◌+◌, ◌∙◌, ◌||◌, ℕ, Bool, true, false, not, Option, Some, None, List, [], ◌∷◌, ◌++◌, refl, sym, ap, map, slice_get, length, get_or, arith}
 use Rattle.std.proofs.Math.Bool.{and-false, or-true}
 use Rattle.event_kinds.specs.declared.entry.Event.TheVariants as events
-use Rattle.rel_desc.specs.declared.error.CommandError.TheVariants as errors
+use Rattle.command_answers.specs.declared.error.CommandError.TheVariants as errors
 use Rattle.row_visibility.specs.declared.clash.Clash.TheVariants as clashes
 use Rattle.lock_modes.specs.Own.{cleared}
 use Rattle.lock_modes.specs.Rooms.{Roomy}

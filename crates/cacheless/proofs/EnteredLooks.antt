@@ -5,7 +5,7 @@ use Rattle.std.specs.List.{AllByRecursion}
 use Rattle.command_lists.specs.Lists.{all_lists}
 use Rattle.event_kinds.specs.declared.entry.Event.TheVariants as events
 use Rattle.lock_modes.specs.Rooms.{Roomy}
-use Rattle.ddl_effect.specs.Blocks.{Blocks, no_block, refused_by}
+use Rattle.txn_blocks.specs.Blocks.{Blocks, no_block, refused_by}
 use Rattle.ddl_effect.specs.Commands.{plan_of}
 use Rattle.ddl_effect.specs.Plans.{Plan, Done, Fails, Absent, Do, NotBuilt, is_built}
 use Rattle.ddl_effect.specs.Stages.{plan_at}

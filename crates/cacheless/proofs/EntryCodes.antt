@@ -2,7 +2,7 @@
 use Rattle.std.proofs.Common.{◌≡◌, ◌+◌, ◌∙◌, ◌||◌, ℕ, Bool, true, false, Some, Option, List, [], ◌∷◌, ◌++◌, sym, ap, subst, length, filter, nat_lt, slice_get, Vec, Global}
 use Rattle.std.specs.List.{flat_map}
 use Rattle.event_kinds.specs.declared.entry.Event.TheVariants as events
-use Rattle.rel_desc.specs.declared.error.CommandError.TheVariants as errors
+use Rattle.command_answers.specs.declared.error.CommandError.TheVariants as errors
 use Rattle.lock_modes.specs.Rooms.{Roomy}
 use Rattle.inval_messages.specs.Lists.{cats_in, rels_in, lists_from, lists_before}
 use Rattle.command_lists.specs.Lists.{Held, all_lists, new_list, with_messages}

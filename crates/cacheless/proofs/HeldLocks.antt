@@ -24,7 +24,7 @@ use Rattle.lock_modes.specs.declared.own_lock.OwnLock.{OwnLock}
 use Rattle.lock_modes.specs.Own.{has_lock, cleared}
 use Rattle.ddl_effect.specs.Plans.{Plan, Done, Fails, Absent, NotBuilt, Do}
 use Rattle.ddl_effect.specs.Commands.{commands_of}
-use Rattle.ddl_effect.specs.Blocks.{no_block}
+use Rattle.txn_blocks.specs.Blocks.{no_block}
 use Rattle.history_model.specs.Prefixes.{EachEntry}
 use Rattle.history_model.specs.Lives.{Life, Unstarted, Alive, Stopped, life_by, life_of, FollowsLife}
 use Rattle.history_model.specs.Held.{granted_by, held_by, held_of}

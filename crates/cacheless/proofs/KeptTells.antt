@@ -6,7 +6,7 @@ use Rattle.base_types.specs.Scans.{same_scan, is_build_scan, build_scans}
 use Rattle.base_types.specs.declared.kind.Kind.TheVariants.{Table, Index}
 use Rattle.base_types.specs.declared.scan.Purpose.TheVariants as scans
 use Rattle.base_types.proofs.SameScan.{same_scan-true}
-use Rattle.rel_desc.specs.Answers.{answer_text}
+use Rattle.command_answers.specs.Answers.{answer_text}
 use Rattle.ddl_effect.specs.Plans.{Absent}
 use Rattle.history_model.specs.Read.{place_read, rows_read, is_usable}
 use Rattle.cacheless.specs.Types.{Oid, Kind, Row, Purpose, Command, Opening, Scenario, Entry}

@@ -5,7 +5,7 @@ use Rattle.base_types.specs.declared.scan.Purpose.TheVariants as scans
 use Rattle.event_kinds.specs.declared.entry.Event.TheVariants as events
 use Rattle.lock_modes.specs.Own.{cleared}
 use Rattle.ddl_effect.specs.Plans.{Write, Plan, Absent, Do}
-use Rattle.ddl_effect.specs.Blocks.{no_block}
+use Rattle.txn_blocks.specs.Blocks.{no_block}
 use Rattle.ddl_effect.specs.Commands.{commands_of}
 use Rattle.history_model.specs.Drawn.{next_oid}
 use Rattle.history_model.specs.Writes.{has_written}

@@ -8,10 +8,10 @@ use Rattle.base_types.proofs.SameScan.{same_scan-itself}
 use Rattle.ddl_effect.specs.Plans.{Plan, Act, Do, Lookup, Open, Column, Read, Lock, Write}
 use Rattle.ddl_effect.specs.Commands.{plan_of, found}
 use Rattle.cacheless.specs.Runs.{runs}
-use Rattle.ddl_effect.specs.Blocks.{Blocks, refused_by}
+use Rattle.txn_blocks.specs.Blocks.{Blocks, refused_by}
 use Rattle.cacheless.specs.Session.{none_open, outcome_of, is_settled, plan_admitted, plan_first}
 use Rattle.cacheless.specs.Settled.{opened_by}
-use Rattle.cacheless.proofs.ActOrder.{FollowsOpen, FollowsFound, FollowsOrder, follows_order, runs_built}
+use Rattle.cacheless.proofs.ActOrder.{FollowsOpen, FollowsFound, FollowsOrder, follows_order}
 use Rattle.cacheless.proofs.EffectAlong.{plain_row}
 use Rattle.cacheless.specs.Types.{Oid, Mode, Kind, Row, Purpose, Command, CommandError, Opening}
 use Rattle.cacheless.specs.OpenedReads.{is_of_opened, ReadsOpened}
@@ -62,7 +62,7 @@ reads_order plan follows = tt
 
 reads_admitted : (refused : Option CommandError) (command : Command) → runs command ≡ true → ReadsOpened [] (plan_admitted refused command)
 reads_admitted (Some error) command built = tt
-reads_admitted None command built = reads_order (plan_of none_open command) (follows_order none_open command (runs_built none_open command built))
+reads_admitted None command built = reads_order (plan_of none_open command) (follows_order none_open command built)
 
 -- so each command does from its beginning
 pub reads_first : (blocks : Blocks) (o : Option Command) → ((command : Command) → o ≡ Some command → runs command ≡ true) → ReadsOpened [] (plan_first blocks o)

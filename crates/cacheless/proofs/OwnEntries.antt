@@ -8,7 +8,7 @@ use Rattle.base_types.specs.declared.ids.Xid.{Xid}
 use Rattle.base_types.specs.declared.row.Row.TheVariants as rows
 use Rattle.base_types.specs.declared.scan.Purpose.TheVariants as scans
 use Rattle.event_kinds.specs.declared.entry.Event.TheVariants as events
-use Rattle.rel_desc.specs.declared.error.CommandError.TheVariants as errors
+use Rattle.command_answers.specs.declared.error.CommandError.TheVariants as errors
 use Rattle.ddl_effect.specs.Plans.{Lookup, Open, Column, Read, Lock, Write, Plan, Done, Fails, Absent, NotBuilt, Do}
 use Rattle.history_model.specs.Drawn.{next_oid}
 use Rattle.history_model.specs.Lives.{last_event_of}

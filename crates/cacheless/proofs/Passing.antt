@@ -7,7 +7,7 @@ use Rattle.base_types.specs.declared.row.Row.TheVariants as rows
 use Rattle.base_types.specs.declared.scan.Purpose.TheVariants as scans
 use Rattle.lock_modes.specs.Own.{has_lock}
 use Rattle.inval_messages.specs.Lists.{Written}
-use Rattle.ddl_effect.specs.Blocks.{Blocks}
+use Rattle.txn_blocks.specs.Blocks.{Blocks}
 use Rattle.ddl_effect.specs.Plans.{Plan, Act, Done, Fails, Absent, Do, NotBuilt, Lookup, Open, Column, Read, Lock, Write, after_act}
 use Rattle.ddl_effect.specs.Stages.{plan_at, plan_again, acts_left, want_of, want_of_act}
 use Rattle.ddl_effect.specs.declared.want.Want.{Want}

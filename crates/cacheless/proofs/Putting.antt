@@ -14,12 +14,12 @@ use Rattle.base_types.specs.declared.command.NewColumn.{NewColumn}
 use Rattle.base_types.specs.declared.dropped.TheConstants.{MOST_COLUMNS}
 use Rattle.base_types.specs.declared.row.Row.TheVariants as rows
 use Rattle.base_types.specs.declared.scan.Purpose.TheVariants as scans
-use Rattle.rel_desc.specs.declared.error.CommandError.TheVariants as errors
+use Rattle.command_answers.specs.declared.error.CommandError.TheVariants as errors
 use Rattle.ddl_effect.specs.declared.alteration.Alteration.TheVariants as alterations
 use Rattle.ddl_effect.specs.declared.altering.Altering.TheVariants as alters
 use Rattle.ddl_effect.specs.declared.exec.Exec.TheVariants as stages
 use Rattle.ddl_effect.specs.declared.search.Search.TheVariants as searches
-use Rattle.ddl_effect.specs.Blocks.{Blocks, refused_by}
+use Rattle.txn_blocks.specs.Blocks.{Blocks, refused_by}
 use Rattle.ddl_effect.specs.Drawing.{drawn_oid}
 use Rattle.ddl_effect.specs.Plans.{Plan, Done}
 use Rattle.ddl_effect.specs.Commands.{plan_of, found, if_passes, if_no_column, first_twice, writing, opening, is_table, new_column, new_table, altering, column_there, with_column, column_free, reading, changing, adding, as_dropped, deleting, is_default_of, column_number, dropping, with_name, renaming, with_stat, most_stat, targeting, with_fill, filling}

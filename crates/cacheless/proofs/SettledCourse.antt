@@ -3,10 +3,9 @@ use Rattle.std.proofs.Common.{◌≡◌, ◌≤◌, ◌+◌, ◌<◌, ◌⊎◌,
 use Rattle.std.proofs.lemmas.Bool.{and_parts}
 use Rattle.std.proofs.lemmas.List.{drop_more, drop_all, length_push}
 use Rattle.std.proofs.lemmas.Option.{slice_get_cases, slice_get_within, get_or_from_slice_get}
-use Rattle.base_types.specs.declared.command.Command.TheVariants as commands
 use Rattle.lock_modes.specs.Own.{cleared}
-use Rattle.ddl_effect.specs.Plans.{Act, Plan, NotBuilt, Do}
-use Rattle.ddl_effect.specs.Blocks.{Blocks, refused_by}
+use Rattle.ddl_effect.specs.Plans.{Act, Plan, Done, Fails, Absent, Do, NotBuilt, is_built}
+use Rattle.txn_blocks.specs.Blocks.{Blocks, refused_by}
 use Rattle.ddl_effect.specs.Commands.{plan_of, commands_of}
 use Rattle.history_model.specs.Writes.{has_written, is_empty}
 use Rattle.cacheless.specs.Types.{Row, Purpose, Scenario, Command, CommandError, OwnLock, Entry}
@@ -19,7 +18,7 @@ use Rattle.cacheless.specs.Session.{Session, Finished, Outcome, Unsettled, Well,
 use Rattle.cacheless.specs.Sessions.{session_of}
 use Rattle.cacheless.specs.Settled.{act_done, done_here, acted_on, acted, is_finished, blocks_after, finished_as, next_session, settled}
 use Rattle.cacheless.specs.Ends.{end_left}
-use Rattle.cacheless.proofs.ActOrder.{follows_order, runs_built}
+use Rattle.cacheless.proofs.ActOrder.{follows_order}
 use Rattle.cacheless.proofs.AfterActs.{order_there}
 use Rattle.cacheless.proofs.Settling.{acted-out}
 use Rattle.cacheless.proofs.SilentActs.{both_empty, empty_list, IsDoneHere, is_done_here, named_unread, absent_name, act_follows}
@@ -76,26 +75,19 @@ acted_follows scenario seen b command s has clear follows = by_test (is_empty (o
     by_test false owed = record { follows = follows; finished = refl; locks = refl; ended = refl; clear = clear }
 
 -- a command that isn't built has no plan
-not_built : (command : Command) → runs command ≡ false → plan_of none_open command ≡ NotBuilt
-not_built commands.Begin is = absurd (cc is)
-not_built commands.Commit is = absurd (cc is)
-not_built commands.Rollback is = absurd (cc is)
-not_built (commands.Show name field) is = absurd (cc is)
-not_built (commands.LockTable name mode) is = absurd (cc is)
-not_built (commands.CreateTable name columns) is = absurd (cc is)
-not_built (commands.AddColumn name column col_type) is = absurd (cc is)
-not_built (commands.DropColumn name column) is = absurd (cc is)
-not_built (commands.RenameColumn name column to) is = absurd (cc is)
-not_built (commands.SetStatistics name column stat) is = absurd (cc is)
-not_built (commands.SetFillfactor name fill) is = absurd (cc is)
-not_built command is = refl
+not_built : (plan : Plan) → is_built plan ≡ false → plan ≡ NotBuilt
+not_built Done is = absurd (cc is)
+not_built (Fails error) is = absurd (cc is)
+not_built (Absent name) is = absurd (cc is)
+not_built (Do act rest) is = absurd (cc is)
+not_built NotBuilt is = refl
 
 plan_there : (command : Command) → is_absent (plan_of none_open command) ≡ false
 plan_there command = by_test (runs command) refl
   where
     by_test : (t : Bool) → runs command ≡ t → is_absent (plan_of none_open command) ≡ false
-    by_test true is = order_there (plan_of none_open command) (follows_order none_open command (runs_built none_open command is))
-    by_test false is = ap is_absent (not_built command is)
+    by_test true is = order_there (plan_of none_open command) (follows_order none_open command is)
+    by_test false is = ap is_absent (not_built (plan_of none_open command) is)
 
 admitted_there : (refusal : Option CommandError) (command : Command) → is_absent (plan_admitted refusal command) ≡ false
 admitted_there None command = plan_there command
@@ -113,7 +105,7 @@ begins_plan seen b blocks finished locks last command unwritten = record {
   where
     by_test : plan_admitted (refused_by blocks command) command ≡ plan_of none_open command → (t : Bool) → runs command ≡ t → Way seen b (at_command blocks finished locks last (Some command)) command
     by_test plan true is = Begun (record { gave = []; plan = plan; found = refl; opened = refl; runs = is; holds = record { locked = tt; still = tt }; unwritten = unwritten })
-    by_test plan false is = Unbuilt (record { plan = plan ∙ not_built command is })
+    by_test plan false is = Unbuilt (record { plan = plan ∙ not_built (plan_of none_open command) is })
 
 pub first_left : (commands : List Command) (n : ℕ) → first_of (drop n commands) ≡ slice_get commands n
 first_left commands n = by_place (slice_get_cases commands n).1

@@ -21,7 +21,7 @@ use Rattle.cacheless.specs.Played.{IsPlayed}
 use Rattle.cacheless.specs.Session.{Session, none_open, outcome_of, is_settled}
 use Rattle.cacheless.specs.Sessions.{session_of}
 use Rattle.cacheless.specs.Settled.{class_oid, if_locked, looked_up, gives, opened_by, found_by, act_done, done_here}
-use Rattle.cacheless.proofs.ActOrder.{HasCome, ReadsOpen, FollowsOrder, follows_order, runs_built, has_come, at_lookup, at_column, at_read}
+use Rattle.cacheless.proofs.ActOrder.{HasCome, ReadsOpen, FollowsOrder, follows_order, has_come, at_lookup, at_column, at_read}
 use Rattle.cacheless.proofs.AfterActs.{IsUnfound, after_opening, after_column, after_reading, after_lookup, lookup_first, no_lock, opening_alike}
 use Rattle.cacheless.proofs.AloneLocks.{late_answers, session_holds}
 use Rattle.cacheless.proofs.StillAfter.{still-push}
@@ -55,7 +55,7 @@ on_its_way seen b s command act rest follows at = by_way (follows.way (unrefused
 
 -- the order of its acts, and how far it has come in it
 pub its_order : (seen : List Entry) (b : ℕ) (s : Session) (command : Command) → OnItsWay seen b s command → FollowsOrder (plan_of none_open command)
-its_order seen b s command way = follows_order none_open command (runs_built none_open command way.runs)
+its_order seen b s command way = follows_order none_open command way.runs
 
 pub its_place : (seen : List Entry) (b : ℕ) (s : Session) (command : Command) (act : Act) (rest : List Row → Plan) (way : OnItsWay seen b s command) → s.left ≡ Do act rest
     → HasCome (made_in relation_by way.gave (plan_of none_open command)) (made_in opening_by way.gave (plan_of none_open command)) (Do act rest)

@@ -21,7 +21,7 @@ use Rattle.cacheless.specs.OnCourse.{OnItsWay, is_over, Way, Begun, Wrote, Unbui
 use Rattle.cacheless.specs.Session.{Session, none_open, number_of, outcome_of, is_settled}
 use Rattle.cacheless.specs.Settled.{class_oid}
 use Rattle.cacheless.specs.TableWrites.{WritesTables}
-use Rattle.cacheless.proofs.ActOrder.{follows_order, runs_built}
+use Rattle.cacheless.proofs.ActOrder.{follows_order}
 use Rattle.cacheless.proofs.StillLocked.{way_stays}
 use Rattle.cacheless.proofs.StillSeen.{IsNoGone, TakesNoneBack, relation_stays}
 
@@ -81,7 +81,7 @@ begun-more history e b s later command may idle writes after way = record {
   found = after.found ∙ way.found;
   opened = after.opened ∙ way.opened;
   runs = way.runs;
-  holds = way_stays history e b way.gave (plan_of none_open command) may.sound may.comes idle (follows_order none_open command (runs_built none_open command way.runs)) way.holds;
+  holds = way_stays history e b way.gave (plan_of none_open command) may.sound may.comes idle (follows_order none_open command way.runs) way.holds;
   unwritten = ap (has_written (history ++ e ∷ []) b) (number_same s later after) ∙ writes (number_of s) ∙ way.unwritten;
 }
 

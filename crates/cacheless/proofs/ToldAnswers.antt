@@ -6,8 +6,8 @@ use Rattle.base_types.specs.Fields.{has_field}
 use Rattle.base_types.specs.declared.command.Command.TheVariants as commands
 use Rattle.base_types.specs.declared.mode.Mode.TheVariants.{AccessShare}
 use Rattle.base_types.specs.declared.scan.Purpose.TheVariants as scans
-use Rattle.rel_desc.specs.Answers.{answer_text}
-use Rattle.rel_desc.specs.declared.error.CommandError.TheVariants as errors
+use Rattle.command_answers.specs.Answers.{answer_text}
+use Rattle.command_answers.specs.declared.error.CommandError.TheVariants as errors
 use Rattle.ddl_effect.specs.Commands.{plan_of, looking_up}
 use Rattle.ddl_effect.specs.Effects.{effect_at, row_found}
 use Rattle.ddl_effect.specs.Plans.{Plan, Done, Fails, Absent, NotBuilt, Do}
@@ -24,7 +24,7 @@ use Rattle.cacheless.proofs.Releases.{owes_none_built}
 use Rattle.cacheless.specs.Session.{Session, none_open, number_of, outcome_of, is_settled, Well, Badly}
 use Rattle.cacheless.specs.Settled.{found_by, finished_as}
 use Rattle.cacheless.specs.Told.{told_fields, told_open, told_well, told_left, told}
-use Rattle.cacheless.proofs.ActOrder.{goes_by_relation, runs_built}
+use Rattle.cacheless.proofs.ActOrder.{goes_by_relation}
 use Rattle.cacheless.proofs.EffectAlong.{effect_along}
 use Rattle.cacheless.proofs.OpenedOne.{opening_if, OpenedBy, opened_done, opening_never}
 use Rattle.cacheless.proofs.SettledCourse.{HasSession}
@@ -100,7 +100,7 @@ stays_told scenario seen b s command come (Unwritten way) =
     ap (λ t. answer_by scenario seen b (finished_as s) command (effect_judged seen b (finished_as s) t command)) way.unwritten
     ∙ ap (answer_by scenario seen b (finished_as s) command) (
     ap (λ l. effect_at (answer_of seen b) l (plan_of none_open command)) (way.found ∙ sym (append-nil (made_in found_by way.gave (plan_of none_open command))))
-    ∙ effect_along (answer_of seen b) (plan_of none_open command) way.gave [] (goes_by_relation none_open command (runs_built none_open command way.runs)) way.holds.still
+    ∙ effect_along (answer_of seen b) (plan_of none_open command) way.gave [] (goes_by_relation none_open command way.runs) way.holds.still
     ∙ ap (effect_at (answer_of seen b) []) (sym way.plan)
     )
     ∙ left_told scenario seen b s command s.left come.out (well_told scenario seen b s command come (Unwritten way))

@@ -6,7 +6,7 @@ use Rattle.base_types.specs.Fields.{field_text, fields_of, has_field, read_by}
 use Rattle.base_types.specs.Scans.{build_scans}
 use Rattle.base_types.specs.declared.field.Field.TheVariants as fields
 use Rattle.base_types.specs.declared.kind.Kind.TheVariants.{Table, Index}
-use Rattle.rel_desc.specs.declared.answer.Answer.TheVariants as answers
+use Rattle.command_answers.specs.declared.answer.Answer.TheVariants as answers
 use Rattle.lock_modes.specs.Own.{clear_modes}
 use Rattle.history_model.specs.Read.{place_read, rows_read, is_usable}
 use Rattle.history_model.specs.Versions.{fresh_text}

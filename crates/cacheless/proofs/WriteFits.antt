@@ -9,7 +9,7 @@ use Rattle.base_types.specs.declared.command.NewColumn.{NewColumn}
 use Rattle.base_types.specs.declared.dropped.TheConstants.{MOST_COLUMNS}
 use Rattle.base_types.specs.declared.mode.Mode.TheVariants.{AccessShare, AccessExclusive}
 use Rattle.base_types.specs.declared.row.Row.TheVariants as rows
-use Rattle.rel_desc.specs.declared.error.CommandError.TheVariants as errors
+use Rattle.command_answers.specs.declared.error.CommandError.TheVariants as errors
 use Rattle.ddl_effect.specs.Plans.{Plan, Do, Done, Write}
 use Rattle.ddl_effect.specs.Commands.{plan_of, looking_up, if_passes, if_no_column, first_twice, writing, showing, showing_field, opening, is_table, locking, new_table}
 use Rattle.cacheless.specs.Runs.{runs}
@@ -23,7 +23,7 @@ use Rattle.cacheless.specs.Locks.{locked_by, locks_written}
 use Rattle.cacheless.specs.Plays.{names_of, drafted}
 use Rattle.cacheless.specs.Session.{none_open}
 use Rattle.cacheless.specs.TableWrites.{WritesTables, KeepsTables}
-use Rattle.cacheless.proofs.ActOrder.{IsTableDraft, IsRowsDraft, HasCome, WritesTable, WritesRows, follows_order, runs_built, has_come, at_write}
+use Rattle.cacheless.proofs.ActOrder.{IsTableDraft, IsRowsDraft, HasCome, WritesTable, WritesRows, follows_order, has_come, at_write}
 use Rattle.cacheless.proofs.AlterationsFit.{MayBeWritten, IsAlteration}
 use Rattle.cacheless.proofs.AlteringLocks.{alteration_may_write}
 use Rattle.cacheless.proofs.NewTableItems as tables
@@ -105,7 +105,7 @@ alters command gave draft rest o built on one = absurd (cc)
 pub write_fits : (history : List Entry) (b c : ℕ) (facts : Facts) (command : Command) (gave : List (List Row)) (draft : Draft) (rest : List Row → Plan) → IsSound history → EachEntry WritesTables history → runs command ≡ true → WayHolds history b gave (plan_of none_open command)
     → reached gave (plan_of none_open command) ≡ Do (Write draft) rest → WriteFits history b c facts draft
 write_fits history b c facts command gave draft rest sound kept built way on = by_write
-    (at_write relations opened draft rest (subst (HasCome relations opened) on (has_come gave (plan_of none_open command) (follows_order none_open command (runs_built none_open command built))))).1
+    (at_write relations opened draft rest (subst (HasCome relations opened) on (has_come gave (plan_of none_open command) (follows_order none_open command built)))).1
   where
     relations : List Opening
     relations = made_in relation_by gave (plan_of none_open command)

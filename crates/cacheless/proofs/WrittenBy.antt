@@ -12,7 +12,7 @@ use Rattle.base_types.specs.declared.kind.Kind.TheVariants.{Table, Index}
 use Rattle.base_types.specs.declared.mode.Mode.TheVariants.{ShareUpdateExclusive}
 use Rattle.base_types.specs.declared.row.Row.TheVariants as rows
 use Rattle.base_types.specs.declared.scan.Purpose.TheVariants as scans
-use Rattle.rel_desc.specs.declared.error.CommandError.TheVariants as errors
+use Rattle.command_answers.specs.declared.error.CommandError.TheVariants as errors
 use Rattle.ddl_effect.specs.Plans.{Plan, Done, Fails, Absent, Do, Write}
 use Rattle.ddl_effect.specs.Effects.{no_changes}
 use Rattle.ddl_effect.specs.Commands.{plan_of, looking_up, if_passes, altering, with_column, without_column, reading, changing, adding, add_column, is_default_of, column_number, deleting, as_dropped, dropping, drop_column, with_name, renaming, rename_column, most_stat, with_stat, targeting, set_statistics, with_fill, filling, set_fillfactor}

@@ -3,7 +3,7 @@ use Rattle.std.specs.Prelude.{ℕ, Bool, true, false, Option, Some, None, zero, 
 use Rattle.std.specs.Option.{option_map_or}
 use Rattle.base_types.specs.declared.command.Command.TheVariants as commands
 use Rattle.event_kinds.specs.declared.entry.Event.TheVariants as events
-use Rattle.ddl_effect.specs.Blocks.{Block, Outside, Inside, Failed, innermost}
+use Rattle.txn_blocks.specs.Blocks.{Block, Outside, Inside, Failed, innermost}
 use Rattle.inval_messages.specs.Lists.{has_write_from}
 use Rattle.history_model.specs.Transactions.{is_visible}
 use Rattle.history_model.specs.Sent.{unsent_in}

@@ -6,7 +6,7 @@ use Rattle.base_types.specs.Scenario.{IsBackend}
 use Rattle.base_types.specs.declared.scan.Purpose.TheVariants as scans
 use Rattle.event_kinds.specs.declared.entry.Event.TheVariants as events
 use Rattle.ddl_effect.specs.Plans.{Plan, Act, Absent, Do, Lookup, Column}
-use Rattle.ddl_effect.specs.Blocks.{no_block}
+use Rattle.txn_blocks.specs.Blocks.{no_block}
 use Rattle.ddl_effect.specs.Commands.{commands_of}
 use Rattle.ddl_effect.specs.Stages.{plan_at, plan_again}
 use Rattle.history_model.specs.Writes.{is_empty}

@@ -6,11 +6,11 @@ use Rattle.base_types.specs.Fields.{fields_of, read_by}
 use Rattle.base_types.specs.declared.row.Row.TheVariants as rows
 use Rattle.base_types.specs.declared.scan.Purpose.TheVariants.{RelName}
 use Rattle.base_types.specs.declared.command.Command.TheVariants as commands
-use Rattle.rel_desc.specs.declared.error.CommandError.TheVariants.{NoRelation}
-use Rattle.rel_desc.specs.declared.answer.Answer.TheVariants as answers
-use Rattle.rel_desc.specs.Answers.{answer_text}
+use Rattle.command_answers.specs.declared.error.CommandError.TheVariants.{NoRelation}
+use Rattle.command_answers.specs.declared.answer.Answer.TheVariants as answers
+use Rattle.command_answers.specs.Answers.{answer_text}
 use Rattle.ddl_effect.specs.Commands.{plan_of, commands_of}
-use Rattle.ddl_effect.specs.Blocks.{Block, Failed}
+use Rattle.txn_blocks.specs.Blocks.{Block, Failed}
 use Rattle.ddl_effect.specs.Effects.{Effect, Nothing, Refuses, Unknown, effect_at, row_found}
 use Rattle.history_model.specs.Versions.{answer_of, fresh_text}
 use Rattle.history_model.specs.Writes.{has_written}

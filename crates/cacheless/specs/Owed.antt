@@ -5,7 +5,7 @@ use Rattle.base_types.specs.Scans.{same_scan, is_build_scan, build_scans}
 use Rattle.base_types.specs.declared.scan.Purpose.TheVariants as scans
 use Rattle.event_kinds.specs.declared.entry.Event.TheVariants as events
 use Rattle.ddl_effect.specs.Plans.{Plan, Do, Lookup, Column, Read, rests_on}
-use Rattle.ddl_effect.specs.Blocks.{Outside, no_block, ends_block, refused_by}
+use Rattle.txn_blocks.specs.Blocks.{Outside, no_block, ends_block, refused_by}
 use Rattle.history_model.specs.Writes.{is_empty}
 use Rattle.cacheless.specs.Types.{Purpose, Command, Event, Opening, OwnLock}
 use Rattle.cacheless.specs.Facts.{Facts}

@@ -2,7 +2,7 @@
 use Rattle.std.specs.Prelude.{ℕ, Bool, true, false, Option, Some, None, List, [], ◌∷◌, ◌+◌, length, is_some}
 use Rattle.ddl_effect.specs.Plans.{Plan, Done, Fails, Absent, Do, NotBuilt}
 use Rattle.ddl_effect.specs.Commands.{plan_of}
-use Rattle.ddl_effect.specs.Blocks.{Block, Blocks, refused_by}
+use Rattle.txn_blocks.specs.Blocks.{Block, Blocks, refused_by}
 use Rattle.cacheless.specs.Types.{Oid, Command, CommandError, Opening, OwnLock}
 
 -- a finished command: whether it began in a block, the error that the blocks or an entry showed, the relations with which its lookups ended, and the number of the entry where it is judged

@@ -4,11 +4,11 @@ use Rattle.std.specs.Option.{option_map}
 use Rattle.base_types.specs.Scans.{same_scan}
 use Rattle.base_types.specs.declared.scan.Purpose.TheVariants as scans
 use Rattle.event_kinds.specs.declared.entry.Event.TheVariants as events
-use Rattle.rel_desc.specs.declared.error.CommandError.TheVariants as errors
+use Rattle.command_answers.specs.declared.error.CommandError.TheVariants as errors
 use Rattle.lock_modes.specs.Own.{cleared}
 use Rattle.ddl_effect.specs.Plans.{Lookup, Column, Write, Plan, Fails, Absent, Do}
 use Rattle.ddl_effect.specs.Commands.{commands_of}
-use Rattle.ddl_effect.specs.Blocks.{no_block}
+use Rattle.txn_blocks.specs.Blocks.{no_block}
 use Rattle.history_model.specs.Prefixes.{along_own}
 use Rattle.cacheless.specs.Types.{Purpose, Command, CommandError, Scenario, Entry, Event}
 use Rattle.cacheless.specs.Facts.{Facts, facts_of}

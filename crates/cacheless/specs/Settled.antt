@@ -4,7 +4,7 @@ use Rattle.base_types.specs.declared.row.Row.TheVariants as rows
 use Rattle.base_types.specs.declared.scan.Purpose.TheVariants as scans
 use Rattle.lock_modes.specs.Own.{has_lock}
 use Rattle.ddl_effect.specs.Plans.{Act, Lookup, Open, Column, Read, Lock, Write, Plan, Do}
-use Rattle.ddl_effect.specs.Blocks.{Blocks, blocks_well, blocks_badly}
+use Rattle.txn_blocks.specs.Blocks.{Blocks, blocks_well, blocks_badly}
 use Rattle.history_model.specs.Writes.{is_empty}
 use Rattle.cacheless.specs.Types.{Oid, Mode, Row, Command, Opening, OwnLock}
 use Rattle.cacheless.specs.Facts.{Facts}

@@ -6,14 +6,14 @@ use Rattle.base_types.specs.Scans.{same_scan, is_build_scan, build_scans}
 use Rattle.base_types.specs.declared.scan.Purpose.TheVariants as scans
 use Rattle.base_types.specs.declared.command.Command.TheVariants as commands
 use Rattle.event_kinds.specs.declared.entry.Event.TheVariants as events
-use Rattle.rel_desc.specs.declared.error.CommandError.TheVariants as errors
+use Rattle.command_answers.specs.declared.error.CommandError.TheVariants as errors
 use Rattle.row_visibility.specs.declared.clash.Clash.TheVariants as clashes
 use Rattle.lock_modes.specs.Own.{cleared, new_lock}
 use Rattle.inval_messages.specs.Lists.{Written, has_write_from, unsent_after}
 use Rattle.inval_messages.specs.Messages.{is_spared}
 use Rattle.command_lists.specs.Lists.{all_lists, no_lists}
 use Rattle.ddl_effect.specs.Plans.{Plan, Absent, Do, Lookup, Column, rests_on}
-use Rattle.ddl_effect.specs.Blocks.{Block, Outside, Inside, Failed, Blocks, no_block, ends_block, refused_by, innermost, blocks_well, blocks_badly}
+use Rattle.txn_blocks.specs.Blocks.{Block, Outside, Inside, Failed, Blocks, no_block, ends_block, refused_by, innermost, blocks_well, blocks_badly}
 use Rattle.ddl_effect.specs.Stages.{plan_at, plan_again}
 use Rattle.ddl_effect.specs.declared.exec.Exec.TheVariants as stages
 use Rattle.history_model.specs.Writes.{is_empty}

@@ -3,8 +3,8 @@ use Rattle.std.specs.Prelude.{ℕ, Option, Some, None, List, [], ◌∷◌, map,
 use Rattle.base_types.specs.Fields.{field_text, fields_of, read_by}
 use Rattle.base_types.specs.declared.command.Command.TheVariants as commands
 use Rattle.base_types.specs.declared.scan.Purpose.TheVariants as scans
-use Rattle.rel_desc.specs.declared.answer.Answer.TheVariants as answers
-use Rattle.rel_desc.specs.declared.error.CommandError.TheVariants.{NoRelation}
+use Rattle.command_answers.specs.declared.answer.Answer.TheVariants as answers
+use Rattle.command_answers.specs.declared.error.CommandError.TheVariants.{NoRelation}
 use Rattle.lock_modes.specs.Own.{clear_modes}
 use Rattle.ddl_effect.specs.Plans.{Plan, Fails, Absent}
 use Rattle.cacheless.specs.Types.{Field, Row, Purpose, Command, Opening, OwnLock, Answer, Shown}

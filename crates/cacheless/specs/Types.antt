@@ -14,9 +14,9 @@ pub use Rattle.event_kinds.specs.declared.entry.Entry.{Entry}
 pub use Rattle.event_kinds.specs.declared.entry.Event.{Event}
 pub use Rattle.event_kinds.specs.declared.entry.Item.{Item}
 pub use Rattle.event_kinds.specs.declared.entry.Line.{Line}
-pub use Rattle.rel_desc.specs.declared.error.CommandError.{CommandError}
-pub use Rattle.rel_desc.specs.declared.answer.Answer.{Answer}
-pub use Rattle.rel_desc.specs.declared.answer.Shown.{Shown}
+pub use Rattle.command_answers.specs.declared.error.CommandError.{CommandError}
+pub use Rattle.command_answers.specs.declared.answer.Answer.{Answer}
+pub use Rattle.command_answers.specs.declared.answer.Shown.{Shown}
 pub use Rattle.row_visibility.specs.declared.clash.Clash.{Clash}
 pub use Rattle.inval_messages.specs.declared.message.Message.{Message}
 pub use Rattle.lock_modes.specs.declared.own_lock.OwnLock.{OwnLock}

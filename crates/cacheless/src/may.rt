@@ -5,7 +5,7 @@ ghost use Rattle.std.specs.List.{list_any};
 ghost use Rattle.base_types.specs.Modes.{same_mode as modes_match};
 ghost use Rattle.base_types.specs.Scans.{is_build_scan};
 ghost use Rattle.ddl_effect.specs.Stages.{plan_at, want_of};
-ghost use Rattle.ddl_effect.specs.Blocks.{ends_block as does_end_block};
+ghost use Rattle.txn_blocks.specs.Blocks.{ends_block as does_end_block};
 ghost use Rattle.cacheless.specs.May.{is_first_missing as is_first, names_relation as names};
 
 use crate::scans::{first_lacking, first_missing, has_kept};

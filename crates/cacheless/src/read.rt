@@ -9,9 +9,9 @@ ghost use Rattle.history_model.specs.Versions.{answer_of};
 use crate::enter::{accept, running_from};
 use crate::{Due, KeptScan, Progress};
 use base_types::{Listed, Mode, NoMemory, Oid, Purpose, Row, same_scan};
+use command_answers::CommandError;
 use ddl_effect::{Exec, Want};
 use event_kinds::Event;
-use rel_desc::CommandError;
 
 impl Progress {
     ghost use Rattle.std.specs.Prelude.{List, ℕ, ◌++◌, ◌∷◌, [], if◌then◌else◌};

@@ -14,11 +14,11 @@ ghost use Rattle.cacheless.specs.State.{locks_made, locks_written, messages_in, 
 use crate::enter::{accept, running_from};
 use crate::{Due, OwnTransaction, Progress};
 use base_types::{Listed, Name, NoMemory, Oid, Xid};
+use command_answers::CommandError;
 use command_lists::InvalLists;
 use event_kinds::Event;
 use inval_messages::Message;
 use lock_modes::OwnLocks;
-use rel_desc::CommandError;
 use row_visibility::Clash;
 use std::alloc::Global;
 

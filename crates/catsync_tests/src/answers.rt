@@ -2,10 +2,10 @@ use crate::ends::{Calls, STEADY, sink_of};
 use crate::readers::CountingSink;
 use crate::values::name;
 use base_types::{ColType, Field, Kind, Listed, Mode, Name, NoMemory, Oid, Xid, field_text};
+use command_answers::{Answer, Column, CommandError, Shown};
 use edge_io::{Failed, MEMORY_SINK_ROOM, MemorySink};
 use event_kinds::{Entry, Event, Line, LineText};
 use out_text::{answer_text, put_entry, put_line, put_output};
-use rel_desc::{Answer, Column, CommandError, Shown, Value};
 use std::alloc::Global;
 use std::test::Fail;
 
@@ -110,7 +110,7 @@ const ANSWER_TEXTS: [&str; 10] = [
 
 // A field with the text that it has where no row was read.
 fn shown(alloc: Global, field: Field, at: Option<u64>) -> Result<Shown, NoMemory> {
-    let value = Value::new(field_text(alloc, field, Oid(16384), &[])?);
+    let value = LineText::new(field_text(alloc, field, Oid(16384), &[])?);
     Ok(Shown { field, value, at })
 }
 

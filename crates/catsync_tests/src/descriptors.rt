@@ -4,8 +4,8 @@ ghost use Rattle.base_types.specs.Scans.{selects as is_asked_for};
 ghost use Rattle.rel_desc.specs.Descriptors.{is_own_row, IsGiven};
 
 use crate::row_texts::rows_of;
-use base_types::{Field, NoMemory, Oid, Purpose, Row, field_text, selects};
-use rel_desc::{DescBuild, Descriptor, Value};
+use base_types::{Field, NoMemory, Oid, Purpose, Row, selects};
+use rel_desc::{DescBuild, Descriptor};
 use std::alloc::Global;
 use std::test::Fail;
 
@@ -102,7 +102,7 @@ fn takes_all(
 
 fn has_field(descriptor: &Descriptor, field: Field, text: &str, at: u64) -> bool {
     match descriptor.field(field) {
-        Some(value) => value.text() == text.as_bytes() && descriptor.read_at(field) == Some(at),
+        Some(value) => value.as_bytes() == text.as_bytes() && descriptor.read_at(field) == Some(at),
         None => false,
     }
 }
@@ -150,19 +150,5 @@ fn index_is_built(alloc: Global) -> Result<bool, NoMemory> {
 fn descriptors_are_built_of_scans(rt: HostRuntime) -> Result<(), Fail> {
     assert!(rt; table_is_built(rt.alloc())?);
     assert!(rt; index_is_built(rt.alloc())?);
-    Ok(())
-}
-
-// Whether the name of a table `t` is copied.
-fn is_copied(alloc: Global) -> Result<bool, NoMemory> {
-    let rows = rows_of(alloc, b"+class(16384,t,r,-)")?;
-    let value = Value::new(field_text(alloc, Field::Name, Oid(16384), &rows)?);
-    let copy = value.copy(alloc)?;
-    Ok(copy.text() == b"t".as_slice() && value.text() == b"t".as_slice())
-}
-
-#[test]
-fn a_value_is_copied(rt: HostRuntime) -> Result<(), Fail> {
-    assert!(rt; is_copied(rt.alloc())?);
     Ok(())
 }

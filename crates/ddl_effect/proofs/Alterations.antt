@@ -14,7 +14,7 @@ use Rattle.base_types.specs.declared.row.Row.TheVariants.{Class, Att, Def}
 use Rattle.base_types.specs.declared.row_key.RowKey.TheVariants as keys
 use Rattle.base_types.specs.declared.scan.Purpose.{Purpose}
 use Rattle.base_types.specs.declared.scan.Purpose.TheVariants as scans
-use Rattle.rel_desc.specs.declared.error.CommandError.TheVariants as errors
+use Rattle.command_answers.specs.declared.error.CommandError.TheVariants as errors
 use Rattle.ddl_effect.specs.declared.want.Want.TheVariants as wants
 use Rattle.ddl_effect.specs.Plans.{Fails}
 use Rattle.ddl_effect.specs.Effects.{Effect, Refuses, Unknown, Writes, effect_of}

@@ -11,12 +11,11 @@ use Rattle.base_types.specs.declared.row.Row.TheVariants.{Class, Att}
 use Rattle.base_types.specs.declared.scan.Purpose.{Purpose}
 use Rattle.base_types.specs.declared.scan.Purpose.TheVariants.{RelName}
 use Rattle.base_types.specs.declared.change.Change.TheVariants.{Insert}
-use Rattle.rel_desc.specs.declared.error.CommandError.TheVariants as errors
+use Rattle.command_answers.specs.declared.error.CommandError.TheVariants as errors
 use Rattle.ddl_effect.specs.Plans.{Fails}
 use Rattle.ddl_effect.specs.Effects.{Nothing, Refuses, Unknown, effect_of, effect_at}
 use Rattle.ddl_effect.specs.Commands.{plan_of, new_table}
 use Rattle.ddl_effect.specs.Drawing.{changes_of}
-use Rattle.ddl_effect.specs.Blocks.{Failed, no_block, innermost, refused_in, blocks_well, blocks_badly}
 
 abbrev pub column : List ℕ → NewColumn
 column name = record { name = name; col_type = Int4 }
@@ -56,22 +55,3 @@ no_relation = refl
 -- a lookup that ended without a relation has none, whatever the rows say
 pub ended_without : effect_at (rows_of (Class (oid 16384) (codes "t") Table None)) (None ∷ []) (plan_of [] (commands.Show (codes "t") None)) ≡ Unknown (codes "t")
 ended_without = refl
-
--- a second `begin` does nothing
-pub begun_twice : blocks_well 4 commands.Begin (blocks_well 2 commands.Begin no_block) ≡ blocks_well 2 commands.Begin no_block
-begun_twice = refl
-
--- what a failed block takes back begins with its first command
-pub failed_from_first : innermost 5 (blocks_badly (blocks_well 2 commands.Begin no_block)).levels ≡ 2
-failed_from_first = refl
-
--- only the end of a failed block is admitted
-pub failed_block_refuses : refused_in Failed commands.Begin ≡ Some errors.BlockFailed
-failed_block_refuses = refl
-
-pub failed_block_commits : refused_in Failed commands.Commit ≡ None
-failed_block_commits = refl
-
--- outside a block `commit` and `rollback` do nothing
-pub commit_outside : blocks_well 3 commands.Commit no_block ≡ no_block
-commit_outside = refl

@@ -1,6 +1,7 @@
 mod Alterations
 pub mod Driven
 mod Examples
+mod HasPlan
 mod Repeated
 mod Scanned
 mod Tables

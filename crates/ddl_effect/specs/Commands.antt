@@ -10,7 +10,7 @@ use Rattle.base_types.specs.RowKeys.{key_of}
 use Rattle.base_types.specs.declared.scan.Purpose.TheVariants as scans
 use Rattle.base_types.specs.declared.row.Row.TheVariants as rows
 use Rattle.base_types.specs.declared.command.Command.TheVariants as commands
-use Rattle.rel_desc.specs.declared.error.CommandError.TheVariants as errors
+use Rattle.command_answers.specs.declared.error.CommandError.TheVariants as errors
 use Rattle.ddl_effect.specs.Types.{Oid, Mode, AccessShare, ShareUpdateExclusive, AccessExclusive, Kind, Table, Field, ColType, Row, Change, Insert, Replace, Delete, Purpose, Command, NewColumn, Scenario, CommandError, Draft}
 use Rattle.ddl_effect.specs.Plans.{Lookup, Open, Column, Read, Write, Plan, Done, Fails, Absent, Do, NotBuilt}
 

@@ -3,5 +3,4 @@ pub mod Plans
 pub mod Effects
 pub mod Commands
 pub mod Drawing
-pub mod Blocks
 pub mod Stages

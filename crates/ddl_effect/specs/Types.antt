@@ -13,7 +13,7 @@ pub use Rattle.base_types.specs.declared.scan.Purpose.{Purpose}
 pub use Rattle.base_types.specs.declared.command.Command.{Command}
 pub use Rattle.base_types.specs.declared.command.NewColumn.{NewColumn}
 pub use Rattle.base_types.specs.Scenario.{Scenario}
-pub use Rattle.rel_desc.specs.declared.error.CommandError.{CommandError}
+pub use Rattle.command_answers.specs.declared.error.CommandError.{CommandError}
 pub use Rattle.ddl_effect.specs.declared.draft.Draft.{Draft}
 pub use Rattle.ddl_effect.specs.declared.alteration.Alteration.{Alteration}
 pub use Rattle.ddl_effect.specs.declared.altering.Altering.{Altering}

@@ -11,7 +11,7 @@ use crate::{Alteration, Draft, Want};
 use base_types::{
     Change, ColType, Command, Kind, Listed, MOST_COLUMNS, Name, NoMemory, Oid, Purpose, Row,
 };
-use rel_desc::CommandError;
+use command_answers::CommandError;
 use std::alloc::Global;
 
 /// How far an alteration of a table is: what is left of its plan (`ATExecAddColumn`,

@@ -7,7 +7,7 @@ use crate::altering::alteration_of;
 use crate::table::create_table;
 use crate::{Altering, Draft, Search, Want};
 use base_types::{Command, Kind, NoMemory, Oid, Row, has_field};
-use rel_desc::CommandError;
+use command_answers::CommandError;
 use std::alloc::Global;
 
 /// How far a command that has a plan is: what is left of it.
@@ -30,6 +30,27 @@ pub enum Exec {
 }
 
 impl Exec {
+    /// Whether a command has a plan, so that the program can run it.
+    #[tactic(auto, using(crate::proofs::HasPlan::show_built, crate::proofs::HasPlan::creating_built))]
+    pub fn has_plan(command: &Command) -> bool
+        ensures { result ≡ is_built (plan_of [] command.now) }
+    {
+        matches!(
+            command,
+            Command::Begin
+                | Command::Commit
+                | Command::Rollback
+                | Command::Show { .. }
+                | Command::LockTable { .. }
+                | Command::CreateTable { .. }
+                | Command::AddColumn { .. }
+                | Command::DropColumn { .. }
+                | Command::RenameColumn { .. }
+                | Command::SetStatistics { .. }
+                | Command::SetFillfactor { .. }
+        )
+    }
+
     /// A command at its beginning. Condition: it has a plan.
     pub fn new(alloc: Global, command: &Command) -> Result<Exec, NoMemory>
         requires { is_built (plan_of [] command.now) ≡ true }

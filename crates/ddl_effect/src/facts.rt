@@ -6,7 +6,7 @@ ghost use Rattle.ddl_effect.specs.Effects.{effect_of, given_for, no_changes, IsE
 
 use crate::{Draft, Exec, Want};
 use base_types::{Command, Listed, Name, NoMemory, Oid, Purpose, Row, put_in_order, selects};
-use rel_desc::CommandError;
+use command_answers::CommandError;
 use std::alloc::Global;
 
 /// What a command has read, and which relations its session holds open.

@@ -5,7 +5,7 @@ ghost use Rattle.ddl_effect.specs.Stages.{plan_at};
 
 use crate::{Draft, Exec};
 use base_types::{Change, Kind, Listed, MOST_COLUMNS, Name, NewColumn, NoMemory, Oid, Row};
-use rel_desc::CommandError;
+use command_answers::CommandError;
 use std::alloc::{AllocError, Global};
 use std::collections::BTreeSet;
 

@@ -1,5 +1,5 @@
 use base_types::{Kind, Mode, Name, Oid, Purpose};
-use rel_desc::CommandError;
+use command_answers::CommandError;
 
 /// What a command wants next.
 #[derive(Clone, Copy)]

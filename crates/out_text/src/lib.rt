@@ -17,7 +17,7 @@
 //! ```
 //!
 //! The server writes no such text; nothing here has a counterpart there. The text of an answer is
-//! made in rel_desc ([`answer_text`]).
+//! made in command_answers ([`answer_text`]).
 #![tactic(auto)]
 
 mod entries;
@@ -25,7 +25,7 @@ mod lines;
 mod output;
 mod typed;
 
+pub use command_answers::answer_text;
 pub use entries::put_entry;
 pub use lines::put_line;
 pub use output::put_output;
-pub use rel_desc::answer_text;

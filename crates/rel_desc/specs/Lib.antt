@@ -1,4 +1,3 @@
 pub mod Types
-pub mod Answers
 pub mod Descriptors
 pub mod KeptRows

@@ -1,6 +1,6 @@
-use crate::Value;
 use crate::kept_scans::KeptScans;
 use base_types::{Field, Kind, Oid, Row, has_field};
+use event_kinds::LineText;
 use std::marker::Model;
 
 /// What the relation cache keeps of a relation (`RelationData` in `src/include/utils/rel.h`): the rows
@@ -50,7 +50,7 @@ impl Descriptor {
     }
 
     /// The text of a field, or none where the kind lacks the field.
-    pub fn field(&self, field: Field) -> Option<&Value>
+    pub fn field(&self, field: Field) -> Option<&LineText>
         ensures value { option_copied result ≡ field_of self.now field }
         ensures has { is_some result ≡ is_field_of (kind_of self.now) field }
     {

@@ -1,9 +1,9 @@
 ghost use Rattle.std.specs.Prelude.{◌≡◌};
 ghost use Rattle.rel_desc.specs.Descriptors.{kind_in as kind_by};
 
-use crate::Value;
 use crate::part::{Part, place_for, value_for, values_read};
 use base_types::{Field, Kind, NoMemory, Oid, Purpose, Row, read_by};
+use event_kinds::LineText;
 use std::alloc::Global;
 use std::marker::Model;
 
@@ -69,7 +69,7 @@ impl KeptScans {
     }
 
     // The value of a field, if its scan was made.
-    pub(crate) fn value(&self, field: Field) -> Option<&Value>
+    pub(crate) fn value(&self, field: Field) -> Option<&LineText>
         ensures { option_copied result ≡ option_map (λ k. text_of field self.now.rel k.rows) (kept_for self.now.kept (scan_for field self.now.rel)) }
     {
         value_for(self.parts.as_slice(), read_by(field, self.rel), field)

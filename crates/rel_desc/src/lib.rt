@@ -1,4 +1,4 @@
-//! Descriptors of relations, and what a command answers: fields of descriptors, and errors.
+//! Descriptors of relations, built scan by scan.
 //!
 //! A [`Descriptor`] is what the relation cache keeps of a relation (`RelationData`,
 //! `src/backend/utils/cache/relcache.c`). It is built scan by scan: a [`DescBuild`] says which scan
@@ -22,30 +22,12 @@
 //! functions of that list that are defined there. A step that is out of memory leaves the build as it
 //! was. Where it differs from the server: a descriptor keeps the rows themselves, and a build that a
 //! message marked starts over by [`DescBuild::restart`] before its next scan, not at its end.
-//!
-//! In an answer a field that no other backend can change under the lock that is held is shown plainly;
-//! any other says at which entry of the history it was read, as ` as of 12`. Each answer has one text,
-//! the one of its definition in `specs/Answers.antt`, and that text holds no line's end, since neither a
-//! [`Value`] nor a name does. [`answer_text`] adds it to a vector; running out of memory leaves the
-//! vector as it was.
-//!
-//! An error has the SQLSTATE of PostgreSQL's own (`src/backend/utils/errcodes.txt`) and a text of
-//! this project: it names what is in the way, where the server's message may say less.
 #![tactic(auto)]
 
-mod answer;
-mod answer_parts;
 mod desc_build;
 mod descriptor;
-mod error;
 mod kept_scans;
 mod part;
-mod text;
-mod value;
 
-pub use answer::{Answer, Column, Shown};
 pub use desc_build::DescBuild;
 pub use descriptor::Descriptor;
-pub use error::CommandError;
-pub use text::answer_text;
-pub use value::Value;

@@ -3,15 +3,15 @@ ghost use Rattle.std.specs.Option.{option_map, option_and_then, option_copied};
 ghost use Rattle.base_types.specs.Fields.{field_number as number_of, same_field as is_same_field};
 ghost use Rattle.rel_desc.specs.KeptRows.{part_for as part_of, value_in as value_of_field, value_made as made_value, values_read as read_values, fields_read as read_fields};
 
-use crate::Value;
 use base_types::{Field, Listed, NoMemory, Oid, Purpose, Row, field_text, same_scan};
+use event_kinds::LineText;
 use std::alloc::Global;
 
 // The value of a field.
 #[derive(Drop)]
 pub(crate) struct FieldValue {
     pub(crate) field: Field,
-    pub(crate) value: Value,
+    pub(crate) value: LineText,
 }
 
 // A scan that was made for a descriptor: the number of its entry in the history, how many rows it gave,
@@ -32,7 +32,7 @@ fn part_for(parts: &[Part], scan: Purpose) -> Option<&Part>
 }
 
 // The value of a field among these.
-fn value_in(values: &[FieldValue], field: Field) -> Option<&Value>
+fn value_in(values: &[FieldValue], field: Field) -> Option<&LineText>
     ensures { option_copied result ≡ value_of_field values.now field }
 {
     match values.iter().find(|v| same_field(v.field, field)) {
@@ -52,7 +52,7 @@ pub(crate) fn place_for(parts: &[Part], scan: Purpose) -> Option<u64>
 }
 
 // The value of a field in the part of a scan.
-pub(crate) fn value_for(parts: &[Part], scan: Purpose, field: Field) -> Option<&Value>
+pub(crate) fn value_for(parts: &[Part], scan: Purpose, field: Field) -> Option<&LineText>
     ensures { option_copied result ≡ option_and_then (λ p. value_of_field p.values field) (part_of parts.now scan) }
 {
     match part_for(parts, scan) {
@@ -101,7 +101,7 @@ fn value_made(alloc: Global, rel: Oid, rows: &[Row], field: Field) -> Result<Fie
     let text = field_text(alloc, field, rel, rows)?;
     Ok(FieldValue {
         field,
-        value: Value::new(text),
+        value: LineText::new(text),
     })
 }
 

@@ -1,7 +1,7 @@
 -- What a session's state says of its blocks, and the cause by which they refuse a command.
 use Rattle.std.specs.Prelude.{ℕ, None, [], ◌∷◌}
-use Rattle.rel_desc.specs.declared.error.CommandError.TheVariants as errors
-use Rattle.ddl_effect.specs.Blocks.{Block, Inside, Failed, Blocks, no_block}
+use Rattle.command_answers.specs.declared.error.CommandError.TheVariants as errors
+use Rattle.txn_blocks.specs.Blocks.{Block, Inside, Failed, Blocks, no_block}
 use Rattle.txn_blocks.specs.Types.{CommandError, BlockCause, State}
 use Rattle.txn_blocks.specs.declared.cause.BlockCause.TheVariants as causes
 use Rattle.txn_blocks.specs.declared.blocks.State.TheVariants as states

@@ -1,5 +1,5 @@
 ghost use Rattle.std.specs.Prelude.{◌≡◌};
-ghost use Rattle.ddl_effect.specs.Blocks.{ends_failure as does_end_failure, needs_block as does_need_block};
+ghost use Rattle.txn_blocks.specs.Blocks.{ends_failure as does_end_failure, needs_block as does_need_block};
 
 use crate::BlockCause;
 use base_types::Command;
@@ -20,7 +20,7 @@ pub struct TxnBlocks {
 }
 
 impl Model for TxnBlocks {
-    ghost use Rattle.ddl_effect.specs.Blocks.{Blocks};
+    ghost use Rattle.txn_blocks.specs.Blocks.{Blocks};
     ghost use Rattle.txn_blocks.specs.States.{blocks_in};
 
     ghost Value = { Blocks };
@@ -31,7 +31,7 @@ impl Model for TxnBlocks {
 impl TxnBlocks {
     ghost use Rattle.std.specs.Prelude.{None, Some, OnOk, IfErr, if◌then◌else◌};
     ghost use Rattle.std.specs.Option.{option_map};
-    ghost use Rattle.ddl_effect.specs.Blocks.{no_block, is_open as is_block_open, is_failed as is_block_failed, refused_by, innermost, blocks_begun, blocks_well, blocks_badly};
+    ghost use Rattle.txn_blocks.specs.Blocks.{no_block, is_open as is_block_open, is_failed as is_block_failed, refused_by, innermost, blocks_begun, blocks_well, blocks_badly};
     ghost use Rattle.txn_blocks.specs.States.{cause_of};
 
     /// No block is open.

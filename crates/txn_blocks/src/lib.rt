@@ -6,7 +6,7 @@
 //! `src/backend/access/transam/xact.c`, less the states that last only while a command is on its way.
 //!
 //! The promise to the layers above: contracts see a [`TxnBlocks`] as the definition's `Blocks`
-//! (`crates/ddl_effect/specs/Blocks.antt`), and each call is the definition of that name.
+//! (`specs/Blocks.antt`), and each call is the definition of that name.
 //!
 //! ```text
 //! blocks.admit(&command)?;            // 25P02 or 25P01

@@ -3,11 +3,10 @@ ghost use Rattle.cacheless.specs.Runs.{runs};
 ghost use Rattle.walk_run.specs.Built.{is_built as is_built_scenario};
 
 use base_types::Command;
+use ddl_effect::Exec;
 use script_text::Script;
 
-/// Whether all commands of the script can be run today: `begin`, `commit`, `rollback`, `lock table`,
-/// `create table`, `show`, and of `alter table` what adds, drops or renames a column, and sets a
-/// statistics target or a fillfactor.
+/// Whether all commands of the script can be run today: each has a plan.
 pub fn is_built(script: &Script) -> bool
     ensures { result ≡ is_built_scenario script.now }
 {
@@ -21,18 +20,5 @@ pub fn is_built(script: &Script) -> bool
 pub fn is_built_command(command: &Command) -> bool
     ensures { result ≡ runs command.now }
 {
-    matches!(
-        command,
-        Command::Begin
-            | Command::Commit
-            | Command::Rollback
-            | Command::LockTable { .. }
-            | Command::CreateTable { .. }
-            | Command::Show { .. }
-            | Command::AddColumn { .. }
-            | Command::DropColumn { .. }
-            | Command::RenameColumn { .. }
-            | Command::SetStatistics { .. }
-            | Command::SetFillfactor { .. }
-    )
+    Exec::has_plan(command)
 }

@@ -1,6 +1,7 @@
 ghost use Rattle.std.specs.Prelude.{◌≡◌, ◌++◌, map, filter, true, IfOk, OnOk};
 ghost use Rattle.ddl_effect.specs.Commands.{commands_of};
-ghost use Rattle.cacheless.specs.Runs.{runs, alters_table};
+ghost use Rattle.ddl_effect.specs.Stages.{alters_table};
+ghost use Rattle.cacheless.specs.Runs.{runs};
 ghost use Rattle.walk_run.specs.Built.{is_built as is_built_scenario};
 
 use base_types::{Command, Listed, NewColumn, NoMemory};

@@ -1,5 +1,5 @@
 use Rattle.std.proofs.Common.{◌∙◌, ◌++◌, ap}
-use Rattle.rel_desc.specs.Answers.{answer_text}
+use Rattle.command_answers.specs.Answers.{answer_text}
 use Rattle.backend_core.proofs.backend.Backend.told_text.Goals as goal
 
 pub returns : goal.returns
