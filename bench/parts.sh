@@ -29,9 +29,9 @@ timed() {
     { time "$@"; } 2>&1 | sed "s/^/$name: /"
 }
 
-# Makes a part, unless it is there.
+# Makes a part, unless it is there and whole.
 part() {
-    [ -e "$folder/part$1" ] || timed "part $1" "${explore[@]}" --part "$1/$parts" --out "$folder/part$1" <"$script"
+    grep -qs '"is_over": true' "$folder/part$1" || timed "part $1" "${explore[@]}" --part "$1/$parts" --out "$folder/part$1" <"$script"
 }
 
 one_run() {
