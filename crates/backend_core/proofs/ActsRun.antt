@@ -1,20 +1,20 @@
 -- In a command that acts or scans, and whose transaction's first look is made, a transaction runs.
-use Rattle.std.proofs.Common.{◌≡◌, ◌≢◌, ◌+◌, ◌∙◌, ◌&&◌, ◌||◌, ◌⊎◌, inl, inr, ℕ, Bool, true, false, not, Option, Some, None, List, [], ◌∷◌, refl, sym, ap, subst, length, is_none, is_some, slice_get}
+use Rattle.std.proofs.Common.{◌≡◌, ◌≢◌, ◌+◌, ◌∙◌, ◌&&◌, ◌||◌, ◌⊎◌, inl, inr, ℕ, Bool, true, false, not, Option, Some, None, List, [], ◌∷◌, refl, sym, ap, subst, is_none, is_some}
 use Rattle.std.specs.List.{list_any}
 use Rattle.std.proofs.lemmas.Bool.{both_ways}
 use Rattle.std.proofs.lemmas.Option.{slice_get_within, get_or_from_slice_get}
 use Rattle.base_types.specs.declared.command.Command.TheVariants as commands
 use Rattle.rel_desc.specs.declared.error.CommandError.TheVariants as errors
 use Rattle.ddl_effect.specs.Blocks.{Block, Outside, Inside, Failed, no_block, ends_block, ends_failure, refused_in, refused_by}
-use Rattle.ddl_effect.specs.Commands.{commands_of, plan_of}
+use Rattle.ddl_effect.specs.Commands.{plan_of}
 use Rattle.ddl_effect.specs.Plans.{Act, Plan, Done, Fails, Absent, NotBuilt, Do}
 use Rattle.ddl_effect.specs.Stages.{plan_at}
 use Rattle.cacheless.specs.Facts.{Facts, facts_of}
 use Rattle.cacheless.specs.May.{is_first_missing, is_next_of_act, has_failed, is_next_at}
-use Rattle.cacheless.specs.OnCourse.{OnItsWay, FollowsPlan, IsOnCourse, AllOnCourse}
+use Rattle.cacheless.specs.OnCourse.{OnItsWay, AllOnCourse}
 use Rattle.cacheless.specs.Owed.{Owes, OwesLook, begins, owed_at_start}
 use Rattle.cacheless.specs.Runs.{runs}
-use Rattle.cacheless.specs.Session.{Session, Unsettled, Badly, none_open, outcome_of, plan_admitted, plan_first, refused_first}
+use Rattle.cacheless.specs.Session.{Session, Unsettled, Badly, none_open, outcome_of, is_settled, plan_admitted, plan_first, refused_first}
 use Rattle.cacheless.specs.State.{owed_first}
 use Rattle.cacheless.specs.Types.{CommandError}
 use Rattle.cacheless.proofs.Same.{start_owed}
@@ -25,7 +25,7 @@ use Rattle.backend_core.specs.Types.{Row, Purpose, Command, Scenario, Entry, Bac
 use Rattle.backend_core.specs.Agrees.{command_at, AwaitsEntry}
 use Rattle.backend_core.specs.Fits.{RunsBy, TransactionFits, Fits}
 use Rattle.backend_core.proofs.NextTransaction.{some_first}
-use Rattle.backend_core.proofs.Own.{waiting, waiting_course}
+use Rattle.backend_core.proofs.Own.{waiting, follows, going}
 
 -- a command that the blocks refuse fails
 refused_badly : (o : Option Command) (s : Session) → is_some (refused_first s.blocks o) ≡ true → outcome_of (plan_first s.blocks o) ≡ Badly
@@ -73,18 +73,6 @@ acts_run facts o s looked to_build command at fits going unblocked built acts fr
 
 -- a backend that waits in a command whose transaction's first look is made
 module _ (scenario : Scenario) (seen : List Entry) (s : Backend) (waits : AwaitsEntry scenario seen s) (courses : AllOnCourse scenario seen) (command : Command) (at : command_at s ≡ Some command) where
-  at_finished : slice_get (commands_of scenario s.progress.id) (length (waiting waits).finished) ≡ Some command
-  at_finished = ap (slice_get (commands_of scenario s.progress.id)) waits.rests.holds.count ∙ ap (λ l. slice_get l s.progress.finished) (sym waits.rests.holds.commands) ∙ at
-
-  course : IsOnCourse scenario seen s.progress.id (waiting waits)
-  course = waiting_course scenario seen s waits courses
-
-  pub follows_here : FollowsPlan seen s.progress.id (waiting waits) command
-  follows_here = course.follows command at_finished
-
-  pub going_here : s.progress.ended ≡ false
-  going_here = course.going command at_finished
-
   built : runs command ≡ true
   built = subst (λ c. runs c ≡ true) (get_or_from_slice_get s.progress.commands s.progress.finished command command at) (waits.keeps.built s.progress.finished command (slice_get_within s.progress.commands s.progress.finished command at))
 
@@ -94,15 +82,15 @@ module _ (scenario : Scenario) (seen : List Entry) (s : Backend) (waits : Awaits
     where
       by_test : (t : Bool) → s.progress.blocked ≡ t → s.progress.blocked ≡ false
       by_test false is = is
-      by_test true is = absurd (goes (ap outcome_of (waits.fits.refused is) ∙ refused_badly (command_at s) (waiting waits) (sym waits.fits.blocked ∙ is)))
+      by_test true is = absurd (let badly : outcome_of (plan_first (waiting waits).blocks (command_at s)) ≡ Badly = refused_badly (command_at s) (waiting waits) (sym waits.fits.blocked ∙ is) in goes (ap outcome_of (waits.fits.settled (ap is_settled badly)) ∙ badly))
 
   runs_here : owed_first s.progress command ≡ [] → outcome_of (plan_at s.progress.exec) ≢ Badly → plan_of none_open command ≢ Done → is_some (facts_of seen s.progress.id).running ≡ true
-  runs_here free goes acts = acts_run (facts_of seen s.progress.id) (command_at s) (waiting waits) s.looked s.looked_to_build command at waits.fits going_here (unblocked_here goes) built acts
+  runs_here free goes acts = acts_run (facts_of seen s.progress.id) (command_at s) (waiting waits) s.looked s.looked_to_build command at waits.fits (going scenario seen s waits courses command at) (unblocked_here goes) built acts
       (start_owed (facts_of seen s.progress.id) command s.progress waits.rests.holds.rest waits.rests.holds.facts ∙ free)
 
   -- what it does isn't all of an empty plan
   acts_none : (act : Act) (rest : List Row → Plan) → plan_at s.progress.exec ≡ Do act rest → plan_of none_open command ≢ Done
-  acts_none act rest acts none = let way : OnItsWay seen s.progress.id (waiting waits) command = on_its_way seen s.progress.id (waiting waits) command act rest follows_here acts in
+  acts_none act rest acts none = let way : OnItsWay seen s.progress.id (waiting waits) command = on_its_way seen s.progress.id (waiting waits) command act rest (follows scenario seen s waits courses command at) acts in
       none_reached way.gave (plan_of none_open command) act rest (ap acting none) (sym way.plan ∙ acts)
 
   -- before an act
@@ -113,7 +101,7 @@ module _ (scenario : Scenario) (seen : List Entry) (s : Backend) (waits : Awaits
   pub scan_runs : (scan : Purpose) → is_next_at scan s.progress ≡ true → owed_first s.progress command ≡ [] → is_some (facts_of seen s.progress.id).running ≡ true
   scan_runs scan next free = runs_here free (λ badly. both_ways _ (not_true (has_failed s.progress) both.0) (ap (λ o. elim o as (λ x. Bool) [ Badly ↦ true | other ↦ false ]) badly))
       (λ none. or_either (list_any (λ o. is_first_missing scan s.progress.kept o.kind o.rel) s.progress.opened) (is_next_of_act scan s.progress (plan_at s.progress.exec)) both.1
-          (λ opened. both_ways _ (ap (list_any (λ o. is_first_missing scan s.progress.kept o.kind o.rel)) (follows_here.plain none)) opened)
+          (λ opened. both_ways _ (ap (list_any (λ o. is_first_missing scan s.progress.kept o.kind o.rel)) ((follows scenario seen s waits courses command at).plain none)) opened)
           (λ act. by_plan (plan_at s.progress.exec) refl act none))
     where
       both : (not (has_failed s.progress) ≡ true) × ((list_any (λ o. is_first_missing scan s.progress.kept o.kind o.rel) s.progress.opened || is_next_of_act scan s.progress (plan_at s.progress.exec)) ≡ true)

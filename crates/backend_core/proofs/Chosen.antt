@@ -2,7 +2,8 @@
 use Rattle.std.proofs.Common.{◌≡◌, ◌≢◌, ◌≤◌, ◌<◌, ◌+◌, ◌*◌, ◌∙◌, ◌⊎◌, inl, inr, ◌==◌, ◌&&◌, ℕ, Bool, true, false, not, Option, Some, None, List, [], ◌∷◌, ◌++◌, refl, sym, ap, subst, length, slice_get, is_none, is_some, arith, map, cond}
 use Rattle.std.specs.Option.{option_map_or}
 use Rattle.std.specs.Prelude.{nat_le}
-use Rattle.std.proofs.lemmas.Bool.{both_ways, le-leb, lt-ltb}
+use Rattle.std.proofs.Math.Bool.{and-false}
+use Rattle.std.proofs.lemmas.Bool.{both_ways, eq-eqb, le-leb}
 use Rattle.base_types.specs.declared.scan.Purpose.TheVariants as scans
 use Rattle.event_kinds.specs.declared.entry.Event.TheVariants as events
 use Rattle.ddl_effect.specs.Commands.{commands_of}
@@ -13,7 +14,7 @@ use Rattle.history_model.specs.Drawn.{next_oid}
 use Rattle.history_model.specs.Legal.{AllowsEvent}
 use Rattle.history_model.specs.Lives.{life_of, last_event_of}
 use Rattle.history_model.specs.Log.{is_waiting}
-use Rattle.history_model.specs.Transactions.{Running, is_visible, running_transaction_of}
+use Rattle.history_model.specs.Transactions.{Running, begun, is_visible}
 use Rattle.history_model.specs.Writes.{is_empty}
 use Rattle.seg_calls.specs.Calls.{entry_of, took_back, MayCall, MayRequest}
 use Rattle.seg_calls.proofs.Allowed.{is_start, request_follows}
@@ -54,6 +55,17 @@ started_most number facts = by_own facts.running
     by_own None = omega arith
     by_own (Some t) = one (t.first == number)
 
+abbrev pub started_by : ℕ → Option Running → ℕ
+started_by n own = option_map_or (λ t. elim (t.first == n) as (λ x. ℕ) [ true ↦ 1 | false ↦ 0 ]) own 0
+
+-- the transaction is counted once
+pub started_now : (n : ℕ) (own : Option Running) → own ≡ None → started_by n (Some (begun n own)) ≡ 1
+started_now n own none = ap (λ o. started_by n (Some (begun n o))) none ∙ ap (λ t. elim t as (λ x. ℕ) [ true ↦ 1 | false ↦ 0 ]) (eq-eqb n n refl)
+
+pub started_still : (n m : ℕ) (own : Option Running) → is_some own ≡ true → started_by n (Some (begun m own)) ≡ started_by n own
+started_still n m None some = absurd (cc some)
+started_still n m (Some t) some = refl
+
 -- a look may come where no fetch is owed
 pub look_may : (facts : Facts) (s : Session) → (owed_after facts.last ≡ []) ⊎ (owed_after facts.last ≡ OwesLook ∷ []) → s.tally.looks + 1 ≤ s.tally.scans + s.tally.grants + 2 * s.tally.fetches + 3 → may_look facts s ≡ true
 look_may facts s (inl none) low = ap (λ l. elim l as (λ x. Bool) [ OwesFetch ∷ owed ↦ false | owed ↦ nat_le (s.tally.looks + 1) (s.tally.scans + s.tally.grants + 2 * s.tally.fetches + 3) ]) none ∙ le-leb _ _ low
@@ -63,6 +75,10 @@ look_may facts s (inr look) low = ap (λ l. elim l as (λ x. Bool) [ OwesFetch �
 pub data Busy (p : Progress) (command : Command) : Type 0 where
   Owes : owes_nothing command p ≡ false → Busy p command
   Acts : is_out p ≡ false → Busy p command
+
+-- so where a look or a fetch is due
+pub due_busy : (p : Progress) (command : Command) → is_empty (owed_at p.due) ≡ false → Busy p command
+due_busy p command due = Owes (ap (λ t. is_empty (owed_first p command) && t && not (lacks_any p)) due ∙ ap (λ t. t && not (lacks_any p)) (and-false (is_empty (owed_first p command))))
 
 module _ (scenario : Scenario) (seen : List Entry) (s : Backend) (waits : AwaitsEntry scenario seen s) (command : Command) (at : command_at s ≡ Some command) where
   abbrev facts : Facts

@@ -107,6 +107,11 @@ on_its_way facts o s looked to_build command event done fits runs comes = by_end
     by_ended true none over = both_ways _ (ap (λ r. is_some r) none) runs
     by_ended false _ over = both_ways _ (ap (λ e. is_none e) comes) over
 
+-- where the last entry took writes back the command isn't finished
+pub gone_unfinished : (facts : Facts) (o : Option Command) (s : Session) (looked to_build : Bool) (command : Command) (from : ℕ) → o ≡ Some command → is_finished facts command s ≡ true → Fits facts o s looked to_build → facts.last ≡ Some (events.Gone from) → ⊥
+gone_unfinished facts o s looked to_build command from at finished fits is = on_its_way facts o s looked to_build command _ (parts_of facts command s finished) fits (fits.taken from is).runs
+    (ap (next_of_end facts) (subst (λ x. elim x as (λ y. Type 0) [ Some c ↦ (end_of facts c s ≡ TakesBack from) × (owed_of facts c s ≡ []) | None ↦ end_of_all facts ≡ TakesBack from ]) at (fits.taken from is).end).0)
+
 visible_runs : (own : Option Running) → is_visible own ≡ true → is_some own ≡ true
 visible_runs None is = absurd (cc)
 visible_runs (Some t) is = refl
@@ -131,8 +136,7 @@ fits_pass facts o s looked to_build command next at finished fits = record {
   written = fits.written;
   visible = λ is. absurd (on_its_way facts o s looked to_build command _ done fits (visible_runs facts.running is) (let c = fits.visible is in
       ap (next_of_end facts) (subst (λ x. end_of facts x s ≡ Commits (first_at facts)) (one c.command c.at) c.end)));
-  taken = λ from is. absurd (on_its_way facts o s looked to_build command _ done fits (fits.taken from is).runs
-      (ap (next_of_end facts) (subst (λ x. elim x as (λ y. Type 0) [ Some c ↦ (end_of facts c s ≡ TakesBack from) × (owed_of facts c s ≡ []) | None ↦ end_of_all facts ≡ TakesBack from ]) at (fits.taken from is).end).0));
+  taken = λ from is. absurd (gone_unfinished facts o s looked to_build command from at finished fits is);
   over = λ c here ended. absurd (cc ended);
   accepts = fits.accepts;
   past = λ none. subst (λ x. IsPast facts (next_session command x s)) (sym none) (record { out = refl; opened = refl; free = done.after });

@@ -73,7 +73,7 @@ fits_first facts o at runs lists last = record {
     none = ap (λ r. option_map_or (λ (t : Running). elim (t.first == 1) as (λ x. ℕ) [ true ↦ 1 | false ↦ 0 ]) r 0) runs
 
 -- a plan that has read nothing rests on no place
-place_first : (seen : List Entry) (b : ℕ) (plan : Plan) (at : ℕ) → is_absent plan ≡ false → PlaceFits seen b plan false at
+pub place_first : (seen : List Entry) (b : ℕ) (plan : Plan) (at : ℕ) → is_absent plan ≡ false → PlaceFits seen b plan false at
 place_first seen b (Absent name) at there = absurd (cc there)
 place_first seen b (Do (Lookup name mode) rest) at there = tt
 place_first seen b plan at there = tt

@@ -62,7 +62,7 @@ fail_ends p (TakesBack from) is = by_written (has_write_since from p) is
     by_written false next = cc next
 
 no_end : (p : Progress) → EndsNext p events.Fail → ⊥
-no_end p (InCommand command free out may) = fail_ends p (end_at p command) (and_true _ (is_next_of_end p events.Fail (end_at p command)) may).1
+no_end p (InCommand command free out owes may) = fail_ends p (end_at p command) (and_true _ (is_next_of_end p events.Fail (end_at p command)) may).1
 no_end p (AfterAll past comes) = fail_ends p (end_of_running p.running) comes
 
 -- an end's entry comes next
@@ -100,12 +100,12 @@ end_is p command end still free out lacks is = by_tests p.ended (is_ends end) re
     by_tests false true a b none = absurd (not_both _ (both_true (is_out p && (p.ended || is_ends end)) (owes_nothing command p) (both_true (is_out p) (p.ended || is_ends end) out (λ i. a i || b i)) (out_owes p command free lacks)) none)
 
 pub commits_next : (s : Backend) (command : Command) (next : Next) (first : ℕ) → IsAtRest s.progress → IsFree s.progress command → is_out s.progress ≡ true → lacks_any s.progress ≡ false → end_at s.progress command ≡ Commits first → ComesOfCommit first s.progress next → IsNextOf s next
-commits_next s command next first still free out lacks end comes = ends_next s next (InCommand command free out (both_true _ (is_next_of_end s.progress (end_event s.progress next) (end_at s.progress command))
+commits_next s command next first still free out lacks end comes = ends_next s next (InCommand command free out (out_owes s.progress command free lacks) (both_true _ (is_next_of_end s.progress (end_event s.progress next) (end_at s.progress command))
     (both_true (not s.progress.ended) (owes_no_end command s.progress (end_at s.progress command)) (ap not (end_is s.progress command (Commits first) still free out lacks end).0) (ap (owes_no_end command s.progress) end ∙ out_owes s.progress command free lacks))
     (ap (is_next_of_end s.progress (end_event s.progress next)) end ∙ comes)))
 
 pub takes_back_next : (s : Backend) (command : Command) (next : Next) (from : ℕ) → IsAtRest s.progress → IsFree s.progress command → is_out s.progress ≡ true → lacks_any s.progress ≡ false → end_at s.progress command ≡ TakesBack from → ComesOfBack from s.progress next → IsNextOf s next
-takes_back_next s command next from still free out lacks end comes = ends_next s next (InCommand command free out (both_true _ (is_next_of_end s.progress (end_event s.progress next) (end_at s.progress command))
+takes_back_next s command next from still free out lacks end comes = ends_next s next (InCommand command free out (out_owes s.progress command free lacks) (both_true _ (is_next_of_end s.progress (end_event s.progress next) (end_at s.progress command))
     (both_true (not s.progress.ended) (owes_no_end command s.progress (end_at s.progress command)) (ap not (end_is s.progress command (TakesBack from) still free out lacks end).0) (ap (owes_no_end command s.progress) end ∙ ap (λ d. is_empty (owed_at d)) free.due))
     (ap (is_next_of_end s.progress (end_event s.progress next)) end ∙ comes)))
 
@@ -154,7 +154,7 @@ reads_now scenario seen s waits courses = by_command (command_at s) refl
     by_command (Some command) at = by_refused command (on.follows command (ap (slice_get (commands_of scenario s.progress.id)) waits.rests.holds.count ∙ ap (λ l. slice_get l s.progress.finished) (sym waits.rests.holds.commands) ∙ at)) (waiting waits).refused refl
 
 -- what is found of a list is as all its elements are
-find_all : {X : Type 0} (P : X → Type 0) (p : X → Bool) (xs : List X) (x : X) → AllByRecursion P xs → find p xs ≡ Some x → P x
+pub find_all : {X : Type 0} (P : X → Type 0) (p : X → Bool) (xs : List X) (x : X) → AllByRecursion P xs → find p xs ≡ Some x → P x
 find_all P p [] x all is = absurd (cc is)
 find_all P p (y ∷ xs) x all is = by_test (p y) is (find_all P p xs x all.1)
   where
@@ -162,7 +162,7 @@ find_all P p (y ∷ xs) x all is = by_test (p y) is (find_all P p xs x all.1)
     by_test true one more = let same : y ≡ x = cc one in subst P same all.0
     by_test false later more = more later
 
-each_builds : (kind : Kind) (rel : Oid) → AllByRecursion (λ d. is_build_scan d ≡ true) (build_scans kind rel)
+pub each_builds : (kind : Kind) (rel : Oid) → AllByRecursion (λ d. is_build_scan d ≡ true) (build_scans kind rel)
 each_builds Table rel = (refl, (refl, (refl, (refl, (refl, (refl, tt))))))
 each_builds Index rel = (refl, (refl, tt))
 

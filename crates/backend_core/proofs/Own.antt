@@ -14,7 +14,7 @@ use Rattle.cacheless.specs.Holds.{Holds, Rests, HasEntered, entry_of, with_own}
 use Rattle.cacheless.specs.Judged.{ArePlaced}
 use Rattle.cacheless.specs.Lines.{line_of, lines_from}
 use Rattle.cacheless.specs.MayEnter.{SuitsHistory}
-use Rattle.cacheless.specs.OnCourse.{is_over, IsOnCourse, CourseOf, AllOnCourse, EntersCourse}
+use Rattle.cacheless.specs.OnCourse.{is_over, FollowsPlan, IsOnCourse, CourseOf, AllOnCourse, EntersCourse}
 use Rattle.cacheless.specs.Plays.{MayPlayIn, MayPlayAt, IsNext}
 use Rattle.cacheless.specs.Schedule.{LooksTruly}
 use Rattle.cacheless.specs.Session.{Session, number_of, outcome_of, is_settled}
@@ -46,10 +46,16 @@ waiting_is scenario seen s waits = waits.rests.holds.is ∙ ap Some (settled_at_
 pub waiting_course : (scenario : Scenario) (seen : List Entry) (s : Backend) (waits : AwaitsEntry scenario seen s) → AllOnCourse scenario seen → IsOnCourse scenario seen s.progress.id (waiting waits)
 waiting_course scenario seen s waits courses = subst (CourseOf scenario seen s.progress.id) (waiting_is scenario seen s waits) (courses s.progress.id)
 
--- the running command hasn't made its release
+-- the running command is that of the session
+at_session : (scenario : Scenario) (seen : List Entry) (s : Backend) (waits : AwaitsEntry scenario seen s) → slice_get (commands_of scenario s.progress.id) (length (waiting waits).finished) ≡ command_at s
+at_session scenario seen s waits = ap (slice_get (commands_of scenario s.progress.id)) waits.rests.holds.count ∙ ap (λ l. slice_get l s.progress.finished) (sym waits.rests.holds.commands)
+
+-- it does what its plan says, and hasn't made its release
+pub follows : (scenario : Scenario) (seen : List Entry) (s : Backend) (waits : AwaitsEntry scenario seen s) → AllOnCourse scenario seen → (command : Command) → command_at s ≡ Some command → FollowsPlan seen s.progress.id (waiting waits) command
+follows scenario seen s waits courses command at = (waiting_course scenario seen s waits courses).follows command (at_session scenario seen s waits ∙ at)
+
 pub going : (scenario : Scenario) (seen : List Entry) (s : Backend) (waits : AwaitsEntry scenario seen s) → AllOnCourse scenario seen → (command : Command) → command_at s ≡ Some command → (waiting waits).ended ≡ false
-going scenario seen s waits courses command at = (waiting_course scenario seen s waits courses).going command
-    (ap (slice_get (commands_of scenario s.progress.id)) waits.rests.holds.count ∙ ap (λ l. slice_get l s.progress.finished) (sym waits.rests.holds.commands) ∙ at)
+going scenario seen s waits courses command at = (waiting_course scenario seen s waits courses).going command (at_session scenario seen s waits ∙ at)
 
 -- what the script and the segment ask of its next entry
 pub record OwnEntry (scenario : Scenario) (old : List Entry) (was : Backend) (event : Event) (waits : AwaitsEntry scenario old was) : Type 0 where
@@ -65,7 +71,7 @@ own_next scenario old was event waits plays = (
   subst (λ o. MayPlayAt scenario old was.progress.id o (was.progress.finished + 1) event) (sym (waiting_is scenario old was waits)) (
     ap (λ n. n + 1) (sym waits.rests.holds.count),
     subst (λ o. MayPlayIn (next_oid old) (facts_of old was.progress.id) o (waiting waits) event)
-        (sym (ap (slice_get (commands_of scenario was.progress.id)) waits.rests.holds.count ∙ ap (λ l. slice_get l was.progress.finished) (sym waits.rests.holds.commands))) plays,
+        (sym (at_session scenario old was waits)) plays,
   ),
 )
 
@@ -107,9 +113,9 @@ own_makes scenario old new had has was event waits played courses own appends = 
     next : IsNext scenario old e
     next = own_next scenario old was event waits own.plays
 
--- what becomes of the answer: an entry of the command's end keeps it, any other is made where there is none
+-- what becomes of the answer: an entry of an end keeps that of the command, if one runs, any other is made where there is none
 pub data KeepsAnswer (was now : Backend) (event : Event) : Type 0 where
-  AtEnd : ends_command event ≡ true → is_some was.answer ≡ true → now.answer ≡ was.answer → KeepsAnswer was now event
+  AtEnd : ends_command event ≡ true → ((command : Command) → command_at was ≡ Some command → is_some was.answer ≡ true) → now.answer ≡ was.answer → KeepsAnswer was now event
   Inside : ends_command event ≡ false → now.answer ≡ None → KeepsAnswer was now event
 
 -- an entry of an end leaves the plan
@@ -181,7 +187,7 @@ own_enters scenario old new had has was now event waits played courses own goes 
     may = record { sound = played.sound; tables = played.tables; comes = appends.comes; keeps = makes.may.suits.tables }
 
     at_command_is : slice_get (commands_of scenario b) (length s.finished) ≡ command_at was
-    at_command_is = ap (slice_get (commands_of scenario b)) waits.rests.holds.count ∙ ap (λ l. slice_get l was.progress.finished) (sym waits.rests.holds.commands)
+    at_command_is = at_session scenario old was waits
 
     same_command : command_at now ≡ command_at was
     same_command = ap (λ l. slice_get l now.progress.finished) goes.moves.commands ∙ ap (slice_get was.progress.commands) goes.moves.finished
@@ -219,10 +225,10 @@ own_enters scenario old new had has was now event waits played courses own goes 
 
     comes_out : KeepsAnswer was now event → is_some now.answer ≡ true → is_settled (outcome_of later.left) ≡ true
     comes_out (Inside inside none) some = absurd (both_ways _ (ap (λ o. is_some o) none) some)
-    comes_out (AtEnd ends had_one same) some = ap (λ p. is_settled (outcome_of p)) (ap (λ (x : Session). x.left) goes.session ∙ noted_is.after.left ∙ end_left event s ends) ∙ waits.tells.out had_one
+    comes_out (AtEnd ends has_one same) some = ap (λ p. is_settled (outcome_of p)) (ap (λ (x : Session). x.left) goes.session ∙ noted_is.after.left ∙ end_left event s ends) ∙ waits.tells.out (ap (λ o. is_some o) (sym same) ∙ some)
 
     judged : KeepsAnswer was now event → (command : Command) → command_at now ≡ Some command → is_some now.answer ≡ false → IsJudgedHere (old ++ e ∷ []) now.progress.id later
-    judged (AtEnd ends some same) command at none = absurd (both_ways _ none (ap (λ o. is_some o) same ∙ some))
+    judged (AtEnd ends some same) command at none = absurd (both_ways _ none (ap (λ o. is_some o) same ∙ some command (sym same_command ∙ at)))
     judged (Inside inside none) command at _ = record {
       judged = omega (arith, length_push old e, ap (λ (x : Session). x.judged) goes.session, judged_here facts left (length old + 1) (was.progress.finished + 1) event s inside);
       stands = ap (λ k. is_over (last_event_of (old ++ e ∷ []) k) later) goes.moves.id ∙ ap (λ o. is_over o later) (last_event_of-own old e b (eq-eqb b b refl))

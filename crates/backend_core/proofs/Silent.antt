@@ -4,33 +4,41 @@ use Rattle.std.proofs.lemmas.Bool.{both_ways, and_parts}
 use Rattle.std.proofs.lemmas.List.{length_push, take_all}
 use Rattle.rel_desc.specs.Answers.{answer_text}
 use Rattle.ddl_effect.specs.Commands.{commands_of}
-use Rattle.ddl_effect.specs.Plans.{Plan, Do}
+use Rattle.base_types.specs.declared.scan.Purpose.TheVariants as scans
+use Rattle.event_kinds.specs.declared.entry.Event.TheVariants as events
+use Rattle.ddl_effect.specs.Plans.{Plan, Act, Do, Lookup, Open, Column, Read, Lock, Write}
 use Rattle.ddl_effect.specs.Stages.{plan_at}
 use Rattle.history_model.specs.Lives.{life_of, last_event_of}
+use Rattle.history_model.specs.Writes.{is_empty}
+use Rattle.cacheless.specs.Ends.{end_left}
 use Rattle.cacheless.specs.Facts.{Facts, facts_of}
 use Rattle.cacheless.specs.Holds.{Holds, Rests, HasActed, HasPassed}
 use Rattle.cacheless.specs.Lines.{line_of, lines_from}
-use Rattle.cacheless.specs.OnCourse.{is_over, EntersCourse}
+use Rattle.cacheless.specs.OnCourse.{is_absent, is_over, OnItsWay, EntersCourse}
 use Rattle.cacheless.specs.Runs.{runs}
-use Rattle.cacheless.specs.Session.{Session, number_of, first_of, outcome_of, is_settled}
+use Rattle.cacheless.specs.Session.{Session, number_of, first_of, outcome_of, is_settled, plan_first}
 use Rattle.cacheless.specs.Sessions.{session_of}
-use Rattle.cacheless.specs.Settled.{act_done, is_finished, finished_as, next_session, settled}
+use Rattle.cacheless.specs.Settled.{act_done, is_finished, blocks_after, finished_as, next_session, settled}
 use Rattle.cacheless.specs.Silently.{Finishes, IsAtRest}
 use Rattle.cacheless.specs.State.{is_out, session_at}
 use Rattle.cacheless.specs.May.{owes_nothing}
 use Rattle.cacheless.specs.Owed.{owed_of}
+use Rattle.cacheless.proofs.ActOrder.{at_lookup}
+use Rattle.cacheless.proofs.AfterActs.{IsUnfound, after_lookup, after_opening, opening_alike, after_column, after_reading, no_lock}
+use Rattle.cacheless.proofs.EnteredLooks.{not_absent}
 use Rattle.cacheless.proofs.HeldLocks.{settled-locks}
 use Rattle.cacheless.proofs.Resting.{first_left, left_command}
 use Rattle.cacheless.proofs.Same.{owes_nothing_is}
-use Rattle.cacheless.proofs.SilentActs.{empty_list}
+use Rattle.cacheless.proofs.SilentActs.{empty_list, on_its_way, its_place, made_already, IsDoneHere, is_done_here}
 use Rattle.cacheless.proofs.ToldAnswers.{has_come_out}
 use Rattle.cacheless.proofs.SettledCourse.{HasSession, act_enters, finish_enters}
-use Rattle.backend_core.specs.Types.{Command, Scenario, Entry, Line, Progress, Backend}
+use Rattle.backend_core.specs.Types.{Row, Command, Scenario, Entry, Event, Line, Progress, Backend}
 use Rattle.backend_core.specs.Agrees.{KeptAt, PlaceFits, Keeps, command_at, is_to_answer_at, IsJudgedHere, AgreesNow, AwaitsEntry}
 use Rattle.backend_core.specs.Answering.{IsToldText}
 use Rattle.backend_core.specs.Fits.{Fits}
 use Rattle.backend_core.proofs.Answered.{are_kept, told_line}
-use Rattle.backend_core.proofs.FitsOn.{fits_act, fits_pass}
+use Rattle.backend_core.proofs.FitsOn.{fits_act, gone_unfinished, fits_pass}
+use Rattle.backend_core.proofs.Joining.{place_first}
 use Rattle.backend_core.proofs.LinesPush.{lines-push}
 
 -- the session of the history, whose locks are those at hand
@@ -66,6 +74,20 @@ answered_line scenario seen s command text now at out owes none told = told_line
     here : IsJudgedHere seen s.progress.id session
     here = now.here command at (ap (λ o. is_some o) none)
 
+-- the place of a lookup that found no relation is that of its scan
+place_absent : (seen : List Entry) (b : ℕ) (s : Session) (command : Command) (act : Act) (rest : List Row → Plan) (given : List Row) (at : ℕ) → (way : OnItsWay seen b s command) → s.left ≡ Do act rest → IsDoneHere (facts_of seen b) s act rest given → PlaceFits seen b s.left s.read at → is_absent (rest given) ≡ true → PlaceFits seen b (rest given) false at
+place_absent seen b s command (Lookup name mode) rest given at way left done fits absent = subst (λ p. PlaceFits seen b p false at) (sym unfound.is)
+    (subst (λ t. PlaceFits seen b (Do (Lookup name mode) rest) t at) (and_parts s.read _ (made_already _ (scans.RelName name) done.owed)).0 (subst (λ p. PlaceFits seen b p s.read at) left fits))
+  where
+    unfound : IsUnfound name (rest given) given
+    unfound = after_lookup name mode rest given (at_lookup _ _ name mode rest (its_place seen b s command (Lookup name mode) rest way left)).2 absent
+place_absent seen b s command (Open rel kind) rest given at way left done fits absent = let come = its_place seen b s command (Open rel kind) rest way left in
+    absurd (both_ways _ (ap is_absent (opening_alike _ _ rel kind rest given come) ∙ after_opening _ _ rel kind rest come) absent)
+place_absent seen b s command (Column rel name) rest given at way left done fits absent = absurd (both_ways _ (after_column _ _ rel name rest given (its_place seen b s command (Column rel name) rest way left)) absent)
+place_absent seen b s command (Read scan) rest given at way left done fits absent = absurd (both_ways _ (after_reading _ _ scan rest given (its_place seen b s command (Read scan) rest way left)) absent)
+place_absent seen b s command (Lock rel mode) rest given at way left done fits absent = absurd (no_lock _ _ rel mode rest (its_place seen b s command (Lock rel mode) rest way left))
+place_absent seen b s command (Write draft) rest given at way left done fits absent = absurd (let no : None ≡ Some given = done.gave in cc no)
+
 -- it does an act
 pub act_agrees : (scenario : Scenario) (seen : List Entry) (was : Backend) (p : Progress) (now : AgreesNow scenario seen was) → HasActed scenario seen was.progress now.holds p → p.kept ≡ was.progress.kept → p.given_at ≡ was.progress.given_at → AgreesNow scenario seen (record was { progress = p })
 act_agrees scenario seen was p now acted kept given_at = record {
@@ -75,7 +97,8 @@ act_agrees scenario seen was p now acted kept given_at = record {
     life = record { last = now.keeps.life.last; alive = ap (life_of seen) acted.moves.id ∙ now.keeps.life.alive; most = omega (arith, now.keeps.life.most, acted.moves.finished) };
     built = subst (All (λ c. runs c ≡ true)) (sym acted.moves.commands) now.keeps.built;
     kept = subst (λ b. All (KeptAt seen b) p.kept) (sym acted.moves.id) (subst (All (KeptAt seen was.progress.id)) (sym kept) now.keeps.kept);
-    given_at = ?;
+    given_at = subst (λ b. PlaceFits seen b (plan_at p.exec) p.read p.given_at) (sym acted.moves.id) (subst (λ n. PlaceFits seen was.progress.id (plan_at p.exec) p.read n) (sym given_at)
+        (subst (λ (x : Session). PlaceFits seen was.progress.id x.left x.read was.progress.given_at) (sym acted.session) (place (is_absent (acted.further acted.given)) refl)));
   };
   holds = acted.holds;
   course = subst (λ b. EntersCourse scenario seen b (session_at p acted.holds.rest)) (sym acted.moves.id) (subst (EntersCourse scenario seen was.progress.id) (sym acted.session)
@@ -108,6 +131,11 @@ act_agrees scenario seen was p now acted kept given_at = record {
     unsettled : is_settled (outcome_of s.left) ≡ false
     unsettled = ap (λ x. is_settled (outcome_of x)) acted.left
 
+    place : (t : Bool) → is_absent (acted.further acted.given) ≡ t → PlaceFits seen was.progress.id (acted.further acted.given) false was.progress.given_at
+    place false there = place_first seen was.progress.id (acted.further acted.given) was.progress.given_at there
+    place true absent = place_absent seen was.progress.id s acted.command acted.act acted.further acted.given was.progress.given_at (on_its_way seen was.progress.id s acted.command acted.act acted.further (now.course.follows acted.command at_finished) acted.left) acted.left
+        (is_done_here (facts_of seen was.progress.id) s acted.act acted.further acted.given acted.gives) now.keeps.given_at absent
+
     going : s.ended ≡ false
     going = acts_going scenario seen was.progress.id s acted.command now.course at_finished unsettled
 
@@ -122,7 +150,7 @@ pass_agrees scenario seen was p lines text now passed kept pushed tells = record
     life = record { last = now.keeps.life.last; alive = ap (life_of seen) passed.id ∙ now.keeps.life.alive; most = omega (arith, now.keeps.life.most, passed.finished) };
     built = subst (All (λ c. runs c ≡ true)) (sym passed.commands) now.keeps.built;
     kept = subst (λ b. All (KeptAt seen b) p.kept) (sym passed.id) (subst (All (KeptAt seen was.progress.id)) (sym kept) now.keeps.kept);
-    given_at = ?;
+    given_at = subst (λ (x : Session). PlaceFits seen p.id x.left x.read p.given_at) (sym passed.session) (place_first seen p.id (plan_first (blocks_after passed.command s) next) p.given_at (not_absent (blocks_after passed.command s) next));
   };
   holds = passed.holds;
   course = subst (λ b. EntersCourse scenario seen b (session_at p passed.holds.rest)) (sym passed.id) (subst (EntersCourse scenario seen was.progress.id) (sym session)
@@ -141,7 +169,7 @@ pass_agrees scenario seen was p lines text now passed kept pushed tells = record
   };
   here = λ command at none. record {
     judged = subst (λ (x : Session). length seen ≤ x.judged) (sym passed.session) now.last;
-    stands = (λ i. is_over (last_event_of seen (passed.id i)) (passed.session i)) ∙ ?;
+    stands = (λ i. is_over (last_event_of seen (passed.id i)) (passed.session i)) ∙ begins_over (last_event_of seen was.progress.id) refl;
   };
   last = subst (λ (x : Session). length seen ≤ x.last) (sym passed.session) now.last;
 }
@@ -164,6 +192,14 @@ pass_agrees scenario seen was p lines text now passed kept pushed tells = record
     session : session_at p passed.holds.rest ≡ next_session passed.command (first_of rest) s
     session = passed.session ∙ ap (λ o. next_session passed.command o s) (sym (first_left was.progress.commands (was.progress.finished + 1)))
 
+    begins_over : (last : Option Event) → last_event_of seen was.progress.id ≡ last → is_over last (next_session passed.command next s) ≡ false
+    begins_over (Some (events.Gone from)) is = absurd (gone_unfinished (facts_of seen was.progress.id) (command_at was) s was.looked was.looked_to_build passed.command from passed.at passed.over now.fits is)
+    begins_over last is = refl
+
+    -- it has come out and owes nothing
+    over : (is_settled (outcome_of s.left) && is_none (end_left (facts_of seen was.progress.id) passed.command s) ≡ true) × (is_empty (owed_of (facts_of seen was.progress.id) passed.command s) ≡ true)
+    over = and_parts (is_settled (outcome_of s.left) && is_none (end_left (facts_of seen was.progress.id) passed.command s)) (is_empty (owed_of (facts_of seen was.progress.id) passed.command s)) passed.over
+
     -- what it answers is its line
     number_same : number_of s ≡ was.progress.finished + 1
     number_same = ap (λ n. n + 1) now.holds.count
@@ -174,7 +210,7 @@ pass_agrees scenario seen was p lines text now passed kept pushed tells = record
         told : (o : Option (List ℕ)) → was.answer ≡ o → elim o as (λ x. Type 0) [ Some before ↦ text ≡ before | None ↦ IsToldText was.progress passed.command text ]
             → record { backend = was.progress.id; command = number_of s; text = text } ≡ line_of scenario seen was.progress.id (number_of s) (finished_as s) passed.command
         told (Some before) is same = (λ i. record { backend = was.progress.id; command = number_of s; text = same i }) ∙ now.tells.answer before passed.command is passed.at
-        told None is says = answered_line scenario seen was passed.command text now passed.at ? ? is says
+        told None is says = answered_line scenario seen was passed.command text now passed.at (and_parts (is_settled (outcome_of s.left)) _ over.0).0 (sym (owes_nothing_is (facts_of seen was.progress.id) passed.command was.progress now.holds.rest now.holds.facts) ∙ over.1) is says
 
 -- where nothing is left to be done without an entry it is answered, if it is to be
 pub rest_awaits : (scenario : Scenario) (seen : List Entry) (s : Backend) → AgreesNow scenario seen s → IsAtRest s.progress → (is_to_answer_at s.progress ≡ true → is_some s.answer ≡ true) → AwaitsEntry scenario seen s

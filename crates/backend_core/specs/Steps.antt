@@ -78,7 +78,7 @@ pub record IsWriteNext (s : Progress) : Type 0 where
 
 -- this entry of the end of a command that has come out comes next, or after the last command of taking back what still runs
 pub data EndsNext (s : Progress) (event : Event) : Type 0 where
-  InCommand : (command : Command) → IsFree s command → is_out s ≡ true → may_end_at command s event ≡ true → EndsNext s event
+  InCommand : (command : Command) → IsFree s command → is_out s ≡ true → owes_nothing command s ≡ true → may_end_at command s event ≡ true → EndsNext s event
   AfterAll : slice_get s.commands s.finished ≡ None → is_next_of_end s event (end_of_running s.running) ≡ true → EndsNext s event
 
 -- a scan of this kind comes next, for which no look was made

@@ -4,7 +4,9 @@
 // which it looks again exactly where the fetch gave 32. A fetch of a backend that was lapped resets
 // it, and ends the acceptance.
 
-ghost use Rattle.std.specs.Prelude.{◌≡◌, ◌<◌, ◌&&◌, ◌||◌, not};
+ghost use Rattle.std.specs.Prelude.{◌≡◌, ◌≤◌, ◌<◌, ◌&&◌, ◌||◌, [], List, not, length};
+ghost use Rattle.base_types.specs.Scenario.{Scenario};
+ghost use Rattle.event_kinds.specs.declared.entry.Entry.{Entry};
 ghost use Rattle.backend_core.specs.Words.{built_relation as relation_built, has_begun, marks_build};
 
 use crate::Backend;
@@ -17,7 +19,12 @@ use seg_calls::Seg;
 use std::alloc::Global;
 
 impl Backend {
+    ghost use Rattle.event_kinds.specs.declared.entry.Event.TheVariants as events;
+    ghost use Rattle.history_model.specs.Log.{fetched_by};
     ghost use Rattle.cacheless.specs.OnCourse.{AllOnCourse};
+    ghost use Rattle.cacheless.specs.Holds.{Rests, HasEntered};
+    ghost use Rattle.cacheless.specs.May.{HasRoom};
+    ghost use Rattle.cacheless.specs.State.{kept_spared};
     ghost use Rattle.backend_core.specs.Agrees.{AwaitsEntry, IsPlayed};
     ghost use Rattle.backend_core.specs.declared.next.Next.TheVariants as nexts;
     ghost use Rattle.backend_core.specs.Steps.{Enters, IsNextOf};
@@ -79,7 +86,7 @@ impl Backend {
     fn take_messages(&mut self, alloc: Global, messages: &[Message])
         requires few { self.old.progress.finished ≤ 20000 }
         requires room { HasRoom self.old.progress }
-        ensures holds { (scenario : Scenario) (seen : List Entry) → (rests : Rests scenario seen self.old.progress) → messages.now ≡ fetched_by seen self.old.progress.id (length messages.now) → HasEntered scenario seen self.old.progress (Event.Fetch (length messages.now)) rests self.new.progress }
+        ensures holds { (scenario : Scenario) (seen : List Entry) → (rests : Rests scenario seen self.old.progress) → messages.now ≡ fetched_by seen self.old.progress.id (length messages.now) → HasEntered scenario seen self.old.progress (events.Fetch (length messages.now)) rests self.new.progress }
         ensures is { self.new ≡ record self.old { progress = self.new.progress; looked_to_build = self.old.looked_to_build && not (marks_build self.old.progress messages.now) } }
         ensures kept { self.new.progress.kept ≡ kept_spared messages.now self.old.progress.kept }
         ensures given_at { self.new.progress.given_at ≡ self.old.progress.given_at }
@@ -95,7 +102,7 @@ impl Backend {
     fn take_reset(&mut self, alloc: Global)
         requires few { self.old.progress.finished ≤ 20000 }
         requires room { HasRoom self.old.progress }
-        ensures holds { (scenario : Scenario) (seen : List Entry) → (rests : Rests scenario seen self.old.progress) → HasEntered scenario seen self.old.progress Event.FetchReset rests self.new.progress }
+        ensures holds { (scenario : Scenario) (seen : List Entry) → (rests : Rests scenario seen self.old.progress) → HasEntered scenario seen self.old.progress events.FetchReset rests self.new.progress }
         ensures is { self.new ≡ record self.old { progress = self.new.progress; looked_to_build = self.old.looked_to_build && not (has_begun self.old.progress) } }
         ensures kept { self.new.progress.kept ≡ [] }
         ensures given_at { self.new.progress.given_at ≡ self.old.progress.given_at }
@@ -156,7 +163,7 @@ fn looked_with(looked: bool, more: bool) -> bool
 }
 
 // Whether a look counts for the next scan still.
-fn still_looked(looked: bool, marked: bool) -> bool
+pub(crate) fn still_looked(looked: bool, marked: bool) -> bool
     ensures { result ≡ (looked && not marked) }
 {
     looked && !marked

@@ -1,6 +1,7 @@
 // The scans and the locks of a backend.
 
 use crate::Backend;
+use crate::looks::still_looked;
 use base_types::{Mode, NoMemory, Oid, Purpose};
 use seg_calls::{LockRefusal, Seg};
 
@@ -28,11 +29,8 @@ impl Backend {
     {
         let scanned = seg.scan(self.progress.id, self.progress.finished + 1, scan)?;
         self.progress.enter_scan(scan, scanned.rows, scanned.at)?;
-        if builds {
-            self.looked_to_build = false;
-        } else {
-            self.looked = false;
-        }
+        self.looked = still_looked(self.looked, !builds);
+        self.looked_to_build = still_looked(self.looked_to_build, builds);
         self.answer = None;
         Ok(())
     }
@@ -48,14 +46,17 @@ impl Backend {
         ensures refused { OnErr result (IsRefused (L.script seg.old) (L.history seg.old) (L.history seg.new) (L.promised seg.old) (L.promised seg.new) self.old.progress.id) }
     {
         self.progress.reserve_lock()?;
+        self.answer = None;
         match seg.lock(self.progress.id, self.progress.finished + 1, rel, mode) {
-            Ok(()) => self.progress.enter_lock(rel, mode),
+            Ok(()) => {
+                self.progress.enter_lock(rel, mode);
+                Ok(())
+            }
             Err(LockRefusal::Conflict { holder, mode: held }) => {
                 self.progress.enter_refused(rel, mode, holder, held);
+                Ok(())
             }
-            Err(LockRefusal::NoMemory) => return Err(NoMemory),
+            Err(LockRefusal::NoMemory) => Err(NoMemory),
         }
-        self.answer = None;
-        Ok(())
     }
 }

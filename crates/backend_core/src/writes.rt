@@ -24,6 +24,7 @@ impl Backend {
         ensures refused { OnErr result (IsRefused (L.script seg.old) (L.history seg.old) (L.history seg.new) (L.promised seg.old) (L.promised seg.new) self.old.progress.id) }
     {
         self.progress.reserve_lock()?;
+        self.answer = None;
         let draft = replace(&mut self.progress.exec, Exec::Done).into_draft(alloc)?;
         let new_oids = draft.new_oids;
         let result = seg.write(self.progress.id, self.progress.finished + 1, &draft);
@@ -35,11 +36,12 @@ impl Backend {
                 written.messages.as_slice(),
                 new_oids,
                 written.first_oid,
-            )?,
-            Err(WriteRefusal::Clash(name, clash)) => self.progress.enter_clash(name, clash),
-            Err(WriteRefusal::NoMemory) => return Err(NoMemory),
+            ),
+            Err(WriteRefusal::Clash(name, clash)) => {
+                self.progress.enter_clash(name, clash);
+                Ok(())
+            }
+            Err(WriteRefusal::NoMemory) => Err(NoMemory),
         }
-        self.answer = None;
-        Ok(())
     }
 }

@@ -1,4 +1,4 @@
-use Rattle.std.proofs.Common.{◌≤◌, ◌∙◌, [], ◌∷◌, ◌++◌, ap, sym, refl, subst, length, arith}
+use Rattle.std.proofs.Common.{◌≤◌, ◌<◌, ◌∙◌, [], ◌∷◌, ◌++◌, ap, sym, refl, subst, length, arith}
 use Rattle.std.specs.List.{AllByRecursion}
 use Rattle.inval_messages.specs.Lists.{Written}
 use Rattle.command_lists.specs.Lists.{all_lists, command_ended, new_list, with_messages}

@@ -1,5 +1,5 @@
 use Rattle.backend_core.proofs.Entered.{has_room, is_few}
-use Rattle.backend_core.proofs.Looks.{look_call, look_enters}
+use Rattle.backend_core.proofs.Looking.{look_call, look_enters}
 use Rattle.backend_core.proofs.backend.Backend.look.Goals as goal
 
 pub looked-requires-clause-call : goal.looked-requires-clause-call

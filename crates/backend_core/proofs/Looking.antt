@@ -30,7 +30,8 @@ use Rattle.backend_core.specs.Agrees.{IsPlayed, command_at, KeptAt, AwaitsEntry}
 use Rattle.backend_core.specs.Fits.{looks_due, LooksFit, Fits}
 use Rattle.backend_core.specs.Steps.{OwesLookNow, IsLookNext, Enters}
 use Rattle.backend_core.specs.Words.{is_looked_for}
-use Rattle.backend_core.proofs.Chosen.{Busy, Owes, may_call, hidden, one_at_most, started_most, look_may}
+use Rattle.backend_core.proofs.ActsRun.{scan_runs}
+use Rattle.backend_core.proofs.Chosen.{Busy, Owes, due_busy, may_call, hidden, one_at_most, started_most, started_by, started_now, started_still, look_may}
 use Rattle.backend_core.proofs.Entered.{fits_at, keeps_still}
 use Rattle.backend_core.proofs.FitsEntries.{StaysInside, StaysAt, RunsHere, Goes, Starts, fits_inside}
 use Rattle.backend_core.proofs.Own.{waiting, going, OwnEntry, KeepsAnswer, Inside as StaysWithin, own_enters}
@@ -41,11 +42,11 @@ not_empty (x ∷ xs) some = refl
 
 -- where a look is owed something is
 look_busy : (p : Progress) (next : OwesLookNow p) → Busy p next.command
-look_busy p next = Owes (by_side next.owes)
+look_busy p next = by_side next.owes
   where
-    by_side : (p.due ≡ dues.Look) ⊎ ((p.due ≡ dues.Nothing) × (owed_first p next.command ≢ [])) → owes_nothing next.command p ≡ false
-    by_side (inl due) = ap (λ d. is_empty (owed_first p next.command) && is_empty (owed_at d) && not (lacks_any p)) due ∙ ap (λ t. t && not (lacks_any p)) (and-false (is_empty (owed_first p next.command)))
-    by_side (inr (due, owes)) = ap (λ t. t && is_empty (owed_at p.due) && not (lacks_any p)) (not_empty (owed_first p next.command) owes)
+    by_side : (p.due ≡ dues.Look) ⊎ ((p.due ≡ dues.Nothing) × (owed_first p next.command ≢ [])) → Busy p next.command
+    by_side (inl due) = due_busy p next.command (ap (λ d. is_empty (owed_at d)) due)
+    by_side (inr (due, owes)) = Owes (ap (λ t. t && is_empty (owed_at p.due) && not (lacks_any p)) (not_empty (owed_first p next.command) owes))
 
 -- a look at a transaction's start
 pub record StartsNow (p : Progress) (command : Command) : Type 0 where
@@ -77,20 +78,9 @@ looked_due : (some_wait : Bool) → looks_due (owed_after (Some (events.Look som
 looked_due true = refl
 looked_due false = refl
 
-begun_written : (number : ℕ) (own : Option Running) → option_map_or (λ t. is_some t.xid) own false ≡ true → is_some (begun number own).xid ≡ true
+pub begun_written : (number : ℕ) (own : Option Running) → option_map_or (λ t. is_some t.xid) own false ≡ true → is_some (begun number own).xid ≡ true
 begun_written number None is = absurd (cc is)
 begun_written number (Some t) is = is
-
-abbrev started_by : ℕ → Option Running → ℕ
-started_by n own = option_map_or (λ t. elim (t.first == n) as (λ x. ℕ) [ true ↦ 1 | false ↦ 0 ]) own 0
-
--- the transaction is counted once
-started_now : (n : ℕ) (own : Option Running) → own ≡ None → started_by n (Some (begun n own)) ≡ 1
-started_now n own none = ap (λ o. started_by n (Some (begun n o))) none ∙ ap (λ t. elim t as (λ x. ℕ) [ true ↦ 1 | false ↦ 0 ]) (eq-eqb n n refl)
-
-started_still : (n m : ℕ) (own : Option Running) → is_some own ≡ true → started_by n (Some (begun m own)) ≡ started_by n own
-started_still n m None some = absurd (cc some)
-started_still n m (Some t) some = refl
 
 -- where the running command begins a transaction no block is open
 begins_outside : (command : Command) (s : Session) → begins command s ≡ true → s.blocks.block ≡ Outside
@@ -196,7 +186,7 @@ look_enters scenario old new had has was p some_wait waits played courses next i
         counts_start facts (waiting waits) next.command was.looked was.looked_to_build (waits.rests.holds.facts.owed ∙ ap owed_at due) starts.begins (waits.rests.holds.facts.running ∙ ap running_of starts.none)
 
 -- where a scan is missing something is owed
-scan_busy : (p : Progress) (command : Command) → lacks_any p ≡ true → Busy p command
+pub scan_busy : (p : Progress) (command : Command) → lacks_any p ≡ true → Busy p command
 scan_busy p command lacks = Owes (ap (λ t. is_empty (owed_first p command) && is_empty (owed_at p.due) && not t) lacks ∙ and-false (is_empty (owed_first p command) && is_empty (owed_at p.due)))
 
 -- the look before a scan
@@ -209,7 +199,8 @@ pub look_before_enters : (scenario : Scenario) (old new : List Entry) (had has :
     → Appends old new had has (entry_of was.progress.id (was.progress.finished + 1) (events.Look some_wait)) → Enters scenario old new had has was (record was { progress = p; looked = was.looked || not builds; looked_to_build = was.looked_to_build || builds; answer = None })
 look_before_enters scenario old new had has was p some_wait builds waits played courses next is goes kept given_at appends =
     look_agrees scenario old was waits courses next.next.command next.next.free.at some_wait (was.looked || not builds) (was.looked_to_build || builds)
-    (counts_scan (facts_of old was.progress.id) (waiting waits) next.next.command builds was.looked was.looked_to_build (waits.rests.holds.facts.owed ∙ ap owed_at next.next.free.due) ? (unlooked builds next.unlooked))
+    (counts_scan (facts_of old was.progress.id) (waiting waits) next.next.command builds was.looked was.looked_to_build (waits.rests.holds.facts.owed ∙ ap owed_at next.next.free.due)
+        (scan_runs scenario old was waits courses next.next.command next.next.free.at next.scan next.next.next next.next.free.first) (unlooked builds next.unlooked))
     new had has p played is (scan_busy was.progress next.next.command next.next.lacks) goes kept given_at appends
   where
     unlooked : (t : Bool) → is_looked_for t was ≡ false → elim t as (λ x. Bool) [ true ↦ was.looked_to_build | false ↦ was.looked ] ≡ false

@@ -1,0 +1,104 @@
+-- A backend whose locks have more room, or whose plan is held in another form, agrees as before.
+use Rattle.std.proofs.Common.{◌≡◌, ◌+◌, ◌∙◌, ◌&&◌, ◌||◌, ℕ, Bool, true, false, not, Option, Some, None, List, refl, sym, ap, subst, drop, slice_get, is_some}
+use Rattle.std.proofs.Math.Bool.{and-false}
+use Rattle.lock_modes.specs.Rooms.{Roomy}
+use Rattle.ddl_effect.specs.Commands.{writing}
+use Rattle.ddl_effect.specs.Stages.{plan_at, plan_again}
+use Rattle.ddl_effect.specs.declared.exec.Exec.TheVariants as stages
+use Rattle.history_model.specs.Writes.{is_empty}
+use Rattle.cacheless.specs.Facts.{facts_of}
+use Rattle.cacheless.specs.Holds.{NamedFit, Holds}
+use Rattle.cacheless.specs.May.{lacks_opened, owes_nothing}
+use Rattle.cacheless.specs.Puts.{PutsOpened}
+use Rattle.cacheless.specs.Session.{Badly, outcome_of, is_settled}
+use Rattle.cacheless.specs.Settled.{settled}
+use Rattle.cacheless.specs.Silently.{IsAtRest}
+use Rattle.cacheless.specs.State.{owed_at, owed_first, act_missing, is_absent, IsLockedIn, Rest, session_at}
+use Rattle.backend_core.specs.Types.{Oid, Mode, Command, Draft, Exec, OwnLock, Scenario, Entry, Progress, Backend}
+use Rattle.backend_core.specs.Agrees.{command_at, is_to_answer_at, PlaceFits, AwaitsEntry}
+use Rattle.backend_core.specs.Fits.{Fits}
+use Rattle.backend_core.specs.Steps.{MakesEntry, Enters, IsFree, IsLockNext, IsWriteNext}
+
+module _ (scenario : Scenario) (seen : List Entry) (s : Backend) (exec : Exec) (locks : Roomy OwnLock) (plan : plan_at exec ≡ plan_at s.progress.exec) (items : locks.items ≡ s.progress.locks.items) (again : is_absent (plan_at exec) ≡ true → plan_again s.progress.exec ≡ plan_again exec) where
+  abbrev other : Backend
+  other = record s { progress = record s.progress { exec = exec; locks = locks } }
+
+  abbrev session_same : (rest : Rest) → session_at other.progress rest ≡ session_at s.progress rest
+  session_same rest = λ i. record (session_at s.progress rest) { left = plan i; locks = items i }
+
+  abbrev holds_same : Holds scenario seen s.progress → Holds scenario seen other.progress
+  holds_same h = record {
+    number = h.number;
+    commands = h.commands;
+    few = h.few;
+    most = h.most;
+    rest = h.rest;
+    count = h.count;
+    is = h.is ∙ ap (λ x. Some (settled (facts_of seen s.progress.id) (drop s.progress.finished s.progress.commands) x)) (sym (session_same h.rest));
+    facts = record {
+      running = h.facts.running;
+      lists = h.facts.lists;
+      owed = h.facts.owed;
+      usable = h.facts.usable;
+      kept = h.facts.kept;
+      given = subst (λ p. (s.progress.read || is_absent p) ≡ true → NamedFit (facts_of seen s.progress.id) p s.progress.given.items s.progress.named) (sym plan) h.facts.given;
+    };
+    counts = h.counts;
+    order = h.order;
+    sought = λ is. h.sought (ap is_absent (sym plan) ∙ is) ∙ again is;
+    puts = subst (PutsOpened s.progress.opened) (sym plan) h.puts;
+  }
+
+  alike_awaits : IsAtRest other.progress → (is_to_answer_at other.progress ≡ true → is_some s.answer ≡ true) → AwaitsEntry scenario seen s → AwaitsEntry scenario seen other
+  alike_awaits still answered waits = record {
+    keeps = let k = waits.keeps in record {
+      alive = k.alive;
+      life = record { last = k.life.last; alive = k.life.alive; most = k.life.most };
+      built = k.built;
+      kept = k.kept;
+      given_at = subst (λ p. PlaceFits seen s.progress.id p s.progress.read s.progress.given_at) (sym plan) k.given_at;
+    };
+    rests = record { holds = holds_same waits.rests.holds; still = still };
+    fits = subst (λ x. Fits (facts_of seen s.progress.id) (command_at s) x s.looked s.looked_to_build) (sym (session_same waits.rests.holds.rest)) waits.fits;
+    tells = record { lines = waits.tells.lines; answer = waits.tells.answer; out = λ some. ap (λ p. is_settled (outcome_of p)) plan ∙ waits.tells.out some };
+    answered = answered;
+  }
+
+-- there is room for one more lock
+pub reserved_awaits : (scenario : Scenario) (seen : List Entry) (s : Backend) (p : Progress) → IsLockedIn s.progress.locks.items s.progress p → AwaitsEntry scenario seen s → AwaitsEntry scenario seen (record s { progress = p })
+reserved_awaits scenario seen s p same waits = subst (λ x. AwaitsEntry scenario seen (record s { progress = x })) (sym same.is)
+    (alike_awaits scenario seen s s.progress.exec p.locks refl same.locks_are (λ is. refl)
+    (subst (λ l. IsAtRest (record s.progress { locks = record { items = l; room = p.locks.room } })) (sym same.locks_are) waits.rests.still)
+    (subst (λ l. is_to_answer_at (record s.progress { locks = record { items = l; room = p.locks.room } }) ≡ true → is_some s.answer ≡ true) (sym same.locks_are) waits.answered) waits)
+
+pub reserved_lock : (s p : Progress) (rel : Oid) (mode : Mode) → IsLockedIn s.locks.items s p → IsLockNext s rel mode → IsLockNext p rel mode
+reserved_lock s p rel mode same next = subst (λ x. IsLockNext x rel mode) (sym same.is)
+    (subst (λ l. IsLockNext (record s { locks = record { items = l; room = p.locks.room } }) rel mode) (sym same.locks_are)
+    (record { command = next.command; free = record { at = next.free.at; due = next.free.due; first = next.free.first }; may = next.may }))
+
+pub reserved_write : (s p : Progress) → IsLockedIn s.locks.items s p → IsWriteNext s → IsWriteNext p
+reserved_write s p same next = subst IsWriteNext (sym same.is)
+    (subst (λ l. IsWriteNext (record s { locks = record { items = l; room = p.locks.room } })) (sym same.locks_are)
+    (record { command = next.command; free = record { at = next.free.at; due = next.free.due; first = next.free.first }; owes = next.owes; wants = next.wants }))
+
+-- what another form of the backend entered it entered
+pub alike_enters : (scenario : Scenario) (old new : List Entry) (had has : ℕ → ℕ) (was other now : Backend) → other.progress.id ≡ was.progress.id → Enters scenario old new had has other now → Enters scenario old new had has was now
+alike_enters scenario old new had has was other now same enters = record { makes = subst (MakesEntry scenario old new had has) same enters.makes; id = enters.id ∙ same; agrees = enters.agrees }
+
+-- its write is drafted
+none_answered : (o : Option Command) → elim o as (λ x. Bool) [ Some command ↦ false | None ↦ false ] ≡ true → ⊥
+none_answered None is = absurd (cc is)
+none_answered (Some command) is = absurd (cc is)
+
+pub drafted_awaits : (scenario : Scenario) (seen : List Entry) (s : Backend) (draft : Draft) → plan_at s.progress.exec ≡ writing draft → AwaitsEntry scenario seen s → AwaitsEntry scenario seen (record s { progress = record s.progress { exec = stages.Writing draft } })
+drafted_awaits scenario seen s draft plan waits = alike_awaits scenario seen s (stages.Writing draft) s.progress.locks (sym plan) refl (λ is. absurd (cc is))
+    (λ command at. (and-false (owes_nothing command (record s.progress { exec = stages.Writing draft })), refl))
+    (λ is. absurd (none_answered (command_at s) is)) waits
+
+pub drafted_write : (s : Progress) (draft : Draft) → plan_at s.exec ≡ writing draft → IsWriteNext s → IsWriteNext (record s { exec = stages.Writing draft })
+drafted_write s draft plan next = record {
+  command = next.command;
+  free = record { at = next.free.at; due = next.free.due; first = next.free.first };
+  owes = subst (λ p. (is_empty (owed_first s next.command) && is_empty (owed_at s.due) && not (not (elim (outcome_of p) as (λ x. Bool) [ Badly ↦ true | other ↦ false ]) && (lacks_opened s.kept s.opened || not (is_empty (act_missing s p))))) ≡ true) plan next.owes;
+  wants = refl;
+}
