@@ -37,22 +37,26 @@ fuzz_scripts.SIZES["least"] = (1, 3, 1, 3)
 
 
 class Maker(fuzz_scripts.Maker):
-    """Makes plain scripts, without a schedule, at times with the smallest queue and a table that fills it."""
+    """Makes plain scripts, without a schedule, whose backends begin in turn with what is rare else: a table whose messages take
+    several fetches or fill the queue, a block that is taken back, one name for two tables, locks that conflict."""
 
-    def __init__(self, seed, size, laps):
+    def __init__(self, seed, size):
         super().__init__("session %d" % seed, STAGE.number, size)
-        self.plain_style, self.laps, self.lapping = True, laps, self.rng.random() < 0.2
+        self.plain_style, self.turn = True, seed % 8
         self.tables = self.tables[:2]
 
     def first_tables(self):
         return [name for name in super().first_tables() if self.chance(0.7)]
 
     def commands(self):
-        wide = "create table w (%s)" % ", ".join("c%d int4" % n for n in range(67))
-        return super().commands() + ([wide] if self.laps and self.chance(0.5) else [])
+        wide = "create table w (%s)" % ", ".join("c%d int4" % n for n in range(67 if self.turn == 4 else self.pick(29, 30, 31)))
+        taken_back = ["begin", "create table x (a int4)", self.pick("show x", "show nosuch", "create table x (b int4)"), "rollback"]
+        locks = ["begin"] + ["lock table %s in %s mode" % (self.table(), self.pick("share", "exclusive", "row exclusive")), "commit"]
+        first = {3: [wide], 4: [wide], 5: taken_back, 6: ["create table x (a int4)"], 7: locks}.get(self.turn, [])
+        return (first if self.chance(0.7) else []) + super().commands()
 
     def ring_line(self):
-        return ["ring 64"] if self.laps else super().ring_line()
+        return ["ring 64"] if self.turn == 4 else super().ring_line()
 
     def text(self):
         return "".join(line + "\n" for line in self.lines() if not line.startswith("steps"))
@@ -229,19 +233,14 @@ def renamed(item):
     return item._replace(row=item.row._replace(name="zz")) if isinstance(item, (Add, Put)) and "name" in item.row._fields else item
 
 
-def ask_some(case, draw, most):
-    """Asks some questions, of those that are allowed and of those that are refused as often."""
-    asker = Asker(case)
-    sorts = {"allowed": [], "refused": []}
-    for b in case.checker.sessions:
-        for entry in asker.entries(b):
-            verdict = case.judge(entry)
-            if verdict:
-                sorts[verdict].append(entry)
-    for _ in range(most):
-        found = sorts[draw.choice(("allowed", "refused"))]
-        if found:
-            case.ask(found.pop(draw.randrange(len(found))))
+def ask_one(case, draw):
+    """Asks of one backend a question that is allowed or one that is refused, as often; none where none is found soon."""
+    found = Asker(case).entries(draw.choice(list(case.checker.sessions)))
+    wanted = draw.choice(("allowed", "refused"))
+    for entry in draw.sample(found, min(len(found), 60)):
+        if case.judge(entry) == wanted:
+            return case.ask(entry)
+    return None
 
 
 def ask_all(case):
@@ -257,7 +256,7 @@ def played(seed, most):
     """The script of a seed, and the entries that were played of it."""
     draw = random.Random("played %d" % seed)
     size = draw.choice(("least", "least", "small"))
-    text = Maker(seed, size, draw.random() < 0.25).text()
+    text = Maker(seed, size).text()
     player = Bursts(read_script(text.encode()), draw)
     player.play(draw.randint(most // 3, most))
     if player.stuck:
@@ -361,15 +360,14 @@ def write_cases(folder, name, cases):
 
 def write(folder):
     draw = random.Random("questions")
-    write_cases(folder, "worked", [replayed(text, entries, lambda case: ask_some(case, draw, 2)) for text, entries in worked()])
-    write_cases(folder, "played", [replayed(*played(seed, 90), lambda case: draw.random() < 0.5 and ask_some(case, draw, 1)) for seed in range(1, 121)])
-    cases, seed = [], 0
-    while len(cases) < 400:
+    write_cases(folder, "worked", [replayed(text, entries, lambda case: ask_one(case, draw)) for text, entries in worked()])
+    write_cases(folder, "played", [replayed(*played(seed, 90), lambda case: draw.random() < 0.4 and ask_one(case, draw)) for seed in range(1, 121)])
+    cases, seed = [], 1000
+    while len(cases) < 340:
         seed += 1
-        text, entries = played(1000 + seed, 40)
-        case = changed(seed, text, entries)
-        if case:
-            cases.append(case)
+        text, entries = played(seed, 32)
+        more = (changed(10 * seed + n, text, entries) for n in range(4))
+        cases += [case for case in more if case][:2]
     write_cases(folder, "changed", cases)
 
 

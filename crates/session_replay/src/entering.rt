@@ -12,7 +12,7 @@ ghost use Rattle.cacheless.specs.May.{HasRoom};
 use crate::commands::are_built;
 use crate::writes::{drawn_by, messages_of_write, rows_of};
 use base_types::{Command, Listed, Mode, Oid, Purpose, Xid};
-use cacheless::{Counts, Progress};
+use cacheless::Progress;
 use ddl_effect::Want;
 use event_kinds::{Entry, Event, Item};
 use inval_messages::Message;
@@ -214,15 +214,12 @@ fn is_countable(progress: &Progress) -> bool
     ensures few { result ≡ true → progress.now.finished ≤ 20000 }
     ensures room { result ≡ true → HasRoom progress.now }
 {
-    progress.finished as usize <= MOST_COMMANDS && has_room(&progress.tally)
-}
-
-fn has_room(tally: &Counts) -> bool {
-    tally.looks < MOST_COUNTED
-        && tally.scans < MOST_COUNTED
-        && tally.grants < MOST_COUNTED
-        && tally.fetches < MOST_COUNTED
-        && tally.full < MOST_COUNTED
+    progress.finished as usize <= MOST_COMMANDS
+        && progress.tally.looks < MOST_COUNTED
+        && progress.tally.scans < MOST_COUNTED
+        && progress.tally.grants < MOST_COUNTED
+        && progress.tally.fetches < MOST_COUNTED
+        && progress.tally.full < MOST_COUNTED
 }
 
 // Whether its command wants to write, and its lists and locks let it make a relation of this oid.
@@ -234,6 +231,15 @@ fn may_write(progress: &Progress, first: Oid) -> bool
 {
     progress.finished as usize <= MOST_COMMANDS
         && matches!(progress.exec.next(), Want::Write)
-        && !progress.has_write_since(progress.finished + 1)
+        && has_earlier_lists(progress)
         && progress.locks.state(first, Mode::AccessExclusive).is_none()
+}
+
+// Whether its lists are of commands before the running one.
+#[tactic(auto, using(crate::proofs::Conditions::all_before))]
+fn has_earlier_lists(progress: &Progress) -> bool
+    requires few { progress.now.finished ≤ 20000 }
+    ensures { result ≡ true → AllByRecursion (λ list. list.command < progress.now.finished + 1) (lists_at progress.now) }
+{
+    !progress.has_write_since(progress.finished + 1)
 }
