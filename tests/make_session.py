@@ -361,9 +361,9 @@ def write_cases(folder, name, cases):
 def write(folder):
     draw = random.Random("questions")
     write_cases(folder, "worked", [replayed(text, entries, lambda case: ask_one(case, draw)) for text, entries in worked()])
-    write_cases(folder, "played", [replayed(*played(seed, 90), lambda case: draw.random() < 0.4 and ask_one(case, draw)) for seed in range(1, 121)])
+    write_cases(folder, "played", [replayed(*played(seed, 90), lambda case: draw.random() < 0.4 and ask_one(case, draw)) for seed in range(1, 111)])
     cases, seed = [], 1000
-    while len(cases) < 340:
+    while len(cases) < 300:
         seed += 1
         text, entries = played(seed, 32)
         more = (changed(10 * seed + n, text, entries) for n in range(4))

@@ -138,7 +138,9 @@ impl Session {
         if !is_countable(&self.progress) || !self.progress.may_play(segment.next_oid, &event) {
             return None;
         }
-        self.progress.enter_scan(purpose, rows, segment.entries).ok()
+        self.progress
+            .enter_scan(purpose, rows, segment.entries)
+            .ok()
     }
 
     fn lock(&mut self, rel: Oid, mode: Mode) -> Option<()> {
@@ -161,7 +163,9 @@ impl Session {
         if self.progress.reserve_lock().is_err() || !may_write(&self.progress, first) {
             return None;
         }
-        self.progress.enter_write(alloc, xid, &messages, drawn, first).ok()
+        self.progress
+            .enter_write(alloc, xid, &messages, drawn, first)
+            .ok()
     }
 
     fn publish(&mut self, segment: &mut Segment, count: u32) -> Option<()> {
