@@ -49,8 +49,10 @@ class Maker(fuzz_scripts.Maker):
         return [name for name in super().first_tables() if self.chance(0.7)]
 
     def commands(self):
-        wide = "create table w (%s)" % ", ".join("c%d int4" % n for n in range(67 if self.turn == 4 else self.pick(29, 30, 31)))
-        taken_back = ["begin", "create table x (a int4)", self.pick("show x", "show nosuch", "create table x (b int4)"), "rollback"]
+        count = 67 if self.turn == 4 else self.pick(29, 30, 31)
+        wide = "create table w (%s)" % ", ".join("c%d int4" % n for n in range(count))
+        shown = self.pick("show x", "show nosuch", "create table x (b int4)")
+        taken_back = ["begin", "create table x (a int4)", shown, "rollback"]
         locks = ["begin"] + ["lock table %s in %s mode" % (self.table(), self.pick("share", "exclusive", "row exclusive")), "commit"]
         first = {3: [wide], 4: [wide], 5: taken_back, 6: ["create table x (a int4)"], 7: locks}.get(self.turn, [])
         return (first if self.chance(0.7) else []) + super().commands()
@@ -172,7 +174,8 @@ class Asker:
         n = session.running.number
         if self.history.of(b).stopped:
             return [Entry(b, n, "look", (False,)), Entry(b, n, "release", (n,))]
-        found = [Entry(b, n, event, args) for event, args in self.plain(b, n) + self.scans(b) + self.locks(b) + self.writes(b, session)]
+        pairs = self.plain(b, n) + self.scans(b) + self.locks(b) + self.writes(b, session)
+        found = [Entry(b, n, event, args) for event, args in pairs]
         expected = session.next_entry(self.history)
         if expected and expected[0] != "lock":
             found += [Entry(b, n + by, *expected) for by in (-1, 0, 1) if n + by >= 0]
@@ -218,7 +221,8 @@ class Asker:
         expected = session.next_entry(self.history)
         if expected and expected[0] == "write":
             xid, items = expected[1]
-            found += [("write", (xid, changed)) for changed in (items[:-1], items + items[:1], items[::-1], items[1:]) if changed and changed != items]
+            others = (items[:-1], items + items[:1], items[::-1], items[1:])
+            found += [("write", (xid, other)) for other in others if other and other != items]
             found += [("write", (xid + 1, items)), ("write", (xid, tuple(re_signed(item) for item in items)))]
             found += [("write", (xid, tuple(renamed(item) for item in items)))]
         return found
@@ -230,7 +234,9 @@ def re_signed(item):
 
 
 def renamed(item):
-    return item._replace(row=item.row._replace(name="zz")) if isinstance(item, (Add, Put)) and "name" in item.row._fields else item
+    if isinstance(item, (Add, Put)) and "name" in item.row._fields:
+        return item._replace(row=item.row._replace(name="zz"))
+    return item
 
 
 def ask_one(case, draw):
@@ -354,14 +360,16 @@ def write_cases(folder, name, cases):
         for case in cases:
             out.write(case.written())
             expected.write("".join(line + "\n" for line in case.verdicts))
-    count = {word: sum(line.endswith(word) for case in cases for line in case.verdicts) for word in ("allowed", "refused", "entered")}
+    words = [line.split(" ")[1] for case in cases for line in case.verdicts]
+    count = {word: words.count(word) for word in ("allowed", "refused", "entered")}
     print("%s: %d cases, %d entries, %s" % (name, len(cases), sum(case.number() - 1 for case in cases), count))
 
 
 def write(folder):
     draw = random.Random("questions")
     write_cases(folder, "worked", [replayed(text, entries, lambda case: ask_one(case, draw)) for text, entries in worked()])
-    write_cases(folder, "played", [replayed(*played(seed, 90), lambda case: draw.random() < 0.4 and ask_one(case, draw)) for seed in range(1, 111)])
+    at_times = lambda case: draw.random() < 0.4 and ask_one(case, draw)
+    write_cases(folder, "played", [replayed(*played(seed, 90), at_times) for seed in range(1, 111)])
     cases, seed = [], 1000
     while len(cases) < 300:
         seed += 1
