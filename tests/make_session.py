@@ -26,7 +26,7 @@ import staged                                                               # no
 import fuzz_scripts                                                         # noqa: E402
 from definitions import Entry, read_script                                  # noqa: E402
 from definitions.tables import Add, Class, Put, Remove, item_text           # noqa: E402
-from play_random import Player                                              # noqa: E402
+from play_random import Player, event_of                                              # noqa: E402
 
 HERE = os.path.dirname(os.path.abspath(__file__))
 FOUND = re.search(r"--stage (\d+)", os.environ.get("CATSYNC_ORACLE_FLAGS", ""))
@@ -181,6 +181,28 @@ class Asker:
             found += [Entry(b, n + by, *expected) for by in (-1, 0, 1) if n + by >= 0]
         return found
 
+    def near(self, b):
+        """Those that its running command is to come to, too early or just in time: what it owes, its next act, its end."""
+        session, facts = self.case.checker.sessions[b], self.history.of(b)
+        if not facts.started or facts.stopped:
+            return []
+        n, transaction = session.running.number, facts.transaction
+        data = [datum for _, datum in session.owed(self.history) if datum]
+        found = [("scan", (datum, len(self.history.answer(b, datum, len(self.history))))) for datum in data]
+        expected = session.next_entry(self.history)
+        found += [event_of(self.history, b, expected)] if expected else []
+        firsts = {n, transaction.first_command} if transaction else {n}
+        found += [(event, (first,)) for event in ("gone", "release") for first in sorted(firsts)]
+        if transaction and transaction.xid:
+            found += [("visible", (transaction.xid,)), ("publish", (min(64, max(1, len(self.history.rest(b)))),))]
+        return [Entry(b, n, event, args) for event, args in found]
+
+    def is_busy(self, b):
+        """Whether a look or a fetch has to come next, or a full fetch of its command counts."""
+        session = self.case.checker.sessions[b]
+        return self.history.of(b).started and not self.history.of(b).stopped and (
+            session._must_come_next(self.history) is not None or session.running.spent_looks > 0)
+
     def plain(self, b, n):
         waits, facts = self.history.waits(b), self.history.of(b)
         fetch = "reset" if facts.lapped else min(32, len(self.history.log) - facts.pos)
@@ -241,12 +263,22 @@ def renamed(item):
 
 def ask_one(case, draw):
     """Asks of one backend a question that is allowed or one that is refused, as often; none where none is found soon."""
-    found = Asker(case).entries(draw.choice(list(case.checker.sessions)))
+    asker, b = Asker(case), draw.choice(list(case.checker.sessions))
+    found = asker.near(b) if draw.random() < 0.4 else asker.entries(b)
     wanted = draw.choice(("allowed", "refused"))
     for entry in draw.sample(found, min(len(found), 60)):
         if case.judge(entry) == wanted:
             return case.ask(entry)
     return None
+
+
+def ask_busy(case, draw):
+    """Asks one question at times, and of each backend that owes a look or a fetch what it is to come to."""
+    asker = Asker(case)
+    for b in filter(asker.is_busy, case.checker.sessions):
+        for entry in asker.near(b)[:3]:
+            case.ask(entry)
+    return draw.random() < 0.3 and ask_one(case, draw)
 
 
 def ask_all(case):
@@ -368,10 +400,9 @@ def write_cases(folder, name, cases):
 def write(folder):
     draw = random.Random("questions")
     write_cases(folder, "worked", [replayed(text, entries, lambda case: ask_one(case, draw)) for text, entries in worked()])
-    at_times = lambda case: draw.random() < 0.4 and ask_one(case, draw)
-    write_cases(folder, "played", [replayed(*played(seed, 90), at_times) for seed in range(1, 111)])
+    write_cases(folder, "played", [replayed(*played(seed, 80), lambda case: ask_busy(case, draw)) for seed in range(1, 101)])
     cases, seed = [], 1000
-    while len(cases) < 300:
+    while len(cases) < 270:
         seed += 1
         text, entries = played(seed, 32)
         more = (changed(10 * seed + n, text, entries) for n in range(4))
