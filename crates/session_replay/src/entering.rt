@@ -99,7 +99,7 @@ impl Session {
             Event::LockOk { rel, mode } => self.lock(*rel, *mode)?,
             Event::Write { xid, items } => self.write(segment, *xid, items.as_slice())?,
             Event::Publish { count } => self.publish(segment, *count)?,
-            _ => self.enter_alone(segment.alloc, event)?,
+            _ => self.enter_alone(event)?,
         }
         self.settle(segment.alloc)
     }
@@ -115,7 +115,7 @@ impl Session {
             return None;
         }
         let messages = segment.queue.get(self.fetched..)?.get(..count)?;
-        self.progress.enter_fetch(segment.alloc, messages);
+        self.progress.enter_fetch(messages);
         self.fetched = self.fetched.checked_add(count)?;
         Some(())
     }
@@ -179,7 +179,7 @@ impl Session {
     }
 
     // Enters an event that says all that its session hears.
-    fn enter_alone(&mut self, alloc: Global, event: &Event) -> Option<()> {
+    fn enter_alone(&mut self, event: &Event) -> Option<()> {
         let progress = &mut self.progress;
         if !is_countable(progress) {
             return None;
@@ -195,7 +195,7 @@ impl Session {
             Event::ClashRow { name, rel } => progress.enter_clash(*name, Clash::Row(*rel)),
             Event::ClashRunning { name, xid } => progress.enter_clash(*name, Clash::Running(*xid)),
             Event::Visible { xid } => progress.enter_visible(*xid),
-            Event::Gone { from } => progress.enter_gone(alloc, *from),
+            Event::Gone { from } => progress.enter_gone(*from),
             Event::Release { from } => progress.enter_release(*from),
             Event::Stop => progress.enter_stop(),
             _ => return None,
