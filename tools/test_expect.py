@@ -97,7 +97,7 @@ class Tool(unittest.TestCase):
     def test_not_met(self):
         """What isn't met is told with its line and with what came, and the exit status is 1."""
         given = ALTERED % (b"expect 2.1 columns a:int4;\nexpect 2.2 columns a:int4; and 2.1 error 55P03\n"
-                           b"expect some 2.1 error 42P01\nexpect never 1.2 error and 2.1 columns a:int4;\n")
+                           b"expect some 2.1 error 42P01\nexpect never 1.2 error AND 2.1 columns a:int4;\n")
         status, printed, said = self.expect(given=given)
         self.assertEqual((status, said), (1, ""))
         orders = re.search("all ([0-9]+) orders", printed).group(1)
@@ -111,7 +111,7 @@ class Tool(unittest.TestCase):
     + 2.2 columns a:int4 b:text
   line 9: expect some 2.1 error 42P01
     none of all %s orders has it
-  line 10: expect never 1.2 error and 2.1 columns a:int4;
+  line 10: expect never 1.2 error AND 2.1 columns a:int4;
     %s
     + 1.2 error 55P03 relation 16384 is locked by backend 2 in as
     + 2.1 columns a:int4
@@ -163,7 +163,8 @@ class Tool(unittest.TestCase):
                     ([], ALTERED % b"expect 3.1 ok\n", "standard input: line 7: there is no command 1 of backend 3"),
                     (["/no/such.script"], b"", "/no/such.script: reading failed: No such file or directory"),
                     ([folder], b"", "%s: no file there ends with .script" % folder),
-                    (["--most", "0"], b"", "not a count of orders: 0"),
+                    (["--most", "0"], b"", "not a count: 0"),
+                    (["--most", "1" * 5000], b"", "not a count: 11"),
                     (["--sideways"], b"", "unrecognized arguments: --sideways; expect --help says more"),
                     (["--program", "/bin/false"], ALTERED % b"expect 1.2 ok\n", "standard input: /bin/false: exit status 1")):
                 with self.subTest(said):

@@ -3,13 +3,13 @@ import re
 from typing import NamedTuple, Tuple
 
 from .faults import Fault
+from .outputs import PLACE
 
 OWN, SOME, NEVER = "own", "some", "never"
 NONE = "no answer"                  # what is said of a command that isn't finished
 
-_PLACE = re.compile(r" as of (?:[0-9]+|_)")
 _PART = re.compile(r"([0-9]{1,9})[ \t]*\.[ \t]*([0-9]{1,9})[ \t]+(\S.*)")
-_AND = re.compile(r"[ \t]+and[ \t]+(?=[0-9]+[ \t]*\.)")
+_AND = re.compile(r"[ \t]+and[ \t]+(?=[0-9]+[ \t]*\.)", re.IGNORECASE)
 _FORM = "'expect B.C TEXT', 'expect some B.C TEXT' or 'expect never B.C TEXT', with 'and B.C TEXT' for more of one run"
 
 
@@ -30,7 +30,7 @@ class Expectation(NamedTuple):
 
 def folded(text):
     """A text in small letters, without places and with single blanks."""
-    return " ".join(_PLACE.sub("", text.lower()).split())
+    return " ".join(PLACE.sub("", text.lower()).split())
 
 
 def read_expectation(line, text):
@@ -59,7 +59,7 @@ class Answers:
         self.texts = {}
         for line in lines:
             _, backend, command, text = line.split(" ", 3)
-            self.texts[int(backend), int(command)] = _PLACE.sub("", text)
+            self.texts[int(backend), int(command)] = PLACE.sub("", text)
 
     def text(self, part: Part):
         """The answer of the command that a part is about."""

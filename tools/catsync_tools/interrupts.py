@@ -1,5 +1,7 @@
-"""Ctrl-C and SIGTERM while results are gathered: they are taken between two runs of the program, where nothing is half done."""
+"""Ctrl-C, SIGTERM and SIGHUP while results are gathered: they are taken between two runs of the program, where nothing is half done."""
 import signal
+
+SIGNALS = (signal.SIGINT, signal.SIGTERM, signal.SIGHUP)
 
 
 class Interrupts:
@@ -10,7 +12,7 @@ class Interrupts:
 
     def hold(self):
         """From here on signals are noted, and taken at the next check."""
-        for number in (signal.SIGINT, signal.SIGTERM):
+        for number in SIGNALS:
             if signal.getsignal(number) != signal.SIG_IGN:
                 signal.signal(number, self.note)
 

@@ -5,6 +5,7 @@ from typing import Dict, List, NamedTuple, Optional, Tuple
 from .faults import Fault
 from .findings import Answers, Findings, Found
 from .report import Extent, Serial, Shown
+from .search import COMMANDS, TRANSACTIONS
 
 FORM = "catsync explore part, form 1"
 SAME = ("script", "places", "random", "seed", "parts")      # what all parts of a search have in common
@@ -33,11 +34,48 @@ def part_text(part: Part):
     return json.dumps(fields, indent=1, sort_keys=True) + "\n"
 
 
+def _is_count(value):
+    """Whether it is a number, which true and false are not."""
+    return type(value) is int and value >= 0
+
+
+def _is_pair(value):
+    """Whether it is a turn or a size."""
+    return isinstance(value, list) and len(value) == 2 and all(_is_count(number) for number in value)
+
+
+def _is_text(value):
+    """Whether it is a text that can be printed again."""
+    return isinstance(value, str) and value.encode("utf-8", "surrogateescape") is not None
+
+
+def _is_serial(value):
+    """Whether it is the kinds of serial orders by their answers."""
+    return isinstance(value, dict) and all(_is_text(key) and kind in (TRANSACTIONS, COMMANDS) for key, kind in value.items())
+
+
+def _is_set(value):
+    """Whether it is a set of answers, with what is known of it."""
+    answers, turns = value["answers"], value["turns"]
+    return (isinstance(answers, list) and all(_is_text(answer) for answer in answers)
+            and isinstance(turns, list) and all(_is_pair(turn) for turn in turns)
+            and _is_count(value["count"]) and _is_pair(value["size"]) and _is_pair(value["least"]))
+
+
+CHECKS = {
+    "script": _is_text, "places": lambda value: isinstance(value, bool), "random": lambda value: value is None or _is_count(value),
+    "seed": _is_text, "part": _is_count, "parts": _is_count, "is_over": lambda value: isinstance(value, bool),
+    "schedules": _is_count, "serial": lambda value: value is None or _is_serial(value),
+    "is_serial_over": lambda value: isinstance(value, bool),
+    "sets": lambda value: isinstance(value, list) and all(_is_set(one) for one in value),
+}
+
+
 def read_part(path, data):
     """The part of a file."""
     try:
         fields = json.loads(data.decode("utf-8"))
-        if fields.pop("form") != FORM:
+        if fields.pop("form") != FORM or not all(is_right(fields[name]) for name, is_right in CHECKS.items()):
             raise ValueError
         sets = [(tuple(one["answers"]), Found(one["count"], [tuple(turn) for turn in one["turns"]], tuple(one["size"]),
                                               tuple(one["least"]))) for one in fields.pop("sets")]
@@ -45,7 +83,7 @@ def read_part(path, data):
         if not 1 <= part.part <= part.parts:
             raise ValueError
         return part
-    except (ValueError, KeyError, TypeError, AttributeError):
+    except (ValueError, KeyError, TypeError, AttributeError, RecursionError):
         raise Fault("%s: not what 'explore --part' prints" % path)
 
 
