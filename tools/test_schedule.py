@@ -188,6 +188,9 @@ UNREACHABLE = (
     (b"backends 1\nsetup 2: begin\nend\n", "catsync: line 2"),
     (b"backends 1\n-- a\n1: creat table t ()\nend\n", "catsync: line 3: BadCommand: "),
     (b"backends 1\n1: show caf\xe9\nsteps 1*4\nend\n", "catsync: line 2: BadByte: "), (b"end\n", "catsync: line 1: NoBackends: "),
+    (b"backends \xb2\n1: show t\nsteps 1 to 1\nend\n", "catsync: line 1: BadByte: "),
+    (b"backends %s\n1: show t\nsteps 1 to 1\nend\n" % (b"1" * 5000), "catsync: line 1: BadCount: "),
+    (b"backends 1\n%s: show t\nsteps 1\nend\n" % (b"1" * 5000), "catsync: line 2: "),
 )
 
 
