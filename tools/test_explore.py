@@ -798,6 +798,16 @@ class Explorer(unittest.TestCase):
                         for entry in self.run_with(CREATE_AND_SHOW, line).steps:
                             self.assertIn("h %d %d %s" % entry, drawn)
 
+    def test_program_without_a_folder(self):
+        """A program's name is that of a file here, and not of one on PATH."""
+        with tempfile.TemporaryDirectory() as folder:
+            os.symlink(PROGRAM, os.path.join(folder, "here"))
+            for name, status in (("here", 0), ("true", 2)):
+                done = subprocess.run([sys.executable, os.path.join(TOOLS, "explore"), "--program", name], cwd=folder,
+                                      input=TWO_CREATORS, stdout=subprocess.PIPE, stderr=subprocess.PIPE)
+                self.assertEqual(done.returncode, status, done.stderr)
+            self.assertEqual(done.stderr, b"explore: ./true: No such file or directory\n")
+
     def test_faults(self):
         """A fault is one line on standard error, exit status 2, and nothing is printed or written."""
         examples = os.path.join(TOP, "examples")
@@ -866,6 +876,22 @@ class Explorer(unittest.TestCase):
             text = explorer.stdout.read()
         os.close(terminal)
         return explorer.returncode, text
+
+    def test_killed(self):
+        """Where the explorer is killed its processes end too."""
+        with open(os.path.join(TOP, "examples", "three_at_once.script"), "rb") as script:
+            explorer = subprocess.Popen([sys.executable, os.path.join(TOOLS, "explore"), "--program", PROGRAM, "--most", "1000000",
+                                         "--jobs", "3"], stdin=script, stdout=subprocess.PIPE)
+        with explorer:
+            children = []
+            while len(children) < 3:
+                time.sleep(0.05)
+                children = [int(child) for child in content_of("/proc/%d/task/%d/children" % (explorer.pid, explorer.pid)).split()]
+            explorer.kill()
+        until = time.monotonic() + 60
+        while any(os.path.exists("/proc/%d" % child) for child in children) and time.monotonic() < until:
+            time.sleep(0.05)
+        self.assertLess(time.monotonic(), until)
 
     def test_interrupt(self):
         """On Ctrl-C there are the results so far, on a terminal there was a bar, and the exit status is 130."""

@@ -1,7 +1,18 @@
 """Ctrl-C, SIGTERM and SIGHUP while results are gathered: they are taken between two runs of the program, where nothing is half done."""
+import contextlib
 import signal
 
 SIGNALS = (signal.SIGINT, signal.SIGTERM, signal.SIGHUP)
+
+
+@contextlib.contextmanager
+def waiting():
+    """Within it signals wait; yields the mask of those that did before."""
+    held = signal.pthread_sigmask(signal.SIG_BLOCK, SIGNALS)
+    try:
+        yield held
+    finally:
+        signal.pthread_sigmask(signal.SIG_SETMASK, held)
 
 
 class Interrupts:

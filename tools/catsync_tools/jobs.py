@@ -11,7 +11,7 @@ import time
 from typing import Dict, Iterator, List, Tuple
 
 from .faults import Fault
-from .interrupts import SIGNALS
+from .interrupts import SIGNALS, waiting
 
 PAUSE = 0.1             # seconds between two messages that say how far a task is
 
@@ -53,18 +53,17 @@ class Jobs:
 
     def start_children(self, context, is_stopped, children):
         """Starts the children. Signals wait meanwhile, so that none comes to a child before it passes over them."""
-        held = signal.pthread_sigmask(signal.SIG_BLOCK, SIGNALS)
-        try:
-            for _ in range(self.count):
-                end, other_end = context.Pipe()
-                process = context.Process(target=self.serve, args=(other_end, is_stopped, held), daemon=True)
-                process.start()
-                other_end.close()
-                children.append((process, end))
-        except OSError as error:
-            raise Fault("a process of the search can't be started: %s" % error.strerror)
-        finally:
-            signal.pthread_sigmask(signal.SIG_SETMASK, held)
+        with waiting() as held:
+            try:
+                for _ in range(self.count):
+                    end, other_end = context.Pipe()
+                    not_its_own = [end] + [other for _, other in children]
+                    process = context.Process(target=self.serve, args=(other_end, not_its_own, is_stopped, held), daemon=True)
+                    process.start()
+                    other_end.close()
+                    children.append((process, end))
+            except OSError as error:
+                raise Fault("a process of the search can't be started: %s" % error.strerror)
 
     def hand_out(self, ends):
         """Hands out the tasks in order, and takes what comes back."""
@@ -109,12 +108,14 @@ class Jobs:
         except (EOFError, OSError, Fault):
             end.close()
 
-    def serve(self, end, is_stopped, held):
+    def serve(self, end, not_its_own, is_stopped, held):
         """A child: does the tasks that it is given. Signals, all but those of this mask waiting until now, are its parent's
-        to hear."""
+        to hear. The parent's ends, which it has as well, are closed, so that it ends where its parent does."""
         for number in SIGNALS:
             signal.signal(number, signal.SIG_IGN)
         signal.pthread_sigmask(signal.SIG_SETMASK, held)
+        for other in not_its_own:
+            other.close()
         try:
             self.prepare()
             for number in iter(end.recv, None):

@@ -50,7 +50,8 @@ class Program:
     """The program, and how often it was run."""
 
     def __init__(self, path):
-        self.path, self.runs, self.interrupts = path, 0, Interrupts()
+        self.path = path if os.path.dirname(path) else os.path.join(os.curdir, path)     # never one on PATH
+        self.runs, self.interrupts = 0, Interrupts()
         self.renew()
 
     def split_off(self):
