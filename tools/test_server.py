@@ -116,12 +116,30 @@ class Statements(unittest.TestCase):
             self.assertTrue(known.words.lower() in text, known.words)
 
     def test_what_follows(self):
-        """What comes after a command that is done in one of the two alone may follow from that."""
-        compared = [Compared((1, 1), "show t", "ok", Answer("error 42P01 x", []), ["answer"]),
-                    Compared((2, 1), "show t", "a", Answer("b", []), ["answer"])]
-        found = all_differences(compared, "")
-        self.assertTrue(found[0][0].is_new)
-        self.assertEqual((found[1][0].after, found[1][0].is_new), ("1.1", False))
+        """After a command that is done in one of the two alone what is said of its table may follow from that; and in a
+        block what its session is answered to the block's end, and what is said of the block's tables."""
+        alone = ("create table t ()", "ok", "error 42P01 x")
+        ended, other = ("show t", "a", "b"), ("show u", "a", "b")
+        for commands, after in (
+                (((1,) + alone, (2,) + ended, (2,) + other), (None, "1.1", None)),
+                (((1,) + other, (1,) + other), (None, None)),
+                (((1, "create table t ()", "error 42701 x", "error 0A000 x"), (1,) + ended), (None, None)),
+                (((1, "begin", "ok", "ok"), (1, "lock table u in share mode", "ok", "ok"), (1,) + alone, (2,) + other,
+                  (2, "show v", "a", "b"), (1, "show v", "a", "b"), (1, "commit", "ok", "rolled back"), (1, "show v", "a", "b"),
+                  (1,) + other), (None, None, None, "1.3", None, "1.3", "1.3", "1.3", "1.3")),
+                (((1,) + alone, (2, "begin", "ok", "ok"), (2, "show t", "a", "error 42P01 x"), (2, "show u", "a", "error 25P02 x"),
+                  (1, "alter table u drop column a", "error 55P03 x", "ok")), (None, None, "1.1", "1.1", "1.1"))):
+            compared, counts = [], {}
+            for backend, text, here, server in commands:
+                counts[backend] = counts.get(backend, 0) + 1
+                compared.append(Compared((backend, counts[backend]), text, here, Answer(server, []), ["answer"]))
+            with self.subTest(commands):
+                self.assertEqual(tuple(each[0].after for each in all_differences(compared, "")), after)
+                self.assertEqual(tuple(each[0].is_new for each in all_differences(compared, "")),
+                                 tuple(cause is None for cause in after))
+        warned = Compared((2, 1), "show t", "ok", Answer("ok", ["25P01 x"]), ["warning"])
+        first = Compared((1, 1), alone[0], alone[1], Answer(alone[2], []), ["answer"])
+        self.assertTrue(all_differences([first, warned], "")[1][0].is_new)
 
 
 @unittest.skipUnless(HAS_PROGRAM, NO_PROGRAM)
