@@ -631,8 +631,14 @@ class Explorer(unittest.TestCase):
                     file.write(text)
             status, text, said = call("explore", "--merge", *paths)
             self.assertEqual((status, said), (0, ""))
-            some = call("explore", "--merge", *paths[:-1])[1].decode() if count > 1 else ""
-            self.assertEqual(some.split(" ", 1)[0], "stopped" if count > 1 else "")
+            if count > 1:
+                some = call("explore", "--merge", *paths[:-1])[1].decode()
+                self.assertRegex(some, "^stopped after [0-9]+ [a-z0-9 ]+ of %d parts, without %d: " % (count, count))
+                fields = json.loads(content_of(paths[0]))
+                with open(paths[0], "w", encoding="utf-8") as file:
+                    json.dump(dict(fields, is_over=False), file)
+                some = call("explore", "--merge", *paths[:-1])[1].decode()
+                self.assertRegex(some, "^stopped after .* of %d parts, without %d and not to the end of 1: " % (count, count))
         return text.decode()
 
     def test_parts(self):
@@ -777,6 +783,13 @@ class Explorer(unittest.TestCase):
             counted = call("schedule", "--program", PROGRAM, given=pasted)[1]
             self.assertEqual(self.program.run(counted).answers, answers)
 
+    def test_commands_in_pictures(self):
+        """A picture has a command without its comment and its semicolon."""
+        with tempfile.TemporaryDirectory() as folder:
+            self.explore(TWO_CREATORS.replace(b"(b text)", b"(b text);  -- b"), "--picture", folder)
+            drawn = content_of(os.path.join(folder, "set1.svg")).decode()
+        self.assertIn("2: create table t (b text)</", drawn)
+
     def test_find_nothing(self):
         """Where no schedule has the text the exit status is 1."""
         status, said, _ = self.explore(TWO_CREATORS, "--find", "42P01")
@@ -919,7 +932,8 @@ class Explorer(unittest.TestCase):
                 self.assertEqual(os.listdir(folder), ["part"])
                 if text not in (b"old", whole):
                     self.assertEqual(ended, (130, b""))
-                    self.assertRegex(call("explore", "--merge", path)[1].decode(), "^stopped after [0-9]+ orders?: ")
+                    self.assertRegex(call("explore", "--merge", path)[1].decode(),
+                                     "^stopped after [0-9]+ orders? of 1 part, not to the end of 1: ")
                 elif text == b"old":    # Ctrl-C as Python itself starts is its own to tell, with status 1
                     self.assertIn(ended[0], (130, -number, 1 if number == signal.SIGINT else 130))
 

@@ -6,7 +6,7 @@ import re
 from .arguments import MOST_ORDERS, Arguments, count_of
 from .faults import INTERRUPTED, Fault, check_file, make_folder, read_file, read_input, write_file, write_output
 from .outputs import read_output
-from .parts import Part, check_same, merged, part_text, read_part
+from .parts import MOST_PARTS, Part, check_same, merged, part_text, read_part
 from .picture import commands_shown, picture_of, span_of
 from .program import proved_program
 from .progress import Progress
@@ -15,7 +15,6 @@ from .search import Exploration, Settings, processors, wanted_of
 from .sources import read_source
 
 NOT_FOUND = 1
-MOST_PARTS = 4096
 OF_SEARCHES = ("part", "find", "picture", "most", "random", "seed", "places", "jobs", "program")     # and not of --merge
 
 

@@ -6,8 +6,10 @@ from .faults import Fault
 from .findings import Answers, Findings, Found
 from .report import Extent, Serial, Shown
 from .search import COMMANDS, TRANSACTIONS
+from .sentences import counted, listed
 
 FORM = "catsync explore part, form 1"
+MOST_PARTS = 4096
 SAME = ("script", "places", "random", "seed", "parts")      # what all parts of a search have in common
 
 
@@ -80,7 +82,7 @@ def read_part(path, data):
         sets = [(tuple(one["answers"]), Found(one["count"], [tuple(turn) for turn in one["turns"]], tuple(one["size"]),
                                               tuple(one["least"]))) for one in fields.pop("sets")]
         part = Part(sets=sets, **fields)
-        if not 1 <= part.part <= part.parts:
+        if not 1 <= part.part <= part.parts <= MOST_PARTS:
             raise ValueError
         return part
     except (ValueError, KeyError, TypeError, AttributeError, RecursionError):
@@ -115,9 +117,11 @@ def merged(parts: List[Part]):
 
 
 def extent_of(parts: List[Part]):
-    """What was run in all parts."""
+    """What was run in all parts, and which parts are missing or were stopped."""
     first = parts[0]
-    is_whole = len(parts) == first.parts
-    return Extent(sum(part.schedules for part in parts), first.random is not None, first.seed, None,
-                  is_whole and all(part.is_over for part in parts),
-                  "" if is_whole else " of %d of %d parts" % (len(parts), first.parts))
+    found = {part.part for part in parts}
+    missing = [str(part) for part in range(1, first.parts + 1) if part not in found]
+    stopped = [str(part.part) for part in sorted(parts, key=lambda part: part.part) if not part.is_over]
+    said = [word + listed(numbers) for word, numbers in (("without ", missing), ("not to the end of ", stopped)) if numbers]
+    return Extent(sum(part.schedules for part in parts), first.random is not None, first.seed, None, not said,
+                  " of %s, %s" % (counted(first.parts, "part"), " and ".join(said)) if said else "")
