@@ -8,7 +8,7 @@ from .faults import Fault, write_output
 MOST_ORDERS = 5000      # that are run, where the command line doesn't say another number
 WIDTH = 100
 FAULTY = (2, "a fault of the input or the command line: one line on standard error, and nothing is printed")
-STOPPED = (130, "after Ctrl-C")
+STOPPED = (130, "after Ctrl-C, SIGTERM or SIGHUP")
 
 
 def count_of(text):
