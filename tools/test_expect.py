@@ -36,10 +36,10 @@ class Expectations(unittest.TestCase):
         """The forms of a line."""
         for text, runs, parts in (
                 ("expect 2.3 statistics 1:500", "own", (Part(2, 3, "statistics 1:500"),)),
-                (" EXPECT 1.1  Error   42p01\t", "own", (Part(1, 1, "error 42p01"),)),
+                (" EXPECT 1.1  Error   42p01\t", "own", (Part(1, 1, "Error 42p01"),)),
                 ("expect some 1.2 ok and 2 . 1 error", "some", (Part(1, 2, "ok"), Part(2, 1, "error"))),
                 ("expect never 1.2 columns and:int4 and 2.1 ok", "never", (Part(1, 2, "columns and:int4"), Part(2, 1, "ok"))),
-                ("expect 1.1 fillfactor 70 as of 57; name t", "own", (Part(1, 1, "fillfactor 70; name t"),))):
+                ("expect 1.1 fillfactor 70 AS OF 57; name t", "own", (Part(1, 1, "fillfactor 70; name t"),))):
             with self.subTest(text):
                 found = read_expectation(7, text)
                 self.assertEqual((found.line, found.runs, found.parts), (7, runs, parts))
@@ -62,7 +62,7 @@ class Expectations(unittest.TestCase):
                 (1, 1, "statistics 1:500", True), (1, 1, "statistics 1:500;", False), (1, 1, "statistics 1:500 2:-1;", True),
                 (1, 1, "statistics 1:50", False), (1, 1, "2:-1; fillfactor -;", True), (1, 1, "table 16384", True),
                 (1, 1, "statistics 1:500 2:-1 as of 99", True), (1, 1, "columns a:int4", True), (1, 1, "a:int4;", False),
-                (1, 1, "ame t", False), (1, 2, "error 42p01", True), (1, 2, "does not exist;", True), (1, 2, "ok", False),
+                (1, 1, "ame t", False), (1, 2, "error 42p01", True), (1, 2, "Error 42P01", True), (1, 2, "does not exist;", True), (1, 2, "ok", False),
                 (2, 1, "ok", True), (2, 1, "ok;", True), (2, 2, "columns -", True), (2, 2, "columns", True), (2, 3, "ok", False),
                 (2, 3, "no answer", True)):
             with self.subTest((backend, command, text)):
@@ -72,7 +72,7 @@ class Expectations(unittest.TestCase):
     def test_differences(self):
         """What was expected and what came: of a `show` the field alone."""
         for part, came in ((Part(1, 1, "statistics 1:7"), "statistics 1:500 2:-1"), (Part(1, 2, "ok"),
-                           "error 42P01 relation t does not exist"), (Part(2, 3, "ok"), "no answer")):
+                           "error 42P01 relation t does not exist"), (Part(2, 3, "ok"), "no answer"), (Part(1, 1, "Statistics 1:7"), "statistics 1:500 2:-1")):
             with self.subTest(part):
                 self.assertEqual(self.ANSWERS.differences([part]), ["- %d.%d %s" % part, "+ %d.%d %s" % (part[:2] + (came,))])
         self.assertEqual(self.ANSWERS.differences([Part(2, 1, "ok")]), [])
@@ -97,7 +97,7 @@ class Tool(unittest.TestCase):
     def test_not_met(self):
         """What isn't met is told with its line and with what came, and the exit status is 1."""
         given = ALTERED % (b"expect 2.1 columns a:int4;\nexpect 2.2 columns a:int4; and 2.1 error 55P03\n"
-                           b"expect some 2.1 error 42P01\nexpect never 1.2 error and 2.1 columns a:int4;\n")
+                           b"expect some 2.1 error 42P01\nexpect never 1.2 error AND 2.1 columns a:int4;\n")
         status, printed, said = self.expect(given=given)
         self.assertEqual((status, said), (1, ""))
         orders = re.search("all ([0-9]+) orders", printed).group(1)
@@ -111,7 +111,7 @@ class Tool(unittest.TestCase):
     + 2.2 columns a:int4 b:text
   line 9: expect some 2.1 error 42P01
     none of all %s orders has it
-  line 10: expect never 1.2 error and 2.1 columns a:int4;
+  line 10: expect never 1.2 error AND 2.1 columns a:int4;
     %s
     + 1.2 error 55P03 relation 16384 is locked by backend 2 in as
     + 2.1 columns a:int4
@@ -163,7 +163,8 @@ class Tool(unittest.TestCase):
                     ([], ALTERED % b"expect 3.1 ok\n", "standard input: line 7: there is no command 1 of backend 3"),
                     (["/no/such.script"], b"", "/no/such.script: reading failed: No such file or directory"),
                     ([folder], b"", "%s: no file there ends with .script" % folder),
-                    (["--most", "0"], b"", "not a count of orders: 0"),
+                    (["--most", "0"], b"", "not a count: 0"),
+                    (["--most", "1" * 5000], b"", "not a count: 11"),
                     (["--sideways"], b"", "unrecognized arguments: --sideways; expect --help says more"),
                     (["--program", "/bin/false"], ALTERED % b"expect 1.2 ok\n", "standard input: /bin/false: exit status 1")):
                 with self.subTest(said):

@@ -19,6 +19,7 @@ import unittest.mock
 
 from testing import HAS_PROGRAM, NO_PROGRAM, PROGRAM, TOOLS, TOP, call, content_of
 
+from catsync_tools import explore
 from catsync_tools.access import Accesses
 from catsync_tools.chains import Chains
 from catsync_tools.faults import Fault
@@ -29,7 +30,7 @@ from catsync_tools.program import Program, Run
 from catsync_tools.progress import Progress
 from catsync_tools.report import led_to
 from catsync_tools.scripts import steps_line, turns_of
-from catsync_tools.search import Exploration, Settings, wanted_of
+from catsync_tools.search import Exploration, Piece, Settings, wanted_of
 from catsync_tools.serial import SerialRuns, WholeAccesses, commands_of, transactions_of
 from catsync_tools.shares import shares
 from catsync_tools.sources import read_source
@@ -441,6 +442,16 @@ BY_HAND = ((TWO_CREATORS, TWO_CREATORS_ANSWERS), (CREATE_AND_SHOW, CREATE_AND_SH
            (ROLLED_BACK, ROLLED_BACK_ANSWERS))
 
 
+# Fields of a part's file, or of a set in it, with what they can't be.
+FAULTY_FIELDS = (
+    (("schedules",), "3"), (("schedules",), True), (("schedules",), -1), (("schedules",), 1.5), (("serial",), 5),
+    (("serial",), {"a": "b"}), (("is_over",), "no"), (("is_serial_over",), 1), (("places",), 0), (("random",), "x"),
+    (("seed",), 1), (("seed",), "\ud800"), (("part",), "1"), (("part",), 3), (("sets",), {}), (("sets",), [5]), (("more",), 1),
+    (("set", "count"), "3"), (("set", "answers"), "l 1 1 ok"), (("set", "answers"), [1]), (("set", "answers"), ["\ud800"]),
+    (("set", "turns"), [[1]]), (("set", "turns"), [["1", 2]]), (("set", "size"), [1]), (("set", "least"), None),
+)
+
+
 class Report:
     """What the explorer printed."""
 
@@ -562,6 +573,53 @@ class Explorer(unittest.TestCase):
         self.assertRegex(one[1], "^all 287 orders: ")
         self.assertEqual(self.merged(script, 3), one[1])
 
+    def test_jobs_of_a_search_for_a_text(self):
+        """However many processes do tasks, the same one finds what is looked for, and as many schedules are enough or aren't."""
+        draw = random.Random(9)
+        exploration = Exploration(Settings(wanted=(re.compile("x"),)), read_source(TWO_CREATORS), PROGRAM, Progress())
+        with unittest.mock.patch("catsync_tools.jobs.PAUSE", 0):
+            for _ in range(12):
+                made = [(draw.randint(0, 6), draw.random() < 0.3, draw.random() * 0.01) for _ in range(draw.randint(2, 6))]
+                all_made = sum(count for count, _, _ in made)
+                for most in (draw.randint(0, all_made), draw.randint(0, all_made), all_made):
+                    with self.subTest((made, most)):
+                        self.assertEqual([self.done(exploration, made, most, jobs) for jobs in (2, 3)],
+                                         [self.done(exploration, made, most, 1)] * 2)
+        exploration.program.close()
+
+    def done(self, exploration, made, most, jobs):
+        """What becomes of tasks that have so many schedules, may find what is looked for in the last, and wait for so long."""
+        def task(number, count, finds, seconds):
+            """One task."""
+            piece = Piece(False)
+            yield piece
+            for done in range(1, count + 1):
+                time.sleep(seconds)
+                piece.schedules = done
+                piece.found = [(number, done)] if finds and done == count else None
+                yield piece
+        exploration.found, exploration.schedules = None, 0
+        is_within = exploration.do([functools.partial(task, number, *one) for number, one in enumerate(made, 1)], most, jobs, "")
+        return is_within, is_within and (exploration.found, exploration.schedules)
+
+    def test_signal_as_processes_start(self):
+        """A signal that comes just before the processes are there, or to one of them as it starts, ends the search as any
+        other does."""
+        before = "old = Jobs.run_in_children\ndef new(self):\n    os.kill(os.getpid(), %d)\n    return old(self)\nJobs.run_in_children = new"
+        inside = ("old = Jobs.serve\ndef new(self, *words):\n    os.kill(os.getpid(), %d)\n    os.kill(os.getppid(), %d)\n"
+                  "    return old(self, *words)\nJobs.serve = new")
+        head = "import os, sys\nsys.path.insert(0, %r)\nfrom catsync_tools import explore, faults\nfrom catsync_tools.jobs import Jobs\n"
+        tail = "\nsys.exit(faults.run('explore', explore.main, sys.argv[1:]))"
+        for number in (signal.SIGINT, signal.SIGTERM, signal.SIGHUP):
+            for change in (before % number, inside % (number, number)):
+                with self.subTest(change):
+                    done = subprocess.run(
+                        [sys.executable, "-c", head % TOOLS + change + tail, "--program", PROGRAM, "--random", "200", "--jobs", "2"],
+                        input=ROLLED_BACK, stdout=subprocess.PIPE, stderr=subprocess.PIPE,
+                        preexec_fn=lambda: signal.signal(signal.SIGINT, signal.SIG_DFL))
+                    self.assertEqual((done.returncode, done.stderr), (130, b""))
+                    self.assertRegex(done.stdout, b"^stopped after [0-9]+ random schedules? from seed 1: [0-9]+ sets")
+
     def merged(self, script, count, *words):
         """What the parts of a search are merged to."""
         with tempfile.TemporaryDirectory() as folder:
@@ -573,8 +631,14 @@ class Explorer(unittest.TestCase):
                     file.write(text)
             status, text, said = call("explore", "--merge", *paths)
             self.assertEqual((status, said), (0, ""))
-            some = call("explore", "--merge", *paths[:-1])[1].decode() if count > 1 else ""
-            self.assertEqual(some.split(" ", 1)[0], "stopped" if count > 1 else "")
+            if count > 1:
+                some = call("explore", "--merge", *paths[:-1])[1].decode()
+                self.assertRegex(some, "^stopped after [0-9]+ [a-z0-9 ]+ of %d parts, without %d: " % (count, count))
+                fields = json.loads(content_of(paths[0]))
+                with open(paths[0], "w", encoding="utf-8") as file:
+                    json.dump(dict(fields, is_over=False), file)
+                some = call("explore", "--merge", *paths[:-1])[1].decode()
+                self.assertRegex(some, "^stopped after .* of %d parts, without %d and not to the end of 1: " % (count, count))
         return text.decode()
 
     def test_parts(self):
@@ -596,6 +660,12 @@ class Explorer(unittest.TestCase):
             for name, changed in (("cut", text[:-9]), ("form", text.replace("form 1", "form 9"))):
                 with open(paths[name], "w", encoding="utf-8") as file:
                     file.write(changed)
+            for number, (path, value) in enumerate(FAULTY_FIELDS):
+                fields = json.loads(text)
+                place = fields if len(path) == 1 else fields["sets"][0]
+                place[path[-1]] = value
+                self.check_faulty_part(os.path.join(folder, "field%d" % number), json.dumps(fields))
+            self.check_faulty_part(os.path.join(folder, "deep"), "[" * 100000)
             for names, said in ((["one", "one"], "one: part 1 of 2, as is "),
                                 (["one", "other"], "other: of another search than "),
                                 (["cut"], "cut: not what 'explore --part' prints"), (["one", "form"], "form: not what "),
@@ -604,6 +674,39 @@ class Explorer(unittest.TestCase):
                     status, shown, error = call("explore", "--merge", *[os.path.join(folder, name) for name in names])
                     self.assertEqual((status, shown, error.count("\n")), (2, b"", 1))
                     self.assertIn(said, error)
+
+    def check_faulty_part(self, path, text):
+        """A file that isn't a part is refused."""
+        with self.subTest(text[:60]):
+            with open(path, "w", encoding="utf-8") as file:
+                file.write(text)
+            self.assertEqual(call("explore", "--merge", path), (2, b"", "explore: %s: not what 'explore --part' prints\n" % path))
+
+    def test_out_that_is_no_file(self):
+        """A link stays one, and a pipe and a device are written to; where nothing can be written that is said before the
+        search."""
+        with tempfile.TemporaryDirectory() as folder:
+            link, real, pipe = (os.path.join(folder, name) for name in ("link", "real", "pipe"))
+            os.symlink("real", link)
+            os.mkfifo(pipe)
+            words = ("explore", "--program", PROGRAM, "--part", "1/1", "--out")
+            text = call(*words[:-1], given=TWO_CREATORS)[1]
+            self.assertEqual(call(*words, link, given=TWO_CREATORS), (0, b"", ""))
+            self.assertEqual((os.readlink(link), content_of(real)), ("real", text))
+            with subprocess.Popen(["cat", pipe], stdout=subprocess.PIPE) as reader:
+                self.assertEqual(call(*words, pipe, given=TWO_CREATORS), (0, b"", ""))
+                self.assertEqual(reader.stdout.read(), text)
+            self.assertEqual(call(*words, "/dev/stdout", given=TWO_CREATORS), (0, text, ""))
+            self.assertEqual(call(*words, "/dev/null", given=TWO_CREATORS), (0, b"", ""))
+            self.assertFalse(os.path.isfile("/dev/null"))
+            self.assertEqual(sorted(os.listdir(folder)), ["link", "pipe", "real"])
+        with unittest.mock.patch.object(Exploration, "run_serial", side_effect=AssertionError("a search")), \
+                unittest.mock.patch("catsync_tools.interrupts.Interrupts.hold"):
+            for more, said in ((["--part", "1/1", "--out", "/no/such/part"], "/no/such/part: writing failed: No such file or "),
+                               (["--picture", "/proc"], "/proc/set1.svg: writing failed: "),
+                               (["--part", "1/1", "--out", "/proc/part"], "/proc/part: writing failed: ")):
+                with self.subTest(more), unittest.mock.patch("catsync_tools.explore.read_input", return_value=TWO_CREATORS):
+                    self.assertRaisesRegex(Fault, said, explore.main, ["--program", PROGRAM] + more)
 
     def test_no_schedule_has_other_answers(self):
         """Schedules that are drawn at random lead to no other answers than those worked out by hand."""
@@ -680,6 +783,13 @@ class Explorer(unittest.TestCase):
             counted = call("schedule", "--program", PROGRAM, given=pasted)[1]
             self.assertEqual(self.program.run(counted).answers, answers)
 
+    def test_commands_in_pictures(self):
+        """A picture has a command without its comment and its semicolon."""
+        with tempfile.TemporaryDirectory() as folder:
+            self.explore(TWO_CREATORS.replace(b"(b text)", b"(b text);  -- b"), "--picture", folder)
+            drawn = content_of(os.path.join(folder, "set1.svg")).decode()
+        self.assertIn("2: create table t (b text)</", drawn)
+
     def test_find_nothing(self):
         """Where no schedule has the text the exit status is 1."""
         status, said, _ = self.explore(TWO_CREATORS, "--find", "42P01")
@@ -701,11 +811,29 @@ class Explorer(unittest.TestCase):
                         for entry in self.run_with(CREATE_AND_SHOW, line).steps:
                             self.assertIn("h %d %d %s" % entry, drawn)
 
+    def test_program_without_a_folder(self):
+        """A program's name is that of a file here, and not of one on PATH."""
+        with tempfile.TemporaryDirectory() as folder:
+            os.symlink(PROGRAM, os.path.join(folder, "here"))
+            for name, status in (("here", 0), ("true", 2)):
+                done = subprocess.run([sys.executable, os.path.join(TOOLS, "explore"), "--program", name], cwd=folder,
+                                      input=TWO_CREATORS, stdout=subprocess.PIPE, stderr=subprocess.PIPE)
+                self.assertEqual(done.returncode, status, done.stderr)
+            self.assertEqual(done.stderr, b"explore: ./true: No such file or directory\n")
+
     def test_faults(self):
         """A fault is one line on standard error, exit status 2, and nothing is printed or written."""
         examples = os.path.join(TOP, "examples")
         cases = [(["--most", "0"], TWO_CREATORS, "not a count: 0"),
                  (["--part", "3/2"], TWO_CREATORS, "not a part, as 3/64: 3/2"),
+                 (["--part", "1/99999"], TWO_CREATORS, "a search has at most 4096 parts, and not those of 1/99999"),
+                 (["--part", "1/2", "--out", TOP], TWO_CREATORS, TOP + ": writing failed: Is a directory"),
+                 (["--merge", "x", "--most", "3"], b"", "--most doesn't go with --merge; "),
+                 (["--merge", "x", "--random", "3"], b"", "--random doesn't go with --merge; "),
+                 (["--merge", "x", "--seed", "1"], b"", "--seed doesn't go with --merge; "),
+                 (["--merge", "x", "--places"], b"", "--places doesn't go with --merge; "),
+                 (["--merge", "x", "--jobs", "3"], b"", "--jobs doesn't go with --merge; "),
+                 (["--merge", "x", "--find", "3"], b"", "--find doesn't go with --merge; "),
                  (["--part", "1/2", "--find", "x"], TWO_CREATORS, "--find doesn't go with --part; explore --help says more"),
                  (["--find", ""], TWO_CREATORS, "--find needs a text; "),
                  (["--html"], TWO_CREATORS, "--html is for --picture; "),
@@ -721,9 +849,12 @@ class Explorer(unittest.TestCase):
             error = os.path.join(examples, name + ".error")
             if os.path.exists(error):
                 cases.append(([], content_of(os.path.join(examples, name + ".script")), content_of(error).decode()))
+        status, _, said = call("explore", "--merge", "x", "--program", PROGRAM)
+        self.assertEqual((status, said), (2, "explore: --program doesn't go with --merge; explore --help says more\n"))
         for words, script, expected in cases:
             with self.subTest(expected):
-                status, text, said = self.explore(script, *words)
+                status, text, said = call("explore", *words) if "--merge" in words else self.explore(script, *words)
+                text = text or ""
                 self.assertEqual((status, text), (2, ""))
                 self.assertTrue(said.startswith("explore: " + expected), said)
                 self.assertEqual(said.count("\n"), 1)
@@ -759,6 +890,22 @@ class Explorer(unittest.TestCase):
         os.close(terminal)
         return explorer.returncode, text
 
+    def test_killed(self):
+        """Where the explorer is killed its processes end too."""
+        with open(os.path.join(TOP, "examples", "three_at_once.script"), "rb") as script:
+            explorer = subprocess.Popen([sys.executable, os.path.join(TOOLS, "explore"), "--program", PROGRAM, "--most", "1000000",
+                                         "--jobs", "3"], stdin=script, stdout=subprocess.PIPE)
+        with explorer:
+            children = []
+            while len(children) < 3:
+                time.sleep(0.05)
+                children = [int(child) for child in content_of("/proc/%d/task/%d/children" % (explorer.pid, explorer.pid)).split()]
+            explorer.kill()
+        until = time.monotonic() + 60
+        while any(os.path.exists("/proc/%d" % child) for child in children) and time.monotonic() < until:
+            time.sleep(0.05)
+        self.assertLess(time.monotonic(), until)
+
     def test_interrupt(self):
         """On Ctrl-C there are the results so far, on a terminal there was a bar, and the exit status is 130."""
         status, text = self.interrupted(
@@ -785,7 +932,8 @@ class Explorer(unittest.TestCase):
                 self.assertEqual(os.listdir(folder), ["part"])
                 if text not in (b"old", whole):
                     self.assertEqual(ended, (130, b""))
-                    self.assertRegex(call("explore", "--merge", path)[1].decode(), "^stopped after [0-9]+ orders?: ")
+                    self.assertRegex(call("explore", "--merge", path)[1].decode(),
+                                     "^stopped after [0-9]+ orders? of 1 part, not to the end of 1: ")
                 elif text == b"old":    # Ctrl-C as Python itself starts is its own to tell, with status 1
                     self.assertIn(ended[0], (130, -number, 1 if number == signal.SIGINT else 130))
 

@@ -38,7 +38,7 @@ class Help(unittest.TestCase):
                 self.assertIn("  -h, --help", text.decode())
                 statuses = [line.split(None, 1) for line in lines[lines.index("exit status:") + 1:]]
                 self.assertEqual([status for status, _ in statuses][-2:], ["2", "130"])
-                self.assertEqual(statuses[-1][1], "after Ctrl-C")
+                self.assertEqual(statuses[-1][1], "after Ctrl-C, SIGTERM or SIGHUP")
                 self.assertLessEqual(max(map(len, lines)), 120)
 
     def test_wrong_option(self):

@@ -14,6 +14,7 @@ import shutil
 import subprocess
 import sys
 import tempfile
+import time
 import unittest
 import xml.etree.ElementTree as ElementTree
 
@@ -659,6 +660,14 @@ class FaultyOutputs(unittest.TestCase):
                 with self.assertRaises(Exception) as raised:
                     picture_of(read_output(given.encode()), False, Span(1, 1))
                 self.assertEqual(str(raised.exception), said)
+
+    def test_large_numbers(self):
+        """Commands are no more than have a line, however they are numbered."""
+        begun = time.monotonic()
+        for text in (HEAD + "h 1 999999999 stop\nend\n", HEAD + "h 1 2 stop\nl 1 999999999 ok\nend\n",
+                     HEAD + "h 1 5 stop\nl 1 1 ok\nl 1 3 ok\nl 1 999999999 ok\nend\n"):
+            self.assertIn("<svg", picture_of(read_output(text.encode()), False, Span(1, 3)))
+        self.assertLess(time.monotonic() - begun, 60)
 
     def test_command(self):
         """A fault is one line on standard error, exit status 2, and nothing on standard output."""

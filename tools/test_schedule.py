@@ -184,10 +184,17 @@ UNREACHABLE = (
      "already"),
     (b"backends 2\n1: create table t (a int4)\n2: show t\nsteps 2 to 1, 1 to end, 2 to lock\nend\n",
      "line 4: '2 to lock' can't be reached: no such entry comes before its stop"),
+    (b"backends 1\n1: show t\nsteps 1 to scan clas\nend\n",
+     "line 3: '1 to scan clas' can't be reached: no such entry comes before its stop; is 'class' meant?"),
+    (b"backends 1\n1: show t\nsteps 1 to scan relname t rows 1\nend\n",
+     "line 3: '1 to scan relname t rows 1' can't be reached: no such entry comes before its stop\n"),
     (b"backends 1\n-- a\n1: creat table t ()\nsteps 1 to 1\nend\n", "catsync: line 3"),
     (b"backends 1\nsetup 2: begin\nend\n", "catsync: line 2"),
     (b"backends 1\n-- a\n1: creat table t ()\nend\n", "catsync: line 3: BadCommand: "),
     (b"backends 1\n1: show caf\xe9\nsteps 1*4\nend\n", "catsync: line 2: BadByte: "), (b"end\n", "catsync: line 1: NoBackends: "),
+    (b"backends \xb2\n1: show t\nsteps 1 to 1\nend\n", "catsync: line 1: BadByte: "),
+    (b"backends %s\n1: show t\nsteps 1 to 1\nend\n" % (b"1" * 5000), "catsync: line 1: BadCount: "),
+    (b"backends 1\n%s: show t\nsteps 1\nend\n" % (b"1" * 5000), "catsync: line 2: "),
 )
 
 

@@ -4,13 +4,18 @@
 Without PostgreSQL's server they are skipped, but for those that need none; testing.py says which program is run.
 CATSYNC_SERVER_SCRIPTS says how many random scripts are run beside the server: 20 if it isn't set.
 """
+import contextlib
 import glob
 import os
 import random
+import signal
+import subprocess
 import tempfile
+import time
 import unittest
+import unittest.mock
 
-from testing import HAS_PROGRAM, NO_PROGRAM, PROGRAM, TOP, call
+from testing import HAS_PROGRAM, NO_PROGRAM, PROGRAM, TOOLS, TOP, call
 
 from catsync_tools.beside import Compared, Pairs, compare, differences, order_of
 from catsync_tools.differences import KNOWN, all_differences, profile
@@ -111,12 +116,30 @@ class Statements(unittest.TestCase):
             self.assertTrue(known.words.lower() in text, known.words)
 
     def test_what_follows(self):
-        """What comes after a command that is done in one of the two alone may follow from that."""
-        compared = [Compared((1, 1), "show t", "ok", Answer("error 42P01 x", []), ["answer"]),
-                    Compared((2, 1), "show t", "a", Answer("b", []), ["answer"])]
-        found = all_differences(compared, "")
-        self.assertTrue(found[0][0].is_new)
-        self.assertEqual((found[1][0].after, found[1][0].is_new), ("1.1", False))
+        """After a command that is done in one of the two alone what is said of its table may follow from that; and in a
+        block what its session is answered to the block's end, and what is said of the block's tables."""
+        alone = ("create table t ()", "ok", "error 42P01 x")
+        ended, other = ("show t", "a", "b"), ("show u", "a", "b")
+        for commands, after in (
+                (((1,) + alone, (2,) + ended, (2,) + other), (None, "1.1", None)),
+                (((1,) + other, (1,) + other), (None, None)),
+                (((1, "create table t ()", "error 42701 x", "error 0A000 x"), (1,) + ended), (None, None)),
+                (((1, "begin", "ok", "ok"), (1, "lock table u in share mode", "ok", "ok"), (1,) + alone, (2,) + other,
+                  (2, "show v", "a", "b"), (1, "show v", "a", "b"), (1, "commit", "ok", "rolled back"), (1, "show v", "a", "b"),
+                  (1,) + other), (None, None, None, "1.3", None, "1.3", "1.3", "1.3", "1.3")),
+                (((1,) + alone, (2, "begin", "ok", "ok"), (2, "show t", "a", "error 42P01 x"), (2, "show u", "a", "error 25P02 x"),
+                  (1, "alter table u drop column a", "error 55P03 x", "ok")), (None, None, "1.1", "1.1", "1.1"))):
+            compared, counts = [], {}
+            for backend, text, here, server in commands:
+                counts[backend] = counts.get(backend, 0) + 1
+                compared.append(Compared((backend, counts[backend]), text, here, Answer(server, []), ["answer"]))
+            with self.subTest(commands):
+                self.assertEqual(tuple(each[0].after for each in all_differences(compared, "")), after)
+                self.assertEqual(tuple(each[0].is_new for each in all_differences(compared, "")),
+                                 tuple(cause is None for cause in after))
+        warned = Compared((2, 1), "show t", "ok", Answer("ok", ["25P01 x"]), ["warning"])
+        first = Compared((1, 1), alone[0], alone[1], Answer(alone[2], []), ["answer"])
+        self.assertTrue(all_differences([first, warned], "")[1][0].is_new)
 
 
 @unittest.skipUnless(HAS_PROGRAM, NO_PROGRAM)
@@ -174,16 +197,42 @@ class Beside(unittest.TestCase):
             with self.subTest(number):
                 self.check(data, order)
 
+    @contextlib.contextmanager
+    def own_folder(self):
+        """A folder in which temporary files are made meanwhile, which the server's user can read too."""
+        with tempfile.TemporaryDirectory() as folder, unittest.mock.patch.dict(os.environ, TMPDIR=folder):
+            os.chmod(folder, 0o755)
+            yield folder
+
+    def test_signals(self):
+        """A signal at any time, and a second one after it, leaves no server and no folder."""
+        draw = random.Random(2)
+        for number in (signal.SIGHUP, signal.SIGTERM, signal.SIGINT, signal.SIGHUP):
+            with self.subTest(number), self.own_folder() as folder:
+                path = os.path.join(TOP, "examples", "two_backends.script")
+                server = subprocess.Popen([os.path.join(TOOLS, "server"), "--program", PROGRAM, path], stdout=subprocess.PIPE,
+                                          stderr=subprocess.PIPE, preexec_fn=lambda: signal.signal(signal.SIGINT, signal.SIG_DFL))
+                with server:
+                    while not os.listdir(folder) and server.poll() is None:
+                        time.sleep(0.01)
+                    time.sleep(draw.uniform(0, 0.6))
+                    server.send_signal(number)
+                    time.sleep(draw.uniform(0, 0.1))
+                    server.send_signal(number)
+                    said = server.stderr.read()
+                self.assertIn((server.returncode, said), ((130, b"server: interrupted\n"), (130, b""), (0, b"")))
+                self.assertEqual(os.listdir(folder), [])
+
     def test_command(self):
         """What is printed, and the exit status; and nothing is left behind."""
         with tempfile.NamedTemporaryFile() as file:
             file.write(b"backends 2\nsetup 1: create table t (a int4)\n1: begin\n1: begin\n2: show t name\n1: end\n"
                        b"2: show u\nend\n")
             file.flush()
-            before = set(glob.glob(os.path.join(tempfile.gettempdir(), "catsync*")))
-            status, shown, said = call("server", "--program", PROGRAM, file.name)
-            self.assertEqual((status, said), (0, ""))
-            self.assertEqual(set(glob.glob(os.path.join(tempfile.gettempdir(), "catsync*"))), before)
+            with self.own_folder() as folder:
+                status, shown, said = call("server", "--program", PROGRAM, file.name)
+                self.assertEqual((status, said), (0, ""))
+                self.assertEqual(os.listdir(folder), [])
         head, *commands = shown.decode().split("\n\n")
         self.assertRegex(head, "^beside PostgreSQL [0-9.]+: 6 commands, of which 1 differs$")
         self.assertIn("1.3 begin\n    here    ok\n    server  ok\n"

@@ -1,12 +1,21 @@
 """The command line of a tool, and its --help, which has one form in all tools."""
 import argparse
+import re
 import textwrap
 
 from .faults import Fault, write_output
 
+MOST_ORDERS = 5000      # that are run, where the command line doesn't say another number
 WIDTH = 100
 FAULTY = (2, "a fault of the input or the command line: one line on standard error, and nothing is printed")
-STOPPED = (130, "after Ctrl-C")
+STOPPED = (130, "after Ctrl-C, SIGTERM or SIGHUP")
+
+
+def count_of(text):
+    """A count on the command line."""
+    if not re.fullmatch("0*[1-9][0-9]{0,8}", text):
+        raise Fault("not a count: %s" % text)
+    return int(text)
 
 
 def _form(prog):

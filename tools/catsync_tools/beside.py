@@ -4,7 +4,7 @@ from typing import Dict, List, NamedTuple, Optional, Tuple
 
 from .counting import counted_script
 from .faults import Fault
-from .findings import PLACE
+from .outputs import PLACE
 from .runner import Runner
 from .sql import FIELDS, Answer, Asked, statement_of
 

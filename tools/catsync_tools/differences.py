@@ -1,7 +1,7 @@
 """The differences from the server that docs/PROFILE.md names."""
 import os
 import re
-from typing import List, NamedTuple, Optional
+from typing import Dict, List, NamedTuple, Optional, Set
 
 from .beside import Compared
 from .faults import read_file
@@ -9,6 +9,7 @@ from .program import TOP
 from .sql import tokens_of
 
 PROFILE = os.path.join(TOP, "docs", "PROFILE.md")
+_TABLE = re.compile("(?:show|(?:create|alter|lock) table) ([a-z_][a-z0-9_]*)")
 SYSTEM_COLUMNS = "ctid|xmin|xmax|cmin|cmax|tableoid"
 
 
@@ -59,11 +60,55 @@ def words_of(compared: Compared, part, text):
     return None
 
 
+def table_of(command):
+    """The table that a command names, or None."""
+    found = _TABLE.match(tokens_of(command))
+    return found.group(1) if found else None
+
+
+def is_done_in_one(compared: Compared):
+    """Whether a command was done in one of the two and refused in the other, or its block committed in one alone."""
+    refused = [text.startswith("error ") for text in (compared.here, compared.server.text)]
+    return "answer" in compared.differences and (refused[0] != refused[1] or "rolled back" in (compared.here, compared.server.text))
+
+
+class Effects:
+    """What may not be the same in the two since a command was done in one of them alone, each with that command: the table
+    that it names; where it is in a block, which has failed in one then, the block, and all tables that the block names."""
+
+    def __init__(self):
+        self.tables: Dict[str, str] = {}
+        self.blocks: Dict[int, str] = {}
+        self.open: Dict[int, Set[str]] = {}     # of each session with a block: the tables that it has named
+
+    def cause(self, compared: Compared, part):
+        """The command from which a difference may follow. Warnings tell of blocks and not of tables."""
+        block = self.blocks.get(compared.command[0])
+        return block or (None if part == "warning" else self.tables.get(table_of(compared.text)))
+
+    def take(self, compared: Compared):
+        """One more command."""
+        backend, text, table = compared.command[0], tokens_of(compared.text), table_of(compared.text)
+        if text == "begin":
+            self.open.setdefault(backend, set())
+        tables = self.open.get(backend, set())
+        tables |= {table} - {None}
+        if is_done_in_one(compared):
+            first = self.cause(compared, "answer") or "%d.%d" % compared.command
+            for name in tables | {table} - {None}:
+                self.tables.setdefault(name, first)
+            if backend in self.open:
+                self.blocks.setdefault(backend, first)
+        if text in ("commit", "rollback"):
+            self.open.pop(backend, None)
+            self.blocks.pop(backend, None)
+
+
 def all_differences(all_compared: List[Compared], text) -> List[List[Difference]]:
-    """The differences of each command. What is done here and not there, or not for the same reason, can have others follow."""
-    found, after = [], None
+    """The differences of each command, and what each may follow from."""
+    found, effects = [], Effects()
     for compared in all_compared:
-        found.append([Difference(part, words_of(compared, part, text), after) for part in compared.differences])
-        if after is None and not {"answer", "error"}.isdisjoint(compared.differences):
-            after = "%d.%d" % compared.command
+        found.append([Difference(part, words_of(compared, part, text), effects.cause(compared, part))
+                      for part in compared.differences])
+        effects.take(compared)
     return found

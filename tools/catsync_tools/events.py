@@ -1,7 +1,6 @@
 """Events as the lines of a history write them. docs/HISTORY.md says what each is.
 
-When a new event, scan or row gets its text, it gets its pattern here, its sentence in sentences.py, what it reads and
-changes of the shared state in access.py, and its mark in marks.py.
+docs/TOOLS.md has what else a new event, scan or row needs beside its pattern here.
 """
 import functools
 import re

@@ -3,7 +3,7 @@ import os
 from typing import Dict, List, NamedTuple
 
 from .access import Accesses
-from .arguments import Arguments
+from .arguments import MOST_ORDERS, Arguments, count_of
 from .counting import counted_script
 from .expected import NEVER, OWN, SOME, Answers, Expectation
 from .faults import Fault, read_file, read_input, write_output
@@ -18,7 +18,6 @@ from .turns import fewest_turns
 from .walks import KnownWalks
 
 FAILED = 1
-MOST_ORDERS = 5000
 INPUT = "standard input"
 
 
@@ -26,13 +25,6 @@ class Named(NamedTuple):
     """A script and its name."""
     name: str
     source: Source
-
-
-def count_of(text):
-    """A count on the command line."""
-    if not text.isascii() or not text.isdigit() or int(text) == 0:
-        raise Fault("not a count of orders: %s" % text)
-    return int(text)
 
 
 def arguments_of(words):

@@ -3,13 +3,14 @@ import re
 from typing import NamedTuple, Tuple
 
 from .faults import Fault
+from .outputs import PLACE
 
 OWN, SOME, NEVER = "own", "some", "never"
 NONE = "no answer"                  # what is said of a command that isn't finished
 
-_PLACE = re.compile(r" as of (?:[0-9]+|_)")
+_PLACE = re.compile(PLACE.pattern, re.IGNORECASE)
 _PART = re.compile(r"([0-9]{1,9})[ \t]*\.[ \t]*([0-9]{1,9})[ \t]+(\S.*)")
-_AND = re.compile(r"[ \t]+and[ \t]+(?=[0-9]+[ \t]*\.)")
+_AND = re.compile(r"[ \t]+and[ \t]+(?=[0-9]+[ \t]*\.)", re.IGNORECASE)
 _FORM = "'expect B.C TEXT', 'expect some B.C TEXT' or 'expect never B.C TEXT', with 'and B.C TEXT' for more of one run"
 
 
@@ -28,9 +29,9 @@ class Expectation(NamedTuple):
     parts: Tuple[Part, ...]
 
 
-def folded(text):
-    """A text in small letters, without places and with single blanks."""
-    return " ".join(_PLACE.sub("", text.lower()).split())
+def plain(text):
+    """A text without places and with single blanks."""
+    return " ".join(_PLACE.sub("", text).split())
 
 
 def read_expectation(line, text):
@@ -41,7 +42,7 @@ def read_expectation(line, text):
     found = [_PART.fullmatch(part.strip()) for part in _AND.split(rest[-1])] if text.isascii() and len(rest) > 1 else [None]
     if None in found:
         raise Fault("line %d: an expectation must read %s" % (line, _FORM))
-    parts = tuple(Part(int(part.group(1)), int(part.group(2)), folded(part.group(3))) for part in found)
+    parts = tuple(Part(int(part.group(1)), int(part.group(2)), plain(part.group(3))) for part in found)
     return Expectation(line, " ".join(text.split()), runs, parts)
 
 
@@ -59,7 +60,7 @@ class Answers:
         self.texts = {}
         for line in lines:
             _, backend, command, text = line.split(" ", 3)
-            self.texts[int(backend), int(command)] = _PLACE.sub("", text)
+            self.texts[int(backend), int(command)] = PLACE.sub("", text)
 
     def text(self, part: Part):
         """The answer of the command that a part is about."""
@@ -68,7 +69,7 @@ class Answers:
     def has(self, part: Part):
         """Whether the answer has the part's text, from the beginning of a word to the end of one. A `;` ends the last field of
         an answer too."""
-        return re.search(r"(?:^|[ ;])%s(?=[ ;]|$)" % re.escape(part.text), folded(self.text(part)) + ";") is not None
+        return re.search(r"(?:^|[ ;])%s(?=[ ;]|$)" % re.escape(part.text), plain(self.text(part)) + ";", re.IGNORECASE) is not None
 
     def has_all(self, parts):
         """Whether they have all parts."""
@@ -77,7 +78,7 @@ class Answers:
     def line(self, sign, part: Part):
         """What came where a part was expected: of an answer with fields the field that was expected."""
         fields = self.text(part).split("; ")
-        same = [field for field in fields if field.split(" ")[0] == part.text.split(" ")[0]]
+        same = [field for field in fields if field.split(" ")[0] == part.text.lower().split(" ")[0]]
         return "%s %d.%d %s" % (sign, part.backend, part.command, "; ".join(same or fields))
 
     def differences(self, parts):

@@ -3,11 +3,11 @@ import argparse
 import os
 import re
 
-from .arguments import Arguments
-from .faults import INTERRUPTED, Fault, make_folder, read_file, read_input, write_file, write_output
+from .arguments import MOST_ORDERS, Arguments, count_of
+from .faults import INTERRUPTED, Fault, check_file, make_folder, read_file, read_input, write_file, write_output
 from .outputs import read_output
-from .parts import Part, check_same, merged, part_text, read_part
-from .picture import picture_of, span_of
+from .parts import MOST_PARTS, Part, check_same, merged, part_text, read_part
+from .picture import commands_shown, picture_of, span_of
 from .program import proved_program
 from .progress import Progress
 from .report import Extent, Serial, found_text, not_found, report, shown_sets
@@ -15,14 +15,7 @@ from .search import Exploration, Settings, processors, wanted_of
 from .sources import read_source
 
 NOT_FOUND = 1
-MOST_ORDERS = 5000
-
-
-def count_of(text):
-    """A count on the command line."""
-    if not re.fullmatch("0*[1-9][0-9]{0,8}", text):
-        raise Fault("not a count: %s" % text)
-    return int(text)
+OF_SEARCHES = ("part", "find", "picture", "most", "random", "seed", "places", "jobs", "program")     # and not of --merge
 
 
 def part_of(text):
@@ -30,6 +23,8 @@ def part_of(text):
     found = re.fullmatch("([0-9]{1,6})/([0-9]{1,6})", text)
     if not found or not 1 <= int(found.group(1)) <= int(found.group(2)):
         raise Fault("not a part, as 3/64: %s" % text)
+    if int(found.group(2)) > MOST_PARTS:
+        raise Fault("a search has at most %d parts, and not those of %s" % (MOST_PARTS, text))
     return int(found.group(1)), int(found.group(2))
 
 
@@ -41,7 +36,7 @@ def arguments_of(words):
     parser.option("--most", type=count_of, metavar="N",
                   help="all orders are run where there are at most N, else N random schedules (%d)" % MOST_ORDERS)
     parser.option("--random", type=count_of, metavar="N", help="N random schedules, without a search for all orders")
-    parser.option("--seed", default="1", metavar="S", help="of the random schedules (1)")
+    parser.option("--seed", metavar="S", help="of the random schedules: any text (1)")
     parser.option("--find", action="append", default=[], metavar="TEXT",
                   help="stop at the first schedule with this text in an entry or an answer; * stands for any text, places "
                   "(as of N) don't count; given several times, one schedule has all of them")
@@ -58,6 +53,7 @@ def arguments_of(words):
     parser.option("--program", metavar="FILE", help="run FILE in place of the proved executable")
     options = parser.parse(words)
     check(parser, options)
+    options.seed = "1" if options.seed is None else options.seed
     return options
 
 
@@ -65,12 +61,13 @@ def check(parser, options):
     """Refuses options that don't go together."""
     for one, other, is_bad in (
             ("--most", "--random", options.most and options.random), ("--most", "--part", options.most and options.part),
-            ("--find", "--part", options.find and options.part), ("--part", "--merge", options.part and options.merge),
-            ("--picture", "--part", options.picture and options.part), ("--find", "--merge", options.find and options.merge),
-            ("--picture", "--merge", options.picture and options.merge),
+            ("--find", "--part", options.find and options.part), ("--picture", "--part", options.picture and options.part),
             ("--interleaved", "--part", options.interleaved and options.part)):
         if is_bad:
             parser.error("%s doesn't go with %s" % (one, other))
+    for name in OF_SEARCHES:
+        if options.merge and getattr(options, name) not in (None, False, []):
+            parser.error("--%s doesn't go with --merge" % name)
     if bool(options.merge) != bool(options.files):
         parser.error("--merge needs FILEs" if options.merge else "FILEs are for --merge")
     if "" in options.find:
@@ -93,6 +90,7 @@ def main(words):
     exploration = Exploration(settings, source, options.program or proved_program(), Progress())
     status = 0
     exploration.program.interrupts.hold()
+    check_outputs(options)
     try:
         explore(options, exploration)
     except KeyboardInterrupt:
@@ -103,6 +101,15 @@ def main(words):
         write_part(options, part_text(part_found(options, exploration, data)))
         return status
     return tell_find(options, exploration, status) if options.find else tell_sets(options, exploration, status)
+
+
+def check_outputs(options):
+    """A Fault where what will be found can't be written."""
+    if options.out:
+        check_file(options.out)
+    if options.picture:
+        make_folder(options.picture)
+        check_file(picture_path(options, "found" if options.find else "set1"))
 
 
 def explore(options, exploration):
@@ -167,13 +174,17 @@ def tell_find(options, exploration, status):
     return 0
 
 
+def picture_path(options, name):
+    """The file of a picture."""
+    return os.path.join(options.picture, name + (".html" if options.html else ".svg"))
+
+
 def draw(options, exploration, name, run):
     """Draws a run, if it is to be drawn."""
     if options.picture:
-        make_folder(options.picture)
         output = read_output(run.output)
-        write_file(os.path.join(options.picture, name + (".html" if options.html else ".svg")),
-                   picture_of(output, options.html, span_of(len(output.entries)), exploration.source.commands))
+        commands = commands_shown(exploration.source)
+        write_file(picture_path(options, name), picture_of(output, options.html, span_of(len(output.entries)), commands))
 
 
 def merge(options):

@@ -3,6 +3,7 @@ import errno
 import os
 import signal
 import sys
+import tempfile
 
 BAD = 2
 INTERRUPTED = 130
@@ -14,8 +15,11 @@ class Fault(Exception):
 
 def run(name, main, arguments):
     """Runs a command; its exit status. A fault is said in one line that begins with the command's name. SIGTERM, by which
-    batch systems end what has taken too long, is taken as Ctrl-C is."""
+    batch systems end what has taken too long, and SIGHUP, which comes as a terminal closes, are taken as Ctrl-C is; SIGHUP
+    not under nohup."""
     signal.signal(signal.SIGTERM, signal.default_int_handler)
+    if signal.getsignal(signal.SIGHUP) != signal.SIG_IGN:
+        signal.signal(signal.SIGHUP, signal.default_int_handler)
     try:
         return main(arguments)
     except Fault as fault:
@@ -27,9 +31,12 @@ def run(name, main, arguments):
 
 
 def say(line):
-    """Writes a line to standard error, where that is open."""
-    if sys.stderr is not None:
-        print(line, file=sys.stderr)
+    """Writes a line to standard error, where that is open and its terminal is still there."""
+    try:
+        if sys.stderr is not None:
+            print(line, file=sys.stderr)
+    except OSError:
+        pass
 
 
 def read_input():
@@ -78,14 +85,36 @@ def make_folder(path):
         raise Fault("%s: the folder can't be made: %s" % (path, error.strerror))
 
 
+def is_written_to(path):
+    """Whether what is at a path isn't a file that another can take the place of: a pipe, a terminal, /dev/null."""
+    return os.path.exists(path) and not os.path.isfile(path)
+
+
+def check_file(path):
+    """A Fault where a file can't be written."""
+    try:
+        if os.path.isdir(path):
+            raise IsADirectoryError(errno.EISDIR, os.strerror(errno.EISDIR))
+        if not is_written_to(path):
+            tempfile.TemporaryFile(dir=os.path.dirname(os.path.realpath(path))).close()
+        elif not os.access(path, os.W_OK):
+            raise PermissionError(errno.EACCES, os.strerror(errno.EACCES))
+    except OSError as error:
+        raise Fault("%s: writing failed: %s" % (path, error.strerror))
+
+
 def write_file(path, text):
-    """Writes a file whole or not at all: beside it first, then in its place."""
-    beside = "%s.%d.part" % (path, os.getpid())
+    """Writes a file whole or not at all: beside it first, then in its place, or in that of the file that a link names. What
+    isn't a file is written to."""
+    content = text.encode("utf-8", "surrogateescape")
+    place = path if is_written_to(path) else os.path.realpath(path)
+    beside = place if is_written_to(path) else "%s.%d.part" % (place, os.getpid())
     try:
         with open(beside, "wb") as file:
-            file.write(text.encode("utf-8", "surrogateescape"))
-        os.replace(beside, path)
+            file.write(content)
+        if beside != place:
+            os.replace(beside, place)
     except OSError as error:
-        if os.path.exists(beside):
+        if beside != place and os.path.exists(beside):
             os.remove(beside)
         raise Fault("%s: writing failed: %s" % (path, error.strerror))

@@ -1,8 +1,8 @@
 """The sets of answers that schedules led to."""
-import re
 import sys
 from typing import Dict, Tuple
 
+from .outputs import PLACE
 from .scripts import Turns
 from .turns import MOST_TRIED, fewest_turns
 
@@ -11,8 +11,6 @@ Answers = Tuple[str, ...]
 
 LARGEST: Size = (sys.maxsize, sys.maxsize)
 PLACES_EACH = 20            # that searches may try beyond the first for each schedule
-
-PLACE = re.compile(r" as of (?:[0-9]+|_)")
 
 
 def without_places(answers):

@@ -1,5 +1,18 @@
-"""Ctrl-C and SIGTERM while results are gathered: they are taken between two runs of the program, where nothing is half done."""
+"""Ctrl-C, SIGTERM and SIGHUP while results are gathered: they are taken between two runs of the program, where nothing is half done."""
+import contextlib
 import signal
+
+SIGNALS = (signal.SIGINT, signal.SIGTERM, signal.SIGHUP)
+
+
+@contextlib.contextmanager
+def waiting():
+    """Within it signals wait; yields the mask of those that did before."""
+    held = signal.pthread_sigmask(signal.SIG_BLOCK, SIGNALS)
+    try:
+        yield held
+    finally:
+        signal.pthread_sigmask(signal.SIG_SETMASK, held)
 
 
 class Interrupts:
@@ -10,7 +23,7 @@ class Interrupts:
 
     def hold(self):
         """From here on signals are noted, and taken at the next check."""
-        for number in (signal.SIGINT, signal.SIGTERM):
+        for number in SIGNALS:
             if signal.getsignal(number) != signal.SIG_IGN:
                 signal.signal(number, self.note)
 

@@ -1,16 +1,19 @@
 """The items of a schedule: whose turn is next, and how far it goes."""
 import re
 from bisect import bisect_left
+from difflib import get_close_matches
 from typing import List, NamedTuple, Optional, Tuple
 
-from .events import FORMS
+from .events import FORMS, SCANS
 from .faults import Fault
-from .sentences import counted
+from .sentences import counted, listed
 from .spellings import tokens_of
 
 MOST_STEPS = 1000000
 
 Own = List[Tuple[int, str]]         # the steps of one backend: the command and the text of each
+
+EVENT_WORDS = tuple(FORMS) + tuple(SCANS) + ("yes", "no", "reset", "ok", "held", "rows", "row", "running")
 
 _COUNT = re.compile("[0-9]{1,9}")
 
@@ -60,8 +63,11 @@ class Made(NamedTuple):
         return words[0] == self.words[0] and all(word in rest for word in self.words[1:])
 
     def missing(self, own: Own, at):
-        """Why it can't be reached."""
-        return "no such entry comes before its stop"
+        """Why it can't be reached; and which of an event's words may be meant by one that comes nowhere."""
+        made = {word for _, text in own for word in text.split(" ")}
+        near = [get_close_matches(word, EVENT_WORDS, 1) for word in self.words if word not in made and word not in EVENT_WORDS]
+        meant = listed(repr(words[0]) for words in near if words)
+        return "no such entry comes before its stop" + ("; is %s meant?" % meant if any(near) else "")
 
 
 class Stopped(NamedTuple):

@@ -11,6 +11,7 @@ import time
 from typing import Dict, Iterator, List, Tuple
 
 from .faults import Fault
+from .interrupts import SIGNALS, waiting
 
 PAUSE = 0.1             # seconds between two messages that say how far a task is
 
@@ -41,19 +42,28 @@ class Jobs:
         context = multiprocessing.get_context("fork")
         is_stopped = context.Event()
         children = []
-        for _ in range(self.count):
-            end, other_end = context.Pipe()
-            process = context.Process(target=self.serve, args=(other_end, is_stopped), daemon=True)
-            process.start()
-            other_end.close()
-            children.append((process, end))
         try:
+            self.start_children(context, is_stopped, children)
             yield from self.hand_out([end for _, end in children])
         finally:
             is_stopped.set()
             for process, end in children:
                 self.take_rest(end)
                 process.join()
+
+    def start_children(self, context, is_stopped, children):
+        """Starts the children. Signals wait meanwhile, so that none comes to a child before it passes over them."""
+        with waiting() as held:
+            try:
+                for _ in range(self.count):
+                    end, other_end = context.Pipe()
+                    not_its_own = [end] + [other for _, other in children]
+                    process = context.Process(target=self.serve, args=(other_end, not_its_own, is_stopped, held), daemon=True)
+                    process.start()
+                    other_end.close()
+                    children.append((process, end))
+            except OSError as error:
+                raise Fault("a process of the search can't be started: %s" % error.strerror)
 
     def hand_out(self, ends):
         """Hands out the tasks in order, and takes what comes back."""
@@ -98,10 +108,14 @@ class Jobs:
         except (EOFError, OSError, Fault):
             end.close()
 
-    def serve(self, end, is_stopped):
-        """A child: does the tasks that it is given. Ctrl-C and SIGTERM are its parent's to hear."""
-        signal.signal(signal.SIGINT, signal.SIG_IGN)
-        signal.signal(signal.SIGTERM, signal.SIG_IGN)
+    def serve(self, end, not_its_own, is_stopped, held):
+        """A child: does the tasks that it is given. Signals, all but those of this mask waiting until now, are its parent's
+        to hear. The parent's ends, which it has as well, are closed, so that it ends where its parent does."""
+        for number in SIGNALS:
+            signal.signal(number, signal.SIG_IGN)
+        signal.pthread_sigmask(signal.SIG_SETMASK, held)
+        for other in not_its_own:
+            other.close()
         try:
             self.prepare()
             for number in iter(end.recv, None):

@@ -172,7 +172,7 @@ def has_header(at, count):
 def rows_of(story: Story, wanted: Wanted, y, chars):
     """The rows of the entries that are drawn, with each command before its first entry, or, where it has none, before its
     answer; the answers; and a header from time to time."""
-    rows, begun = Rows(y, chars), {}
+    rows, begun, last = Rows(y, chars), {}, dict(sorted(wanted.commands))
     for entry in story.entries[:wanted.span.first - 1]:
         begun[entry.backend] = entry.command
     steps = steps_of(story.entries[wanted.span.first - 1:wanted.span.last], wanted.brief)
@@ -185,7 +185,8 @@ def rows_of(story: Story, wanted: Wanted, y, chars):
             begun[backend] = command
         rows.add("entry", step, step.text, MOST_LINES)
         for answer in (answer for entry in step.entries for answer in story.answers.get(entry.number, ())):
-            rows.add_commands(wanted.commands, backend, range(begun.get(backend, 0) + 1, answer.command + 1))
+            until = min(answer.command, last.get(backend, 0))
+            rows.add_commands(wanted.commands, backend, range(begun.get(backend, 0) + 1, until + 1))
             begun[backend] = max(begun.get(backend, 0), answer.command)
             rows.add("answer", answer, answer.line, MOST_ANSWER_LINES)
     return rows

@@ -5,7 +5,8 @@ from typing import List, NamedTuple
 from .events import NUMBER, Event, read_event
 from .faults import Fault
 
-_PLACE = re.compile("([hl]) (%s) (%s) (.+)" % (NUMBER, NUMBER))
+_LINE = re.compile("([hl]) (%s) (%s) (.+)" % (NUMBER, NUMBER))
+PLACE = re.compile(r" as of (?:[0-9]+|_)")      # the entry that an answer names
 MOST_BACKENDS = 64
 
 
@@ -53,7 +54,7 @@ def lines_of(data):
 
 def entry_of(number, line):
     """The entry of a line, or None where the line isn't one."""
-    found = _PLACE.fullmatch(line)
+    found = _LINE.fullmatch(line)
     if not found or found.group(1) != "h" or not 1 <= int(found.group(2)) <= MOST_BACKENDS:
         return None
     event = read_event(found.group(4))
@@ -64,7 +65,7 @@ def entry_of(number, line):
 
 def answer_of(line):
     """The answer of a line, or None where the line isn't one."""
-    found = _PLACE.fullmatch(line)
+    found = _LINE.fullmatch(line)
     if not found or found.group(1) != "l" or not line.isprintable() or "?" in line:
         return None
     return Answer(line, int(found.group(2)), int(found.group(3)), found.group(4))

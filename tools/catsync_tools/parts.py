@@ -5,8 +5,11 @@ from typing import Dict, List, NamedTuple, Optional, Tuple
 from .faults import Fault
 from .findings import Answers, Findings, Found
 from .report import Extent, Serial, Shown
+from .search import COMMANDS, TRANSACTIONS
+from .sentences import counted, listed
 
 FORM = "catsync explore part, form 1"
+MOST_PARTS = 4096
 SAME = ("script", "places", "random", "seed", "parts")      # what all parts of a search have in common
 
 
@@ -33,19 +36,56 @@ def part_text(part: Part):
     return json.dumps(fields, indent=1, sort_keys=True) + "\n"
 
 
+def _is_count(value):
+    """Whether it is a number, which true and false are not."""
+    return type(value) is int and value >= 0
+
+
+def _is_pair(value):
+    """Whether it is a turn or a size."""
+    return isinstance(value, list) and len(value) == 2 and all(_is_count(number) for number in value)
+
+
+def _is_text(value):
+    """Whether it is a text that can be printed again."""
+    return isinstance(value, str) and value.encode("utf-8", "surrogateescape") is not None
+
+
+def _is_serial(value):
+    """Whether it is the kinds of serial orders by their answers."""
+    return isinstance(value, dict) and all(_is_text(key) and kind in (TRANSACTIONS, COMMANDS) for key, kind in value.items())
+
+
+def _is_set(value):
+    """Whether it is a set of answers, with what is known of it."""
+    answers, turns = value["answers"], value["turns"]
+    return (isinstance(answers, list) and all(_is_text(answer) for answer in answers)
+            and isinstance(turns, list) and all(_is_pair(turn) for turn in turns)
+            and _is_count(value["count"]) and _is_pair(value["size"]) and _is_pair(value["least"]))
+
+
+CHECKS = {
+    "script": _is_text, "places": lambda value: isinstance(value, bool), "random": lambda value: value is None or _is_count(value),
+    "seed": _is_text, "part": _is_count, "parts": _is_count, "is_over": lambda value: isinstance(value, bool),
+    "schedules": _is_count, "serial": lambda value: value is None or _is_serial(value),
+    "is_serial_over": lambda value: isinstance(value, bool),
+    "sets": lambda value: isinstance(value, list) and all(_is_set(one) for one in value),
+}
+
+
 def read_part(path, data):
     """The part of a file."""
     try:
         fields = json.loads(data.decode("utf-8"))
-        if fields.pop("form") != FORM:
+        if fields.pop("form") != FORM or not all(is_right(fields[name]) for name, is_right in CHECKS.items()):
             raise ValueError
         sets = [(tuple(one["answers"]), Found(one["count"], [tuple(turn) for turn in one["turns"]], tuple(one["size"]),
                                               tuple(one["least"]))) for one in fields.pop("sets")]
         part = Part(sets=sets, **fields)
-        if not 1 <= part.part <= part.parts:
+        if not 1 <= part.part <= part.parts <= MOST_PARTS:
             raise ValueError
         return part
-    except (ValueError, KeyError, TypeError, AttributeError):
+    except (ValueError, KeyError, TypeError, AttributeError, RecursionError):
         raise Fault("%s: not what 'explore --part' prints" % path)
 
 
@@ -77,9 +117,11 @@ def merged(parts: List[Part]):
 
 
 def extent_of(parts: List[Part]):
-    """What was run in all parts."""
+    """What was run in all parts, and which parts are missing or were stopped."""
     first = parts[0]
-    is_whole = len(parts) == first.parts
-    return Extent(sum(part.schedules for part in parts), first.random is not None, first.seed, None,
-                  is_whole and all(part.is_over for part in parts),
-                  "" if is_whole else " of %d of %d parts" % (len(parts), first.parts))
+    found = {part.part for part in parts}
+    missing = [str(part) for part in range(1, first.parts + 1) if part not in found]
+    stopped = [str(part.part) for part in sorted(parts, key=lambda part: part.part) if not part.is_over]
+    said = [word + listed(numbers) for word, numbers in (("without ", missing), ("not to the end of ", stopped)) if numbers]
+    return Extent(sum(part.schedules for part in parts), first.random is not None, first.seed, None, not said,
+                  " of %s, %s" % (counted(first.parts, "part"), " and ".join(said)) if said else "")

@@ -41,16 +41,21 @@ def span_of(count, first=None, last=None):
     return Span(first, last)
 
 
+def commands_shown(source) -> Commands:
+    """The commands of a script as pictures show them: as they are written, but for a comment or a semicolon behind them,
+    and blanks."""
+    return {place: " ".join(without_comment(text).rstrip("; \t").split()) for place, text in source.commands.items()}
+
+
 def script_of(path, output) -> Commands:
-    """The commands of the script in a file, of which this is an output; as they are written, but for a comment or a
-    semicolon behind them, and blanks."""
+    """The commands of the script in a file, of which this is an output."""
     data = read_file(path)
     try:
         source = read_source(data)
     except Fault as fault:
         raise Fault("%s: %s" % (path, fault))
     check_script(path, source, output)
-    return {place: " ".join(without_comment(text).rstrip("; \t").split()) for place, text in source.commands.items()}
+    return commands_shown(source)
 
 
 def picture_of(output, html, span, commands=None, brief=False, width=None):

@@ -10,6 +10,7 @@ import tempfile
 import time
 
 from .faults import Fault
+from .interrupts import SIGNALS, waiting
 from .session import Session
 
 FOLDERS = "/usr/lib/postgresql/*/bin"       # of Debian's packages
@@ -49,14 +50,23 @@ class Server:
         if self.programs is None or not os.access(os.path.join(self.programs, "postgres"), os.X_OK):
             raise Fault("no PostgreSQL server in %s: 'apt-get install postgresql' brings one, --programs DIR names another" % (
                 self.programs or FOLDERS))
-        self.account, self.process, self.databases = account(), None, 0
-        self.folder = tempfile.mkdtemp(prefix="catsync")
-        self.said = tempfile.TemporaryFile()
+        self.account, self.process, self.databases, self.folder, self.said = account(), None, 0, None, None
         try:
+            with waiting():
+                self.make_folder()
             self.start()
         except BaseException:
             self.stop()
             raise
+
+    def make_folder(self):
+        """Makes the folder, and a file for what the server's programs say."""
+        try:
+            self.folder, self.said = tempfile.mkdtemp(prefix="catsync"), tempfile.TemporaryFile()
+            if self.account:
+                os.chown(self.folder, *self.account)
+        except OSError as error:
+            raise Fault("no folder can be made for the server: %s" % error.strerror)
 
     def __enter__(self):
         return self
@@ -67,29 +77,29 @@ class Server:
     def become(self):
         """Called in a child before it runs a program of the server. Ctrl-C is this process's to hear."""
         os.setpgid(0, 0)
+        signal.pthread_sigmask(signal.SIG_UNBLOCK, SIGNALS)
         if self.account:
             os.setgroups([])
             os.setgid(self.account[1])
             os.setuid(self.account[0])
 
     def begin(self, program, *words):
-        """Begins a program of the server."""
+        """Begins a program of the server, which is this one's process then."""
         try:
-            return subprocess.Popen([os.path.join(self.programs, program)] + list(words), stdin=subprocess.DEVNULL,
-                                    stdout=self.said, stderr=self.said, cwd="/", preexec_fn=self.become)
+            with waiting():
+                self.process = subprocess.Popen([os.path.join(self.programs, program)] + list(words), stdin=subprocess.DEVNULL,
+                                                stdout=self.said, stderr=self.said, cwd="/", preexec_fn=self.become)
         except (OSError, subprocess.SubprocessError) as error:
             raise Fault("%s doesn't start: %s" % (program, error))
 
     def start(self):
-        """Makes the folder, starts the server and waits until it takes sessions."""
-        if self.account:
-            os.chown(self.folder, *self.account)
+        """Fills the folder, starts the server and waits until it takes sessions."""
         data = os.path.join(self.folder, "data")
-        self.process = self.begin("initdb", "-D", data, "-U", USER, "-A", "trust", "-E", "UTF8", "--locale=C", "--no-sync")
+        self.begin("initdb", "-D", data, "-U", USER, "-A", "trust", "-E", "UTF8", "--locale=C", "--no-sync")
         if self.process.wait() != 0:
             raise Fault("initdb failed: %s" % self.last_said())
         settings = dict(SETTINGS, unix_socket_directories=self.folder)
-        self.process = self.begin("postgres", "-D", data, *["--%s=%s" % setting for setting in settings.items()])
+        self.begin("postgres", "-D", data, *["--%s=%s" % setting for setting in settings.items()])
         until = time.monotonic() + PATIENCE
         while True:
             try:
@@ -135,7 +145,16 @@ class Server:
         session.close()
 
     def stop(self):
-        """Stops the server and removes its folder."""
+        """Stops the server and removes its folder, whatever signals come."""
+        with waiting():
+            self.stop_process()
+            if self.folder is not None:
+                shutil.rmtree(self.folder, ignore_errors=True)
+            if self.said is not None:
+                self.said.close()
+
+    def stop_process(self):
+        """Stops what runs in the folder."""
         if self.process is not None and self.process.poll() is None:
             for how in (signal.SIGINT, signal.SIGQUIT, signal.SIGKILL):
                 self.process.send_signal(how)
@@ -144,5 +163,3 @@ class Server:
                     break
                 except subprocess.TimeoutExpired:
                     continue
-        shutil.rmtree(self.folder, ignore_errors=True)
-        self.said.close()

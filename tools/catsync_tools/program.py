@@ -1,13 +1,12 @@
 """Runs `catsync walk` on scripts."""
 import glob
 import os
-import signal
 import subprocess
 import tempfile
 from typing import List, NamedTuple, Tuple
 
 from .faults import Fault
-from .interrupts import Interrupts
+from .interrupts import SIGNALS, Interrupts
 
 TOP = os.path.dirname(os.path.dirname(os.path.dirname(os.path.abspath(__file__))))
 PROVED = os.path.join(TOP, "crates", "catsync", "out", "catsync")
@@ -51,11 +50,19 @@ class Program:
     """The program, and how often it was run."""
 
     def __init__(self, path):
-        self.path, self.runs, self.interrupts = path, 0, Interrupts()
+        self.path = path if os.path.dirname(path) else os.path.join(os.curdir, path)     # never one on PATH
+        self.runs, self.interrupts = 0, Interrupts()
+        self.renew()
+
+    def split_off(self):
+        """Called in a process that was split off another: it has files of its own, and signals that the other had noted
+        aren't its own."""
+        self.interrupts = Interrupts()
+        self.close()
         self.renew()
 
     def renew(self):
-        """Takes new files for input and standard error, as a process needs that was split off another."""
+        """Takes new files for input and standard error."""
         try:
             self.input, self.said = tempfile.TemporaryFile(), tempfile.TemporaryFile()
         except OSError as error:
@@ -76,7 +83,7 @@ class Program:
     def run(self, script):
         """What the program prints for a script; a Fault says why it was refused."""
         output, status = self.result(script)
-        while status in (-signal.SIGINT, -signal.SIGTERM):
+        while -status in SIGNALS:
             if not self.interrupts.is_over:
                 raise KeyboardInterrupt
             output, status = self.result(script)

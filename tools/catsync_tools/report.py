@@ -33,13 +33,14 @@ class Extent(NamedTuple):
     @property
     def text(self):
         """What was run, and whether that is all."""
-        ran = self.ran + self.parts
+        ran = self.ran
         if self.is_random:
             ran += " from seed %s" % self.seed
             if self.most_orders is not None:
                 ran += ", as there are more than %s" % counted(self.most_orders, "order")
         elif self.is_over:
             ran = "all " + ran
+        ran += self.parts
         return ran if self.is_over else "stopped after " + ran
 
 

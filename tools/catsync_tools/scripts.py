@@ -1,7 +1,11 @@
 """Scripts with other schedules than their own."""
+import re
 from typing import Dict, List, NamedTuple, Tuple
 
 Turns = List[Tuple[int, int]]       # backends, each with how many steps it makes before the next one's turn
+
+
+_BACKEND = re.compile(r"[ \t]*[0-9]{1,9}[ \t]*")
 
 
 class Script(NamedTuple):
@@ -22,7 +26,7 @@ class Script(NamedTuple):
         counts: Dict[int, int] = {}
         for line in self.lines:
             backend, colon, text = line.decode("ascii", "replace").partition(":")
-            if colon and backend.strip().isdigit():
+            if colon and _BACKEND.fullmatch(backend):
                 counts[int(backend)] = counts.get(int(backend), 0) + 1
                 found[int(backend), counts[int(backend)]] = text.strip()
         return found

@@ -6,10 +6,11 @@ import re
 from typing import Dict, NamedTuple, Optional, Pattern, Tuple
 
 from .access import Accesses
-from .findings import PLACE, Answers, Findings, without_places
+from .findings import Answers, Findings, without_places
 from .jobs import Jobs
 from .history import history_of
 from .orders import WHOLE, Search
+from .outputs import PLACE
 from .program import Program
 from .runner import Runner
 from .schedules import random_schedule
@@ -179,7 +180,7 @@ class Exploration:
         """Does tasks until one of them finds what is looked for. Whether they came to their end, or found it, before they
         had more schedules than so many: otherwise nothing is kept of several tasks, since what they had found by then isn't
         the same each time."""
-        jobs = Jobs(tasks, count, self.program.renew)
+        jobs = Jobs(tasks, count, self.program.split_off)
         schedules = [0] * len(tasks)
         self.is_over, is_within = False, True
         try:
@@ -187,16 +188,31 @@ class Exploration:
                 for number, schedules[number] in going:
                     self.program.interrupts.check()
                     self.show(sum(schedules), shown or most, kind)
-                    if self.first_found(jobs) is not None:
-                        break
-                    if most is not None and sum(schedules) > most:
-                        is_within = False
+                    is_within = most is None or not self.is_beyond(jobs, schedules, most)
+                    if not is_within or self.first_found(jobs) is not None:
                         break
         finally:
             if is_within or len(tasks) == 1:
                 self.keep(jobs)
         self.is_over = is_within
         return is_within
+
+    def is_beyond(self, jobs, schedules, most):
+        """Whether tasks, done one after the other, have more schedules than so many before one of them finds what is looked
+        for. That doesn't depend on how far each is, so that it is the same for any number of processes."""
+        if not self.settings.wanted:
+            return sum(schedules) > most
+        done = 0
+        for number, is_done in enumerate(jobs.is_done):
+            piece = jobs.pieces.get(number)
+            done += schedules[number]
+            is_found = piece is not None and piece.found is not None
+            may_be_last = piece is None and schedules[number] > 0     # a process says later what it found in its last one
+            if done - (is_found or may_be_last) > most:
+                return True
+            if is_found or not is_done:
+                return False
+        return False
 
     def first_found(self, jobs):
         """The first task that has found what is looked for, if all before it have come to their end without it."""

@@ -23,6 +23,7 @@ from .spellings import refused, respelled, without_comment, words_of
 OTHER, COMMAND, STEPS, EXPECT = "other", "command", "steps", "expect"
 
 _COMMAND = re.compile(r"([ \t]*([0-9]{1,9})[ \t]*:)(.*)", re.DOTALL)
+_NUMBER = re.compile("[0-9]{1,9}")
 _SETUP = re.compile(r"[ \t]*setup(?=[ \t])[ \t]*", re.IGNORECASE)
 
 
@@ -109,7 +110,7 @@ class Reader:
             self.latest = COMMAND if self.latest != STEPS else STEPS
             self.take_command(line, text)
         else:
-            if words[0] == "backends" and len(words) == 2 and words[1].isdigit():
+            if words[0] == "backends" and len(words) == 2 and _NUMBER.fullmatch(words[1]):
                 self.backends = int(words[1])
             self.put(OTHER, line)
 

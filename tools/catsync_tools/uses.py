@@ -6,7 +6,8 @@ the relation. A command that writes has opened the descriptor of the relation th
 and without a write (`lock table`, or one that the history doesn't finish) isn't said to open any.
 """
 import re
-from typing import Dict, Optional
+from bisect import bisect_left, bisect_right
+from typing import Dict, List, Optional
 
 from .caches import Kept, Served, served_by
 
@@ -66,9 +67,9 @@ class Uses:
                     numbers[place] = int(found.group(1))
         self.columns = {(answer.backend, answer.command): answer.text.split(" ") for answer in output.answers
                         if re.match("columns? ", answer.text)}
-        self.last_command: Dict[int, int] = {}
-        for answer in output.answers:
-            self.last_command[answer.backend] = max(answer.command, self.last_command.get(answer.backend, 0))
+        self.answered: Dict[int, List[int]] = {}
+        for backend, command in sorted({(answer.backend, answer.command) for answer in output.answers}):
+            self.answered.setdefault(backend, []).append(command)
         self.courses: Dict[int, Course] = {}
 
     def take(self, model, facts, last):
@@ -88,13 +89,13 @@ class Uses:
                 self.serve(model, course, facts, names=True)
         elif kind not in PASSED and not course.is_over:
             course.is_over = True
-            if kind == "clash" or (entry.backend, entry.command) in self.opening:
+            if (entry.backend, entry.command) in self.opening:
                 self.serve(model, course, last)
 
     def finish(self, model, backend, last, command):
         """The backend's commands below one are finished, with its last entry or without any."""
         course = self.courses.get(backend)
-        for number in range(course.command if course else command, command):
+        for number in self.finished(backend, course.command, command) if course else ():
             own = course if number == course.command else Course(number)
             place = (backend, number)
             if own.rel is None:
@@ -104,10 +105,16 @@ class Uses:
             self.serve_by_place(model, place, last)
             self.serve_columns(model, place, last)
 
+    def finished(self, backend, first, command):
+        """A command of a backend, and the later ones below another that have an answer; those between that have neither an
+        entry nor an answer are nowhere."""
+        answered = self.answered.get(backend, [])
+        return [first] * (first < command) + answered[bisect_right(answered, first):bisect_left(answered, command)]
+
     def finish_all(self, model):
         """The history is over."""
         for backend, facts in model.last.items():
-            self.finish(model, backend, facts, self.last_command.get(backend, 0) + 1)
+            self.finish(model, backend, facts, max(self.answered.get(backend, [0])) + 1)
 
     def serve(self, model, course, facts, names=False):
         """What is kept serves a command by what it had at an entry: a descriptor, or a name alone."""
