@@ -156,6 +156,9 @@ class Items(unittest.TestCase):
 FAULTY = (
     (b"", "line 1: the input ends without an 'end' line"),
     (b"backends 1\n", "line 2: the input ends without an 'end' line"),
+    (b"backends 1\n1: show caf\xe9\nsteps 1*4\nend\n", "line 2: the byte 0xE9 in column 12 is neither printable ASCII nor a tab"),
+    (b"backends \xb2\n1: show t\nsteps 1 to 1\nend\n", "line 1: the byte 0xB2 in column 10 is neither printable ASCII nor a tab"),
+    (b"\x7fELF\x01\n\0", "line 1: the byte 0x7F in column 1 is neither printable ASCII nor a tab"),
     (b"backends 1\nend\n1: begin\n", "line 3: only blank lines and comments may follow the 'end' line"),
     (b"backends 1\n1: begin\nsetup 1: begin\nend\n", "line 3: a set-up line must come before all other commands"),
     (b"backends 1\nsetup begin\nend\n", "line 2: a set-up line must read 'setup B: COMMAND'"),
@@ -191,8 +194,7 @@ UNREACHABLE = (
     (b"backends 1\n-- a\n1: creat table t ()\nsteps 1 to 1\nend\n", "catsync: line 3"),
     (b"backends 1\nsetup 2: begin\nend\n", "catsync: line 2"),
     (b"backends 1\n-- a\n1: creat table t ()\nend\n", "catsync: line 3: BadCommand: "),
-    (b"backends 1\n1: show caf\xe9\nsteps 1*4\nend\n", "catsync: line 2: BadByte: "), (b"end\n", "catsync: line 1: NoBackends: "),
-    (b"backends \xb2\n1: show t\nsteps 1 to 1\nend\n", "catsync: line 1: BadByte: "),
+    (b"end\n", "catsync: line 1: NoBackends: "),
     (b"backends %s\n1: show t\nsteps 1 to 1\nend\n" % (b"1" * 5000), "catsync: line 1: BadCount: "),
     (b"backends 1\n%s: show t\nsteps 1\nend\n" % (b"1" * 5000), "catsync: line 2: "),
 )
