@@ -955,7 +955,7 @@ class Explorer(unittest.TestCase):
     def test_interrupt_of_a_part(self):
         """On Ctrl-C, and on a batch system's SIGTERM, a part prints what it has found, and the parts are merged as a search
         that isn't over."""
-        for number in (signal.SIGINT, signal.SIGTERM):
+        for number in (signal.SIGINT, signal.SIGTERM, signal.SIGHUP):
             with tempfile.TemporaryDirectory() as folder:
                 status, text = self.interrupted(number, rb"[1-9][0-9]* orders", "--part", "1/1", "--jobs", "2")
                 self.assertEqual(status, 130)
@@ -963,7 +963,8 @@ class Explorer(unittest.TestCase):
                 with open(path, "wb") as file:
                     file.write(text)
                 self.assertFalse(json.loads(text.decode())["is_over"])
-                self.assertRegex(call("explore", "--merge", path)[1].decode(), "^stopped after [0-9]+ orders?: ")
+                self.assertRegex(call("explore", "--merge", path)[1].decode(),
+                                 "^stopped after [0-9]+ orders? of 1 part, not to the end of 1: ")
 
 
 if __name__ == "__main__":
