@@ -178,6 +178,11 @@ FAULTY = (
     (b"backends 1\n1: begin\nsteps 1 to 0\nend\n", "line 3: '1 to 0': backend 1 has 1 command"),
     (b"backends 1\n1: begin\n1: LOCK t IN SHARE MODE NOWAIT;\nend\n", "line 3: 'nowait' isn't the model's: here no lock waits, "),
     (b"backends 1\n1: lock t nowait -- at once\nend\n", "line 2: 'nowait' isn't the model's"),
+    (b"backends 1\n1: alter table t add b text, add c text\nend\n", "line 2: an 'alter table' makes one change here; make a "),
+    (b"backends 1\n1: alter table t add b\nend\n", "line 2: the column 'b' has no type"),
+    (b"backends 1\n1: alter table t add column b;\nend\n", "line 2: the column 'b' has no type"),
+    (b"backends 1\n1: drop table IF EXISTS t\nend\n", "line 2: 'if exists' isn't the model's; leave it out"),
+    (b"backends 1\n1: create table if not exists t (a int4, b text)\nend\n", "line 2: 'if not exists' isn't the model's; "),
     (b"backends 1\n1: begin\nexpect 1.2 ok\nend\n", "line 3: there is no command 2 of backend 1"),
     (b"backends 1\n1: begin\nexpect 1 ok\nend\n", "line 3: an expectation must read 'expect B.C TEXT', "),
 )
