@@ -574,7 +574,7 @@ class Explorer(unittest.TestCase):
         self.assertEqual(self.merged(script, 3), one[1])
 
     def test_jobs_of_a_search_for_a_text(self):
-        """However many processes do tasks, the same one finds what is looked for, and as many schedules are enough or aren't."""
+        """However many processes do tasks, the same one finds what is looked for, before the same number of schedules."""
         draw = random.Random(9)
         exploration = Exploration(Settings(wanted=(re.compile("x"),)), read_source(TWO_CREATORS), PROGRAM, Progress())
         with unittest.mock.patch("catsync_tools.jobs.PAUSE", 0):
@@ -605,20 +605,22 @@ class Explorer(unittest.TestCase):
     def test_signal_as_processes_start(self):
         """A signal that comes just before the processes are there, or to one of them as it starts, ends the search as any
         other does."""
-        before = "old = Jobs.run_in_children\ndef new(self):\n    os.kill(os.getpid(), %d)\n    return old(self)\nJobs.run_in_children = new"
+        before = ("old = Jobs.run_in_children\ndef new(self):\n    os.kill(os.getpid(), %d)\n    return old(self)\n"
+                  "Jobs.run_in_children = new")
         inside = ("old = Jobs.serve\ndef new(self, *words):\n    os.kill(os.getpid(), %d)\n    os.kill(os.getppid(), %d)\n"
                   "    return old(self, *words)\nJobs.serve = new")
-        head = "import os, sys\nsys.path.insert(0, %r)\nfrom catsync_tools import explore, faults\nfrom catsync_tools.jobs import Jobs\n"
+        head = ("import os, sys\nsys.path.insert(0, %r)\nfrom catsync_tools import explore, faults\n"
+                "from catsync_tools.jobs import Jobs\n")
         tail = "\nsys.exit(faults.run('explore', explore.main, sys.argv[1:]))"
         for number in (signal.SIGINT, signal.SIGTERM, signal.SIGHUP):
             for change in (before % number, inside % (number, number)):
                 with self.subTest(change):
+                    words = ["--program", PROGRAM, "--random", "200", "--jobs", "2"]
                     done = subprocess.run(
-                        [sys.executable, "-c", head % TOOLS + change + tail, "--program", PROGRAM, "--random", "200", "--jobs", "2"],
-                        input=ROLLED_BACK, stdout=subprocess.PIPE, stderr=subprocess.PIPE,
+                        [sys.executable, "-c", head % TOOLS + change + tail] + words, input=ROLLED_BACK, stdout=subprocess.PIPE, stderr=subprocess.PIPE,
                         preexec_fn=lambda: signal.signal(signal.SIGINT, signal.SIG_DFL))
                     self.assertEqual((done.returncode, done.stderr), (130, b""))
-                    self.assertRegex(done.stdout, b"^stopped after [0-9]+ random schedules? from seed 1: [0-9]+ sets")
+                    self.assertRegex(done.stdout, b"^stopped after [0-9]+ random schedules? from seed 1: [0-9]+ sets?")
 
     def merged(self, script, count, *words):
         """What the parts of a search are merged to."""
@@ -953,7 +955,7 @@ class Explorer(unittest.TestCase):
     def test_interrupt_of_a_part(self):
         """On Ctrl-C, and on a batch system's SIGTERM, a part prints what it has found, and the parts are merged as a search
         that isn't over."""
-        for number in (signal.SIGINT, signal.SIGTERM):
+        for number in (signal.SIGINT, signal.SIGTERM, signal.SIGHUP):
             with tempfile.TemporaryDirectory() as folder:
                 status, text = self.interrupted(number, rb"[1-9][0-9]* orders", "--part", "1/1", "--jobs", "2")
                 self.assertEqual(status, 130)
@@ -961,7 +963,8 @@ class Explorer(unittest.TestCase):
                 with open(path, "wb") as file:
                     file.write(text)
                 self.assertFalse(json.loads(text.decode())["is_over"])
-                self.assertRegex(call("explore", "--merge", path)[1].decode(), "^stopped after [0-9]+ orders?: ")
+                self.assertRegex(call("explore", "--merge", path)[1].decode(),
+                                 "^stopped after [0-9]+ orders? of 1 part, not to the end of 1: ")
 
 
 if __name__ == "__main__":

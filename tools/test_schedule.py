@@ -156,6 +156,9 @@ class Items(unittest.TestCase):
 FAULTY = (
     (b"", "line 1: the input ends without an 'end' line"),
     (b"backends 1\n", "line 2: the input ends without an 'end' line"),
+    (b"backends 1\n1: show caf\xe9\nsteps 1*4\nend\n", "line 2: the byte 0xE9 in column 12 is neither printable ASCII nor a tab"),
+    (b"backends \xb2\n1: show t\nsteps 1 to 1\nend\n", "line 1: the byte 0xB2 in column 10 is neither printable ASCII nor a tab"),
+    (b"\x7fELF\x01\n\0", "line 1: the byte 0x7F in column 1 is neither printable ASCII nor a tab"),
     (b"backends 1\nend\n1: begin\n", "line 3: only blank lines and comments may follow the 'end' line"),
     (b"backends 1\n1: begin\nsetup 1: begin\nend\n", "line 3: a set-up line must come before all other commands"),
     (b"backends 1\nsetup begin\nend\n", "line 2: a set-up line must read 'setup B: COMMAND'"),
@@ -175,6 +178,11 @@ FAULTY = (
     (b"backends 1\n1: begin\nsteps 1 to 0\nend\n", "line 3: '1 to 0': backend 1 has 1 command"),
     (b"backends 1\n1: begin\n1: LOCK t IN SHARE MODE NOWAIT;\nend\n", "line 3: 'nowait' isn't the model's: here no lock waits, "),
     (b"backends 1\n1: lock t nowait -- at once\nend\n", "line 2: 'nowait' isn't the model's"),
+    (b"backends 1\n1: alter table t add b text, add c text\nend\n", "line 2: an 'alter table' makes one change here; make a "),
+    (b"backends 1\n1: alter table t add b\nend\n", "line 2: the column 'b' has no type"),
+    (b"backends 1\n1: alter table t add column b;\nend\n", "line 2: the column 'b' has no type"),
+    (b"backends 1\n1: drop table IF EXISTS t\nend\n", "line 2: 'if exists' isn't the model's; leave it out"),
+    (b"backends 1\n1: create table if not exists t (a int4, b text)\nend\n", "line 2: 'if not exists' isn't the model's; "),
     (b"backends 1\n1: begin\nexpect 1.2 ok\nend\n", "line 3: there is no command 2 of backend 1"),
     (b"backends 1\n1: begin\nexpect 1 ok\nend\n", "line 3: an expectation must read 'expect B.C TEXT', "),
 )
@@ -191,8 +199,7 @@ UNREACHABLE = (
     (b"backends 1\n-- a\n1: creat table t ()\nsteps 1 to 1\nend\n", "catsync: line 3"),
     (b"backends 1\nsetup 2: begin\nend\n", "catsync: line 2"),
     (b"backends 1\n-- a\n1: creat table t ()\nend\n", "catsync: line 3: BadCommand: "),
-    (b"backends 1\n1: show caf\xe9\nsteps 1*4\nend\n", "catsync: line 2: BadByte: "), (b"end\n", "catsync: line 1: NoBackends: "),
-    (b"backends \xb2\n1: show t\nsteps 1 to 1\nend\n", "catsync: line 1: BadByte: "),
+    (b"end\n", "catsync: line 1: NoBackends: "),
     (b"backends %s\n1: show t\nsteps 1 to 1\nend\n" % (b"1" * 5000), "catsync: line 1: BadCount: "),
     (b"backends 1\n%s: show t\nsteps 1\nend\n" % (b"1" * 5000), "catsync: line 2: "),
 )

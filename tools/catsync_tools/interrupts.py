@@ -1,4 +1,5 @@
-"""Ctrl-C, SIGTERM and SIGHUP while results are gathered: they are taken between two runs of the program, where nothing is half done."""
+"""Signals that end a tool, while results are gathered: they are taken between two runs of the program, where nothing is half
+done."""
 import contextlib
 import signal
 

@@ -53,7 +53,8 @@ def _is_text(value):
 
 def _is_serial(value):
     """Whether it is the kinds of serial orders by their answers."""
-    return isinstance(value, dict) and all(_is_text(key) and kind in (TRANSACTIONS, COMMANDS) for key, kind in value.items())
+    return isinstance(value, dict) and all(
+        _is_text(key) and kind in (TRANSACTIONS, COMMANDS) for key, kind in value.items())
 
 
 def _is_set(value):
@@ -65,8 +66,8 @@ def _is_set(value):
 
 
 CHECKS = {
-    "script": _is_text, "places": lambda value: isinstance(value, bool), "random": lambda value: value is None or _is_count(value),
-    "seed": _is_text, "part": _is_count, "parts": _is_count, "is_over": lambda value: isinstance(value, bool),
+    "script": _is_text, "places": lambda value: isinstance(value, bool),
+    "random": lambda value: value is None or _is_count(value), "seed": _is_text, "part": _is_count, "parts": _is_count, "is_over": lambda value: isinstance(value, bool),
     "schedules": _is_count, "serial": lambda value: value is None or _is_serial(value),
     "is_serial_over": lambda value: isinstance(value, bool),
     "sets": lambda value: isinstance(value, list) and all(_is_set(one) for one in value),

@@ -24,6 +24,7 @@ OTHER, COMMAND, STEPS, EXPECT = "other", "command", "steps", "expect"
 
 _COMMAND = re.compile(r"([ \t]*([0-9]{1,9})[ \t]*:)(.*)", re.DOTALL)
 _NUMBER = re.compile("[0-9]{1,9}")
+_OTHER_BYTE = re.compile("[^\t -~]")
 _SETUP = re.compile(r"[ \t]*setup(?=[ \t])[ \t]*", re.IGNORECASE)
 
 
@@ -98,6 +99,10 @@ class Reader:
 
     def take(self, line, text, words):
         """A line that counts, before `end`."""
+        other = _OTHER_BYTE.search(text)
+        if other:
+            raise Fault("line %d: the byte 0x%02X in column %d is neither printable ASCII nor a tab" % (
+                self.number, ord(other.group()), other.start() + 1))
         if words[0] == "steps":
             self.put(STEPS, line, read_items(self.number, text))
             self.latest = STEPS

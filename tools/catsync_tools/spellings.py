@@ -81,6 +81,21 @@ def refused(text):
     tokens = [token for token in tokens_of(text) if token != ";"]
     if tokens[:1] == ["lock"] and tokens[-1] == "nowait" and len(tokens) > 2:
         return "'nowait' isn't the model's: here no lock waits, and each is refused at once as with 'nowait'; leave it out"
+    condition = re.match("(?:alter|create|drop) (?:table|index) (if (?:not )?exists) ", " ".join(tokens) + " ")
+    if condition:
+        return "'%s' isn't the model's; leave it out" % condition.group(1)
+    return refused_change(tokens) if tokens[:2] == ["alter", "table"] else None
+
+
+def refused_change(tokens):
+    """Why an `alter table` that PostgreSQL has is none here, or has no type."""
+    depth = 0
+    for token in tokens:
+        depth += (token == "(") - (token == ")")
+        if token == "," and depth == 0:
+            return "an 'alter table' makes one change here; make a command of each"
+    if re.fullmatch(_OF_TABLE + "add (?:column )?(?:%s)" % _COLUMN, " ".join(tokens)):
+        return "the column '%s' has no type" % tokens[-1]
     return None
 
 
