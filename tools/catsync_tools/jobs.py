@@ -67,21 +67,21 @@ class Jobs:
 
     def hand_out(self, ends):
         """Hands out the tasks in order, and takes what comes back."""
-        waiting = iter(range(len(self.tasks)))
+        left = iter(range(len(self.tasks)))
         busy = set()
         for end in ends:
-            busy.update(self.hand_next(end, waiting))
+            busy.update(self.hand_next(end, left))
         while busy:
             for end in multiprocessing.connection.wait(list(busy)):
                 number, schedules, is_done = self.take(end)
                 if is_done:
                     busy.discard(end)
-                    busy.update(self.hand_next(end, waiting))
+                    busy.update(self.hand_next(end, left))
                 yield number, schedules
 
-    def hand_next(self, end, waiting):
+    def hand_next(self, end, left):
         """Hands out the next task, if there is one: to whom."""
-        for number in waiting:
+        for number in left:
             end.send(number)
             return [end]
         return []

@@ -114,7 +114,7 @@ class Uses:
     def finish_all(self, model):
         """The history is over."""
         for backend, facts in model.last.items():
-            self.finish(model, backend, facts, max(self.answered.get(backend, [0])) + 1)
+            self.finish(model, backend, facts, self.answered.get(backend, [0])[-1] + 1)
 
     def serve(self, model, course, facts, names=False):
         """What is kept serves a command by what it had at an entry: a descriptor, or a name alone."""
