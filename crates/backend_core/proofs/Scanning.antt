@@ -21,7 +21,7 @@ use Rattle.cacheless.specs.Owed.{owed_after}
 use Rattle.cacheless.specs.Plays.{started_in, has_looked, MayPlayIn}
 use Rattle.cacheless.specs.Session.{Session, Badly, number_of, outcome_of}
 use Rattle.cacheless.specs.Sessions.{is_wanted, entered}
-use Rattle.cacheless.specs.State.{owed_at, one_if, is_kept, scan_kept}
+use Rattle.cacheless.specs.State.{owed_at, one_if, is_kept, newly_kept}
 use Rattle.cacheless.proofs.EnteredScans.{next_lacks}
 use Rattle.cacheless.proofs.ReadPlaces.{place_read-more, place_read-scan}
 use Rattle.cacheless.proofs.Same.{next_same}
@@ -156,15 +156,15 @@ module _ (scenario : Scenario) (old : List Entry) (was : Backend) (waits : Await
       (scan_runs scenario old was waits courses next.command next.free.at scan next.next next.free.first) (scan_busy was.progress next.command next.lacks) (looks_less l t left right)
 
   -- what was kept stays where it is, and the scan stands at its entry
-  scan_kept_at : (rows : List Row) (t : Bool) → All (KeptAt (with_own old was.progress event) was.progress.id) (was.progress.kept ++ scan_kept t scan rows (length old + 1))
-  scan_kept_at rows t = by_kind t
+  kept_then : (rows : List Row) (t : Bool) → All (KeptAt (with_own old was.progress event) was.progress.id) (was.progress.kept ++ newly_kept t scan rows (length old + 1))
+  kept_then rows t = by_kind t
     where
       stay : All (KeptAt (with_own old was.progress event) was.progress.id) was.progress.kept
       stay = λ i d within. place_read-more old (entry_of was.progress.id (was.progress.finished + 1) event) was.progress.id (get_or was.progress.kept i d).scan
           (none_kept was.progress scan (get_or was.progress.kept i d) next.next (waits.rests.holds.facts.kept i d within).build (list_any_at (λ k. same_scan k.scan scan) was.progress.kept i d within))
           ∙ waits.keeps.kept i d within
 
-      by_kind : (u : Bool) → All (KeptAt (with_own old was.progress event) was.progress.id) (was.progress.kept ++ scan_kept u scan rows (length old + 1))
+      by_kind : (u : Bool) → All (KeptAt (with_own old was.progress event) was.progress.id) (was.progress.kept ++ newly_kept u scan rows (length old + 1))
       by_kind true = subst (All (KeptAt (with_own old was.progress event) was.progress.id)) (sym (append-nil was.progress.kept)) stay
       by_kind false = All-push (KeptAt (with_own old was.progress event) was.progress.id) was.progress.kept (record { scan = scan; rows = rows; at = length old + 1 }) stay (here old was.progress.id (was.progress.finished + 1) scan count scan (same_scan-itself scan))
 
@@ -173,13 +173,13 @@ module _ (scenario : Scenario) (old : List Entry) (was : Backend) (waits : Await
 
   -- so after it the backend agrees
   pub scan_enters : (new : List Entry) (had has : ℕ → ℕ) (p : Progress) (l t : Bool) (rows : List Row) (at : ℕ) → IsPlayed scenario old → HasEntered scenario old was.progress event waits.rests p → at ≡ length old + 1
-      → p.kept ≡ was.progress.kept ++ scan_kept (is_wanted scan (plan_at was.progress.exec)) scan rows at → p.given_at ≡ (if is_wanted scan (plan_at was.progress.exec) then at else was.progress.given_at)
+      → p.kept ≡ was.progress.kept ++ newly_kept (is_wanted scan (plan_at was.progress.exec)) scan rows at → p.given_at ≡ (if is_wanted scan (plan_at was.progress.exec) then at else was.progress.given_at)
       → l ≡ (was.looked && not (not builds)) → t ≡ (was.looked_to_build && not builds)
       → Appends old new had has (entry_of was.progress.id (was.progress.finished + 1) event) → Enters scenario old new had has was (record was { progress = p; looked = l; looked_to_build = t; answer = None })
   scan_enters new had has p l t rows at played goes at_is kept given_at left right appends =
       own_enters scenario old new had has was (record was { progress = p; looked = l; looked_to_build = t; answer = None }) event waits played courses scan_own goes
       (keeps_at scenario old was event waits p goes (record was { progress = p; looked = l; looked_to_build = t; answer = None }) refl refl
-      (subst (All (KeptAt (with_own old was.progress event) was.progress.id)) (sym (kept ∙ ap (λ n. was.progress.kept ++ scan_kept (is_wanted scan (plan_at was.progress.exec)) scan rows n) at_is)) (scan_kept_at rows (is_wanted scan (plan_at was.progress.exec))))
+      (subst (All (KeptAt (with_own old was.progress event) was.progress.id)) (sym (kept ∙ ap (λ n. was.progress.kept ++ newly_kept (is_wanted scan (plan_at was.progress.exec)) scan rows n) at_is)) (kept_then rows (is_wanted scan (plan_at was.progress.exec))))
       (subst (PlaceFits (with_own old was.progress event) was.progress.id (plan_at p.exec) p.read) (sym (given_at ∙ ap (λ n. if is_wanted scan (plan_at was.progress.exec) then n else was.progress.given_at) at_is))
       (subst (λ r. PlaceFits (with_own old was.progress event) was.progress.id (plan_at p.exec) r (if is_wanted scan (plan_at was.progress.exec) then length old + 1 else was.progress.given_at)) (sym (ap (λ (x : Session). x.read) goes.session))
       (subst (λ q. PlaceFits (with_own old was.progress event) was.progress.id q (is_wanted scan (plan_at was.progress.exec) || was.progress.read) (if is_wanted scan (plan_at was.progress.exec) then length old + 1 else was.progress.given_at)) (sym (ap (λ (x : Session). x.left) goes.session))

@@ -12,7 +12,7 @@ use Rattle.cacheless.specs.Facts.{facts_of}
 use Rattle.cacheless.specs.Holds.{Holds, Rests, HasNotStarted}
 use Rattle.cacheless.specs.Lines.{line_of, lines_from, lines_of_backend}
 use Rattle.cacheless.specs.May.{owes_nothing}
-use Rattle.cacheless.specs.OnCourse.{EntersCourse, is_over}
+use Rattle.cacheless.specs.OnCourse.{AllOnCourse, EntersCourse, is_over}
 pub use Rattle.cacheless.specs.Played.{IsPlayed}
 use Rattle.cacheless.specs.Runs.{runs}
 use Rattle.cacheless.specs.Session.{Session, number_of, outcome_of, is_settled}
@@ -95,6 +95,12 @@ pub record AwaitsEntry (scenario : Scenario) (seen : List Entry) (s : Backend) :
   pub fits : Fits (facts_of seen s.progress.id) (command_at s) (session_at s.progress rests.holds.rest) s.looked s.looked_to_build
   pub tells : Tells scenario seen s (session_at s.progress rests.holds.rest)
   pub answered : is_to_answer_at s.progress ≡ true → is_some s.answer ≡ true
+
+-- a backend that may make an entry: it waits for one, and every backend is on its course in what was played
+pub record IsReady (scenario : Scenario) (seen : List Entry) (s : Backend) : Type 0 where
+  pub waits : AwaitsEntry scenario seen s
+  pub played : IsPlayed scenario seen
+  pub course : AllOnCourse scenario seen
 
 -- a new backend, which hasn't joined
 pub record IsNew (s : Backend) (id : ℕ) (commands : List Command) : Type 0 where

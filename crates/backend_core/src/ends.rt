@@ -6,16 +6,13 @@ use seg_calls::Seg;
 
 impl Backend {
     ghost use Rattle.std.specs.Prelude.{◌≡◌, ◌<◌};
-    ghost use Rattle.cacheless.specs.OnCourse.{AllOnCourse};
-    ghost use Rattle.backend_core.specs.Agrees.{AwaitsEntry, IsPlayed};
+    ghost use Rattle.backend_core.specs.Agrees.{IsReady};
     ghost use Rattle.backend_core.specs.declared.next.Next.TheVariants as nexts;
     ghost use Rattle.backend_core.specs.Steps.{IsNextOf, Steps, Enters};
 
     // Its transaction is committed.
     pub(crate) fn commit<L: Seg>(&mut self, seg: &mut L, xid: Xid)
-        requires waits { AwaitsEntry (L.script seg.old) (L.history seg.old) self.old }
-        requires played { IsPlayed (L.script seg.old) (L.history seg.old) }
-        requires course { AllOnCourse (L.script seg.old) (L.history seg.old) }
+        requires ready { IsReady (L.script seg.old) (L.history seg.old) self.old }
         requires place { 0 < L.promised seg.old self.old.progress.id }
         requires next { IsNextOf self.old (nexts.Commit xid) }
         ensures script { L.script seg.new ≡ L.script seg.old }
@@ -27,9 +24,7 @@ impl Backend {
 
     // It publishes the next messages of its commit.
     pub(crate) fn publish<L: Seg>(&mut self, seg: &mut L)
-        requires waits { AwaitsEntry (L.script seg.old) (L.history seg.old) self.old }
-        requires played { IsPlayed (L.script seg.old) (L.history seg.old) }
-        requires course { AllOnCourse (L.script seg.old) (L.history seg.old) }
+        requires ready { IsReady (L.script seg.old) (L.history seg.old) self.old }
         requires place { 0 < L.promised seg.old self.old.progress.id }
         requires next { IsNextOf self.old (nexts.Publish) }
         ensures script { L.script seg.new ≡ L.script seg.old }
@@ -43,9 +38,7 @@ impl Backend {
 
     // What it wrote from this command on is taken back.
     pub(crate) fn take_back<L: Seg>(&mut self, seg: &mut L, from: u32)
-        requires waits { AwaitsEntry (L.script seg.old) (L.history seg.old) self.old }
-        requires played { IsPlayed (L.script seg.old) (L.history seg.old) }
-        requires course { AllOnCourse (L.script seg.old) (L.history seg.old) }
+        requires ready { IsReady (L.script seg.old) (L.history seg.old) self.old }
         requires place { 0 < L.promised seg.old self.old.progress.id }
         requires next { IsNextOf self.old (nexts.TakeBack from) }
         ensures script { L.script seg.new ≡ L.script seg.old }
@@ -57,9 +50,7 @@ impl Backend {
 
     // It releases the locks of its transaction, which ends.
     pub(crate) fn release<L: Seg>(&mut self, seg: &mut L, from: u32)
-        requires waits { AwaitsEntry (L.script seg.old) (L.history seg.old) self.old }
-        requires played { IsPlayed (L.script seg.old) (L.history seg.old) }
-        requires course { AllOnCourse (L.script seg.old) (L.history seg.old) }
+        requires ready { IsReady (L.script seg.old) (L.history seg.old) self.old }
         requires place { 0 < L.promised seg.old self.old.progress.id }
         requires next { IsNextOf self.old (nexts.Release from) }
         ensures script { L.script seg.new ≡ L.script seg.old }
@@ -71,9 +62,7 @@ impl Backend {
 
     // It leaves.
     pub(crate) fn leave<L: Seg>(&mut self, seg: &mut L)
-        requires waits { AwaitsEntry (L.script seg.old) (L.history seg.old) self.old }
-        requires played { IsPlayed (L.script seg.old) (L.history seg.old) }
-        requires course { AllOnCourse (L.script seg.old) (L.history seg.old) }
+        requires ready { IsReady (L.script seg.old) (L.history seg.old) self.old }
         requires place { 0 < L.promised seg.old self.old.progress.id }
         requires next { IsNextOf self.old (nexts.Leave) }
         ensures script { L.script seg.new ≡ L.script seg.old }

@@ -21,19 +21,16 @@ use std::alloc::Global;
 impl Backend {
     ghost use Rattle.event_kinds.specs.declared.entry.Event.TheVariants as events;
     ghost use Rattle.history_model.specs.Log.{fetched_by};
-    ghost use Rattle.cacheless.specs.OnCourse.{AllOnCourse};
     ghost use Rattle.cacheless.specs.Holds.{Rests, HasEntered};
     ghost use Rattle.cacheless.specs.May.{HasRoom};
     ghost use Rattle.cacheless.specs.State.{kept_spared};
-    ghost use Rattle.backend_core.specs.Agrees.{AwaitsEntry, IsPlayed};
+    ghost use Rattle.backend_core.specs.Agrees.{IsReady};
     ghost use Rattle.backend_core.specs.declared.next.Next.TheVariants as nexts;
     ghost use Rattle.backend_core.specs.Steps.{Enters, IsNextOf};
 
     // The look that is owed: at its transaction's start, or in an acceptance of messages.
     pub(crate) fn look<L: Seg>(&mut self, seg: &mut L)
-        requires waits { AwaitsEntry (L.script seg.old) (L.history seg.old) self.old }
-        requires played { IsPlayed (L.script seg.old) (L.history seg.old) }
-        requires course { AllOnCourse (L.script seg.old) (L.history seg.old) }
+        requires ready { IsReady (L.script seg.old) (L.history seg.old) self.old }
         requires place { 0 < L.promised seg.old self.old.progress.id }
         requires next { IsNextOf self.old (nexts.Look) }
         ensures script { L.script seg.new ≡ L.script seg.old }
@@ -47,9 +44,7 @@ impl Backend {
 
     // The look before a scan, for a descriptor or of a name.
     pub(crate) fn look_before_scan<L: Seg>(&mut self, seg: &mut L, builds: bool)
-        requires waits { AwaitsEntry (L.script seg.old) (L.history seg.old) self.old }
-        requires played { IsPlayed (L.script seg.old) (L.history seg.old) }
-        requires course { AllOnCourse (L.script seg.old) (L.history seg.old) }
+        requires ready { IsReady (L.script seg.old) (L.history seg.old) self.old }
         requires place { 0 < L.promised seg.old self.old.progress.id }
         requires next { IsNextOf self.old (nexts.LookBeforeScan builds) }
         ensures script { L.script seg.new ≡ L.script seg.old }
@@ -66,9 +61,7 @@ impl Backend {
     // The fetch of messages that wait. What they cover isn't relied on any more, and after a reset
     // nothing is.
     pub(crate) fn fetch<L: Seg>(&mut self, alloc: Global, seg: &mut L)
-        requires waits { AwaitsEntry (L.script seg.old) (L.history seg.old) self.old }
-        requires played { IsPlayed (L.script seg.old) (L.history seg.old) }
-        requires course { AllOnCourse (L.script seg.old) (L.history seg.old) }
+        requires ready { IsReady (L.script seg.old) (L.history seg.old) self.old }
         requires place { 0 < L.promised seg.old self.old.progress.id }
         requires next { IsNextOf self.old (nexts.Fetch) }
         ensures script { L.script seg.new ≡ L.script seg.old }

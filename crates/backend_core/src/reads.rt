@@ -7,8 +7,7 @@ use seg_calls::{LockRefusal, Seg};
 
 impl Backend {
     ghost use Rattle.std.specs.Prelude.{◌≡◌, OnOk, OnErr};
-    ghost use Rattle.cacheless.specs.OnCourse.{AllOnCourse};
-    ghost use Rattle.backend_core.specs.Agrees.{AwaitsEntry, IsPlayed};
+    ghost use Rattle.backend_core.specs.Agrees.{IsReady};
     ghost use Rattle.backend_core.specs.declared.next.Next.TheVariants as nexts;
     ghost use Rattle.backend_core.specs.Steps.{Enters, IsRefused, IsNextOf};
 
@@ -19,9 +18,7 @@ impl Backend {
         scan: &Purpose,
         builds: bool,
     ) -> Result<(), NoMemory>
-        requires waits { AwaitsEntry (L.script seg.old) (L.history seg.old) self.old }
-        requires played { IsPlayed (L.script seg.old) (L.history seg.old) }
-        requires course { AllOnCourse (L.script seg.old) (L.history seg.old) }
+        requires ready { IsReady (L.script seg.old) (L.history seg.old) self.old }
         requires next { IsNextOf self.old (nexts.Scan scan.now builds) }
         ensures script { L.script seg.new ≡ L.script seg.old }
         ensures enters { OnOk result (Enters (L.script seg.old) (L.history seg.old) (L.history seg.new) (L.promised seg.old) (L.promised seg.new) self.old self.new) }
@@ -37,9 +34,7 @@ impl Backend {
 
     // It asks for a lock.
     pub(crate) fn lock<L: Seg>(&mut self, seg: &mut L, rel: Oid, mode: Mode) -> Result<(), NoMemory>
-        requires waits { AwaitsEntry (L.script seg.old) (L.history seg.old) self.old }
-        requires played { IsPlayed (L.script seg.old) (L.history seg.old) }
-        requires course { AllOnCourse (L.script seg.old) (L.history seg.old) }
+        requires ready { IsReady (L.script seg.old) (L.history seg.old) self.old }
         requires next { IsNextOf self.old (nexts.Lock rel mode) }
         ensures script { L.script seg.new ≡ L.script seg.old }
         ensures enters { OnOk result (Enters (L.script seg.old) (L.history seg.old) (L.history seg.new) (L.promised seg.old) (L.promised seg.new) self.old self.new) }

@@ -7,16 +7,13 @@ use std::alloc::Global;
 
 impl Backend {
     ghost use Rattle.std.specs.Prelude.{◌≡◌, ◌≢◌, ◌<◌, OnOk, OnErr};
-    ghost use Rattle.cacheless.specs.OnCourse.{AllOnCourse};
-    ghost use Rattle.backend_core.specs.Agrees.{AwaitsEntry, IsPlayed};
+    ghost use Rattle.backend_core.specs.Agrees.{IsReady};
     ghost use Rattle.backend_core.specs.declared.next.Next.TheVariants as nexts;
     ghost use Rattle.backend_core.specs.Steps.{Enters, Steps, IsRefused, IsNextOf};
 
     // Its step, where it has joined and hasn't left.
     pub(crate) fn go_on<L: Seg>(&mut self, alloc: Global, seg: &mut L) -> Result<(), NoMemory>
-        requires waits { AwaitsEntry (L.script seg.old) (L.history seg.old) self.old }
-        requires played { IsPlayed (L.script seg.old) (L.history seg.old) }
-        requires course { AllOnCourse (L.script seg.old) (L.history seg.old) }
+        requires ready { IsReady (L.script seg.old) (L.history seg.old) self.old }
         requires place { 0 < L.promised seg.old self.old.progress.id }
         ensures script { L.script seg.new ≡ L.script seg.old }
         ensures steps { OnOk result (Steps (L.script seg.old) (L.history seg.old) (L.history seg.new) (L.promised seg.old) (L.promised seg.new) self.old self.new) }
@@ -33,9 +30,7 @@ impl Backend {
 
     // Makes its next entry, if that isn't its last one.
     fn enter<L: Seg>(&mut self, alloc: Global, seg: &mut L, next: &Next) -> Result<(), NoMemory>
-        requires waits { AwaitsEntry (L.script seg.old) (L.history seg.old) self.old }
-        requires played { IsPlayed (L.script seg.old) (L.history seg.old) }
-        requires course { AllOnCourse (L.script seg.old) (L.history seg.old) }
+        requires ready { IsReady (L.script seg.old) (L.history seg.old) self.old }
         requires place { 0 < L.promised seg.old self.old.progress.id }
         requires next { IsNextOf self.old next.now }
         requires stays { next.now ≢ nexts.Leave }

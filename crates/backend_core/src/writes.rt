@@ -7,17 +7,14 @@ use std::mem::replace;
 
 impl Backend {
     ghost use Rattle.std.specs.Prelude.{◌≡◌, OnOk, OnErr};
-    ghost use Rattle.cacheless.specs.OnCourse.{AllOnCourse};
-    ghost use Rattle.backend_core.specs.Agrees.{AwaitsEntry, IsPlayed};
+    ghost use Rattle.backend_core.specs.Agrees.{IsReady};
     ghost use Rattle.backend_core.specs.declared.next.Next.TheVariants as nexts;
     ghost use Rattle.backend_core.specs.Steps.{Enters, IsRefused, IsNextOf};
 
     // Writes the draft of its command, or ends the command where a name that it gives is taken. Out of
     // memory, the backend may not be used any more.
     pub(crate) fn write<L: Seg>(&mut self, alloc: Global, seg: &mut L) -> Result<(), NoMemory>
-        requires waits { AwaitsEntry (L.script seg.old) (L.history seg.old) self.old }
-        requires played { IsPlayed (L.script seg.old) (L.history seg.old) }
-        requires course { AllOnCourse (L.script seg.old) (L.history seg.old) }
+        requires ready { IsReady (L.script seg.old) (L.history seg.old) self.old }
         requires next { IsNextOf self.old (nexts.Write) }
         ensures script { L.script seg.new ≡ L.script seg.old }
         ensures enters { OnOk result (Enters (L.script seg.old) (L.history seg.old) (L.history seg.new) (L.promised seg.old) (L.promised seg.new) self.old self.new) }

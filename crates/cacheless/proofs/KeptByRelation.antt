@@ -4,10 +4,10 @@ use Rattle.std.specs.Str.{bytes_eq}
 use Rattle.std.specs.List.{AllByRecursion, list_any, find}
 use Rattle.std.specs.HashMap.{HashMap, get}
 use Rattle.std.proofs.Math.Bool.{and-false}
-use Rattle.std.proofs.lemmas.Bool.{eqb-true, cases_lt}
+use Rattle.std.proofs.lemmas.Bool.{eqb-true, cases_lt, or_parts}
 use Rattle.std.proofs.Math.Nat.{min-eq_left, min-eq_right, min-le_left, min-le_right, le_of_lt}
-use Rattle.std.proofs.lemmas.List.{take-append-drop, take_more, length-drop, length_push}
-use Rattle.std.proofs.Math.Seq.{take-length}
+use Rattle.std.proofs.lemmas.List.{take-append-drop, take_more, length_push}
+use Rattle.std.proofs.lemmas.List.Sums.{count_by-le-length, length-filter}
 use Rattle.std.proofs.lemmas.List.Folds.{list_any-append}
 use Rattle.base_types.specs.Scans.{scan_key, same_scan, is_build_scan, build_scans}
 use Rattle.base_types.specs.declared.kind.Kind.{Kind}
@@ -79,27 +79,6 @@ covers_own (scans.IndexRow rel) builds (Rel told) = refl
 covered_own : (scan : Purpose) → is_build_scan scan ≡ true → (ms : List Message) → list_any (covers scan) ms ≡ list_any (is_about (relation_of scan)) ms
 covered_own scan builds [] = refl
 covered_own scan builds (m ∷ ms) = ap (λ t. t || list_any (covers scan) ms) (covers_own scan builds m) ∙ ap (λ t. is_about (relation_of scan) m || t) (covered_own scan builds ms)
-
-or_parts : (a b : Bool) → (a || b) ≡ false → (a ≡ false) × (b ≡ false)
-or_parts true b none = absurd (cc)
-or_parts false b none = (refl, none)
-
-pub append_none : {X : Type 0} (xs : List X) → xs ++ [] ≡ xs
-append_none [] = refl
-append_none (x ∷ xs) = ap (λ l. x ∷ l) (append_none xs)
-
--- all that is left from a place on
-pub take_rest : {X : Type 0} (n : ℕ) (xs : List X) → take (length xs - n) (drop n xs) ≡ drop n xs
-take_rest n xs = ap (λ k. take k (drop n xs)) (sym (length-drop n xs)) ∙ take-length (drop n xs)
-
--- a filter takes away
-filter_fewer : {X : Type 0} (p : X → Bool) (xs : List X) → length (filter p xs) ≤ length xs
-filter_fewer p [] = omega arith
-filter_fewer p (x ∷ xs) = by (p x) (filter_fewer p xs)
-  where
-    by : (t : Bool) → length (filter p xs) ≤ length xs → length (cond t (x ∷ filter p xs) (filter p xs)) ≤ suc (length xs)
-    by true fewer = omega (arith, fewer)
-    by false fewer = omega (arith, fewer)
 
 -- what went is counted, or the count is at its most
 abbrev Fits : ℕ → ℕ → ℕ → ℕ → Type 0
@@ -218,7 +197,7 @@ module _ {S : Type 0} where
       low = small (relation_of k.scan) found.0.start found.0.there
 
       fewer : length (kept_spared ms kept) ≤ length kept
-      fewer = filter_fewer (λ k. is_spared k.scan ms) kept
+      fewer = omega (arith, length-filter (λ k. is_spared k.scan ms) kept, count_by-le-length (λ k. is_spared k.scan ms) kept)
 
       not_past : Fits before after (suc (length kept)) (suc (length (kept_spared ms kept))) → found.0.start ≤ after
       not_past (inl counted) = omega (arith, counted, fewer, found.0.after)
@@ -257,7 +236,7 @@ module _ {S : Type 0} where
   })
     where
       fewer : length (kept_spared ms kept) ≤ length kept
-      fewer = filter_fewer (λ k. is_spared k.scan ms) kept
+      fewer = omega (arith, length-filter (λ k. is_spared k.scan ms) kept, count_by-le-length (λ k. is_spared k.scan ms) kept)
 
       by : (2 ^ 64 - 1 < gone + (length kept - length left)) ⊎ (gone + (length kept - length left) ≤ 2 ^ 64 - 1) → Fits gone after (length kept) (length (kept_spared ms kept))
       by (inl most) = inr (omega (arith, counted, min-eq_right (le_of_lt most)))

@@ -105,9 +105,9 @@ abbrev pub is_kept : List KeptScan → Purpose → Bool
 is_kept kept scan = list_any (λ k. same_scan k.scan scan) kept
 
 -- what is kept of a scan that gave these rows in the entry of this number: nothing, where a name or a column is looked up by it
-abbrev pub scan_kept : Bool → Purpose → List Row → ℕ → List KeptScan
-scan_kept true scan given at = []
-scan_kept false scan given at = record { scan = scan; rows = given; at = at } ∷ []
+abbrev pub newly_kept : Bool → Purpose → List Row → ℕ → List KeptScan
+newly_kept true scan given at = []
+newly_kept false scan given at = record { scan = scan; rows = given; at = at } ∷ []
 
 -- the rows that are kept of a scan
 abbrev pub rows_kept : List KeptScan → Purpose → List Row

@@ -275,7 +275,7 @@ impl Progress {
         !self.has_failed() && self.lacks_build()
     }
 
-    // Whether the command has failed.
+    /// Whether the command has failed.
     pub fn has_failed(&self) -> bool
         ensures { result ≡ failed self.now }
     {

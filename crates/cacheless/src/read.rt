@@ -17,7 +17,7 @@ impl Progress {
     ghost use Rattle.std.specs.Prelude.{List, ℕ, ◌++◌, ◌∷◌, [], if◌then◌else◌};
     ghost use Rattle.ddl_effect.specs.Stages.{plan_at};
     ghost use Rattle.cacheless.specs.Sessions.{is_wanted as is_wanted_by};
-    ghost use Rattle.cacheless.specs.State.{FailsWith, IsLockedIn, scan_kept};
+    ghost use Rattle.cacheless.specs.State.{FailsWith, IsLockedIn, newly_kept};
     ghost use Rattle.cacheless.specs.May.{HasRoom, is_next_at};
     ghost use Rattle.cacheless.specs.Holds.{Rests, HasEntered};
 
@@ -28,7 +28,7 @@ impl Progress {
         requires few { self.old.finished ≤ 20000 }
         requires room { HasRoom self.old }
         requires next { is_next_at scan.now self.old ≡ true }
-        ensures kept { OnOk result (self.new.kept ≡ self.old.kept ++ scan_kept (is_wanted_by scan.now (plan_at self.old.exec)) scan.now rows.items at) }
+        ensures kept { OnOk result (self.new.kept ≡ self.old.kept ++ newly_kept (is_wanted_by scan.now (plan_at self.old.exec)) scan.now rows.items at) }
         ensures given_at { OnOk result (self.new.given_at ≡ (if is_wanted_by scan.now (plan_at self.old.exec) then at else self.old.given_at)) }
         ensures holds { OnOk result ((scenario : Scenario) (seen : List Entry) (count : ℕ) → (rests : Rests scenario seen self.old) → rows.items ≡ answer_of seen self.old.id scan.now → HasEntered scenario seen self.old (Event.Scan scan.now count) rests self.new) }
     {
@@ -99,7 +99,7 @@ impl Progress {
     pub fn reserve_lock(&mut self) -> Result<(), NoMemory>
         ensures same { IsLockedIn self.old.locks.items self.old self.new }
         ensures ok { OnOk result (0 < self.new.locks.room) }
-        ensures rests { (scenario : Scenario) (seen : List Entry) → (rests : Rests scenario seen self.old) → Rests scenario seen self.new }
+        ensures rests { (scenario : Scenario) (seen : List Entry) → Rests scenario seen self.old → Rests scenario seen self.new }
     {
         self.locks.reserve()
     }

@@ -1,16 +1,13 @@
 // What a backend does without an entry.
 
 ghost use Rattle.std.specs.Prelude.{◌≡◌, ◌≤◌, ◌<◌, [], true, All, OnOk, is_some, slice_get, length};
-ghost use Rattle.std.specs.List.{find};
-ghost use Rattle.std.specs.Option.{option_copied};
-ghost use Rattle.base_types.specs.Scans.{same_scan as same_scan_as};
 ghost use Rattle.ddl_effect.specs.Stages.{plan_at, want_of};
 ghost use Rattle.cacheless.specs.Runs.{runs};
 ghost use Rattle.cacheless.specs.State.{blocks_passed, rows_kept as kept_rows};
 ghost use Rattle.cacheless.specs.Silently.{rows_for as gives_rows};
 
 use crate::begun::begun;
-use crate::{Counts, KeptScan, KeptScans, Opening, Progress};
+use crate::{Counts, KeptScans, Opening, Progress};
 use base_types::{Command, Kind, Listed, NoMemory, Oid, Purpose, Row};
 use ddl_effect::{Exec, Want};
 use std::alloc::Global;
@@ -208,15 +205,8 @@ fn rows_for<'a>(want: &Want, given: &'a [Row], kept: &'a KeptScans) -> &'a [Row]
 pub(crate) fn rows_kept(kept: &KeptScans, scan: Purpose) -> &[Row]
     ensures { result.now ≡ kept_rows kept.now scan }
 {
-    match scan_kept(kept, scan) {
+    match kept.find(&scan) {
         Some(k) => k.rows.as_slice(),
         None => &[],
     }
-}
-
-// The scan that is kept for a purpose.
-fn scan_kept(kept: &KeptScans, scan: Purpose) -> Option<&KeptScan>
-    ensures { option_copied result ≡ find (λ k. same_scan_as k.scan scan) kept.now }
-{
-    kept.find(&scan)
 }

@@ -3,10 +3,10 @@ use Rattle.backend_core.proofs.Committing.{commit_call, commit_enters}
 use Rattle.backend_core.proofs.backend.Backend.commit.Goals as goal
 
 pub visible-requires-clause-call : goal.visible-requires-clause-call
-visible-requires-clause-call g c = commit_call _ _ c.args.self.now _ c.requires.waits c.requires.next
+visible-requires-clause-call g c = commit_call _ _ c.args.self.now _ c.requires.ready.waits c.requires.next
 
 pub enter_visible-requires : goal.enter_visible-requires
-enter_visible-requires g c = record { few = is_few _ _ c.args.self.now c.requires.waits }
+enter_visible-requires g c = record { few = is_few _ _ c.args.self.now c.requires.ready.waits }
 
 pub returns-clause-enters : goal.returns-clause-enters
-returns-clause-enters g c = commit_enters _ _ _ _ _ c.args.self.now _ _ c.requires.waits c.requires.played c.requires.course c.requires.next (c.enter_visible.ensures.holds _ _ c.requires.waits.rests) c.enter_visible.ensures.kept c.enter_visible.ensures.given_at c.visible.ensures.appends
+returns-clause-enters g c = commit_enters _ _ _ _ _ c.args.self.now _ _ c.requires.ready.waits c.requires.ready.played c.requires.ready.course c.requires.next (c.enter_visible.ensures.holds _ _ c.requires.ready.waits.rests) c.enter_visible.ensures.kept c.enter_visible.ensures.given_at c.visible.ensures.appends

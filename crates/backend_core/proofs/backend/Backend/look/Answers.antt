@@ -2,7 +2,7 @@ use Rattle.backend_core.proofs.Looking.{look_call, look_enters}
 use Rattle.backend_core.proofs.backend.Backend.look.Goals as goal
 
 pub looked-requires-clause-call : goal.looked-requires-clause-call
-looked-requires-clause-call g c = look_call _ _ c.args.self.now _ c.requires.waits c.requires.played c.requires.next c.waits-some_wait.ensures
+looked-requires-clause-call g c = look_call _ _ c.args.self.now _ c.requires.ready.waits c.requires.ready.played c.requires.next c.waits-some_wait.ensures
 
 pub returns-clause-enters : goal.returns-clause-enters
-returns-clause-enters g c = look_enters _ _ _ _ _ c.args.self.now _ _ c.requires.waits c.requires.played c.requires.course c.requires.next c.waits-some_wait.ensures (c.enter_look.ensures.holds _ _ c.requires.waits.rests) c.enter_look.ensures.kept c.enter_look.ensures.given_at c.looked.ensures.appends
+returns-clause-enters g c = look_enters _ _ _ _ _ c.args.self.now _ _ c.requires.ready.waits c.requires.ready.played c.requires.ready.course c.requires.next c.waits-some_wait.ensures (c.enter_look.ensures.holds _ _ c.requires.ready.waits.rests) c.enter_look.ensures.kept c.enter_look.ensures.given_at c.looked.ensures.appends

@@ -3,13 +3,13 @@ use Rattle.backend_core.proofs.Committing.{publish_call, publish_these, publish_
 use Rattle.backend_core.proofs.backend.Backend.publish.Goals as goal
 
 pub publish-requires-clause-call : goal.publish-requires-clause-call
-publish-requires-clause-call g c = publish_call _ _ c.args.self.now _ c.requires.waits c.requires.next c.unpublished-messages.ensures.next
+publish-requires-clause-call g c = publish_call _ _ c.args.self.now _ c.requires.ready.waits c.requires.next c.unpublished-messages.ensures.next
 
 pub publish-requires-clause-next : goal.publish-requires-clause-next
-publish-requires-clause-next g c = publish_these _ _ c.args.self.now _ c.requires.waits c.requires.next c.unpublished-messages.ensures.next
+publish-requires-clause-next g c = publish_these _ _ c.args.self.now _ c.requires.ready.waits c.requires.next c.unpublished-messages.ensures.next
 
 pub enter_publish-requires-clause-few : goal.enter_publish-requires-clause-few
-enter_publish-requires-clause-few g c = is_few _ _ c.args.self.now c.requires.waits
+enter_publish-requires-clause-few g c = is_few _ _ c.args.self.now c.requires.ready.waits
 
 pub returns-clause-enters : goal.returns-clause-enters
-returns-clause-enters g c = publish_enters _ _ _ _ _ c.args.self.now _ _ c.requires.waits c.requires.played c.requires.course c.requires.next c.unpublished-messages.ensures.next (c.enter_publish.ensures.holds _ _ c.requires.waits.rests) c.enter_publish.ensures.kept c.enter_publish.ensures.given_at c.publish.ensures.appends
+returns-clause-enters g c = publish_enters _ _ _ _ _ c.args.self.now _ _ c.requires.ready.waits c.requires.ready.played c.requires.ready.course c.requires.next c.unpublished-messages.ensures.next (c.enter_publish.ensures.holds _ _ c.requires.ready.waits.rests) c.enter_publish.ensures.kept c.enter_publish.ensures.given_at c.publish.ensures.appends

@@ -3,10 +3,10 @@ use Rattle.backend_core.proofs.TakingBack.{take_back_call, take_back_enters}
 use Rattle.backend_core.proofs.backend.Backend.take_back.Goals as goal
 
 pub gone-requires-clause-call : goal.gone-requires-clause-call
-gone-requires-clause-call g c = take_back_call _ _ c.args.self.now _ c.requires.waits c.requires.next
+gone-requires-clause-call g c = take_back_call _ _ c.args.self.now _ c.requires.ready.waits c.requires.next
 
 pub enter_gone-requires : goal.enter_gone-requires
-enter_gone-requires g c = record { few = is_few _ _ c.args.self.now c.requires.waits }
+enter_gone-requires g c = record { few = is_few _ _ c.args.self.now c.requires.ready.waits }
 
 pub returns-clause-enters : goal.returns-clause-enters
-returns-clause-enters g c = take_back_enters _ _ _ _ _ c.args.self.now _ _ c.requires.waits c.requires.played c.requires.course c.requires.next (c.enter_gone.ensures.holds _ _ c.requires.waits.rests) c.enter_gone.ensures.kept c.enter_gone.ensures.given_at c.gone.ensures.appends
+returns-clause-enters g c = take_back_enters _ _ _ _ _ c.args.self.now _ _ c.requires.ready.waits c.requires.ready.played c.requires.ready.course c.requires.next (c.enter_gone.ensures.holds _ _ c.requires.ready.waits.rests) c.enter_gone.ensures.kept c.enter_gone.ensures.given_at c.gone.ensures.appends

@@ -4,24 +4,24 @@ use Rattle.backend_core.proofs.Writing.{write_request, may_write, lists_before, 
 use Rattle.backend_core.proofs.backend.Backend.write.Goals as goal
 
 pub write-requires-clause-call : goal.write-requires-clause-call
-write-requires-clause-call g c = write_request _ _ _ c.in_ok-draft.draft refl (drafted_awaits _ _ _ c.in_ok-draft.draft (search rules) (reserved_awaits _ _ c.args.self.now _ c.reserve_lock.ensures.same c.requires.waits)) c.requires.played c.requires.course (drafted_write _ c.in_ok-draft.draft (search rules) (reserved_write _ _ c.reserve_lock.ensures.same c.requires.next))
+write-requires-clause-call g c = write_request _ _ _ c.in_ok-draft.draft refl (drafted_awaits _ _ _ c.in_ok-draft.draft (search rules) (reserved_awaits _ _ c.args.self.now _ c.reserve_lock.ensures.same c.requires.ready.waits)) c.requires.ready.played c.requires.ready.course (drafted_write _ c.in_ok-draft.draft (search rules) (reserved_write _ _ c.reserve_lock.ensures.same c.requires.next))
 
 pub write-requires-clause-write : goal.write-requires-clause-write
-write-requires-clause-write g c = may_write _ _ _ c.in_ok-draft.draft refl (drafted_awaits _ _ _ c.in_ok-draft.draft (search rules) (reserved_awaits _ _ c.args.self.now _ c.reserve_lock.ensures.same c.requires.waits)) c.requires.played c.requires.course (drafted_write _ c.in_ok-draft.draft (search rules) (reserved_write _ _ c.reserve_lock.ensures.same c.requires.next))
+write-requires-clause-write g c = may_write _ _ _ c.in_ok-draft.draft refl (drafted_awaits _ _ _ c.in_ok-draft.draft (search rules) (reserved_awaits _ _ c.args.self.now _ c.reserve_lock.ensures.same c.requires.ready.waits)) c.requires.ready.played c.requires.ready.course (drafted_write _ c.in_ok-draft.draft (search rules) (reserved_write _ _ c.reserve_lock.ensures.same c.requires.next))
 
 pub enter_write-requires-clause-order : goal.enter_write-requires-clause-order
-enter_write-requires-clause-order g c = lists_before _ _ _ c.in_ok-draft.draft refl (drafted_awaits _ _ _ c.in_ok-draft.draft (search rules) (reserved_awaits _ _ c.args.self.now _ c.reserve_lock.ensures.same c.requires.waits)) c.requires.played c.requires.course (drafted_write _ c.in_ok-draft.draft (search rules) (reserved_write _ _ c.reserve_lock.ensures.same c.requires.next))
+enter_write-requires-clause-order g c = lists_before _ _ _ c.in_ok-draft.draft refl (drafted_awaits _ _ _ c.in_ok-draft.draft (search rules) (reserved_awaits _ _ c.args.self.now _ c.reserve_lock.ensures.same c.requires.ready.waits)) c.requires.ready.played c.requires.ready.course (drafted_write _ c.in_ok-draft.draft (search rules) (reserved_write _ _ c.reserve_lock.ensures.same c.requires.next))
 
 pub enter_write-requires-clause-new : goal.enter_write-requires-clause-new
-enter_write-requires-clause-new g c = λ some. new_free _ _ _ c.in_ok-draft.draft refl (drafted_awaits _ _ _ c.in_ok-draft.draft (search rules) (reserved_awaits _ _ c.args.self.now _ c.reserve_lock.ensures.same c.requires.waits)) c.requires.played c.requires.course (drafted_write _ c.in_ok-draft.draft (search rules) (reserved_write _ _ c.reserve_lock.ensures.same c.requires.next)) _ c.in-Ok.ensures.writes.first
+enter_write-requires-clause-new g c = λ some. new_free _ _ _ c.in_ok-draft.draft refl (drafted_awaits _ _ _ c.in_ok-draft.draft (search rules) (reserved_awaits _ _ c.args.self.now _ c.reserve_lock.ensures.same c.requires.ready.waits)) c.requires.ready.played c.requires.ready.course (drafted_write _ c.in_ok-draft.draft (search rules) (reserved_write _ _ c.reserve_lock.ensures.same c.requires.next)) _ c.in-Ok.ensures.writes.first
 
 pub returns-in-Ok-clause-enters : goal.returns-in-Ok-clause-enters
-returns-in-Ok-clause-enters g c = wrote_agrees _ _ _ c.in_ok-draft.draft refl (drafted_awaits _ _ _ c.in_ok-draft.draft (search rules) (reserved_awaits _ _ c.args.self.now _ c.reserve_lock.ensures.same c.requires.waits)) c.requires.played c.requires.course (drafted_write _ c.in_ok-draft.draft (search rules) (reserved_write _ _ c.reserve_lock.ensures.same c.requires.next))
+returns-in-Ok-clause-enters g c = wrote_agrees _ _ _ c.in_ok-draft.draft refl (drafted_awaits _ _ _ c.in_ok-draft.draft (search rules) (reserved_awaits _ _ c.args.self.now _ c.reserve_lock.ensures.same c.requires.ready.waits)) c.requires.ready.played c.requires.ready.course (drafted_write _ c.in_ok-draft.draft (search rules) (reserved_write _ _ c.reserve_lock.ensures.same c.requires.next))
     c.args.self.now (reserved_id _ _ c.reserve_lock.ensures.same) _ _ _ _ _ c.in-Ok.written _ c.in-Ok.ensures.writes c.as_slice.ensures.value c.enter_write.ensures.kept c.enter_write.ensures.holds
 
 pub returns-in-Ok-clause-refused : goal.returns-in-Ok-clause-refused
-returns-in-Ok-clause-refused g c = wrote_refused _ _ _ c.in_ok-draft.draft refl (drafted_awaits _ _ _ c.in_ok-draft.draft (search rules) (reserved_awaits _ _ c.args.self.now _ c.reserve_lock.ensures.same c.requires.waits)) c.requires.played c.requires.course (drafted_write _ c.in_ok-draft.draft (search rules) (reserved_write _ _ c.reserve_lock.ensures.same c.requires.next)) c.args.self.now (reserved_id _ _ c.reserve_lock.ensures.same) _ _ _ _ c.in-Ok.written c.in-Ok.ensures.writes
+returns-in-Ok-clause-refused g c = wrote_refused _ _ _ c.in_ok-draft.draft refl (drafted_awaits _ _ _ c.in_ok-draft.draft (search rules) (reserved_awaits _ _ c.args.self.now _ c.reserve_lock.ensures.same c.requires.ready.waits)) c.requires.ready.played c.requires.ready.course (drafted_write _ c.in_ok-draft.draft (search rules) (reserved_write _ _ c.reserve_lock.ensures.same c.requires.next)) c.args.self.now (reserved_id _ _ c.reserve_lock.ensures.same) _ _ _ _ c.in-Ok.written c.in-Ok.ensures.writes
 
 pub returns-in-Clash-clause-enters : goal.returns-in-Clash-clause-enters
-returns-in-Clash-clause-enters g c = clash_enters _ _ _ c.in_ok-draft.draft refl (drafted_awaits _ _ _ c.in_ok-draft.draft (search rules) (reserved_awaits _ _ c.args.self.now _ c.reserve_lock.ensures.same c.requires.waits)) c.requires.played c.requires.course (drafted_write _ c.in_ok-draft.draft (search rules) (reserved_write _ _ c.reserve_lock.ensures.same c.requires.next))
+returns-in-Clash-clause-enters g c = clash_enters _ _ _ c.in_ok-draft.draft refl (drafted_awaits _ _ _ c.in_ok-draft.draft (search rules) (reserved_awaits _ _ c.args.self.now _ c.reserve_lock.ensures.same c.requires.ready.waits)) c.requires.ready.played c.requires.ready.course (drafted_write _ c.in_ok-draft.draft (search rules) (reserved_write _ _ c.reserve_lock.ensures.same c.requires.next))
     c.args.self.now (reserved_id _ _ c.reserve_lock.ensures.same) _ _ _ _ c.in-Clash.name c.in-Clash.clash (c.enter_clash.ensures.holds _ _ _) c.enter_clash.ensures.kept (rw c.in-Clash.is at c.in-Err.ensures.writes)
