@@ -1,5 +1,6 @@
 pub mod ScheduleSteps
 pub mod OneAfterAnother
+pub mod OwnCommands
 pub mod Sessions
 pub mod NewBackends
 pub mod Walks

@@ -1,3 +1,4 @@
 pub mod Built
+pub mod OwnCommands
 pub mod Sessions
 pub mod Walks

@@ -1,30 +1,49 @@
-ghost use Rattle.std.specs.Prelude.{◌≡◌, ◌++◌, map, filter, true, IfOk, OnOk};
-ghost use Rattle.ddl_effect.specs.Commands.{commands_of};
+ghost use Rattle.std.specs.Prelude.{◌≡◌, ◌-◌, ◌++◌, ◌∷◌, [], true, length, replicate, slice_index_or, slice_set, IfOk, OnOk};
+ghost use Rattle.base_types.specs.Scenario.{IsBackend};
 ghost use Rattle.ddl_effect.specs.Stages.{alters_table};
 ghost use Rattle.cacheless.specs.Runs.{runs};
 ghost use Rattle.walk_run.specs.Built.{is_built as is_built_scenario};
+ghost use Rattle.walk_run.specs.OwnCommands.{HaveCommands};
 
-use base_types::{Command, Listed, NewColumn, NoMemory};
+use base_types::{Command, Listed, NewColumn, NoMemory, Placed};
 use script_text::Script;
 use std::alloc::{AllocError, Global};
 
-/// The commands of a backend, in order. Condition: those of the script can be run.
-pub(crate) fn own_commands(
+/// The commands of each backend, in order. Condition: those of the script can be run.
+pub(crate) fn commands_by_backend(
     alloc: Global,
     script: &Script,
-    b: u32,
-) -> Result<Listed<Command>, NoMemory>
+) -> Result<Vec<Listed<Command>>, NoMemory>
     requires { is_built_scenario script.now ≡ true }
-    ensures { IfOk result (λ commands. commands ≡ commands_of script.now b) }
+    ensures { IfOk result (λ lists. HaveCommands script.now.commands script.now.backends lists.items) }
 {
-    let mut own = Listed::new(alloc);
+    let mut lists = empty_lists(alloc, script.backends())?;
     let commands = script.commands();
     for placed in commands {
-        if placed.backend == b {
-            own.push(copied(alloc, &placed.command)?)?;
-        }
+        put_copy(alloc, &mut lists, placed)?;
     }
-    Ok(own)
+    Ok(lists)
+}
+
+// So many lists without a command.
+fn empty_lists(alloc: Global, count: u32) -> Result<Vec<Listed<Command>>, NoMemory>
+    ensures { IfOk result (λ lists. lists.items ≡ replicate count []) }
+{
+    let mut lists = Vec::new(alloc);
+    for list in 0..count {
+        lists.push(Listed::new(alloc))?;
+    }
+    Ok(lists)
+}
+
+// Puts a copy of a command after the others of its backend.
+fn put_copy(alloc: Global, lists: &mut [Listed<Command>], placed: &Placed) -> Result<(), NoMemory>
+    requires runs { runs placed.now.command ≡ true }
+    requires within { IsBackend (length lists.old) placed.now.backend }
+    ensures { OnOk result (lists.new ≡ slice_set lists.old (placed.now.backend - 1) (slice_index_or lists.old (placed.now.backend - 1) [] ++ placed.now.command ∷ [])) }
+{
+    let copy = copied(alloc, &placed.command)?;
+    lists[placed.backend as usize - 1].push(copy)
 }
 
 // A copy of a command that can be run.

@@ -8,7 +8,7 @@ ghost use Rattle.walk_run.specs.Sessions.{transcripts_of, AreSessions};
 ghost use Rattle.walk_run.specs.Walks.{IsWalk};
 
 use crate::lines::all_lines;
-use crate::own_commands::own_commands;
+use crate::own_commands::commands_by_backend;
 use backend_core::Backend;
 use base_types::{Listed, NoMemory, Turns};
 use event_kinds::{Entry, Line};
@@ -16,6 +16,7 @@ use script_text::Script;
 use seg_calls::Seg;
 use shared_seg::Shared;
 use std::alloc::Global;
+use std::mem::replace;
 
 /// What a walk made.
 #[derive(Drop)]
@@ -89,9 +90,10 @@ impl Walker {
         requires { is_built script.now ≡ true }
         ensures { IfOk result (λ walker. AllStand script.now [] walker.backends.items) }
     {
+        let mut lists = commands_by_backend(alloc, script)?;
         let mut backends = Vec::new(alloc);
         for number in 0..script.backends() {
-            let commands = own_commands(alloc, script, number + 1)?;
+            let commands = replace(&mut lists[number as usize], Listed::new(alloc));
             backends.push(Backend::new(alloc, number + 1, commands)?)?;
         }
         Ok(Walker { alloc, backends })
