@@ -10,7 +10,7 @@ use Rattle.history_model.specs.Legal.{FollowsVisible, FollowsGone}
 use Rattle.history_model.specs.Sent.{unsent_in, unsent_of}
 use Rattle.history_model.specs.Transactions.{Running, begun, has_xid, is_visible}
 use Rattle.seg_calls.specs.Calls.{entry_of, ArePublishedNext, MayCall, Appends}
-use Rattle.cacheless.specs.declared.progress.OwnTransaction.{OwnTransaction}
+use Rattle.txn_blocks.specs.declared.transaction.RunningTransaction.{RunningTransaction}
 use Rattle.cacheless.specs.Ends.{Ends, Commits, TakesBack}
 use Rattle.cacheless.specs.Facts.{Facts, facts_of}
 use Rattle.cacheless.specs.Holds.{HasEntered}
@@ -73,11 +73,11 @@ commit_call scenario seen s xid waits next = end_call scenario seen s waits (eve
     now = comes_now facts (end_by facts (command_at s) (waiting waits)) (events.Visible xid) (end_now scenario seen s waits (events.Visible xid) refl next).comes
 
 -- what is published next
-unsent_own : (lists : List Written) (own : Option OwnTransaction) → is_some own ≡ true → unsent_in lists (running_of own) ≡ unsent_after (option_map_or (λ t. t.published) own 0) lists
+unsent_own : (lists : List Written) (own : Option RunningTransaction) → is_some own ≡ true → unsent_in lists (running_of own) ≡ unsent_after (option_map_or (λ t. t.published) own 0) lists
 unsent_own lists None some = absurd (cc some)
 unsent_own lists (Some t) some = refl
 
-runs_own : (own : Option OwnTransaction) → is_some (running_of own) ≡ true → is_some own ≡ true
+runs_own : (own : Option RunningTransaction) → is_some (running_of own) ≡ true → is_some own ≡ true
 runs_own None some = absurd (cc some)
 runs_own (Some t) some = refl
 

@@ -12,7 +12,7 @@ use Rattle.history_model.specs.Read.{is_scan_of}
 use Rattle.history_model.specs.Transactions.{is_visible, running_transaction_of}
 use Rattle.history_model.specs.Writes.{is_empty}
 use Rattle.seg_calls.specs.Calls.{entry_of, MayCall, Appends}
-use Rattle.cacheless.specs.declared.progress.OwnTransaction.{OwnTransaction}
+use Rattle.txn_blocks.specs.declared.transaction.RunningTransaction.{RunningTransaction}
 use Rattle.cacheless.specs.Facts.{facts_of, facts_by}
 use Rattle.cacheless.specs.Holds.{HasEntered, with_own}
 use Rattle.cacheless.specs.May.{is_next_of_back, is_next_of_end, owes_nothing, may_end_at, may_play_at, may_last_at, may_play_now}
@@ -45,11 +45,11 @@ may_end next command p event ends may = absurd (cc ends)
 may_last : (p : Progress) (event : Event) → ends_command event ≡ true → owed_at p.due ≡ [] → is_next_of_end p event (end_of_running p.running) ≡ true → may_last_at p event ≡ true
 may_last p event ends free next = by_event event ends next
   where
-    by_own : (e : Event) (own : Option OwnTransaction) → is_next_of_end p e (end_of_running own) ≡ true → option_map_or (λ (t : OwnTransaction). is_empty (owed_at p.due) && is_next_of_back t.first p e) own false ≡ true
+    by_own : (e : Event) (own : Option RunningTransaction) → is_next_of_end p e (end_of_running own) ≡ true → option_map_or (λ (t : RunningTransaction). is_empty (owed_at p.due) && is_next_of_back t.first p e) own false ≡ true
     by_own e None is = absurd (cc is)
     by_own e (Some t) is = both_true (is_empty (owed_at p.due)) (is_next_of_back t.first p e) (ap (λ l. is_empty l) free) is
 
-    never : (e : Event) (own : Option OwnTransaction) → ((from : ℕ) → is_next_of_back from p e ≡ true → ⊥) → is_next_of_end p e (end_of_running own) ≡ true → ⊥
+    never : (e : Event) (own : Option RunningTransaction) → ((from : ℕ) → is_next_of_back from p e ≡ true → ⊥) → is_next_of_end p e (end_of_running own) ≡ true → ⊥
     never e None none is = cc is
     never e (Some t) none is = none t.first is
 

@@ -13,7 +13,7 @@ use Rattle.history_model.proofs.Sound.{sound_is_legal}
 use Rattle.history_model.proofs.Waiting.{not_waited}
 use Rattle.seg_calls.specs.Calls.{entry_of, MayCall, Appends}
 use Rattle.cacheless.specs.declared.progress.Due.TheVariants as dues
-use Rattle.cacheless.specs.declared.progress.OwnTransaction.{OwnTransaction}
+use Rattle.txn_blocks.specs.declared.transaction.RunningTransaction.{RunningTransaction}
 use Rattle.cacheless.specs.Facts.{Facts, facts_of, facts_by}
 use Rattle.cacheless.specs.Holds.{HasEntered, with_own}
 use Rattle.cacheless.specs.May.{lacks_any}
@@ -55,7 +55,7 @@ pub record StartsNow (p : Progress) (command : Command) : Type 0 where
 starts_now : (p : Progress) (command : Command) → owed_first p command ≢ [] → StartsNow p command
 starts_now p command owes = by_tests (begins_in p.blocks p.ended command) p.running refl refl owes
   where
-    by_tests : (t : Bool) (own : Option OwnTransaction) → begins_in p.blocks p.ended command ≡ t → p.running ≡ own → elim (t && is_none own) as (λ x. List Owing) [ true ↦ OwesLook ∷ [] | false ↦ [] ] ≢ [] → StartsNow p command
+    by_tests : (t : Bool) (own : Option RunningTransaction) → begins_in p.blocks p.ended command ≡ t → p.running ≡ own → elim (t && is_none own) as (λ x. List Owing) [ true ↦ OwesLook ∷ [] | false ↦ [] ] ≢ [] → StartsNow p command
     by_tests true None is none some = record { begins = is; none = none }
     by_tests true (Some t) is none some = absurd (some refl)
     by_tests false own is none some = absurd (some refl)

@@ -7,7 +7,7 @@ use Rattle.base_types.specs.declared.command.Command.TheVariants as commands
 use Rattle.txn_blocks.specs.Blocks.{Block, Outside, Inside, Failed, innermost}
 use Rattle.ddl_effect.specs.Stages.{plan_at}
 use Rattle.cacheless.specs.Types.{Command}
-use Rattle.cacheless.specs.declared.progress.OwnTransaction.{OwnTransaction}
+use Rattle.txn_blocks.specs.declared.transaction.RunningTransaction.{RunningTransaction}
 use Rattle.cacheless.specs.declared.progress.Progress.{Progress}
 use Rattle.cacheless.specs.Facts.{Facts}
 use Rattle.cacheless.specs.Session.{Outcome, Well as CameWell, Badly, Unsettled, outcome_of}
@@ -18,14 +18,14 @@ use Rattle.cacheless.specs.State.{running_of, end_of_running, end_in_block, end_
 pub end_of_all-same : (facts : Facts) (s : Progress) → facts.running ≡ running_of s.running → end_of_all facts ≡ end_of_running s.running
 end_of_all-same facts s running = ap (λ o. option_map_or (λ t. TakesBack t.first) o Ends) running ∙ by_own s.running
   where
-    by_own : (own : Option OwnTransaction) → option_map_or (λ t. TakesBack t.first) (running_of own) Ends ≡ end_of_running own
+    by_own : (own : Option RunningTransaction) → option_map_or (λ t. TakesBack t.first) (running_of own) Ends ≡ end_of_running own
     by_own None = refl
     by_own (Some t) = refl
 
 commits_same : (facts : Facts) (s : Progress) → facts.running ≡ running_of s.running → option_map_or (λ t. Commits t.first) facts.running Ends ≡ option_map_or (λ t. Commits t.first) s.running Ends
 commits_same facts s running = ap (λ o. option_map_or (λ t. Commits t.first) o Ends) running ∙ by_own s.running
   where
-    by_own : (own : Option OwnTransaction) → option_map_or (λ t. Commits t.first) (running_of own) Ends ≡ option_map_or (λ t. Commits t.first) own Ends
+    by_own : (own : Option RunningTransaction) → option_map_or (λ t. Commits t.first) (running_of own) Ends ≡ option_map_or (λ t. Commits t.first) own Ends
     by_own None = refl
     by_own (Some t) = refl
 

@@ -27,7 +27,7 @@ use Rattle.history_model.specs.Sent.{unsent_in}
 use Rattle.history_model.specs.Writes.{is_empty}
 use Rattle.cacheless.specs.Types.{Oid, Xid, Mode, Kind, Message, Row, Purpose, Command, Scenario, Entry, Item, Event, Opening}
 use Rattle.cacheless.specs.declared.kept_scan.KeptScan.{KeptScan}
-use Rattle.cacheless.specs.declared.progress.OwnTransaction.{OwnTransaction}
+use Rattle.txn_blocks.specs.declared.transaction.RunningTransaction.{RunningTransaction}
 use Rattle.cacheless.specs.declared.progress.Progress.{Progress}
 use Rattle.cacheless.specs.Facts.{Facts, facts_of}
 use Rattle.cacheless.specs.Locks.{is_locked}
@@ -187,11 +187,11 @@ sent_decides : (first : ℕ) (unsent : List Message) (event : Event) → Decides
 sent_decides first [] event = release_decides first event
 sent_decides first (message ∷ unsent) event = subst (λ n. Decides (publishes (length (take 64 (message ∷ unsent))) event) (events.Publish n ≡ event)) (length-take 64 (message ∷ unsent) ∙ sym (least_64 (length (message ∷ unsent)))) (publish_decides (length (take 64 (message ∷ unsent))) event)
 
-shown_same : (own : Option OwnTransaction) → is_visible (running_of own) ≡ option_map_or (λ t. t.visible) own false
+shown_same : (own : Option RunningTransaction) → is_visible (running_of own) ≡ option_map_or (λ t. t.visible) own false
 shown_same None = refl
 shown_same (Some t) = refl
 
-xid_same : (own : Option OwnTransaction) → option_map_or (λ t. unwrap_or t.xid 0) (running_of own) 0 ≡ option_map_or (λ t. option_map_or (λ x. x.0) t.xid 0) own 0
+xid_same : (own : Option RunningTransaction) → option_map_or (λ t. unwrap_or t.xid 0) (running_of own) 0 ≡ option_map_or (λ t. option_map_or (λ x. x.0) t.xid 0) own 0
 xid_same None = refl
 xid_same (Some t) = by_xid t.xid
   where
@@ -199,7 +199,7 @@ xid_same (Some t) = by_xid t.xid
     by_xid None = refl
     by_xid (Some x) = refl
 
-unsent_same : (own : Option OwnTransaction) (lists : List Written) → option_map_or (λ t. t.visible) own false ≡ true → unsent_in lists (running_of own) ≡ unsent_after (option_map_or (λ t. t.published) own 0) lists
+unsent_same : (own : Option RunningTransaction) (lists : List Written) → option_map_or (λ t. t.visible) own false ≡ true → unsent_in lists (running_of own) ≡ unsent_after (option_map_or (λ t. t.published) own 0) lists
 unsent_same None lists is = absurd (cc)
 unsent_same (Some t) lists is = refl
 
@@ -287,7 +287,7 @@ may_decides next facts command s rest event fits puts count = never (λ is. is)
 last_decides : (facts : Facts) (s : Progress) (event : Event) → FactsFit facts s → Decides (may_end_last s event) (IsLastEnd facts event)
 last_decides facts s event fits = subst (λ e. Decides (may_end_last s event) ((owed_after facts.last ≡ []) × (next_of_end facts e ≡ Some event))) (sym (end_of_all-same facts s fits.running)) (by_own s.running)
   where
-    by_own : (own : Option OwnTransaction) → Decides (option_map_or (λ t. is_empty (owed_at s.due) && is_next_of_back t.first s event) own false) ((owed_after facts.last ≡ []) × (next_of_end facts (end_of_running own) ≡ Some event))
+    by_own : (own : Option RunningTransaction) → Decides (option_map_or (λ t. is_empty (owed_at s.due) && is_next_of_back t.first s event) own false) ((owed_after facts.last ≡ []) × (next_of_end facts (end_of_running own) ≡ Some event))
     by_own None = never (λ is. none_made is.1)
       where
         none_made : ◌≡◌ {A = Option Event} None (Some event) → ⊥
@@ -295,11 +295,11 @@ last_decides facts s event fits = subst (λ e. Decides (may_end_last s event) ((
     by_own (Some t) = both_decide (is_empty (owed_at s.due)) (is_next_of_back t.first s event) (none_decide (owed_after facts.last) (is_empty (owed_at s.due)) (ap is_empty fits.owed))
         (some_decides (next_of_taking_back facts t.first) event (is_next_of_back t.first s event) (back_decides facts s t.first event fits))
 
-some_running : (own : Option OwnTransaction) → is_some (running_of own) ≡ is_some own
+some_running : (own : Option RunningTransaction) → is_some (running_of own) ≡ is_some own
 some_running None = refl
 some_running (Some t) = refl
 
-none_running : (own : Option OwnTransaction) → Decides (is_none own) (running_of own ≡ None)
+none_running : (own : Option RunningTransaction) → Decides (is_none own) (running_of own ≡ None)
 none_running None = always refl
 none_running (Some t) = never (λ is. absurd (cc))
 

@@ -16,10 +16,11 @@ use Rattle.base_types.specs.declared.scan.Purpose.TheVariants as scans
 use Rattle.cacheless.specs.Types.{Xid, Message, Purpose, Scenario, Entry, Event, OwnLock}
 use Rattle.cacheless.specs.declared.kept_scan.KeptScan.{KeptScan}
 use Rattle.cacheless.specs.declared.progress.Due.TheVariants as dues
-use Rattle.cacheless.specs.declared.progress.OwnTransaction.{OwnTransaction}
+use Rattle.txn_blocks.specs.declared.transaction.RunningTransaction.{RunningTransaction}
 use Rattle.cacheless.specs.declared.progress.Progress.{Progress}
 use Rattle.cacheless.specs.Facts.{Facts, facts_of}
-use Rattle.cacheless.specs.State.{running_of, begun_own, released_own, ends_own, lists_at, lists_left, is_kept, kept_spared, named_spared, is_absent, is_in_accept, locks_accepted}
+use Rattle.txn_blocks.specs.Transactions.{begun_own, ends_own, released_own}
+use Rattle.cacheless.specs.State.{running_of, lists_at, lists_left, is_kept, kept_spared, named_spared, is_absent, is_in_accept, locks_accepted}
 use Rattle.cacheless.specs.Holds.{ReadRight, NamedFit, FactsFit, Holds, Rests, with_own, HasEntered}
 use Rattle.cacheless.proofs.EnteredFetches.{is_kept-spared, all-spared}
 use Rattle.cacheless.proofs.Entering.{facts_after, noted_after, with_locks, own_entered, release_begun, ends_same, runs_begun, counts_stay}
@@ -28,7 +29,7 @@ use Rattle.cacheless.proofs.Entering.{facts_after, noted_after, with_locks, own_
 abbrev pub shown : Progress → Progress
 shown was = record was { due = dues.Nothing; running = Some (record (begun_own (was.finished + 1) was.running) { visible = true }) }
 
-runs_shown : (number : ℕ) (own : Option OwnTransaction) → Some (record (begun number (running_of own)) { visible = true }) ≡ running_of (Some (record (begun_own number own) { visible = true }))
+runs_shown : (number : ℕ) (own : Option RunningTransaction) → Some (record (begun number (running_of own)) { visible = true }) ≡ running_of (Some (record (begun_own number own) { visible = true }))
 runs_shown number None = refl
 runs_shown number (Some t) = refl
 
@@ -56,7 +57,7 @@ visible_holds scenario old was xid locks rests items = own_entered scenario old 
 abbrev pub sent : Progress → ℕ → Progress
 sent was count = record was { due = dues.Nothing; running = Some (record (begun_own (was.finished + 1) was.running) { published = (begun_own (was.finished + 1) was.running).published + count }) }
 
-runs_sent : (number count : ℕ) (own : Option OwnTransaction) → Some (record (begun number (running_of own)) { published = (begun number (running_of own)).published + count }) ≡ running_of (Some (record (begun_own number own) { published = (begun_own number own).published + count }))
+runs_sent : (number count : ℕ) (own : Option RunningTransaction) → Some (record (begun number (running_of own)) { published = (begun number (running_of own)).published + count }) ≡ running_of (Some (record (begun_own number own) { published = (begun_own number own).published + count }))
 runs_sent number count None = refl
 runs_sent number count (Some t) = refl
 

@@ -17,7 +17,8 @@ use Rattle.cacheless.specs.declared.progress.Progress.{Progress}
 use Rattle.cacheless.specs.Facts.{facts_of}
 use Rattle.cacheless.specs.Owed.{Owes, OwesLook, owed_after}
 use Rattle.cacheless.specs.Sessions.{refused_with}
-use Rattle.cacheless.specs.State.{begun_own, begins_in, owed_first, lacks_builds, is_in_accept, locks_accepted, clash_event, error_of, failed_with, Rest, rest_of, session_at}
+use Rattle.txn_blocks.specs.Transactions.{begun_own}
+use Rattle.cacheless.specs.State.{begins_in, owed_first, lacks_builds, is_in_accept, locks_accepted, clash_event, error_of, failed_with, Rest, rest_of, session_at}
 use Rattle.cacheless.specs.Holds.{Holds, Rests, with_own, HasEntered}
 use Rattle.cacheless.proofs.Entering.{facts_after, noted_after, with_locks, GoesOn, own_entered, runs_begun, counts_stay}
 

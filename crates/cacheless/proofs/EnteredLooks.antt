@@ -18,7 +18,8 @@ use Rattle.cacheless.specs.Session.{none_open, plan_admitted, plan_first, refuse
 use Rattle.cacheless.specs.Owed.{owed_after}
 use Rattle.cacheless.specs.Settled.{settled}
 use Rattle.cacheless.specs.Puts.{PutsOpened}
-use Rattle.cacheless.specs.State.{owed_at, due_looked, begun_own, is_absent, is_in_accept, locks_accepted, IsNew, Rest, tally_at, session_at}
+use Rattle.txn_blocks.specs.Transactions.{begun_own}
+use Rattle.cacheless.specs.State.{owed_at, due_looked, is_absent, is_in_accept, locks_accepted, IsNew, Rest, tally_at, session_at}
 use Rattle.cacheless.specs.Holds.{FactsFit, CountsFit, Holds, Rests, HasNotStarted, entry_of, with_own, HasEntered, HasStarted}
 use Rattle.cacheless.proofs.ActOrder.{FollowsOrder, follows_order}
 use Rattle.cacheless.proofs.Reading.{facts_of-own, session_of-own}

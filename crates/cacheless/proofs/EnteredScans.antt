@@ -20,7 +20,8 @@ use Rattle.cacheless.specs.declared.progress.Due.TheVariants as dues
 use Rattle.cacheless.specs.declared.progress.Progress.{Progress}
 use Rattle.cacheless.specs.Facts.{Facts, facts_of}
 use Rattle.cacheless.specs.Sessions.{is_wanted}
-use Rattle.cacheless.specs.State.{begun_own, is_kept, is_in_accept, locks_accepted}
+use Rattle.txn_blocks.specs.Transactions.{begun_own}
+use Rattle.cacheless.specs.State.{is_kept, is_in_accept, locks_accepted}
 use Rattle.cacheless.specs.May.{is_first_missing, is_next_of_act, is_next_at, has_failed}
 use Rattle.cacheless.specs.Holds.{ReadRight, NamedFit, FactsFit, Holds, Rests, with_own, HasEntered}
 use Rattle.cacheless.proofs.Tests.{and_true, or_either, not_true}

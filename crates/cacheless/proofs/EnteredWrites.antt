@@ -23,14 +23,15 @@ use Rattle.history_model.proofs.Every.{every-append}
 use Rattle.cacheless.specs.Types.{Oid, Xid, Message, Row, Purpose, Scenario, Entry, Event, Item, OwnLock, Exec}
 use Rattle.cacheless.specs.declared.kept_scan.KeptScan.{KeptScan}
 use Rattle.cacheless.specs.declared.progress.Due.TheVariants as dues
-use Rattle.cacheless.specs.declared.progress.OwnTransaction.{OwnTransaction}
+use Rattle.txn_blocks.specs.declared.transaction.RunningTransaction.{RunningTransaction}
 use Rattle.cacheless.specs.declared.progress.Progress.{Progress}
 use Rattle.cacheless.specs.Facts.{Facts, facts_of}
 use Rattle.cacheless.specs.Locks.{locked_by}
 use Rattle.cacheless.specs.Session.{Session}
 use Rattle.cacheless.specs.Sessions.{written}
 use Rattle.cacheless.specs.Puts.{PutsOpened}
-use Rattle.cacheless.specs.State.{running_of, begun_own, lists_at, is_kept, kept_spared, is_absent, is_in_accept, locks_accepted, locks_made, messages_in, Rest, rest_of, session_at}
+use Rattle.txn_blocks.specs.Transactions.{begun_own}
+use Rattle.cacheless.specs.State.{running_of, lists_at, is_kept, kept_spared, is_absent, is_in_accept, locks_accepted, locks_made, messages_in, Rest, rest_of, session_at}
 use Rattle.cacheless.specs.Holds.{ReadRight, FactsFit, Holds, Rests, with_own, HasEntered}
 use Rattle.cacheless.proofs.Tests.{not_both}
 use Rattle.cacheless.proofs.WrittenMessages.{any_once}
@@ -106,7 +107,7 @@ wrote was xid kept lists exec locks = record was {
   locks = locks;
 }
 
-runs_written : (number : ℕ) (xid : Xid) (own : Option OwnTransaction) → Some (record (begun number (running_of own)) { xid = Some xid.0 }) ≡ running_of (Some (record (begun_own number own) { xid = Some xid }))
+runs_written : (number : ℕ) (xid : Xid) (own : Option RunningTransaction) → Some (record (begun number (running_of own)) { xid = Some xid.0 }) ≡ running_of (Some (record (begun_own number own) { xid = Some xid }))
 runs_written number xid None = refl
 runs_written number xid (Some t) = refl
 

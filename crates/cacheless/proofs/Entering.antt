@@ -14,14 +14,15 @@ use Rattle.history_model.specs.Transactions.{Running, begun, after_release}
 use Rattle.history_model.specs.Sent.{ends_transaction}
 use Rattle.cacheless.specs.Types.{Command, Scenario, Entry, Event, OwnLock}
 use Rattle.cacheless.specs.declared.progress.Counts.{Counts}
-use Rattle.cacheless.specs.declared.progress.OwnTransaction.{OwnTransaction}
+use Rattle.txn_blocks.specs.declared.transaction.RunningTransaction.{RunningTransaction}
 use Rattle.cacheless.specs.declared.progress.Progress.{Progress}
 use Rattle.cacheless.specs.Facts.{Facts, facts_of, facts_by}
 use Rattle.cacheless.specs.Session.{Session, first_of}
 use Rattle.cacheless.specs.Settled.{settled}
 use Rattle.cacheless.specs.Sessions.{noted, placed_at, counted, accepted, entered, commands_left, session_by, session_of}
 use Rattle.cacheless.specs.Puts.{PutsOpened}
-use Rattle.cacheless.specs.State.{running_of, begun_own, released_own, ends_own, lists_at, is_absent, is_in_accept, locks_accepted, Rest, rest_of, session_at}
+use Rattle.txn_blocks.specs.Transactions.{begun_own, ends_own, released_own}
+use Rattle.cacheless.specs.State.{running_of, lists_at, is_absent, is_in_accept, locks_accepted, Rest, rest_of, session_at}
 use Rattle.cacheless.specs.Holds.{FactsFit, CountsFit, Holds, Rests, IsWhere, HasEntered, entry_of, with_own}
 use Rattle.cacheless.proofs.Reading.{facts_of-own, session_of-own}
 use Rattle.cacheless.proofs.Same.{accept_same}
@@ -142,11 +143,11 @@ own_entered scenario old was now event locks rests on enters items = record {
     rest = rest_after old was event rests.holds.rest
 
 -- the transaction of the entry runs
-pub runs_begun : (number : ℕ) (own : Option OwnTransaction) → Some (begun number (running_of own)) ≡ running_of (Some (begun_own number own))
+pub runs_begun : (number : ℕ) (own : Option RunningTransaction) → Some (begun number (running_of own)) ≡ running_of (Some (begun_own number own))
 runs_begun number None = refl
 runs_begun number (Some t) = refl
 
-released_same : (from : ℕ) (own : OwnTransaction) → after_release from (record { first = own.first; xid = option_map (λ x. x.0) own.xid; published = own.published; visible = own.visible }) ≡ running_of (released_own from own)
+released_same : (from : ℕ) (own : RunningTransaction) → after_release from (record { first = own.first; xid = option_map (λ x. x.0) own.xid; published = own.published; visible = own.visible }) ≡ running_of (released_own from own)
 released_same from own = by_test (own.first == from)
   where
     running : Running
@@ -156,11 +157,11 @@ released_same from own = by_test (own.first == from)
     by_test true = refl
     by_test false = refl
 
-pub release_begun : (from number : ℕ) (own : Option OwnTransaction) → after_release from (begun number (running_of own)) ≡ running_of (released_own from (begun_own number own))
+pub release_begun : (from number : ℕ) (own : Option RunningTransaction) → after_release from (begun number (running_of own)) ≡ running_of (released_own from (begun_own number own))
 release_begun from number None = released_same from (record { first = number; xid = None; published = 0; visible = false })
 release_begun from number (Some t) = released_same from t
 
-pub ends_same : (from : ℕ) (own : Option OwnTransaction) → ends_transaction from (running_of own) ≡ ends_own from own
+pub ends_same : (from : ℕ) (own : Option RunningTransaction) → ends_transaction from (running_of own) ≡ ends_own from own
 ends_same from None = refl
 ends_same from (Some t) = refl
 

@@ -18,14 +18,14 @@ use Rattle.cacheless.specs.Owed.{OwesLook, OwesFetch, OwesScan, owed_at_start, o
 use Rattle.cacheless.specs.Plays.{has_looked, may_look}
 use Rattle.cacheless.specs.Types.{Kind, Oid, Command, Purpose, Opening}
 use Rattle.cacheless.specs.declared.kept_scan.KeptScan.{KeptScan}
-use Rattle.cacheless.specs.declared.progress.OwnTransaction.{OwnTransaction}
+use Rattle.txn_blocks.specs.declared.transaction.RunningTransaction.{RunningTransaction}
 use Rattle.cacheless.specs.declared.progress.Progress.{Progress}
 use Rattle.cacheless.specs.State.{owed_at, one_if, running_of, is_kept, missing, builds_missing, act_missing, scans_missing, is_absent, lacks_builds, is_full, is_in_accept, begins_in, owed_first, Rest, session_at}
 use Rattle.cacheless.specs.May.{may_look_at, has_looked_at, is_first_missing, is_next_of_act, is_next_at, has_failed, lacks_opened, lacks_to_build, lacks_any, owes_nothing}
 use Rattle.cacheless.specs.Holds.{NamedFit, FactsFit}
 use Rattle.cacheless.proofs.ReadsBuilds.{ReadsBuilds, stage_reads}
 
-none_running : (own : Option OwnTransaction) → is_none (running_of own) ≡ is_none own
+none_running : (own : Option RunningTransaction) → is_none (running_of own) ≡ is_none own
 none_running None = refl
 none_running (Some t) = refl
 
@@ -88,7 +88,7 @@ looked_same facts s rest fits count =
     one true = refl
     one false = refl
 
-    same : (own : Option OwnTransaction) → option_map_or (λ t. elim (t.first == length rest.finished + 1) as (λ x. ℕ) [ true ↦ 1 | false ↦ 0 ]) (running_of own) 0 ≡ option_map_or (λ t. one_if (t.first == s.finished + 1)) own 0
+    same : (own : Option RunningTransaction) → option_map_or (λ t. elim (t.first == length rest.finished + 1) as (λ x. ℕ) [ true ↦ 1 | false ↦ 0 ]) (running_of own) 0 ≡ option_map_or (λ t. one_if (t.first == s.finished + 1)) own 0
     same None = refl
     same (Some t) = one (t.first == length rest.finished + 1) ∙ ap (λ n. one_if (t.first == n + 1)) count
 

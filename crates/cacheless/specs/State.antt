@@ -1,5 +1,5 @@
 -- What the code holds of a backend, in the words of the definitions.
-use Rattle.std.specs.Prelude.{◌≡◌, ℕ, Bool, true, false, not, Option, Some, None, List, [], ◌∷◌, ◌++◌, ◌+◌, ◌==◌, ◌&&◌, ◌||◌, map, filter, if◌then◌else◌, is_none, is_some, unwrap_or, slice_get, nat_lt}
+use Rattle.std.specs.Prelude.{◌≡◌, ℕ, Bool, true, false, not, Option, Some, None, List, [], ◌∷◌, ◌++◌, ◌+◌, ◌==◌, ◌&&◌, ◌||◌, map, filter, if◌then◌else◌, is_none, is_some, slice_get, nat_lt}
 use Rattle.std.specs.Option.{option_map, option_map_or}
 use Rattle.std.specs.List.{find, list_any, flat_map}
 use Rattle.base_types.specs.Scans.{same_scan, is_build_scan, build_scans}
@@ -20,6 +20,7 @@ use Rattle.history_model.specs.Writes.{is_empty}
 use Rattle.history_model.specs.Sent.{cats_by, rels_by}
 use Rattle.history_model.specs.Transactions.{Running}
 pub use Rattle.cacheless.specs.OnCourse.{is_absent}
+use Rattle.txn_blocks.specs.Transactions.{begun_own}
 use Rattle.cacheless.specs.Types.{Oid, Message, Row, Purpose, Command, CommandError, Clash, Item, Entry, Event, Opening, OwnLock}
 use Rattle.cacheless.specs.Session.{Session, Finished, Tally, Badly, Well, Unsettled, outcome_of, is_settled, plan_first, refused_first}
 use Rattle.cacheless.specs.Locks.{is_locked}
@@ -28,7 +29,7 @@ use Rattle.cacheless.specs.Ends.{End, Ends, Commits, TakesBack}
 use Rattle.cacheless.specs.declared.kept_scan.KeptScan.{KeptScan}
 use Rattle.cacheless.specs.declared.progress.Due.{Due}
 use Rattle.cacheless.specs.declared.progress.Due.TheVariants as dues
-use Rattle.cacheless.specs.declared.progress.OwnTransaction.{OwnTransaction}
+use Rattle.txn_blocks.specs.declared.transaction.RunningTransaction.{RunningTransaction}
 use Rattle.cacheless.specs.declared.progress.Counts.{Counts}
 use Rattle.cacheless.specs.declared.progress.Progress.{Progress}
 
@@ -57,20 +58,8 @@ abbrev pub no_counts : Counts
 no_counts = record { looks = 0; scans = 0; grants = 0; fetches = 0; full = 0 }
 
 -- the running transaction
-abbrev pub running_of : Option OwnTransaction → Option Running
+abbrev pub running_of : Option RunningTransaction → Option Running
 running_of own = option_map (λ t. record { first = t.first; xid = option_map (λ x. x.0) t.xid; published = t.published; visible = t.visible }) own
-
--- the transaction of an entry: the running one, or else one that begins with this command
-abbrev pub begun_own : ℕ → Option OwnTransaction → OwnTransaction
-begun_own number own = unwrap_or own (record { first = number; xid = None; published = 0; visible = false })
-
--- the transaction after a release, if it goes on
-abbrev pub released_own : ℕ → OwnTransaction → Option OwnTransaction
-released_own from own = if own.first == from then None else Some own
-
--- a release ends the transaction
-abbrev pub ends_own : ℕ → Option OwnTransaction → Bool
-ends_own from own = option_map_or (λ t. t.first == from) own false
 
 -- the transaction is committed, and its locks are still held
 abbrev pub is_visible_at : Progress → Bool
@@ -185,11 +174,11 @@ abbrev pub messages_in : List Entry → ℕ → List Item → List Message
 messages_in before b items = flat_map (λ item. cats_by before b item ++ rels_by before b item) items
 
 -- the running transaction as a whole is taken back
-abbrev pub end_of_running : Option OwnTransaction → End
+abbrev pub end_of_running : Option RunningTransaction → End
 end_of_running own = option_map_or (λ t. TakesBack t.first) own Ends
 
 -- the end of a block
-abbrev pub end_in_block : Option OwnTransaction → Block → Bool → End
+abbrev pub end_in_block : Option RunningTransaction → Block → Bool → End
 end_in_block own Outside commits = Ends
 end_in_block own Inside true = option_map_or (λ t. Commits t.first) own Ends
 end_in_block own Inside false = end_of_running own

@@ -3,15 +3,16 @@
 ghost use Rattle.std.specs.Prelude.{◌≡◌, ◌≤◌, ◌<◌, ◌+◌, ◌^◌, true, false, Some};
 ghost use Rattle.base_types.specs.Scenario.{Scenario};
 ghost use Rattle.event_kinds.specs.declared.entry.Entry.{Entry};
-ghost use Rattle.cacheless.specs.State.{begun_own, released_own, ends_own, lists_left};
+ghost use Rattle.cacheless.specs.State.{lists_left};
 ghost use Rattle.command_lists.specs.Lists.{all_lists};
 
-use crate::enter::{accept, running_from};
+use crate::enter::accept;
 use crate::execute::serves_still;
-use crate::{Due, OwnTransaction, Progress};
+use crate::{Due, Progress};
 use base_types::Xid;
 use command_lists::InvalLists;
 use event_kinds::Event;
+use txn_blocks::RunningTransaction;
 
 impl Progress {
     ghost use Rattle.std.specs.Prelude.{List};
@@ -28,9 +29,9 @@ impl Progress {
         ensures holds { (scenario : Scenario) (seen : List Entry) → (rests : Rests scenario seen self.old) → HasEntered scenario seen self.old (Event.Visible xid) rests self.new }
     {
         let _xid = xid;
-        self.running = Some(OwnTransaction {
+        self.running = Some(RunningTransaction {
             visible: true,
-            ..running_from(self.finished + 1, self.running)
+            ..RunningTransaction::begun(self.finished + 1, self.running)
         });
         self.due = Due::Nothing;
         let accepting = self.is_in_acceptance();
@@ -46,8 +47,8 @@ impl Progress {
         ensures given_at { self.new.given_at ≡ self.old.given_at }
         ensures holds { (scenario : Scenario) (seen : List Entry) → (rests : Rests scenario seen self.old) → HasEntered scenario seen self.old (Event.Publish count) rests self.new }
     {
-        let own = running_from(self.finished + 1, self.running);
-        self.running = Some(OwnTransaction {
+        let own = RunningTransaction::begun(self.finished + 1, self.running);
+        self.running = Some(RunningTransaction {
             published: own.published + count as usize,
             ..own
         });
@@ -65,7 +66,7 @@ impl Progress {
         ensures given_at { self.new.given_at ≡ self.old.given_at }
         ensures holds { (scenario : Scenario) (seen : List Entry) → (rests : Rests scenario seen self.old) → HasEntered scenario seen self.old (Event.Gone from) rests self.new }
     {
-        self.running = Some(running_from(self.finished + 1, self.running));
+        self.running = Some(RunningTransaction::begun(self.finished + 1, self.running));
         self.kept.execute(self.lists.cats_from(from));
         self.kept.execute(self.lists.rels_from(from));
         self.named = serves_still(self.named, &self.exec, self.lists.cats_from(from));
@@ -85,31 +86,17 @@ impl Progress {
         ensures given_at { self.new.given_at ≡ self.old.given_at }
         ensures holds { (scenario : Scenario) (seen : List Entry) → (rests : Rests scenario seen self.old) → HasEntered scenario seen self.old (Event.Release from) rests self.new }
     {
-        clear_if(&mut self.lists, is_first(from, self.running));
-        self.running = released(from, running_from(self.finished + 1, self.running));
+        clear_if(
+            &mut self.lists,
+            RunningTransaction::ends(from, self.running),
+        );
+        self.running = RunningTransaction::begun(self.finished + 1, self.running).released(from);
         self.locks.release(from);
         self.ended = true;
         self.due = Due::Nothing;
         let accepting = self.is_in_acceptance();
         accept(&mut self.locks, accepting);
     }
-}
-
-// Whether the command is the first of the transaction, if one runs.
-fn is_first(from: u32, running: Option<OwnTransaction>) -> bool
-    ensures { result ≡ ends_own from running }
-{
-    match running {
-        Some(own) => own.first == from,
-        None => false,
-    }
-}
-
-// The transaction after the release of the locks of these commands, if it goes on.
-fn released(from: u32, own: OwnTransaction) -> Option<OwnTransaction>
-    ensures { result ≡ released_own from own }
-{
-    if own.first == from { None } else { Some(own) }
 }
 
 // Takes away all lists where the transaction has ended.

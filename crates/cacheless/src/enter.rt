@@ -6,16 +6,17 @@ ghost use Rattle.std.specs.Prelude.{◌≡◌, ◌≤◌, ◌++◌, ◌∷◌, [
 ghost use Rattle.base_types.specs.Scenario.{Scenario};
 ghost use Rattle.event_kinds.specs.declared.entry.Entry.{Entry};
 ghost use Rattle.history_model.specs.Log.{fetched_by};
-ghost use Rattle.cacheless.specs.State.{begun_own, due_looked, due_fetched, locks_accepted};
+ghost use Rattle.cacheless.specs.State.{due_looked, due_fetched, locks_accepted};
 
 use crate::execute::serves_still;
-use crate::{Due, KeptScans, OwnTransaction, Progress};
+use crate::{Due, KeptScans, Progress};
 use base_types::Command;
 use ddl_effect::Want;
 use event_kinds::Event;
 use inval_messages::Message;
 use lock_modes::OwnLocks;
 use std::alloc::Global;
+use txn_blocks::RunningTransaction;
 
 // The most messages that one fetch gives.
 const MOST_FETCHED: usize = 32;
@@ -59,7 +60,7 @@ impl Progress {
         ensures given_at { self.new.given_at ≡ self.old.given_at }
         ensures holds { (scenario : Scenario) (seen : List Entry) → (rests : Rests scenario seen self.old) → HasEntered scenario seen self.old (Event.Look some_wait) rests self.new }
     {
-        self.running = Some(running_from(self.finished + 1, self.running));
+        self.running = Some(RunningTransaction::begun(self.finished + 1, self.running));
         self.due = after_look(some_wait);
         self.tally.looks += 1;
         let accepting = self.is_in_acceptance();
@@ -75,7 +76,7 @@ impl Progress {
         ensures given_at { self.new.given_at ≡ self.old.given_at }
         ensures holds { (scenario : Scenario) (seen : List Entry) → (rests : Rests scenario seen self.old) → messages.now ≡ fetched_by seen self.old.id (length messages.now) → HasEntered scenario seen self.old (Event.Fetch (length messages.now)) rests self.new }
     {
-        self.running = Some(running_from(self.finished + 1, self.running));
+        self.running = Some(RunningTransaction::begun(self.finished + 1, self.running));
         self.kept.execute(messages);
         self.named = serves_still(self.named, &self.exec, messages);
         self.due = after_fetch(messages.len());
@@ -96,7 +97,7 @@ impl Progress {
         ensures given_at { self.new.given_at ≡ self.old.given_at }
         ensures holds { (scenario : Scenario) (seen : List Entry) → (rests : Rests scenario seen self.old) → HasEntered scenario seen self.old Event.FetchReset rests self.new }
     {
-        self.running = Some(running_from(self.finished + 1, self.running));
+        self.running = Some(RunningTransaction::begun(self.finished + 1, self.running));
         self.kept = KeptScans::new(alloc);
         self.named = false;
         self.due = Due::Nothing;
@@ -177,16 +178,4 @@ pub(crate) fn accept(locks: &mut OwnLocks, accepting: bool)
     if !accepting {
         locks.clear_all();
     }
-}
-
-// The running transaction, or one that begins with this command.
-pub(crate) fn running_from(number: u32, running: Option<OwnTransaction>) -> OwnTransaction
-    ensures { result ≡ begun_own number running }
-{
-    running.unwrap_or(OwnTransaction {
-        first: number,
-        xid: None,
-        published: 0,
-        visible: false,
-    })
 }

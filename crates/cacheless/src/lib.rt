@@ -56,6 +56,6 @@ pub use execute::is_covered;
 pub use kept_scan::KeptScan;
 pub use kept_scans::KeptScans;
 pub use opening::Opening;
-pub use progress::{Counts, Due, OwnTransaction, Progress};
+pub use progress::{Counts, Due, Progress};
 pub use scans::{first_lacking, first_missing, has_kept};
 pub use silent::Silent;

@@ -7,25 +7,12 @@ ghost use Rattle.cacheless.specs.Holds.{HasNotStarted};
 
 use crate::begun::begun;
 use crate::{KeptScans, Opening};
-use base_types::{Command, Listed, NoMemory, Row, Xid};
+use base_types::{Command, Listed, NoMemory, Row};
 use command_lists::InvalLists;
 use ddl_effect::Exec;
 use lock_modes::OwnLocks;
 use std::alloc::Global;
-use txn_blocks::TxnBlocks;
-
-/// The transaction that a backend runs.
-#[derive(Clone, Copy)]
-pub struct OwnTransaction {
-    /// Its first command.
-    pub first: u32,
-    /// Its Xid, once it has written.
-    pub xid: Option<Xid>,
-    /// How many of its messages are published.
-    pub published: usize,
-    /// Whether it is committed, and holds its locks still.
-    pub visible: bool,
-}
+use txn_blocks::{RunningTransaction, TxnBlocks};
 
 /// What has to come right after the last entry of a backend.
 #[derive(Clone, Copy)]
@@ -81,7 +68,7 @@ pub struct Progress {
     pub due: Due,
     // the blocks before it, the transaction, and the messages of its writes that weren't taken back
     pub blocks: TxnBlocks,
-    pub running: Option<OwnTransaction>,
+    pub running: Option<RunningTransaction>,
     pub lists: InvalLists,
     // whether the scan of the name or the column on which the next act rests is made, whether nothing
     // has taken it away since, and what it gave, in the entry of this number

@@ -6,12 +6,13 @@ ghost use Rattle.event_kinds.specs.declared.entry.Entry.{Entry};
 ghost use Rattle.lock_modes.specs.Own.{has_lock};
 ghost use Rattle.history_model.specs.Versions.{answer_of};
 
-use crate::enter::{accept, running_from};
+use crate::enter::accept;
 use crate::{Due, KeptScan, Progress};
 use base_types::{Listed, Mode, NoMemory, Oid, Purpose, Row, same_scan};
 use command_answers::CommandError;
 use ddl_effect::{Exec, Want};
 use event_kinds::Event;
+use txn_blocks::RunningTransaction;
 
 impl Progress {
     ghost use Rattle.std.specs.Prelude.{List, ℕ, ◌++◌, ◌∷◌, [], if◌then◌else◌};
@@ -49,7 +50,7 @@ impl Progress {
         ensures holds { (scenario : Scenario) (seen : List Entry) (count : ℕ) → (rests : Rests scenario seen self.old) → rows.items ≡ answer_of seen self.old.id scan.now → HasEntered scenario seen self.old (Event.Scan scan.now count) rests self.new }
     {
         let _scan = *scan;
-        self.running = Some(running_from(self.finished + 1, self.running));
+        self.running = Some(RunningTransaction::begun(self.finished + 1, self.running));
         self.due = Due::Nothing;
         self.tally.scans += 1;
         self.read = true;
@@ -76,7 +77,7 @@ impl Progress {
             at,
         };
         self.kept.push(made)?;
-        self.running = Some(running_from(self.finished + 1, self.running));
+        self.running = Some(RunningTransaction::begun(self.finished + 1, self.running));
         self.due = Due::Nothing;
         self.tally.scans += 1;
         let accepting = self.is_in_acceptance();
@@ -115,7 +116,7 @@ impl Progress {
         ensures given_at { self.new.given_at ≡ self.old.given_at }
         ensures holds { (scenario : Scenario) (seen : List Entry) → (rests : Rests scenario seen self.old) → HasEntered scenario seen self.old (Event.LockOk rel mode) rests self.new }
     {
-        self.running = Some(running_from(self.finished + 1, self.running));
+        self.running = Some(RunningTransaction::begun(self.finished + 1, self.running));
         self.due = Due::Look;
         self.tally.grants += 1;
         self.locks.add(rel, mode, self.finished + 1);
@@ -143,7 +144,7 @@ impl Progress {
         requires few { self.old.finished ≤ 20000 }
         ensures { FailsWith error self.old self.new }
     {
-        self.running = Some(running_from(self.finished + 1, self.running));
+        self.running = Some(RunningTransaction::begun(self.finished + 1, self.running));
         self.due = Due::Nothing;
         self.exec = Exec::Failing(error);
         self.locks.clear_all();

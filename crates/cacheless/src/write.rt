@@ -11,8 +11,8 @@ ghost use Rattle.command_lists.specs.Lists.{all_lists, new_list, with_messages};
 ghost use Rattle.cacheless.specs.Locks.{locked_by};
 ghost use Rattle.cacheless.specs.State.{locks_made, locks_written, messages_in, clash_event, error_of};
 
-use crate::enter::{accept, running_from};
-use crate::{Due, OwnTransaction, Progress};
+use crate::enter::accept;
+use crate::{Due, Progress};
 use base_types::{Listed, Name, NoMemory, Oid, Xid};
 use command_answers::CommandError;
 use command_lists::InvalLists;
@@ -21,6 +21,7 @@ use inval_messages::Message;
 use lock_modes::OwnLocks;
 use row_visibility::Clash;
 use std::alloc::Global;
+use txn_blocks::RunningTransaction;
 
 impl Progress {
     ghost use Rattle.std.specs.Prelude.{List, ℕ};
@@ -55,7 +56,7 @@ impl Progress {
         register(&mut self.lists, command, messages)?;
         self.kept.execute(messages);
         lock_new(&mut self.locks, new_oids, first, command);
-        self.running = Some(with_xid(running_from(command, self.running), xid));
+        self.running = Some(RunningTransaction::begun(command, self.running).with_xid(xid));
         self.due = Due::Nothing;
         self.exec.give(&[]);
         self.opened = Listed::new(alloc);
@@ -100,16 +101,6 @@ fn register(lists: &mut InvalLists, command: u32, messages: &[Message]) -> Resul
     }
     lists.end_command();
     Ok(())
-}
-
-// The transaction, once it has written.
-fn with_xid(own: OwnTransaction, xid: Xid) -> OwnTransaction
-    ensures { result ≡ record own { xid = Some xid } }
-{
-    OwnTransaction {
-        xid: Some(xid),
-        ..own
-    }
 }
 
 // The error with which a name that is taken ends a command.

@@ -18,7 +18,7 @@ use Rattle.history_model.proofs.Runs.{writes_as}
 use Rattle.history_model.specs.Orderly.{MayComeNext, IsOrderlyEvent}
 use Rattle.seg_calls.specs.Calls.{entry_of, MayRequest, Appends}
 use Rattle.seg_calls.proofs.Allowed.{is_start, request_follows}
-use Rattle.shared_seg.specs.declared.transaction.Transaction.{Transaction}
+use Rattle.txn_blocks.specs.declared.transaction.RunningTransaction.{RunningTransaction}
 use Rattle.shared_seg.specs.Kept.{Kept, places_in}
 use Rattle.shared_seg.specs.KeepsFolds.{KeepsFolds}
 use Rattle.shared_seg.specs.Places.{promised_in}
@@ -53,7 +53,7 @@ asked_appends k now after has b c event is request asked allows orderly entries 
     (appends_free k.history after k.promised has (entry_of b c event) entries (asked_comes k.script k.history b c event (request_inside k now b c is request) asked allows orderly) same)
 
 -- with what is kept beside it
-pub asked_keeps : (k now : Kept) (after : List Entry) (has : List ℕ) (b c : ℕ) (event : Event) (store stored : Store) (locks locked : List Grant) (transactions own : List (Option Transaction)) (next oid last xid : ℕ)
+pub asked_keeps : (k now : Kept) (after : List Entry) (has : List ℕ) (b c : ℕ) (event : Event) (store stored : Store) (locks locked : List Grant) (transactions own : List (Option RunningTransaction)) (next oid last xid : ℕ)
     → k ≡ now → KeepsFolds k.script k.history k.promised store locks transactions next last → MayRequest now.script now.history b c → is_start event ≡ false → AllowsEvent k.history b c event → IsOrderlyEvent k.history b event
     → after ≡ k.history ++ entry_of b c event ∷ [] → has ≡ k.promised → Steps k.history (entry_of b c event) store stored locks locked transactions own next oid last xid → KeepsFolds k.script after has stored locked own oid xid
 asked_keeps k now after has b c event store stored locks locked transactions own next oid last xid is keeps request asked allows orderly entries same steps =
@@ -62,7 +62,7 @@ asked_keeps k now after has b c event store stored locks locked transactions own
     (asked_comes k.script k.history b c event (request_inside k now b c is request) asked allows orderly) (ap length same) steps)
 
 -- the same of an entry that begins a transaction, if none runs, and changes no row, no oid and no Xid
-pub asked_quiet : (k now : Kept) (after : List Entry) (has : List ℕ) (b c : ℕ) (event : Event) (store : Store) (locks locked : List Grant) (transactions own : List (Option Transaction)) (next last : ℕ)
+pub asked_quiet : (k now : Kept) (after : List Entry) (has : List ℕ) (b c : ℕ) (event : Event) (store : Store) (locks locked : List Grant) (transactions own : List (Option RunningTransaction)) (next last : ℕ)
     → k ≡ now → KeepsFolds k.script k.history k.promised store locks transactions next last → MayRequest now.script now.history b c → is_start event ≡ false → AllowsEvent k.history b c event → IsOrderlyEvent k.history b event
     → after ≡ k.history ++ entry_of b c event ∷ [] → has ≡ k.promised
     → versions_by k.history b c event store.versions ≡ store.versions → next_oid_by event next ≡ next → last_xid_by event last ≡ last → ((x : ℕ) → makes_visible x event ≡ false) → ((x : ℕ) → writes_as x event ≡ false)

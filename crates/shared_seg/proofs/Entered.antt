@@ -13,7 +13,7 @@ use Rattle.history_model.specs.Versions.{versions_by}
 use Rattle.history_model.proofs.Runs.{writes_as}
 use Rattle.history_model.specs.Held.{held_by}
 use Rattle.seg_calls.specs.Calls.{places_for, entry_of, MayCall, Appends}
-use Rattle.shared_seg.specs.declared.transaction.Transaction.{Transaction}
+use Rattle.txn_blocks.specs.declared.transaction.RunningTransaction.{RunningTransaction}
 use Rattle.shared_seg.specs.Kept.{Kept, places_in}
 use Rattle.shared_seg.specs.KeepsFolds.{KeepsFolds}
 use Rattle.shared_seg.specs.Places.{promised_in}
@@ -39,7 +39,7 @@ placed_appends k now after has e one is call orderly backends entries taken =
     (appends_placed k.history after k.promised has e one entries (record { follows = inside.follows; orderly = orderly }) taken (within k.script e.backend (length k.promised) inside.backend backends))
 
 -- with what is kept beside it
-pub placed_keeps : (k now : Kept) (after : List Entry) (has : List ℕ) (e : Entry) (store stored : Store) (locks locked : List Grant) (transactions own : List (Option Transaction)) (next oid last xid : ℕ)
+pub placed_keeps : (k now : Kept) (after : List Entry) (has : List ℕ) (e : Entry) (store stored : Store) (locks locked : List Grant) (transactions own : List (Option RunningTransaction)) (next oid last xid : ℕ)
     → k ≡ now → KeepsFolds k.script k.history k.promised store locks transactions next last → MayCall now.script now.history e → IsOrderly k.history e
     → after ≡ k.history ++ e ∷ [] → has ≡ slice_set k.promised e.backend (promised_in k.promised e.backend - 1)
     → Steps k.history e store stored locks locked transactions own next oid last xid → KeepsFolds k.script after has stored locked own oid xid
@@ -50,7 +50,7 @@ placed_keeps k now after has e store stored locks locked transactions own next o
     (ap length taken ∙ length-set k.promised e.backend (promised_in k.promised e.backend - 1)) steps)
 
 -- the same of an entry that only begins or ends a transaction, and gives or takes grants
-pub quiet_keeps : (k now : Kept) (after : List Entry) (has : List ℕ) (b c : ℕ) (event : Event) (store : Store) (locks locked : List Grant) (transactions own : List (Option Transaction)) (next last : ℕ)
+pub quiet_keeps : (k now : Kept) (after : List Entry) (has : List ℕ) (b c : ℕ) (event : Event) (store : Store) (locks locked : List Grant) (transactions own : List (Option RunningTransaction)) (next last : ℕ)
     → k ≡ now → KeepsFolds k.script k.history k.promised store locks transactions next last → MayCall now.script now.history (entry_of b c event) → IsOrderly k.history (entry_of b c event)
     → after ≡ k.history ++ entry_of b c event ∷ [] → has ≡ slice_set k.promised b (promised_in k.promised b - 1)
     → versions_by k.history b c event store.versions ≡ store.versions → next_oid_by event next ≡ next → last_xid_by event last ≡ last → ((x : ℕ) → makes_visible x event ≡ false) → ((x : ℕ) → writes_as x event ≡ false)

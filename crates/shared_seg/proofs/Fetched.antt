@@ -22,12 +22,13 @@ use Rattle.history_model.proofs.Reading.{life_of-own, log_of-more, position_of-o
 use Rattle.seg_calls.specs.Calls.{entry_of, due_to, places_for, Appends, Fetches, MayCall}
 use Rattle.seg_calls.specs.Queue.{queue_by}
 use Rattle.seg_calls.proofs.Allowed.{reset_follows}
-use Rattle.shared_seg.specs.declared.transaction.Transaction.{Transaction}
+use Rattle.txn_blocks.specs.declared.transaction.RunningTransaction.{RunningTransaction}
 use Rattle.shared_seg.specs.Kept.{Kept, places_in}
 use Rattle.shared_seg.specs.KeepsFolds.{KeepsFolds}
 use Rattle.shared_seg.specs.KeepsQueue.{reader_at, KeepsQueue, event_of_fetch}
 use Rattle.shared_seg.specs.Places.{promised_in}
-use Rattle.shared_seg.specs.Transactions.{transaction_at, begun_own}
+use Rattle.txn_blocks.specs.Transactions.{begun_own}
+use Rattle.shared_seg.specs.Transactions.{transaction_at}
 use Rattle.shared_seg.proofs.Entered.{call_inside, placed_appends, quiet_keeps}
 use Rattle.shared_seg.proofs.Queue.{lives-before, queue_set}
 
@@ -173,7 +174,7 @@ fetches_due k now after has b c answer given is call backends due gives entries 
     appends = placed_appends k now after has (entry_of b c (event_of_fetch answer)) (places_of_fetch answer) is call (orderly_fetch k.history b answer) backends entries taken
 
 -- what is kept beside the queue
-pub fetch_folds : (k now : Kept) (after : List Entry) (has : List ℕ) (b c : ℕ) (answer : Fetched) (store : Store) (locks : List Grant) (transactions own : List (Option Transaction)) (next last : ℕ)
+pub fetch_folds : (k now : Kept) (after : List Entry) (has : List ℕ) (b c : ℕ) (answer : Fetched) (store : Store) (locks : List Grant) (transactions own : List (Option RunningTransaction)) (next last : ℕ)
     → k ≡ now → KeepsFolds k.script k.history k.promised store locks transactions next last → MayCall now.script now.history (entry_of b c (event_of_fetch answer))
     → after ≡ k.history ++ entry_of b c (event_of_fetch answer) ∷ [] → has ≡ slice_set k.promised b (promised_in k.promised b - 1) → own ≡ slice_set transactions b (Some (begun_own c (transaction_at transactions b)))
     → KeepsFolds k.script after has store locks own next last

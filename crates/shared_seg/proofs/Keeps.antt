@@ -15,12 +15,12 @@ use Rattle.history_model.proofs.Prefixes.{EachEntry-more}
 use Rattle.history_model.proofs.Reading.{versions_of-more, held_of-more, next_oid-more, last_xid-more, is_committed-more, running_transaction_of-own, running_transaction_of-other}
 use Rattle.history_model.proofs.Runs.{writes_as, xid-from}
 use Rattle.seg_calls.specs.Calls.{entry_of}
-use Rattle.shared_seg.specs.declared.transaction.Transaction.{Transaction}
+use Rattle.txn_blocks.specs.declared.transaction.RunningTransaction.{RunningTransaction}
 use Rattle.shared_seg.specs.KeepsFolds.{KeepsFolds}
 use Rattle.shared_seg.proofs.Own.{KeptBy, own-more}
 
 -- each thing that is kept makes the step that the entry makes it make
-pub record Steps (history : List Entry) (e : Entry) (store after : Store) (locks locked : List Grant) (transactions own : List (Option Transaction)) (next oid last xid : ℕ) : Type 0 where
+pub record Steps (history : List Entry) (e : Entry) (store after : Store) (locks locked : List Grant) (transactions own : List (Option RunningTransaction)) (next oid last xid : ℕ) : Type 0 where
   pub versions : after.versions ≡ versions_by history e.backend e.command e.event store.versions
   pub committed : (x : ℕ) → has_committed after.committed x ≡ (has_committed store.committed x || makes_visible x e.event)
   pub grows : length store.committed ≤ length after.committed
@@ -32,7 +32,7 @@ pub record Steps (history : List Entry) (e : Entry) (store after : Store) (locks
   pub own_is : KeptBy e transactions own
 
 -- what is kept after one more entry that may come
-pub keeps_more : (script : Scenario) (history : List Entry) (e : Entry) (promised places : List ℕ) (store after : Store) (locks locked : List Grant) (transactions own : List (Option Transaction)) (next oid last xid : ℕ)
+pub keeps_more : (script : Scenario) (history : List Entry) (e : Entry) (promised places : List ℕ) (store after : Store) (locks locked : List Grant) (transactions own : List (Option RunningTransaction)) (next oid last xid : ℕ)
     → KeepsFolds script history promised store locks transactions next last → MayComeNext history e → length places ≡ length promised → Steps history e store after locks locked transactions own next oid last xid
     → KeepsFolds script (history ++ e ∷ []) places after locked own oid xid
 keeps_more script history e promised places store after locks locked transactions own next oid last xid k comes same_places s = record {
@@ -58,7 +58,7 @@ keeps_more script history e promised places store after locks locked transaction
     by_owner b x false other is = from b x (inl (sym (ap (has_xid x) (running_transaction_of-other history e b other)) ∙ is))
 
 -- an entry that changes no row, draws no oid and no Xid, and makes nothing visible
-pub quiet_steps : (history : List Entry) (b c : ℕ) (event : Event) (store : Store) (locks locked : List Grant) (transactions own : List (Option Transaction)) (next last : ℕ)
+pub quiet_steps : (history : List Entry) (b c : ℕ) (event : Event) (store : Store) (locks locked : List Grant) (transactions own : List (Option RunningTransaction)) (next last : ℕ)
     → versions_by history b c event store.versions ≡ store.versions → next_oid_by event next ≡ next → last_xid_by event last ≡ last
     → ((x : ℕ) → makes_visible x event ≡ false) → ((x : ℕ) → writes_as x event ≡ false) → locked ≡ held_by b c event locks → length own ≡ length transactions → KeptBy (entry_of b c event) transactions own
     → Steps history (entry_of b c event) store store locks locked transactions own next next last last

@@ -8,6 +8,7 @@ mod NewNames
 mod NewLocks
 mod Own
 mod Promises
+mod Published
 mod Rows
 mod Scanned
 mod Start

@@ -9,10 +9,11 @@ use Rattle.event_kinds.specs.declared.entry.Event.{Event}
 use Rattle.event_kinds.specs.declared.entry.Event.TheVariants as events
 use Rattle.history_model.specs.Transactions.{Running, running_by, after_release, begun}
 use Rattle.history_model.proofs.Reading.{running_transaction_of-own, running_transaction_of-other}
-use Rattle.shared_seg.specs.declared.transaction.Transaction.{Transaction}
-use Rattle.shared_seg.specs.Transactions.{kept_of, transaction_of, transaction_at, transaction_by, after_own_release}
+use Rattle.txn_blocks.specs.declared.transaction.RunningTransaction.{RunningTransaction}
+use Rattle.txn_blocks.specs.Transactions.{released_own}
+use Rattle.shared_seg.specs.Transactions.{kept_of, transaction_of, transaction_at, transaction_by}
 
-released : (from : ℕ) (t : Running) → option_map kept_of (after_release from t) ≡ after_own_release from (kept_of t)
+released : (from : ℕ) (t : Running) → option_map kept_of (after_release from t) ≡ released_own from (kept_of t)
 released from t = by_end (t.first == from)
   where
     by_end : (f : Bool) → option_map kept_of (if f then None else Some t) ≡ (if f then None else Some (kept_of t))
@@ -35,11 +36,11 @@ kept-by c event None = refl
 kept-by c event (Some t) = refl
 
 -- what is kept for each backend is what it was, or for the entry's own what the event makes of it
-abbrev pub KeptBy : Entry → List (Option Transaction) → List (Option Transaction) → Type 0
+abbrev pub KeptBy : Entry → List (Option RunningTransaction) → List (Option RunningTransaction) → Type 0
 KeptBy e old new = (b : ℕ) → transaction_at new b ≡ (if e.backend == b then transaction_by e.command e.event (transaction_at old b) else transaction_at old b)
 
 -- so it stays what the history says
-pub own-more : (history : List Entry) (e : Entry) (old new : List (Option Transaction)) → ((b : ℕ) → transaction_at old b ≡ transaction_of history b) → KeptBy e old new
+pub own-more : (history : List Entry) (e : Entry) (old new : List (Option RunningTransaction)) → ((b : ℕ) → transaction_at old b ≡ transaction_of history b) → KeptBy e old new
     → (b : ℕ) → transaction_at new b ≡ transaction_of (history ++ e ∷ []) b
 own-more history e old new was kept b = kept b ∙ by_owner (e.backend == b) refl
   where
@@ -48,7 +49,7 @@ own-more history e old new was kept b = kept b ∙ by_owner (e.backend == b) ref
     by_owner false other = was b ∙ sym (ap (option_map kept_of) (running_transaction_of-other history e b other))
 
 -- a slot that is set
-pub kept_set : (e : Entry) (old new : List (Option Transaction)) → e.backend < length old → new ≡ slice_set old e.backend (transaction_by e.command e.event (transaction_at old e.backend)) → KeptBy e old new
+pub kept_set : (e : Entry) (old new : List (Option RunningTransaction)) → e.backend < length old → new ≡ slice_set old e.backend (transaction_by e.command e.event (transaction_at old e.backend)) → KeptBy e old new
 kept_set e old new within set b = ap (λ l. transaction_at l b) set ∙ by_owner (e.backend == b) refl
   where
     by_owner : (t : Bool) → (e.backend == b) ≡ t → transaction_at (slice_set old e.backend (transaction_by e.command e.event (transaction_at old e.backend))) b ≡ (if t then transaction_by e.command e.event (transaction_at old b) else transaction_at old b)
@@ -58,7 +59,7 @@ kept_set e old new within set b = ap (λ l. transaction_at l b) set ∙ by_owner
     by_owner false other = get_or-set_other old e.backend b _ None (λ same. eqb-false e.backend b other (sym same))
 
 -- a stop leaves them all
-pub kept_same : (b c : ℕ) (old : List (Option Transaction)) → KeptBy (record { backend = b; command = c; event = events.Stop }) old old
+pub kept_same : (b c : ℕ) (old : List (Option RunningTransaction)) → KeptBy (record { backend = b; command = c; event = events.Stop }) old old
 kept_same b c old a = by_owner (b == a)
   where
     by_owner : (t : Bool) → transaction_at old a ≡ (if t then transaction_at old a else transaction_at old a)

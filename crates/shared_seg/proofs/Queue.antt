@@ -31,7 +31,7 @@ use Rattle.seg_calls.specs.Calls.{entry_of, MayCall, MayRequest}
 use Rattle.seg_calls.specs.Queue.{queue_by, queue_of}
 use Rattle.seg_calls.proofs.Allowed.{is_start, request_follows}
 use Rattle.seg_calls.proofs.Queue.{queue_of-more}
-use Rattle.shared_seg.specs.declared.transaction.Transaction.{Transaction}
+use Rattle.txn_blocks.specs.declared.transaction.RunningTransaction.{RunningTransaction}
 use Rattle.shared_seg.specs.Kept.{Kept}
 use Rattle.shared_seg.specs.Naming.{clash_event_of}
 use Rattle.shared_seg.specs.KeepsQueue.{reader_at, reader_kept, KeepsQueue, KeepsShared}
@@ -333,7 +333,7 @@ queue_start script = record {
 }
 
 -- all that is kept beside an empty history
-pub shared_start_at : (script given : Scenario) (n : ℕ) (entries : List Entry) (promised : List ℕ) (store : Store) (locks : List Grant) (transactions : List (Option Transaction)) (queue : Queue) → IsScript given → n ≡ given.backends
+pub shared_start_at : (script given : Scenario) (n : ℕ) (entries : List Entry) (promised : List ℕ) (store : Store) (locks : List Grant) (transactions : List (Option RunningTransaction)) (queue : Queue) → IsScript given → n ≡ given.backends
     → script ≡ given → entries ≡ [] → promised ≡ replicate (n + 1) 0 → store ≡ no_rows → locks ≡ [] → transactions ≡ replicate (n + 1) None → queue ≡ empty_queue given.size given.backends given.from
     → KeepsShared script entries promised store locks transactions FIRST_OID 0 queue
 shared_start_at script given n entries promised store locks transactions queue is size script_is entries_are promised_are store_is locks_are transactions_are queue_is = record {

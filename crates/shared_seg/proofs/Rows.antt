@@ -18,7 +18,7 @@ use Rattle.lock_modes.specs.declared.grant.Grant.{Grant}
 use Rattle.catalog_rows.specs.Store.{Store, has_committed, after_commit, taken_back, restored}
 use Rattle.history_model.specs.Transactions.{Running, has_xid, runs_as, running_transaction_of}
 use Rattle.seg_calls.specs.Calls.{entry_of}
-use Rattle.shared_seg.specs.declared.transaction.Transaction.{Transaction}
+use Rattle.txn_blocks.specs.declared.transaction.RunningTransaction.{RunningTransaction}
 use Rattle.shared_seg.specs.Transactions.{transaction_at, transaction_of, transaction_by, kept_of, own_xid_in, xid_at}
 use Rattle.shared_seg.specs.Undone.{undone}
 use Rattle.shared_seg.proofs.Own.{kept_set}
@@ -33,7 +33,7 @@ marked marks xid x within = unwrap_or-slice_get (slice_set marks xid true) x fal
     by_cases (inr other) = get_or-set_other marks xid x true false (λ e. other.1 (sym e)) ∙ sym (or-false (get_or marks x false)) ∙ ap (λ b. get_or marks x false || b) (sym other.0)
 
 -- a transaction that has drawn its Xid becomes visible
-pub visible_steps : (history : List Entry) (b c : ℕ) (xid : Xid) (store after : Store) (locks : List Grant) (transactions own : List (Option Transaction)) (next last : ℕ)
+pub visible_steps : (history : List Entry) (b c : ℕ) (xid : Xid) (store after : Store) (locks : List Grant) (transactions own : List (Option RunningTransaction)) (next last : ℕ)
     → after ≡ after_commit store xid → xid.0 < length store.committed
     → b < length transactions → own ≡ slice_set transactions b (transaction_by c (Visible xid) (transaction_at transactions b))
     → Steps history (entry_of b c (Visible xid)) store after locks locks transactions own next next last last
@@ -59,7 +59,7 @@ runs_kept (Some t) x = by_xid t.xid
     by_xid (Some y) = refl
 
 -- so the stamps of its own transaction are those that it runs as
-pub runs_own : (history : List Entry) (b : ℕ) (transactions : List (Option Transaction)) (stamp : Stamp) → transaction_at transactions b ≡ transaction_of history b → runs_as history b stamp.xid.0 ≡ is_own (xid_at transactions b) stamp
+pub runs_own : (history : List Entry) (b : ℕ) (transactions : List (Option RunningTransaction)) (stamp : Stamp) → transaction_at transactions b ≡ transaction_of history b → runs_as history b stamp.xid.0 ≡ is_own (xid_at transactions b) stamp
 runs_own history b transactions stamp own = runs_kept (running_transaction_of history b) stamp.xid.0 ∙ ap (λ t. is_own (own_xid_in t) stamp) (sym own)
 
 pub map-same : {X : Type 0} (xs : List X) → map (λ x. x) xs ≡ xs
@@ -97,7 +97,7 @@ undone_committed None from store = refl
 undone_committed (Some xid) from store = refl
 
 -- a transaction's writes are taken back
-pub gone_steps : (history : List Entry) (b c from : ℕ) (store after : Store) (locks : List Grant) (transactions own : List (Option Transaction)) (next last : ℕ)
+pub gone_steps : (history : List Entry) (b c from : ℕ) (store after : Store) (locks : List Grant) (transactions own : List (Option RunningTransaction)) (next last : ℕ)
     → transaction_at transactions b ≡ transaction_of history b → after ≡ undone (xid_at transactions b) from store
     → b < length transactions → own ≡ slice_set transactions b (transaction_by c (Gone from) (transaction_at transactions b))
     → Steps history (entry_of b c (Gone from)) store after locks locks transactions own next next last last

@@ -29,7 +29,7 @@ use Rattle.seg_calls.specs.Calls.{entry_of, MayRequest, GivesRows}
 use Rattle.shared_seg.specs.Kept.{Kept, places_in}
 use Rattle.shared_seg.specs.Places.{promised_in}
 use Rattle.shared_seg.proofs.Asked.{request_inside, asked_appends}
-use Rattle.shared_seg.specs.declared.transaction.Transaction.{Transaction}
+use Rattle.txn_blocks.specs.declared.transaction.RunningTransaction.{RunningTransaction}
 use Rattle.shared_seg.specs.KeepsFolds.{KeepsFolds}
 use Rattle.shared_seg.specs.Transactions.{own_reader, xid_at}
 use Rattle.shared_seg.proofs.Rows.{runs_own}
@@ -54,7 +54,7 @@ early history script b c s row ordered request touch runs =
     omega (arith, has_write_low (lists_of history b) s.command (command_of history b) (ordered.lives.timely b).low (touch.written b runs), (ordered.lives.timely b).is request.last request.alive, request.rises)
 
 -- a stamp counts for the reader where it counts for the backend
-stamp_same : (script : Scenario) (history : List Entry) (promised : List ℕ) (store : Store) (locks : List Grant) (transactions : List (Option Transaction)) (next last b c : ℕ) → KeepsFolds script history promised store locks transactions next last → MayRequest script history b c
+stamp_same : (script : Scenario) (history : List Entry) (promised : List ℕ) (store : Store) (locks : List Grant) (transactions : List (Option RunningTransaction)) (next last b c : ℕ) → KeepsFolds script history promised store locks transactions next last → MayRequest script history b c
     → (s : Stamp) (row : Row) → Touch history s row → sees_stamp (has_committed store.committed) (own_reader transactions b c) s ≡ counts history b s
 stamp_same script history promised store locks transactions next last b c k request s row touch =
     ap (λ t. t || (is_own (xid_at transactions b) s && nat_lt s.command (c + 1))) (k.committed s.xid.0) ∙ ap (λ t. is_committed history s.xid.0 || t) (by_own (runs_as history b s.xid.0) refl)
@@ -77,7 +77,7 @@ version_same p q v same = λ i. same.0 i && not (ended v.ended same.1 i)
     ended (Some s) held = held
 
 -- the reader sees what the backend sees
-pub reads_same : (script : Scenario) (history : List Entry) (promised : List ℕ) (store : Store) (locks : List Grant) (transactions : List (Option Transaction)) (next last b c : ℕ) → KeepsFolds script history promised store locks transactions next last → MayRequest script history b c
+pub reads_same : (script : Scenario) (history : List Entry) (promised : List ℕ) (store : Store) (locks : List Grant) (transactions : List (Option RunningTransaction)) (next last b c : ℕ) → KeepsFolds script history promised store locks transactions next last → MayRequest script history b c
     → AllByRecursion (λ v. sees_version (has_committed store.committed) (own_reader transactions b c) v ≡ sees history b v) (versions_of history)
 reads_same script history promised store locks transactions next last b c k request =
     every-weaker (OfStamps (Touch history)) (λ v. sees_version (has_committed store.committed) (own_reader transactions b c) v ≡ sees history b v)
@@ -86,7 +86,7 @@ reads_same script history promised store locks transactions next last b c k requ
     (versions_of history) (sound_ordered history k.sound).touched
 
 -- so a scan gives the answer
-pub scan_is_answer : (script : Scenario) (history : List Entry) (promised : List ℕ) (store : Store) (locks : List Grant) (transactions : List (Option Transaction)) (next last b c : ℕ) (purpose : Purpose) → KeepsFolds script history promised store locks transactions next last → MayRequest script history b c
+pub scan_is_answer : (script : Scenario) (history : List Entry) (promised : List ℕ) (store : Store) (locks : List Grant) (transactions : List (Option RunningTransaction)) (next last b c : ℕ) (purpose : Purpose) → KeepsFolds script history promised store locks transactions next last → MayRequest script history b c
     → rows_of_scan store purpose (own_reader transactions b c) ≡ answer_of history b purpose
 scan_is_answer script history promised store locks transactions next last b c purpose k request =
     ap (λ vs. scan_of purpose (map (λ v. v.row) (filter (sees_version (has_committed store.committed) (own_reader transactions b c)) vs))) k.versions

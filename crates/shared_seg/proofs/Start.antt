@@ -9,7 +9,7 @@ use Rattle.base_types.specs.declared.ids.TheConstants.{FIRST_OID}
 use Rattle.event_kinds.specs.declared.entry.Entry.{Entry}
 use Rattle.lock_modes.specs.declared.grant.Grant.{Grant}
 use Rattle.catalog_rows.specs.Store.{Store, no_rows}
-use Rattle.shared_seg.specs.declared.transaction.Transaction.{Transaction}
+use Rattle.txn_blocks.specs.declared.transaction.RunningTransaction.{RunningTransaction}
 use Rattle.shared_seg.specs.KeepsFolds.{KeepsFolds}
 
 pub all_same : {X : Type 0} (n i : ℕ) (x : X) → get_or (replicate n x) i x ≡ x
@@ -35,7 +35,7 @@ keeps_start script n is size = record {
 }
 
 -- the same of what the parts are
-pub keeps_start_at : (script given : Scenario) (n : ℕ) (entries : List Entry) (promised : List ℕ) (store : Store) (locks : List Grant) (transactions : List (Option Transaction)) → IsScript given → n ≡ given.backends
+pub keeps_start_at : (script given : Scenario) (n : ℕ) (entries : List Entry) (promised : List ℕ) (store : Store) (locks : List Grant) (transactions : List (Option RunningTransaction)) → IsScript given → n ≡ given.backends
     → script ≡ given → entries ≡ [] → promised ≡ replicate (n + 1) 0 → store ≡ no_rows → locks ≡ [] → transactions ≡ replicate (n + 1) None
     → KeepsFolds script entries promised store locks transactions FIRST_OID 0
 keeps_start_at script given n entries promised store locks transactions is size script_is entries_are promised_are store_is locks_are transactions_are =

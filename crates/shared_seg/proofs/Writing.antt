@@ -38,7 +38,7 @@ use Rattle.history_model.proofs.Ordered.{sound_ordered, locks_exclude}
 use Rattle.seg_calls.specs.Calls.{entry_of, items_drawn, messages_in, MayRequest, MayWrite, MakesWrite, Clashes, Writes}
 use Rattle.shared_seg.specs.declared.drawing.Drawn.{Drawn}
 use Rattle.shared_seg.specs.declared.naming.Taken.{Taken}
-use Rattle.shared_seg.specs.declared.transaction.Transaction.{Transaction}
+use Rattle.txn_blocks.specs.declared.transaction.RunningTransaction.{RunningTransaction}
 use Rattle.shared_seg.specs.Drawn.{xid_drawn}
 use Rattle.shared_seg.specs.IsDrawn.{IsDrawn}
 use Rattle.shared_seg.specs.Kept.{Kept, places_in}
@@ -46,7 +46,8 @@ use Rattle.shared_seg.specs.KeepsFolds.{KeepsFolds}
 use Rattle.shared_seg.specs.KeepsQueue.{KeepsShared}
 use Rattle.shared_seg.specs.Naming.{NamesFree, IsTaken, clash_with, clash_event_of, refuses}
 use Rattle.shared_seg.specs.Places.{promised_in}
-use Rattle.shared_seg.specs.Transactions.{transaction_at, transaction_by, own_xid_in, xid_at, own_reader, begun_own}
+use Rattle.txn_blocks.specs.Transactions.{begun_own}
+use Rattle.shared_seg.specs.Transactions.{transaction_at, transaction_by, own_xid_in, xid_at, own_reader}
 use Rattle.inval_messages.specs.declared.message.Message.{Message}
 use Rattle.shared_seg.specs.Announced.{messages_at}
 use Rattle.shared_seg.proofs.Announcing.{messages_same}
@@ -67,14 +68,14 @@ write_inside : (k now : Kept) (b c : ℕ) (draft : Draft) → k ≡ now → MayW
 write_inside k now b c draft is may = subst (λ (x : Kept). MayWrite x.history b c draft) (sym is) may
 
 -- a write that may be entered: it is asked for, its draft is drawn, and its new names are free
-pub record MayEnter (script : Scenario) (history : List Entry) (b c : ℕ) (store : Store) (transactions : List (Option Transaction)) (next last : ℕ) (draft : Draft) (drawn : Drawn) : Type 0 where
+pub record MayEnter (script : Scenario) (history : List Entry) (b c : ℕ) (store : Store) (transactions : List (Option RunningTransaction)) (next last : ℕ) (draft : Draft) (drawn : Drawn) : Type 0 where
   pub request : MayRequest script history b c
   pub may : MayWrite history b c draft
   pub drawn_is : IsDrawn (xid_at transactions b) draft next last drawn
   pub free : NamesFree store (own_reader transactions b c) drawn.changes.items
 
 -- of the parts, by another name of the reader
-pub may_enter : (k now : Kept) (b c : ℕ) (store : Store) (transactions : List (Option Transaction)) (next last : ℕ) (draft : Draft) (drawn : Drawn) (reader : Reader) → k ≡ now → MayRequest now.script now.history b c → MayWrite now.history b c draft → reader ≡ own_reader transactions b c
+pub may_enter : (k now : Kept) (b c : ℕ) (store : Store) (transactions : List (Option RunningTransaction)) (next last : ℕ) (draft : Draft) (drawn : Drawn) (reader : Reader) → k ≡ now → MayRequest now.script now.history b c → MayWrite now.history b c draft → reader ≡ own_reader transactions b c
     → IsDrawn reader.xid draft next last drawn → NamesFree store reader drawn.changes.items → MayEnter k.script k.history b c store transactions next last draft drawn
 may_enter k now b c store transactions next last draft drawn reader is request may reader_is drawn_is free = record {
   request = request_inside k now b c is request;
@@ -83,7 +84,7 @@ may_enter k now b c store transactions next last draft drawn reader is request m
   free = subst (λ r. NamesFree store r drawn.changes.items) reader_is free;
 }
 
-module _ (script : Scenario) (history : List Entry) (promised : List ℕ) (store : Store) (locks : List Grant) (transactions : List (Option Transaction)) (next last b c : ℕ) (k : KeepsFolds script history promised store locks transactions next last) where
+module _ (script : Scenario) (history : List Entry) (promised : List ℕ) (store : Store) (locks : List Grant) (transactions : List (Option RunningTransaction)) (next last b c : ℕ) (k : KeepsFolds script history promised store locks transactions next last) where
   mirrors : Mirrors history b store (xid_at transactions b)
   mirrors = record { versions = k.versions; committed = k.committed; own_is = λ s. runs_own history b transactions s (k.own b) }
 
@@ -128,7 +129,7 @@ module _ (script : Scenario) (history : List Entry) (promised : List ℕ) (store
       ∙ ap (messages_in history b) (items_made draft drawn enter.drawn_is)
 
   -- what is kept makes its step
-  write_steps : (draft : Draft) (drawn : Drawn) (after : Store) (locked : List Grant) (own : List (Option Transaction)) → MayEnter script history b c store transactions next last draft drawn
+  write_steps : (draft : Draft) (drawn : Drawn) (after : Store) (locked : List Grant) (own : List (Option RunningTransaction)) → MayEnter script history b c store transactions next last draft drawn
       → after ≡ after_write store drawn.xid c drawn.changes.items → locked ≡ locks ++ flat_map (granted_by b c) drawn.items.items → own ≡ slice_set transactions b (transaction_by c (Write drawn.xid drawn.items.items) (transaction_at transactions b))
       → Steps history (entry_of b c (Write drawn.xid (items_drawn history draft))) store after locks locked transactions own next drawn.next_oid last (max last drawn.xid.0)
   write_steps draft drawn after locked own enter after_is held_is own_is = record {
@@ -163,7 +164,7 @@ module _ (script : Scenario) (history : List Entry) (promised : List ℕ) (store
       ∙ ap (new_names history b) (ap (λ cs. items_of cs draft.forced) is.changes ∙ items_are draft))) ∙ taken_new store (own_reader transactions b c) drawn.changes.items taken at
 
 -- what is kept after a write
-pub write_keeps : (k now : Kept) (after : List Entry) (has : List ℕ) (b c : ℕ) (draft : Draft) (drawn : Drawn) (store stored : Store) (locks locked : List Grant) (transactions own : List (Option Transaction)) (next last xid : ℕ) (queue : Queue)
+pub write_keeps : (k now : Kept) (after : List Entry) (has : List ℕ) (b c : ℕ) (draft : Draft) (drawn : Drawn) (store stored : Store) (locks locked : List Grant) (transactions own : List (Option RunningTransaction)) (next last xid : ℕ) (queue : Queue)
     → k ≡ now → KeepsShared k.script k.history k.promised store locks transactions next last queue → MayRequest now.script now.history b c → MayEnter k.script k.history b c store transactions next last draft drawn → after ≡ k.history ++ entry_of b c (Write drawn.xid drawn.items.items) ∷ [] → has ≡ k.promised
     → stored ≡ after_write store drawn.xid c drawn.changes.items → locked ≡ locks ++ flat_map (granted_by b c) drawn.items.items → own ≡ slice_set transactions b (transaction_by c (Write drawn.xid drawn.items.items) (transaction_at transactions b)) → xid ≡ max last drawn.xid.0
     → KeepsShared k.script after has stored locked own drawn.next_oid xid queue
@@ -188,7 +189,7 @@ pub taken_of : (store : Store) (reader own : Reader) (given changes : List Chang
 taken_of store reader own given changes taken is same at = subst (λ r. IsTaken store r changes taken) is (subst (λ cs. IsTaken store reader cs taken) same at)
 
 -- what is kept after a clash
-pub clash_keeps : (k now : Kept) (after : List Entry) (has : List ℕ) (b c : ℕ) (name : List ℕ) (clash : Clash) (store : Store) (locks : List Grant) (transactions own : List (Option Transaction)) (next last : ℕ)
+pub clash_keeps : (k now : Kept) (after : List Entry) (has : List ℕ) (b c : ℕ) (name : List ℕ) (clash : Clash) (store : Store) (locks : List Grant) (transactions own : List (Option RunningTransaction)) (next last : ℕ)
     → k ≡ now → KeepsFolds k.script k.history k.promised store locks transactions next last → MayRequest now.script now.history b c → AllowsEvent k.history b c (clash_event_of name clash)
     → after ≡ k.history ++ entry_of b c (clash_event_of name clash) ∷ [] → has ≡ k.promised → own ≡ slice_set transactions b (Some (begun_own c (transaction_at transactions b))) → KeepsFolds k.script after has store locks own next last
 clash_keeps k now after has b c name (Row rel) store locks transactions own next last is keeps request allows entries same own_is =

@@ -9,11 +9,11 @@ use Rattle.history_model.specs.Held.{held_of}
 use Rattle.history_model.specs.Orderly.{IsSound}
 use Rattle.history_model.specs.Transactions.{is_committed, last_xid, runs_as}
 use Rattle.history_model.specs.Versions.{versions_of}
-use Rattle.shared_seg.specs.declared.transaction.Transaction.{Transaction}
+use Rattle.txn_blocks.specs.declared.transaction.RunningTransaction.{RunningTransaction}
 use Rattle.shared_seg.specs.Transactions.{transaction_at, transaction_of}
 
 -- the history is sound, and what is kept beside it is what it says
-pub record KeepsFolds (script : Scenario) (history : List Entry) (promised : List ℕ) (store : Store) (locks : List Grant) (transactions : List (Option Transaction)) (next last : ℕ) : Type 0 where
+pub record KeepsFolds (script : Scenario) (history : List Entry) (promised : List ℕ) (store : Store) (locks : List Grant) (transactions : List (Option RunningTransaction)) (next last : ℕ) : Type 0 where
   pub script_is : IsScript script
   pub backends : length promised ≡ script.backends + 1
   pub slots : length transactions ≡ script.backends + 1

@@ -1,60 +1,58 @@
--- What is kept of the running transactions: their first commands and their Xids.
-use Rattle.std.specs.Prelude.{ℕ, Option, Some, None, List, ◌==◌, ◌+◌, if◌then◌else◌, slice_index_or}
-use Rattle.std.specs.Option.{option_map}
+-- What is kept of the running transactions.
+use Rattle.std.specs.Prelude.{ℕ, true, Option, Some, None, List, ◌+◌, slice_index_or}
+use Rattle.std.specs.Option.{option_map, option_map_or}
 use Rattle.base_types.specs.declared.ids.Xid.{Xid}
 use Rattle.event_kinds.specs.declared.entry.Entry.{Entry}
 use Rattle.event_kinds.specs.declared.entry.Event.{Event}
-use Rattle.event_kinds.specs.declared.entry.Event.TheVariants.{Start, Write, Release, Stop}
+use Rattle.event_kinds.specs.declared.entry.Event.TheVariants.{Start, Write, Visible, Publish, Release, Stop}
 use Rattle.row_visibility.specs.declared.version.Reader.{Reader}
 use Rattle.history_model.specs.Transactions.{Running, running_transaction_of}
-use Rattle.shared_seg.specs.declared.transaction.Transaction.{Transaction}
+use Rattle.txn_blocks.specs.declared.transaction.RunningTransaction.{RunningTransaction}
+use Rattle.txn_blocks.specs.Transactions.{begun_own, released_own}
 
 -- the Xid of this number
 abbrev pub xid_of : ℕ → Xid
 xid_of n = record { 0 = n }
 
 -- what is kept of a running transaction
-abbrev pub kept_of : Running → Transaction
-kept_of t = record { first = t.first; xid = option_map xid_of t.xid }
+abbrev pub kept_of : Running → RunningTransaction
+kept_of t = record { first = t.first; xid = option_map xid_of t.xid; published = t.published; visible = t.visible }
 
 -- what is kept of a backend's running transaction
-abbrev pub transaction_of : List Entry → ℕ → Option Transaction
+abbrev pub transaction_of : List Entry → ℕ → Option RunningTransaction
 transaction_of history b = option_map kept_of (running_transaction_of history b)
 
 -- what is kept for a backend
-abbrev pub transaction_at : List (Option Transaction) → ℕ → Option Transaction
+abbrev pub transaction_at : List (Option RunningTransaction) → ℕ → Option RunningTransaction
 transaction_at transactions b = slice_index_or transactions b None
 
 -- the Xid that is kept of a transaction
-abbrev pub own_xid_in : Option Transaction → Option Xid
+abbrev pub own_xid_in : Option RunningTransaction → Option Xid
 own_xid_in None = None
 own_xid_in (Some t) = t.xid
 
 -- the Xid that is kept for a backend
-abbrev pub xid_at : List (Option Transaction) → ℕ → Option Xid
+abbrev pub xid_at : List (Option RunningTransaction) → ℕ → Option Xid
 xid_at transactions b = own_xid_in (transaction_at transactions b)
 
 -- a backend as a reader of rows in a command: it sees what it wrote in the commands up to this one
-abbrev pub own_reader : List (Option Transaction) → ℕ → ℕ → Reader
+abbrev pub own_reader : List (Option RunningTransaction) → ℕ → ℕ → Reader
 own_reader transactions b command = record { xid = xid_at transactions b; command = command + 1 }
 
--- the transaction of an entry: the running one, or else one that begins with this command
-abbrev pub begun_own : ℕ → Option Transaction → Transaction
-begun_own command None = record { first = command; xid = None }
-begun_own command (Some t) = t
+-- how many messages the transaction has published that is kept for a backend
+abbrev pub published_at : List (Option RunningTransaction) → ℕ → ℕ
+published_at transactions b = option_map_or (λ t. t.published) (transaction_at transactions b) 0
 
--- a transaction that has written
-abbrev pub with_own_xid : Xid → Transaction → Transaction
-with_own_xid xid t = record { first = t.first; xid = Some xid }
-
--- a release ends a transaction if it releases all since its first command
-abbrev pub after_own_release : ℕ → Transaction → Option Transaction
-after_own_release from t = if t.first == from then None else Some t
+-- a transaction that has published so many messages more
+abbrev pub with_published : ℕ → RunningTransaction → RunningTransaction
+with_published count t = record t { published = t.published + count }
 
 -- what is kept after an event of the backend
-abbrev pub transaction_by : ℕ → Event → Option Transaction → Option Transaction
+abbrev pub transaction_by : ℕ → Event → Option RunningTransaction → Option RunningTransaction
 transaction_by command Start old = None
 transaction_by command Stop old = old
-transaction_by command (Write xid items) old = Some (with_own_xid xid (begun_own command old))
-transaction_by command (Release from) old = after_own_release from (begun_own command old)
+transaction_by command (Write xid items) old = Some (record (begun_own command old) { xid = Some xid })
+transaction_by command (Visible xid) old = Some (record (begun_own command old) { visible = true })
+transaction_by command (Publish count) old = Some (with_published count (begun_own command old))
+transaction_by command (Release from) old = released_own from (begun_own command old)
 transaction_by command event old = Some (begun_own command old)

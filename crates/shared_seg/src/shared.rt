@@ -7,7 +7,9 @@ use crate::announce::announced;
 use crate::drawing::draw;
 use crate::naming::first_taken;
 use crate::places::Places;
-use crate::transaction::{Transaction, begin, begin_writing, clear, end_from, own_xid, reader_in};
+use crate::transaction::{
+    add_published, begin, begin_writing, clear, end_from, make_visible, own_xid, reader_in,
+};
 use crate::write::{clash_entry, enter_write, refusal_of};
 use arrayvec::ArrayVec;
 use base_types::{FIRST_OID, Fetched, Mode, NoMemory, Oid, Purpose, Scanned, Xid};
@@ -22,6 +24,7 @@ use sinval_ring::{Cleaned, Ring};
 use std::alloc::Global;
 use std::marker::Model;
 use std::snapshot::Snapshot;
+use txn_blocks::RunningTransaction;
 
 /// What all backends of a script share.
 #[derive(Drop)]
@@ -33,7 +36,7 @@ pub struct Shared {
     locks: LockTable,
     queue: Ring,
     // by backend
-    transactions: Vec<Option<Transaction>>,
+    transactions: Vec<Option<RunningTransaction>>,
     next_oid: u32,
     last_xid: u32,
     ghost short: { length places.entries + sum places.promised ≤ 2 ^ 56 },
@@ -252,19 +255,18 @@ impl Seg for Shared {
             event: Event::Visible { xid },
         });
         self.store.commit(xid);
-        begin(&mut self.transactions, b, c);
+        make_visible(&mut self.transactions, b, c);
     }
 
     fn publish(&mut self, b: u32, c: u32, messages: &[Message]) -> Cleaned {
+        let count = messages.len() as u32;
         self.places.append(Entry {
             backend: b,
             command: c,
-            event: Event::Publish {
-                count: messages.len() as u32,
-            },
+            event: Event::Publish { count },
         });
         let cleaned = self.queue.insert(messages);
-        begin(&mut self.transactions, b, c);
+        add_published(&mut self.transactions, b, c, count);
         cleaned
     }
 
@@ -323,7 +325,7 @@ fn undo_from(store: &mut RowStore, own: Option<Xid>, from: u32)
 }
 
 // Adds so many slots without a transaction, for which there is room.
-fn add_slots(transactions: &mut Vec<Option<Transaction>>, count: usize)
+fn add_slots(transactions: &mut Vec<Option<RunningTransaction>>, count: usize)
     requires { vec_len transactions.old + count ≤ vec_capacity transactions.old }
     ensures { transactions.new.items ≡ transactions.old.items ++ replicate count None }
 {

@@ -1,3 +1,4 @@
 pub mod Types
 pub mod Blocks
 pub mod States
+pub mod Transactions

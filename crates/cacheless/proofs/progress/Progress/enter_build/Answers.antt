@@ -8,4 +8,4 @@ pub push-requires : goal.push-requires
 push-requires c = (next_lacks c.args.self.now c.args.scan.now c.requires.other c.requires.next).1
 
 pub returns-clause-holds : goal.returns-clause-holds
-returns-clause-holds c = built_code _ _ c.args.rows _ _ _ _ _ c.running_from.ensures c.requires.other c.requires.next c.from_vec.ensures c.in_ok-push.ensures.ok (c.accept.ensures ∙ ap (λ t. locks_accepted t c.args.self.now.locks.items) c.is_in_acceptance-accepting.ensures)
+returns-clause-holds c = built_code _ _ c.args.rows _ _ _ _ _ c.begun.ensures c.requires.other c.requires.next c.from_vec.ensures c.in_ok-push.ensures.ok (c.accept.ensures ∙ ap (λ t. locks_accepted t c.args.self.now.locks.items) c.is_in_acceptance-accepting.ensures)

@@ -4,4 +4,4 @@ use Rattle.cacheless.proofs.EntryCodes.{named_code}
 use Rattle.cacheless.proofs.progress.Progress.enter_named.Goals as goal
 
 pub returns-clause-holds : goal.returns-clause-holds
-returns-clause-holds c = named_code _ _ _ _ _ _ c.running_from.ensures c.requires.wanted (c.accept.ensures ∙ ap (λ t. locks_accepted t c.args.self.now.locks.items) c.is_in_acceptance-accepting.ensures)
+returns-clause-holds c = named_code _ _ _ _ _ _ c.begun.ensures c.requires.wanted (c.accept.ensures ∙ ap (λ t. locks_accepted t c.args.self.now.locks.items) c.is_in_acceptance-accepting.ensures)
