@@ -24,7 +24,7 @@ use Rattle.cacheless.proofs.Tests.{both_true}
 use Rattle.backend_core.specs.Types.{Oid, Mode, Kind, Row, Purpose, Command, Progress}
 use Rattle.backend_core.specs.Steps.{IsFree, IsScanNext}
 use Rattle.backend_core.proofs.KeptReads.{kept_opened}
-use Rattle.backend_core.proofs.Nexting.{out_owes, find_all, each_builds}
+use Rattle.backend_core.proofs.Nexting.{out_owes, none_built, find_all, each_builds}
 
 -- the act that is wanted, but for a write
 abbrev wanted_act : Want → Option Act
@@ -94,7 +94,7 @@ module _ (p : Progress) (command : Command) (still : IsAtRest p) (free : IsFree 
 
       by_made : (t : Bool) → made ≡ t → IsScanNext p (scans.RelName name) false
       by_made true is = absurd (both_ways _ owes (out_owes p command free (lacks true is)))
-      by_made false is = record { command = command; free = free; lacks = lacks false is; next = next_is p (Lookup name mode) act (scans.RelName name) (ap (λ t. not t && same_scan (scans.RelName name) (scans.RelName name)) is ∙ same_scan-itself (scans.RelName name)); kind = refl }
+      by_made false is = record { command = command; free = free; lacks = lacks false is; next = next_is p (Lookup name mode) act (scans.RelName name) (ap (λ t. not t && same_scan (scans.RelName name) (scans.RelName name)) is ∙ same_scan-itself (scans.RelName name)); first = λ other. none_built p.kept p.opened (scans.RelName name) other whole; kind = refl }
 
   -- the first scan of a descriptor that is to be opened
   pub open_next : (rel : Oid) (kind : Kind) (scan : Purpose) → want_of (plan_at p.exec) ≡ wants.Open rel kind → find (λ d. not (is_kept p.kept d)) (build_scans kind rel) ≡ Some scan → IsScanNext p scan true
@@ -102,6 +102,7 @@ module _ (p : Progress) (command : Command) (still : IsAtRest p) (free : IsFree 
     command = command;
     free = free;
     lacks = lacks_is p (Open rel kind) act whole ∙ ap not (found_lacks (λ d. not (is_kept p.kept d)) (build_scans kind rel)) ∙ ap (λ f. not (not (is_some f))) is;
+    first = λ other. none_built p.kept p.opened scan other whole;
     next = next_is p (Open rel kind) act scan (ap (λ f. option_map_or (same_scan scan) f false) is ∙ same_scan-itself scan);
     kind = find_all (λ d. is_build_scan d ≡ true) (λ d. not (is_kept p.kept d)) (build_scans kind rel) scan (each_builds kind rel) is;
   }

@@ -176,6 +176,10 @@ build_none kept (o ∷ opened) is = by_first (find (λ d. not (is_kept kept d)) 
     by_first (Some x) at one more = absurd (let both : Some x ≡ None = sym at ∙ one in cc both)
     by_first None at one more = ap (λ f. is_some (cond (is_some f) (Some o) (lacking_first kept opened))) at ∙ more one
 
+-- where none is lacked none is found
+pub none_built : (kept : List KeptScan) (opened : List Opening) (scan other : Purpose) → lacks_opened kept opened ≡ false → build_first kept opened ≡ Some other → scan ≡ other
+none_built kept opened scan other whole is = absurd (both_ways _ (build_some kept opened other is).lacks whole)
+
 -- it comes next in a command that hasn't failed
 pub build_next : (p : Progress) (command : Command) (scan : Purpose) → IsFree p command → has_failed p ≡ false → build_first p.kept p.opened ≡ Some scan → IsScanNext p scan true
 build_next p command scan free goes is = record {
@@ -183,6 +187,7 @@ build_next p command scan free goes is = record {
   free = free;
   lacks = λ i. not (goes i) && (next.lacks i || not (is_empty (act_missing p (plan_at p.exec))));
   next = λ i. not (goes i) && (next.first i || is_next_of_act scan p (plan_at p.exec));
+  first = λ other at. let both : Some scan ≡ Some other = sym is ∙ at in cc both;
   kind = next.build;
 }
   where

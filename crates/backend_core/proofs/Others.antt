@@ -6,20 +6,18 @@ use Rattle.base_types.specs.declared.scan.Purpose.TheVariants as scans
 use Rattle.ddl_effect.specs.Plans.{Plan, Absent, Do, Lookup}
 use Rattle.ddl_effect.specs.Stages.{plan_at}
 use Rattle.ddl_effect.specs.Commands.{commands_of}
-use Rattle.history_model.specs.Orderly.{MayComeNext}
 use Rattle.history_model.proofs.Reading.{life_of-other, place_read-other}
 use Rattle.cacheless.specs.Lines.{lines_from, lines_of_backend}
 use Rattle.cacheless.specs.Session.{Session}
 use Rattle.cacheless.specs.Sessions.{session_of}
 use Rattle.cacheless.specs.Settled.{settled}
-use Rattle.cacheless.specs.TableWrites.{WritesTables}
 use Rattle.cacheless.proofs.JudgedLines.{session_placed, finished_lines-more, line_stays}
 use Rattle.cacheless.proofs.Others.{holds-other, not_started-other}
 use Rattle.cacheless.proofs.Reading.{facts_of-other, session_of-other}
 use Rattle.cacheless.proofs.StaysOnCourse.{has_written-other}
 use Rattle.backend_core.specs.Types.{Entry, KeptScan, Life, Backend}
 use Rattle.backend_core.specs.declared.life.Life.TheVariants as lives
-use Rattle.backend_core.specs.Agrees.{IsPlayed, KeptAt, PlaceFits, command_at, AwaitsEntry, HasNotJoined, HasLeft, Stands}
+use Rattle.backend_core.specs.Agrees.{KeptAt, PlaceFits, command_at, AwaitsEntry, HasNotJoined, HasLeft, Stands}
 use Rattle.backend_core.specs.Fits.{Fits}
 use Rattle.backend_core.proofs.Own.{waiting, waiting_is}
 
@@ -93,8 +91,8 @@ left-other scenario seen e s other left = record {
 }
 
 -- where a backend is it stays, with another's entry
-pub Stands-other : (scenario : Scenario) (seen : List Entry) (e : Entry) (s : Backend) → (e.backend == s.progress.id) ≡ false → IsPlayed scenario seen → MayComeNext seen e → WritesTables seen e → Stands scenario seen s → Stands scenario (seen ++ e ∷ []) s
-Stands-other scenario seen e s other played comes keeps stands = by_life s.life stands
+pub Stands-other : (scenario : Scenario) (seen : List Entry) (e : Entry) (s : Backend) → (e.backend == s.progress.id) ≡ false → Stands scenario seen s → Stands scenario (seen ++ e ∷ []) s
+Stands-other scenario seen e s other stands = by_life s.life stands
   where
     by_life : (l : Life) → elim l as (λ x. Type 0) [ lives.Unstarted ↦ HasNotJoined scenario seen s | lives.Alive ↦ AwaitsEntry scenario seen s | lives.Stopped ↦ HasLeft scenario seen s ]
         → elim l as (λ x. Type 0) [ lives.Unstarted ↦ HasNotJoined scenario (seen ++ e ∷ []) s | lives.Alive ↦ AwaitsEntry scenario (seen ++ e ∷ []) s | lives.Stopped ↦ HasLeft scenario (seen ++ e ∷ []) s ]

@@ -14,7 +14,7 @@ use Rattle.backend_core.specs.Types.{Oid, Mode, Purpose, Command, Scenario, Entr
 use Rattle.backend_core.specs.declared.next.Next.TheVariants as nexts
 use Rattle.backend_core.specs.Agrees.{IsPlayed, AgreesNow, Stands}
 use Rattle.backend_core.specs.Coherent.{IsCoherent}
-use Rattle.backend_core.specs.Words.{is_looked_for}
+use Rattle.backend_core.specs.Words.{build_first, is_looked_for}
 
 -- one entry of the backend is appended, which the history and the script allow; of the places that are promised it takes at most one, of its own, and none is promised
 pub record MakesEntry (scenario : Scenario) (old new : List Entry) (had has : ℕ → ℕ) (b : ℕ) : Type 0 where
@@ -56,12 +56,13 @@ pub record OwesLookNow (s : Progress) : Type 0 where
   pub at : slice_get s.commands s.finished ≡ Some command
   pub owes : (s.due ≡ dues.Look) ⊎ ((s.due ≡ dues.Nothing) × (owed_first s command ≢ []))
 
--- this scan comes next, one for a descriptor, or one of a name or a column
+-- this scan comes next, one for a descriptor, or one of a name or a column: what the opened descriptors lack comes before what the act lacks, and of several the first
 pub record IsScanNext (s : Progress) (scan : Purpose) (builds : Bool) : Type 0 where
   pub command : Command
   pub free : IsFree s command
   pub lacks : lacks_any s ≡ true
   pub next : is_next_at scan s ≡ true
+  pub first : (other : Purpose) → build_first s.kept s.opened ≡ Some other → scan ≡ other
   pub kind : is_build_scan scan ≡ builds
 
 -- this lock comes next

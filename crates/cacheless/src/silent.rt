@@ -34,6 +34,8 @@ impl Progress {
         requires built { All (λ command. runs command ≡ true) self.old.commands }
         requires few { length self.old.commands ≤ 20000 }
         ensures rests { OnOk result ((scenario : Scenario) (seen : List Entry) → Holds scenario seen self.old → Rests scenario seen self.new) }
+        ensures kept { OnOk result (self.new.kept ≡ self.old.kept) }
+        ensures given_at { OnOk result (self.new.given_at ≡ self.old.given_at) }
         ensures same { OnOk result (self.new.commands ≡ self.old.commands) }
     {
         'settling: loop {
@@ -160,6 +162,7 @@ impl Progress {
         requires finishes { Finishes self.old }
         ensures passes { OnOk result ((scenario : Scenario) (seen : List Entry) (held : Holds scenario seen self.old) → HasPassed scenario seen self.old held self.new) }
         ensures kept { OnOk result (self.new.kept ≡ self.old.kept) }
+        ensures given_at { OnOk result (self.new.given_at ≡ self.old.given_at) }
         ensures less { OnOk result (left_of self.new < left_of self.old) }
         ensures same { OnOk result (self.new.commands ≡ self.old.commands) }
     {

@@ -1,6 +1,6 @@
 -- What the calls of a segment need, and what they do: one word for each class of call.
 -- `old` and `new` are the history before and after a call, `had` and `has` how many places each backend was promised then.
-use Rattle.std.specs.Prelude.{ℕ, Bool, true, false, Option, Some, Result, Ok, Err, OnOk, OnErr, List, [], ◌∷◌, ◌++◌, ◌≡◌, ◌≢◌, ◌≤◌, ◌+◌, ◌-◌, zero, suc, min, max, length, take}
+use Rattle.std.specs.Prelude.{ℕ, Bool, true, false, Option, Some, Result, Ok, Err, OnOk, OnErr, List, [], ◌∷◌, ◌++◌, ◌≡◌, ◌≢◌, ◌≤◌, ◌<◌, ◌+◌, ◌-◌, zero, suc, min, max, length, take}
 use Rattle.std.specs.List.{flat_map, filter_map, list_any, list_all, range_with_len}
 use Rattle.std.specs.Str.{bytes_eq}
 use Rattle.base_types.specs.RowKeys.{are_distinct_keys}
@@ -68,11 +68,12 @@ pub record IsUnchanged (old new : List Entry) (had has : ℕ → ℕ) : Type 0 w
   pub entries : new ≡ old
   pub places : (b : ℕ) → has b ≡ had b
 
--- a backend has the places that it is promised, or those that it had if these are more
+-- a backend has the places that it is promised, or those that it had if these are more; only where they aren't may memory be wanting
 pub record Promises (old new : List Entry) (had has : ℕ → ℕ) (b n : ℕ) (result : Result (Unit {0}) NoMemory) : Type 0 where
   pub entries : new ≡ old
   pub ok : OnOk result (has b ≡ max (had b) n)
   pub err : OnErr result (has b ≡ had b)
+  pub more : OnErr result (had b < n)
   pub others : (a : ℕ) → a ≢ b → has a ≡ had a
 
 -- how many places are promised to the backends up to this number

@@ -1,12 +1,11 @@
 -- What an entry does to promised places.
-use Rattle.std.proofs.Common.{◌≡◌, ◌≢◌, ◌<◌, ◌-◌, ◌∙◌, ℕ, List, [], ◌∷◌, ◌++◌, length, slice_set, arith, refl, sym, ap, max, Result, Ok, Err, OnOk, OnErr}
+use Rattle.std.proofs.Common.{◌≡◌, ◌≢◌, ◌<◌, ◌-◌, ◌∙◌, ℕ, List, [], ◌∷◌, ◌++◌, length, slice_set, arith, refl, sym, ap}
 use Rattle.std.proofs.lemmas.List.{get_or-set_other}
 use Rattle.std.proofs.lemmas.Grind.{get_or-set_at}
 use Rattle.std.proofs.lemmas.Option.{unwrap_or-slice_get}
 use Rattle.event_kinds.specs.declared.entry.Entry.{Entry}
-use Rattle.base_types.specs.declared.memory.NoMemory.{NoMemory}
 use Rattle.history_model.specs.Orderly.{MayComeNext}
-use Rattle.seg_calls.specs.Calls.{places_for, Appends, Promises}
+use Rattle.seg_calls.specs.Calls.{places_for, Appends}
 use Rattle.shared_seg.specs.Places.{promised_in}
 
 promised-own : (promised : List ℕ) (b n : ℕ) → b < length promised → promised_in (slice_set promised b n) b ≡ n
@@ -34,22 +33,4 @@ appends_free old new had has e entries comes same = record {
   own = omega (arith, ap (λ l. promised_in l e.backend) same);
   most = omega (arith, ap (λ l. promised_in l e.backend) same);
   others = λ a other. ap (λ l. promised_in l a) same;
-}
-
--- a promise
-pub promises : (old new : List Entry) (had has : List ℕ) (b n : ℕ) (result : Result (Unit {0}) NoMemory) → new ≡ old → b < length had
-    → OnOk result (has ≡ slice_set had b (max (promised_in had b) n)) → OnErr result (has ≡ had) → Promises old new (promised_in had) (promised_in has) b n result
-promises old new had has b n (Ok done) entries within ok err =
-    let own : promised_in has b ≡ max (promised_in had b) n = ap (λ l. promised_in l b) ok ∙ promised-own had b (max (promised_in had b) n) within in
-    record {
-      entries = entries;
-      ok = own;
-      err = tt;
-      others = λ a other. ap (λ l. promised_in l a) ok ∙ promised-other had b (max (promised_in had b) n) a other;
-    }
-promises old new had has b n (Err error) entries within ok err = record {
-  entries = entries;
-  ok = tt;
-  err = ap (λ l. promised_in l b) err;
-  others = λ a other. ap (λ l. promised_in l a) err;
 }

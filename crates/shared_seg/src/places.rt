@@ -84,6 +84,7 @@ impl Places {
         ensures entries { self.new.entries ≡ self.old.entries }
         ensures ok { OnOk result (self.new.promised ≡ slice_set self.old.promised b (max (places_of self.old b) n)) }
         ensures err { OnErr result (self.new.promised ≡ self.old.promised) }
+        ensures more { OnErr result (places_of self.old b < n) }
         ensures short { length self.new.entries + sum self.new.promised ≤ 2 ^ 56 }
     {
         let Places {

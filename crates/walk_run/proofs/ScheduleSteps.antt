@@ -22,7 +22,6 @@ use Rattle.backend_core.specs.Words.{has_left}
 use Rattle.backend_core.specs.Agrees.{HasNotJoined, AwaitsEntry, HasLeft, Stands}
 use Rattle.backend_core.specs.Steps.{MakesEntry, Steps}
 use Rattle.backend_core.proofs.Others.{Stands-other}
-use Rattle.backend_core.proofs.Played.{entered_played}
 use Rattle.walk_run.specs.Walks.{AllStand, StandsAt, IsDue, Goes, HasSchedule, IsRunning, Makes}
 
 -- where a backend is, by its life
@@ -92,7 +91,7 @@ stand_more s h h' had has bs i was now stand is steps = record {
         record {
           id = old.id;
           stands = subst (λ x. Stands s x backend) (sym steps.makes.is)
-              (Stands-other s h steps.makes.entry backend (entry_apart steps.makes.entry was backend i j steps.makes.own mine old.id apart) (entered_played s h stand.entered) steps.makes.may.comes steps.makes.may.suits.tables old.stands);
+              (Stands-other s h steps.makes.entry backend (entry_apart steps.makes.entry was backend i j steps.makes.own mine old.id apart) old.stands);
         }
 
 -- no step

@@ -37,6 +37,7 @@ pub fn walk(alloc: Global, script: &Script) -> Result<World, NoMemory>
     requires { is_built script.now ≡ true }
     ensures walk { IfOk result (λ world. IsWalk script.now world.entries world.lines) }
     ensures sessions { IfOk result (λ world. AreSessions script.now world.entries world.lines world.backends) }
+    ensures stand { IfOk result (λ world. All (Stands script.now world.entries) world.backends) }
     ensures coherent { IfOk result (λ world. All (IsCoherent world.entries) world.backends) }
 {
     let mut seg = Shared::new(alloc, script)?;

@@ -5,7 +5,12 @@ use Rattle.cacheless.specs.Holds.{Holds}
 use Rattle.cacheless.proofs.progress.Progress.settle.Given as goal
 
 abbrev pub invariant-settling : goal.invariant-settling
-invariant-settling l = ((scenario : Scenario) (seen : List Entry) → Holds scenario seen l.fn.self → Holds scenario seen l.self) × (l.self.commands ≡ l.fn.self.commands)
+invariant-settling l = record {
+  holds : (scenario : Scenario) (seen : List Entry) → Holds scenario seen l.fn.self → Holds scenario seen l.self;
+  kept : l.self.kept ≡ l.fn.self.kept;
+  given_at : l.self.given_at ≡ l.fn.self.given_at;
+  same : l.self.commands ≡ l.fn.self.commands;
+}
 
 abbrev pub decreases-settling : goal.decreases-settling
 decreases-settling l = left_of l.self
