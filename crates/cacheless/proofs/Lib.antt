@@ -3,8 +3,6 @@ pub mod Settling
 pub mod Ways
 pub mod EffectAlong
 pub mod ActOrder
-pub mod FewActs
-pub mod FollowedPlans
 pub mod StillAfter
 pub mod StillLocked
 pub mod LateActs

@@ -310,3 +310,18 @@ fn own_locks_are_marked(rt: HostRuntime) {
         assert!(rt; own_answer(&mut own, call) == wanted);
     }
 }
+
+// Whether so many relations are locked by one backend.
+fn lock_many(own: &mut OwnLocks, count: u32) -> bool {
+    let mut all = true;
+    for i in 0..count {
+        all = all && own_answer(own, OwnCall::Add(Oid(i), Mode::Share, 1)) == "done";
+    }
+    all
+}
+
+#[test]
+fn own_locks_are_many(rt: HostRuntime) {
+    let mut own = OwnLocks::new(rt.alloc());
+    assert!(rt; lock_many(&mut own, 200));
+}

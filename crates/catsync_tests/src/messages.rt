@@ -105,6 +105,13 @@ fn lists_of_a_command(rt: HostRuntime) -> Result<(), Fail> {
     Ok(())
 }
 
+#[test]
+fn room_for_many_messages(rt: HostRuntime) -> Result<(), Fail> {
+    let mut lists = InvalLists::new(rt.alloc());
+    lists.reserve(100_000)?;
+    Ok(())
+}
+
 // Lists of commands 2 and 4, of which the second has ended.
 fn two_commands(lists: &mut InvalLists) -> Result<(), NoMemory> {
     lists.clear();

@@ -127,6 +127,14 @@ fn seen(store: &RowStore, text: &[u8], reader: Reader) -> Answer {
     }
 }
 
+// How many rows of an index are scanned.
+fn scanned(store: &RowStore, index: u32) -> Answer {
+    match store.scan(&Purpose::IndexRow(Oid(index)), reader(0, 1)) {
+        Ok(rows) => ("rows", rows.len()),
+        Err(_) => NO_MEMORY,
+    }
+}
+
 fn found(store: &RowStore, oid: u32) -> Answer {
     match store.row(&RowKey::Class(Oid(oid)), reader(0, 1)) {
         Some(_) => ("found", oid as usize),
@@ -339,6 +347,11 @@ fn one_of_many(store: &mut RowStore) -> bool {
         && numbers(store, &Purpose::Class(Oid(116_383)), &[100_000]) == DONE
         && seen(store, b"u", reader(1, 2)) == ("rows", 0)
         && count_left(store, 1, 116_383) == 0
+}
+
+#[test]
+fn an_index_without_rows_is_scanned(rt: HostRuntime) {
+    assert!(rt; scanned(&RowStore::new(rt.alloc()), 16384) == ("rows", 0));
 }
 
 #[test]

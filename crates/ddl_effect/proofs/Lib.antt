@@ -3,5 +3,4 @@ pub mod Driven
 mod Examples
 mod HasPlan
 mod Repeated
-mod Scanned
 mod Tables

@@ -2,6 +2,7 @@ ghost use Rattle.std.specs.Prelude.{◌≡◌, true, All};
 ghost use Rattle.cacheless.specs.Runs.{runs};
 
 use base_types::{Command, Listed, NewColumn};
+use ddl_effect::Exec;
 use script_text::Script;
 use std::alloc::Global;
 
@@ -20,27 +21,7 @@ pub(crate) fn own_commands(alloc: Global, script: &Script, b: u32) -> Option<Lis
 pub(crate) fn are_built(commands: &[Command]) -> bool
     ensures { result ≡ true → All (λ command. runs command ≡ true) commands.now }
 {
-    commands.iter().all(|command| is_built(command))
-}
-
-// Whether a command can be run today.
-fn is_built(command: &Command) -> bool
-    ensures { result ≡ runs command.now }
-{
-    matches!(
-        command,
-        Command::Begin
-            | Command::Commit
-            | Command::Rollback
-            | Command::LockTable { .. }
-            | Command::CreateTable { .. }
-            | Command::Show { .. }
-            | Command::AddColumn { .. }
-            | Command::DropColumn { .. }
-            | Command::RenameColumn { .. }
-            | Command::SetStatistics { .. }
-            | Command::SetFillfactor { .. }
-    )
+    commands.iter().all(|command| Exec::has_plan(command))
 }
 
 // A copy of a command, if it is built.

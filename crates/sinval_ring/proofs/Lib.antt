@@ -4,6 +4,5 @@ pub mod Sound
 pub mod Windows
 pub mod Counting
 pub mod Keeping
-pub mod Calling
 pub mod Signals
 mod Rows

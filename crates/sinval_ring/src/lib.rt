@@ -10,8 +10,8 @@
 //! The promise to the layers above is in terms of the log of all messages, of which the queue keeps the
 //! last: a fetch gives the next 32 of the log, or all that are left; and an insertion puts exactly those
 //! backends into reset state for which the queue can't keep the next message beside the new ones.
-//! `specs/Queues.antt` says what a queue is, `specs/Cleaning.antt` what an insertion makes of it and
-//! answers, and `proofs/Calling.antt` has what a caller cites.
+//! `specs/Queues.antt` says what a queue is, and `specs/Cleaning.antt` what an insertion makes of it and
+//! answers.
 //!
 //! - **Quanta.** One insertion takes 1 to 64 messages, and one fetch gives 32 at most.
 //! - **Cleanup.** It runs before an insertion for which there is no room, and where the queue holds as
