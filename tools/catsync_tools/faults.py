@@ -1,7 +1,6 @@
 """Faults of the input or the command line: one line on standard error, and an exit status other than 0."""
 import errno
 import os
-import signal
 import sys
 import tempfile
 
@@ -11,23 +10,6 @@ INTERRUPTED = 130
 
 class Fault(Exception):
     """Something that the user gave is wrong; its text says what, and where."""
-
-
-def run(name, main, arguments):
-    """Runs a command; its exit status. A fault is said in one line that begins with the command's name. SIGTERM, by which
-    batch systems end what has taken too long, and SIGHUP, which comes as a terminal closes, are taken as Ctrl-C is; SIGHUP
-    not under nohup."""
-    signal.signal(signal.SIGTERM, signal.default_int_handler)
-    if signal.getsignal(signal.SIGHUP) != signal.SIG_IGN:
-        signal.signal(signal.SIGHUP, signal.default_int_handler)
-    try:
-        return main(arguments)
-    except Fault as fault:
-        say("%s: %s" % (name, fault))
-        return BAD
-    except KeyboardInterrupt:
-        say("%s: interrupted" % name)
-        return INTERRUPTED
 
 
 def say(line):
