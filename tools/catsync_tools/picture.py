@@ -21,7 +21,8 @@ def arguments_of(words):
     parser.option("--html", action="store_true", help="a page to step through with the arrow keys, with each backend's state")
     parser.option("--script", metavar="FILE", help="the script, for each command's text above its first entry")
     parser.option("--brief", action="store_true", help="looks and the scans of a descriptor share a row")
-    parser.option("--width", type=int, metavar="N", help="how many pixels wide it is, if its lanes allow it (%d)" % WIDTH)
+    parser.option("--width", type=int, metavar="N", help="how many pixels wide it is, if its lanes allow it (%d); a page fills its "
+                  "window, if that is wider" % WIDTH)
     parser.option("--from", dest="first", type=int, metavar="N", help="the first entry to draw (1)")
     parser.option("--to", dest="last", type=int, metavar="N", help="the last entry to draw (the last there is)")
     options = parser.parse(words)
