@@ -813,6 +813,19 @@ class Explorer(unittest.TestCase):
                         for entry in self.run_with(CREATE_AND_SHOW, line).steps:
                             self.assertIn("h %d %d %s" % entry, drawn)
 
+    def test_pictures_of_an_earlier_search(self):
+        """Pictures of sets that are no more are removed, as is that of what isn't found any more; and nothing else."""
+        with tempfile.TemporaryDirectory() as folder:
+            earlier = ["set1.svg", "set4.svg", "set40.svg", "set4.html", "found.svg", "set.svg", "reset4.svg", "set4.svg.old"]
+            for name in earlier:
+                with open(os.path.join(folder, name), "w", encoding="utf-8"):
+                    pass
+            self.assertEqual(self.explore(CREATE_AND_SHOW, "--picture", folder)[0], 0)
+            left = set(earlier) - {"set4.svg", "set40.svg"} | {"set2.svg", "set3.svg"}
+            self.assertEqual(set(os.listdir(folder)), left)
+            self.assertEqual(self.explore(CREATE_AND_SHOW, "--picture", folder, "--find", "42P02")[0], 1)
+            self.assertEqual(set(os.listdir(folder)), left - {"found.svg"})
+
     def test_program_without_a_folder(self):
         """A program's name is that of a file here, and not of one on PATH."""
         with tempfile.TemporaryDirectory() as folder:

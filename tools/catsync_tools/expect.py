@@ -6,7 +6,7 @@ from .access import Accesses
 from .arguments import MOST_ORDERS, Arguments, count_of
 from .counting import counted_script
 from .expected import NEVER, OWN, SOME, Answers, Expectation
-from .faults import Fault, read_file, read_input, write_output
+from .faults import Fault, names_in, read_file, read_input, write_output
 from .orders import Search
 from .program import Program, proved_program
 from .progress import Progress
@@ -41,12 +41,9 @@ def arguments_of(words):
 
 def scripts_at(path):
     """The scripts of a folder, or the file."""
-    try:
-        if not os.path.isdir(path):
-            return [path]
-        found = [os.path.join(path, name) for name in sorted(os.listdir(path)) if name.endswith(".script")]
-    except OSError as error:
-        raise Fault("%s: %s" % (path, error.strerror))
+    if not os.path.isdir(path):
+        return [path]
+    found = [os.path.join(path, name) for name in names_in(path) if name.endswith(".script")]
     if not found:
         raise Fault("%s: no file there ends with .script" % path)
     return found

@@ -67,6 +67,22 @@ def make_folder(path):
         raise Fault("%s: the folder can't be made: %s" % (path, error.strerror))
 
 
+def names_in(path):
+    """The names in a folder, sorted."""
+    try:
+        return sorted(os.listdir(path))
+    except OSError as error:
+        raise Fault("%s: %s" % (path, error.strerror))
+
+
+def remove_file(path):
+    """Removes a file."""
+    try:
+        os.remove(path)
+    except OSError as error:
+        raise Fault("%s: removing failed: %s" % (path, error.strerror))
+
+
 def is_written_to(path):
     """Whether what is at a path isn't a file that another can take the place of: a pipe, a terminal, /dev/null."""
     return os.path.exists(path) and not os.path.isfile(path)

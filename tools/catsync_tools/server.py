@@ -14,7 +14,7 @@ DIFFERS = 1
 def arguments_of(words):
     """The command line."""
     parser = Arguments("server", "[OPTION].. SCRIPT", "Runs a script's commands one after the other in the program and in a "
-                       "PostgreSQL server of its own, and prints answer beside answer.",
+                       "PostgreSQL server of its own, and prints answer beside answer. What a killed run has left is removed.",
                        ((0, "no answers differ but as docs/PROFILE.md says"), (1, "others differ")))
     parser.option("script", metavar="SCRIPT", help="a script's file")
     parser.option("--programs", metavar="DIR", help="the folder of initdb and postgres (that of Debian's newest package)")
