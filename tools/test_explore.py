@@ -859,7 +859,7 @@ class Explorer(unittest.TestCase):
                  (["--program", "/no/such/program"], TWO_CREATORS, "/no/such/program: "),
                  (["--program", "/bin/echo"], TWO_CREATORS, "/bin/echo: what it prints isn't an output of catsync"),
                  ([], b"", "line 1: "), (["--merge"], TWO_CREATORS, "--merge needs FILEs; "),
-                 (["x"], b"", "FILEs are for --merge; ")]
+                 (["x"], b"", "it reads its standard input: explore < x; ")]
         for name in ("bad_line", "not_built_yet"):
             error = os.path.join(examples, name + ".error")
             if os.path.exists(error):

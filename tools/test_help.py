@@ -51,6 +51,17 @@ class Help(unittest.TestCase):
                 self.assertEqual((status, text, said.count("\n")), (2, b"", 1))
                 self.assertTrue(said.startswith(name + ": "), said)
 
+    def test_names(self):
+        """A name that is empty is a fault, and so is a file on the command line of a tool that reads its standard input."""
+        for words, said in ((["explore", "x"], "explore: it reads its standard input: explore < x; explore --help says more\n"),
+                            (["schedule", "x"], "schedule: it reads its standard input: schedule < x; schedule --help says more\n"),
+                            (["picture", "x", "y"], "picture: it reads its standard input: picture < x; picture --help says more\n"),
+                            (["picture", "--script", ""], "picture: argument --script: an empty name; picture --help says more\n"),
+                            (["expect", "--program", ""], "expect: argument --program: an empty name; expect --help says more\n"),
+                            (["server", ""], "server: \'\': reading failed: No such file or directory\n")):
+            with self.subTest(words):
+                self.assertEqual(call(*words), (2, b"", said))
+
     def test_closed_streams(self):
         """No tool ends in a traceback where its standard streams are closed."""
         for name in NAMES:

@@ -227,7 +227,7 @@ class FaultyScripts(unittest.TestCase):
         """Where the program refuses a script too, it is in the same words."""
         for given in (b"", b"\n-- none\n", b"ring 64\n", b"1: show t\n", b"end\n", b"backends: 1\nend\n", b"backends 1",
                       b"backends 1\n1: show t\n", b"backends 1\nend\n1: begin\n", b"backends 1\nsteps 1\n1: begin\nend\n",
-                      b"\x7fELF", b"backends 1\n\x80 1"):
+                      b"\x7fELF", b"backends 1\n\x80 1", b" " * 1048577):
             with self.subTest(given):
                 done = subprocess.run([PROGRAM, "walk"], input=given, stdout=subprocess.PIPE, stderr=subprocess.PIPE)
                 said = call("schedule", "--program", PROGRAM, given=given)[2].split("schedule: ")[1]

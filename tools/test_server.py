@@ -162,7 +162,7 @@ class Faults(unittest.TestCase):
                 paths[name] = os.path.join(folder, name)
                 with open(paths[name], "w", encoding="ascii") as file:
                     file.write(text)
-            for words, expected in (([paths["bad"]], "line 2: "), (["/no/such"], "/no/such: reading failed: "),
+            for words, expected in (([paths["bad"]], paths["bad"] + ": catsync: line 2: "), (["/no/such"], "/no/such: reading failed: "),
                                     ([], "the following arguments are required: SCRIPT; "),
                                     ([paths["good"], "--programs", folder], "no PostgreSQL server in " + folder)):
                 with self.subTest(words):

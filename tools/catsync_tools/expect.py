@@ -6,7 +6,7 @@ from .access import Accesses
 from .arguments import MOST_ORDERS, Arguments, count_of
 from .counting import counted_script
 from .expected import NEVER, OWN, SOME, Answers, Expectation
-from .faults import Fault, names_in, read_file, read_input, write_output
+from .faults import Fault, faults_of, names_in, read_file, read_input, write_output
 from .orders import Search
 from .program import Program, proved_program
 from .progress import Progress
@@ -51,12 +51,10 @@ def scripts_at(path):
 
 def read_script(name, data):
     """A script that expects something."""
-    try:
+    with faults_of(name):
         source = read_source(data)
-    except Fault as fault:
-        raise Fault("%s: %s" % (name, fault))
-    if not source.expected:
-        raise Fault("%s: no line expects anything" % name)
+        if not source.expected:
+            raise Fault("no line expects anything")
     return Named(name, source)
 
 
@@ -110,12 +108,10 @@ class Trial:
 def trial_of(named: Named, program, most):
     """What became of a script's expectations."""
     trial = Trial(named.source, program, most)
-    try:
+    with faults_of(named.name):
         trial.run_own()
         if trial.left:
             trial.run_orders()
-    except Fault as fault:
-        raise Fault("%s: %s" % (named.name, fault))
     return trial.failures
 
 

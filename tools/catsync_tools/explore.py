@@ -69,8 +69,10 @@ def check(parser, options):
     for name in OF_SEARCHES:
         if options.merge and getattr(options, name) not in (None, False, []):
             parser.error("--%s doesn't go with --merge" % name)
-    if bool(options.merge) != bool(options.files):
-        parser.error("--merge needs FILEs" if options.merge else "FILEs are for --merge")
+    if options.merge and not options.files:
+        parser.error("--merge needs FILEs")
+    if options.files and not options.merge:
+        parser.refuse(options.files)
     if "" in options.find:
         parser.error("--find needs a text")
     if options.out and not options.part:
@@ -194,9 +196,10 @@ def remove_earlier(options, names, count):
     """Removes the pictures of an earlier search: those with such a name, beyond so many."""
     if options.picture:
         for name in names_in(options.picture):
+            path = os.path.join(options.picture, name)
             found = re.fullmatch(names + "[.]" + ("html" if options.html else "svg"), name)
-            if found and int(found.group(1) or 1) > count:
-                remove_file(os.path.join(options.picture, name))
+            if found and int(found.group(1) or 1) > count and os.path.isfile(path):
+                remove_file(path)
 
 
 def merge(options):

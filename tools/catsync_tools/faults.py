@@ -1,4 +1,5 @@
 """Faults of the input or the command line: one line on standard error, and an exit status other than 0."""
+import contextlib
 import errno
 import os
 import sys
@@ -10,6 +11,15 @@ INTERRUPTED = 130
 
 class Fault(Exception):
     """Something that the user gave is wrong; its text says what, and where."""
+
+
+@contextlib.contextmanager
+def faults_of(path):
+    """What is faulty within it is of this file."""
+    try:
+        yield
+    except Fault as fault:
+        raise Fault("%s: %s" % (path, fault))
 
 
 def say(line):
@@ -56,7 +66,7 @@ def read_file(path):
         with open(path, "rb") as file:
             return file.read()
     except OSError as error:
-        raise Fault("%s: reading failed: %s" % (path, error.strerror))
+        raise Fault("%s: reading failed: %s" % (path or "''", error.strerror))
 
 
 def make_folder(path):

@@ -20,6 +20,7 @@ from .items import Answered, Count, Item, check_item, read_items
 from .scripts import Script
 from .spellings import refused, respelled, tokens_of, without_comment, words_of
 
+MOST_BYTES = 1048576
 OTHER, COMMAND, STEPS, EXPECT = "other", "command", "steps", "expect"
 
 _COMMAND = re.compile(r"([ \t]*([0-9]{1,9})[ \t]*:)(.*)", re.DOTALL)
@@ -170,6 +171,8 @@ class Reader:
 
 def read_source(data):
     """The script of an input; a Fault names the line that has none of its forms."""
+    if len(data) > MOST_BYTES:
+        raise Fault("the script has more than %d bytes" % MOST_BYTES)
     reader = Reader()
     for line in data.split(b"\n"):
         reader.read(line)

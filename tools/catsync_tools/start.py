@@ -15,6 +15,9 @@ from .faults import BAD, INTERRUPTED, Fault, say
 
 def run(name):
     """Runs a tool; its exit status. A fault is said in one line that begins with the tool's name."""
+    if sys.version_info < (3, 8):
+        say("%s: Python 3.8 or later is needed, and this is %d.%d" % ((name,) + sys.version_info[:2]))
+        return BAD
     main = importlib.import_module("catsync_tools." + name).main
     try:
         take_signals()
