@@ -158,7 +158,7 @@ class Tool(unittest.TestCase):
         """A fault is one line on standard error with its place, exit status 2, and nothing is printed."""
         with tempfile.TemporaryDirectory() as folder:
             for words, given, said in (
-                    ([], b"", "standard input: line 1: the input ends without an 'end' line"),
+                    ([], b"", "standard input: line 1: NoBackends: the first line, but for a ring line, must read 'backends N'"),
                     ([], ALTERED % b"", "standard input: no line expects anything"),
                     ([], ALTERED % b"expect 3.1 ok\n", "standard input: line 7: there is no command 1 of backend 3"),
                     (["/no/such.script"], b"", "/no/such.script: reading failed: No such file or directory"),

@@ -3,11 +3,13 @@
 import os
 import re
 import shutil
+import signal
 import subprocess
 import sys
+import time
 import unittest
 
-from testing import TOOLS, TOP, call, content_of
+from testing import CAN_WAIT, TOOLS, TOP, call, content_of
 
 NAMES = sorted(name for name in os.listdir(TOOLS) if "." not in name and os.path.isfile(os.path.join(TOOLS, name)))
 MAN = os.path.join(TOP, "man", "catsync.1")
@@ -49,6 +51,17 @@ class Help(unittest.TestCase):
                 self.assertEqual((status, text, said.count("\n")), (2, b"", 1))
                 self.assertTrue(said.startswith(name + ": "), said)
 
+    def test_names(self):
+        """A name that is empty is a fault, and so is a file on the command line of a tool that reads its standard input."""
+        for words, said in ((["explore", "x"], "explore: it reads its standard input: explore < x; explore --help says more\n"),
+                            (["schedule", "x"], "schedule: it reads its standard input: schedule < x; schedule --help says more\n"),
+                            (["picture", "x", "y"], "picture: it reads its standard input: picture < x; picture --help says more\n"),
+                            (["picture", "--script", ""], "picture: argument --script: an empty name; picture --help says more\n"),
+                            (["expect", "--program", ""], "expect: argument --program: an empty name; expect --help says more\n"),
+                            (["server", ""], "server: \'\': reading failed: No such file or directory\n")):
+            with self.subTest(words):
+                self.assertEqual(call(*words), (2, b"", said))
+
     def test_closed_streams(self):
         """No tool ends in a traceback where its standard streams are closed."""
         for name in NAMES:
@@ -75,6 +88,20 @@ class Help(unittest.TestCase):
             with self.subTest((name, "closed")):
                 done = subprocess.run(["sh", "-c", "exec %s <&-" % tool], stdout=subprocess.PIPE, stderr=subprocess.PIPE)
                 self.assertEqual((done.returncode, done.stdout, done.stderr.count(b"\n")), (2, b"", 1))
+
+    @unittest.skipUnless(CAN_WAIT, "no env that makes signals wait")
+    def test_signal_at_the_start(self):
+        """A signal before a tool reads its first line, or as it ends, is told in one line too, and with the tool's own status. Only
+        the shell, in its first milliseconds, ends as any program does."""
+        for at, number in enumerate((signal.SIGINT, signal.SIGTERM, signal.SIGHUP) * 15):
+            name = NAMES[at % len(NAMES)]
+            with self.subTest((at, name, number)):
+                tool = subprocess.Popen([os.path.join(TOOLS, name), "--help"], stdout=subprocess.PIPE, stderr=subprocess.PIPE,
+                                        preexec_fn=lambda: signal.signal(signal.SIGINT, signal.SIG_DFL))
+                time.sleep(at * 0.005)
+                tool.send_signal(number)
+                said = tool.communicate()[1].decode()
+                self.assertIn((tool.returncode, said), ((-number, ""), (0, ""), (130, name + ": interrupted\n")))
 
     def test_help_of_the_gate(self):
         """./prove --help is usage too; and what ./catsync runs is said."""

@@ -234,6 +234,30 @@ class Pictures(unittest.TestCase):
                                 length = len(part.text) * (7.2 if "line" in classes(text) else 6)
                                 self.assertLessEqual(float(part.get("x")) + length, float(root.get("width")) + 1)
 
+    def test_labels(self):
+        """Along a bar that is wide enough there is a label again and again, in its hatched part too where that is long."""
+        for path in OUTPUTS:
+            with self.subTest(path):
+                drawn, _, _ = self.drawn(path)
+                parts = [part for bar in ("lock", "part", "kept-current", "kept-outdated") for part in drawn.all(bar)
+                         if 9 <= float(part.get("width")) <= 12]
+                labels = [(float(label.get("x")), float(label.get("y"))) for label in drawn.all("label")]
+                for part in parts:
+                    x, top, height = (float(part.get(name)) for name in ("x", "y", "height"))
+                    own = sorted(y for at, y in labels if x <= at <= x + 12 and top <= y <= top + height)
+                    if height > 300:
+                        ends = [top] + own + [top + height]
+                        self.assertTrue(own)
+                        self.assertLess(max(last - first for first, last in zip(ends, ends[1:])), 800)
+
+    def test_label_of_what_is_hatched(self):
+        """A lock that isn't clear for long is labelled there, as is what is kept while it is out of date."""
+        for name, class_, texts in (("granted_not_clear", "lock", ["as 16384 t"]),
+                                    ("columns_protected", "kept", ["descriptor 16384 t"])):
+            with self.subTest(name):
+                drawn, _, _ = self.drawn(os.path.join(TOP, "examples", name + ".output"))
+                self.assertEqual([label.text for label in drawn.all("halo")], texts)
+
     def test_pictures_of_the_readme(self):
         """The pictures that README shows are those of its first example and of two backends."""
         for script, given, shown in (
@@ -578,23 +602,49 @@ document.title = seen.join(' ') + ' / ' + document.querySelector('#entry p').inn
 </script></body>"""
 
 
+ROOM = """<script>
+const rows = document.getElementById('rows').firstElementChild.nextElementSibling, long = document.querySelector('text[data-text]');
+document.title = [picture.clientWidth, picture.scrollWidth, rows.clientWidth, long.children[0].textContent.length,
+                  [...document.querySelectorAll('text.line')].every(text => text.getBBox().x + text.getBBox().width <= rows.clientWidth),
+                  [...long.children].map(part => part.textContent).join('') === long.dataset.text].join(' ');
+</script></body>"""
+
+
 @unittest.skipUnless(shutil.which("chromium"), "no browser (chromium)")
-class Keys(unittest.TestCase):
-    """The keys of a page, in a browser."""
+class Browser(unittest.TestCase):
+    """A page in a browser."""
+
+    def title(self, name, script, size):
+        """The title that a script gives to the page of an example, in a window of this size."""
+        path = os.path.join(TOP, "examples", name + ".output")
+        output = read_output(content_of(path))
+        page = picture_of(output, True, Span(1, len(output.entries)), script_of(path[:-7] + ".script", output))
+        with tempfile.TemporaryDirectory() as folder:
+            with open(os.path.join(folder, "page.html"), "w", encoding="utf-8") as file:
+                file.write(page.replace("</body>", script))
+            done = subprocess.run(
+                ["chromium", "--headless", "--no-sandbox", "--disable-gpu", "--user-data-dir=" + os.path.join(folder, "data"),
+                 "--window-size=" + size, "--dump-dom", "file://" + os.path.join(folder, "page.html")],
+                stdout=subprocess.PIPE, stderr=subprocess.DEVNULL, timeout=120)
+        return html.unescape(re.search("<title>(.*?)</title>", done.stdout.decode(), re.DOTALL).group(1))
+
+    def test_width(self):
+        """The rows and their texts fill the window, with more in a line where it is wider; a narrow one is scrolled."""
+        longest = 0
+        for width, is_narrow in ((1000, True), (1300, False), (1500, False), (2000, False)):
+            with self.subTest(width):
+                room, all_, rows, first, is_within, is_whole = self.title("sleepers", ROOM, "%d,800" % width).split()
+                self.assertEqual((int(all_) > int(room), is_within), (is_narrow, "true"))
+                self.assertEqual(rows, all_)
+                if not is_narrow:
+                    self.assertGreater(int(first), longest)
+                    longest = int(first)
+        self.assertEqual(self.title("granted_not_clear", ROOM, "1300,800").split()[-1], "false")
+        self.assertEqual(self.title("granted_not_clear", ROOM, "2400,800").split()[-1], "true")
 
     def test_keys(self):
         """Each key goes where it says; a click selects; and the panel shows the entry and what holds after it."""
-        path = os.path.join(TOP, "examples", "columns_protected.output")
-        output = read_output(content_of(path))
-        page = picture_of(output, True, Span(1, 77), script_of(path[:-7] + ".script", output))
-        with tempfile.TemporaryDirectory() as folder:
-            with open(os.path.join(folder, "page.html"), "w", encoding="utf-8") as file:
-                file.write(page.replace("</body>", PRESSED))
-            done = subprocess.run(
-                ["chromium", "--headless", "--no-sandbox", "--disable-gpu", "--user-data-dir=" + os.path.join(folder, "data"),
-                 "--window-size=1280,800", "--dump-dom", "file://" + os.path.join(folder, "page.html")],
-                stdout=subprocess.PIPE, stderr=subprocess.DEVNULL, timeout=120)
-        title = html.unescape(re.search("<title>(.*?)</title>", done.stdout.decode(), re.DOTALL).group(1))
+        title = self.title("columns_protected", PRESSED, "1280,800")
         seen, sentence, shown = title.split(" / ")
         self.assertEqual(seen.split(), "1 2 3 4 3 2 1 1 11 1 77 77 1 28 1 54".split())
         self.assertTrue(sentence.endswith("serves command 4 without a scan, out of date as it is since 49."), sentence)

@@ -154,16 +154,17 @@ class Items(unittest.TestCase):
 
 
 FAULTY = (
-    (b"", "line 1: the input ends without an 'end' line"),
-    (b"backends 1\n", "line 2: the input ends without an 'end' line"),
-    (b"backends 1\n1: show caf\xe9\nsteps 1*4\nend\n", "line 2: the byte 0xE9 in column 12 is neither printable ASCII nor a tab"),
-    (b"backends \xb2\n1: show t\nsteps 1 to 1\nend\n", "line 1: the byte 0xB2 in column 10 is neither printable ASCII nor a tab"),
-    (b"\x7fELF\x01\n\0", "line 1: the byte 0x7F in column 1 is neither printable ASCII nor a tab"),
-    (b"backends 1\nend\n1: begin\n", "line 3: only blank lines and comments may follow the 'end' line"),
+    (b"", "line 1: NoBackends: the first line, but for a ring line, must read 'backends N'"),
+    (b"expect 1.1 ok\nsetup 1: show t\nbackends 1\nend\n", "line 2: NoBackends: the first line, but for a ring line, "),
+    (b"backends 1\n", "line 2: NoEnd: the input ends without an 'end' line"),
+    (b"backends 1\n1: show caf\xe9\nsteps 1*4\nend\n", "line 2: BadByte: the byte 0xE9 in column 12 is neither printable ASCII nor a tab"),
+    (b"backends \xb2\n1: show t\nsteps 1 to 1\nend\n", "line 1: BadByte: the byte 0xB2 in column 10 is neither printable ASCII nor a tab"),
+    (b"\x7fELF\x01\n\0", "line 1: BadByte: the byte 0x7F in column 1 is neither printable ASCII nor a tab"),
+    (b"backends 1\nend\n1: begin\n", "line 3: AfterEnd: only blank lines and comments may follow the 'end' line"),
     (b"backends 1\n1: begin\nsetup 1: begin\nend\n", "line 3: a set-up line must come before all other commands"),
     (b"backends 1\nsetup begin\nend\n", "line 2: a set-up line must read 'setup B: COMMAND'"),
     (b"backends 1\nsetup\nend\n", "line 2: a set-up line must read 'setup B: COMMAND'"),
-    (b"backends 1\nsteps 1\n1: begin\nend\n", "line 3: no command may follow a steps line"),
+    (b"backends 1\nsteps 1\n1: begin\nend\n", "line 3: LateCommand: no command may follow a steps line"),
     (b"backends 1\nsteps 1*0\nend\n", "line 2: '1*0' isn't 'B', 'B*COUNT' with COUNT from 1 to 1000000, or 'B to ..'"),
     (b"backends 1\nsteps 1 x\nend\n", "line 2: 'x' isn't 'B', 'B*COUNT' with COUNT from 1 to 1000000, or 'B to ..'"),
     (b"backends 1\nsteps\nend\n", "line 2: an item is missing in the line of steps"),
@@ -220,6 +221,17 @@ class FaultyScripts(unittest.TestCase):
         """Faults of single lines; the program isn't run."""
         for given, said in FAULTY:
             self.check(given, said, "--program", "/no/such/program")
+
+    @unittest.skipUnless(HAS_PROGRAM, NO_PROGRAM)
+    def test_words_of_the_program(self):
+        """Where the program refuses a script too, it is in the same words."""
+        for given in (b"", b"\n-- none\n", b"ring 64\n", b"1: show t\n", b"end\n", b"backends: 1\nend\n", b"backends 1",
+                      b"backends 1\n1: show t\n", b"backends 1\nend\n1: begin\n", b"backends 1\nsteps 1\n1: begin\nend\n",
+                      b"\x7fELF", b"backends 1\n\x80 1", b" " * 1048577):
+            with self.subTest(given):
+                done = subprocess.run([PROGRAM, "walk"], input=given, stdout=subprocess.PIPE, stderr=subprocess.PIPE)
+                said = call("schedule", "--program", PROGRAM, given=given)[2].split("schedule: ")[1]
+                self.assertEqual("catsync: " + said.split("catsync: ")[-1], done.stderr.decode())
 
     @unittest.skipUnless(HAS_PROGRAM, NO_PROGRAM)
     def test_what_cannot_be_reached(self):

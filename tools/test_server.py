@@ -19,6 +19,7 @@ from testing import HAS_PROGRAM, NO_PROGRAM, PROGRAM, TOOLS, TOP, call
 
 from catsync_tools.beside import Compared, Pairs, compare, differences, order_of
 from catsync_tools.differences import KNOWN, all_differences, profile
+from catsync_tools.folder import Folder
 from catsync_tools.postgres import Server, folder_of_programs
 from catsync_tools.program import Program
 from catsync_tools.sources import read_source
@@ -52,6 +53,13 @@ def random_command(draw, columns):
                "STAT": ("-2", "-1", "0", "1", "100", "9999", "10000", "10001", "999999999")}
     words = text.replace("(", "( ").replace(")", " )").replace(",", " ,").split(" ")
     return " ".join(draw.choice(choices[word]) if word in choices else word for word in words)
+
+
+def homes():
+    """The folders in which the processes of this machine are at home, as far as they may be known."""
+    for home in glob.glob("/proc/[0-9]*/cwd"):
+        with contextlib.suppress(OSError):
+            yield os.readlink(home)
 
 
 def random_script(draw):
@@ -154,7 +162,7 @@ class Faults(unittest.TestCase):
                 paths[name] = os.path.join(folder, name)
                 with open(paths[name], "w", encoding="ascii") as file:
                     file.write(text)
-            for words, expected in (([paths["bad"]], "line 2: "), (["/no/such"], "/no/such: reading failed: "),
+            for words, expected in (([paths["bad"]], paths["bad"] + ": catsync: line 2: "), (["/no/such"], "/no/such: reading failed: "),
                                     ([], "the following arguments are required: SCRIPT; "),
                                     ([paths["good"], "--programs", folder], "no PostgreSQL server in " + folder)):
                 with self.subTest(words):
@@ -222,6 +230,26 @@ class Beside(unittest.TestCase):
                     said = server.stderr.read()
                 self.assertIn((server.returncode, said), ((130, b"server: interrupted\n"), (130, b""), (0, b"")))
                 self.assertEqual(os.listdir(folder), [])
+
+    def test_killed(self):
+        """What a killed tool leaves, its server with it, the next one takes away; and not what one that lives has."""
+        words = [os.path.join(TOOLS, "server"), "--program", PROGRAM, os.path.join(TOP, "examples", "two_backends.script")]
+        draw = random.Random(3)
+        with self.own_folder() as folder:
+            with unittest.mock.patch("tempfile.tempdir", folder):
+                other = Folder(None)
+            for _ in range(3):
+                with subprocess.Popen(words, stdout=subprocess.DEVNULL, stderr=subprocess.DEVNULL) as server:
+                    while not glob.glob(os.path.join(folder, "*", "data", "postmaster.pid")) and server.poll() is None:
+                        time.sleep(0.01)
+                    time.sleep(draw.uniform(0, 0.3))
+                    server.kill()
+                self.assertEqual(len(os.listdir(folder)), 2)
+                self.assertEqual(call("server", *words[1:])[::2], (0, ""))
+                self.assertEqual(os.listdir(folder), [os.path.basename(other.path)])
+                self.assertEqual([home for home in homes() if home.startswith(folder)], [])
+            other.remove()
+            self.assertEqual(os.listdir(folder), [])
 
     def test_command(self):
         """What is printed, and the exit status; and nothing is left behind."""

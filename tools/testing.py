@@ -16,6 +16,7 @@ from catsync_tools.program import PROVED, is_up_to_date
 PROGRAM = os.environ.get("CATSYNC_PROGRAM") or PROVED
 HAS_PROGRAM = "CATSYNC_PROGRAM" in os.environ or is_up_to_date(PROVED)
 NO_PROGRAM = "no proved executable that is up to date"
+CAN_WAIT = subprocess.run(["env", "--block-signal=INT", "true"], stderr=subprocess.DEVNULL).returncode == 0     # at Python's start
 
 
 def content_of(path):

@@ -39,9 +39,21 @@ class Arguments(argparse.ArgumentParser):
         self.options.add_argument(name, **settings)
 
     def parse(self, words):
-        """What the command line says, after one more option: --help."""
+        """What the command line says, after one more option: --help. A file or a folder has a name."""
         self.options.add_argument("-h", "--help", action="help", help="prints this text")
-        return self.parse_args(words)
+        found, others = self.parse_known_args(words)
+        for action in self._actions:
+            if action.metavar in ("FILE", "DIR") and getattr(found, action.dest, None) == "":
+                self.error("argument %s: an empty name" % action.option_strings[0])
+        if others:
+            self.refuse(others)
+        return found
+
+    def refuse(self, others):
+        """Refuses arguments that no option takes."""
+        if "<" in self.usage and not others[0].startswith("-"):
+            self.error("it reads its standard input: %s < %s" % (self.prog, others[0]))
+        self.error("unrecognized arguments: " + " ".join(others))
 
     def error(self, message):
         """Called by argparse for a faulty command line."""

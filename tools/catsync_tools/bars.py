@@ -9,6 +9,7 @@ from .why import Why, plain
 
 LABEL_CHAR = 5.5        # the width of a character of a bar's label
 LABEL_EVERY = 480       # long bars have their label again after so much
+LONG = 120              # a hatched part that is longer has its own label, though another part has one
 CAP = 0.62              # the size of the mark at the end of what is kept, of one in the lane
 RING = 5                # half the height of a ring at a bar
 
@@ -73,9 +74,10 @@ def taken_heights(layout: Layout, middles):
                   [(middle - RING, middle + RING) for middle in middles])
 
 
-def label(layout: Layout, x, top, bottom, texts, colour, taken):
+def label(x, top, bottom, texts, colour, taken, is_hatched=False):
     """The longest of some texts that fits along a bar, downwards; again and again along a long one, but never over what is
     taken."""
+    class_ = "label halo" if is_hatched else "label"
     for text in texts:
         length, written, y = len(text) * LABEL_CHAR, [], top + 4
         while y + length <= bottom - 2:
@@ -84,11 +86,18 @@ def label(layout: Layout, x, top, bottom, texts, colour, taken):
                 y = met + 4
                 continue
             turn = "rotate(90 %s %s)" % (number(x), number(y))
-            written.append(text_at(x, y, text, "label", style="fill:" + colour, transform=turn))
+            written.append(text_at(x, y, text, class_, style="fill:" + colour, transform=turn))
             y += LABEL_EVERY
         if written:
             return "".join(written)
     return ""
+
+
+def labels(parts, label_of):
+    """The labels of a bar's parts, of each its top, its bottom and whether it is hatched. A hatched part has one where it is
+    long, or where no other part has room."""
+    plain = [label_of(*part) for part in parts if not part[2]]
+    return plain + [label_of(*part) for part in parts if part[2] and (part[1] - part[0] > LONG or not any(plain))]
 
 
 # Locks.
@@ -114,7 +123,8 @@ def lock_bar(layout: Layout, lock, rings=()):
     if clear > top:
         bar += element("rect", title, y=top, height=clear - top, fill="url(#not-clear)", class_="part", **shape)
     taken = taken_heights(layout, [layout.middle(number) for number in rings])
-    return bar + lock_label(layout, lock, clear if bottom - clear > 14 else top, bottom, taken)
+    parts = [(top, clear, True), (clear, bottom, False)]
+    return bar + "".join(labels(parts, lambda *part: lock_label(layout, lock, taken, *part)))
 
 
 def lock_left(layout: Layout, lock):
@@ -123,14 +133,14 @@ def lock_left(layout: Layout, lock):
     return lane.locks + layout.columns[lock] * lane.lock_width
 
 
-def lock_label(layout: Layout, lock, top, bottom, taken):
-    """Mode, relation and name along a lock's bar, as far as there is room."""
+def lock_label(layout: Layout, lock, taken, top, bottom, is_hatched):
+    """Mode, relation and name along a part of a lock's bar, as far as there is room."""
     width = layout.lanes[lock.backend].lock_width - 2
     if width < 10:
         return ""
     texts = ("%s %d %s" % (lock.mode, lock.rel, lock.name), "%s %s" % (lock.mode, lock.name or lock.rel), lock.mode)
-    colour = "#ffffff" if lock.mode in DARK_MODES else INK
-    return label(layout, lock_left(layout, lock) + width / 2 - 3, top, bottom, texts, colour, taken)
+    colour = "#ffffff" if lock.mode in DARK_MODES and not is_hatched else INK
+    return label(lock_left(layout, lock) + width / 2 - 3, top, bottom, texts, colour, taken, is_hatched)
 
 
 # What is kept.
@@ -173,22 +183,23 @@ def kept_bar(layout: Layout, kept: Kept, why: Why):
     served = [layout.middle(served.entry) for served in kept.serves if layout.span.holds(served.entry)]
     drawn += [serve_mark(x + width / 2, middle) for middle in served]
     if width >= 9:
-        drawn += [kept_label(layout, kept, x + width / 2 - 3, first, min(last, bottom - 6), served)
-                  for kind, first, last in parts if kind == "current"]
+        taken = taken_heights(layout, served)
+        drawn += labels([(first, min(last, bottom - 6), kind == "outdated") for kind, first, last in parts if kind != "build"],
+                        lambda *part: kept_label(kept, x + width / 2 - 3, taken, *part))
     if kept.last is not None and kept.last <= layout.span.last:
         drawn.append(kept_end(kept, x, width, bottom))
     return group("".join(drawn), plain(kept_title(why, kept)), class_="kept build" if kept.is_descriptor else "kept")
 
 
-def kept_label(layout: Layout, kept: Kept, x, top, bottom, served):
-    """What is kept along its bar, as far as there is room."""
+def kept_label(kept: Kept, x, taken, top, bottom, is_hatched):
+    """What is kept along a part of its bar, as far as there is room."""
     if kept.is_descriptor:
         texts = ["descriptor %d %s" % (kept.rel, kept.name), "descriptor %s" % (kept.name or kept.rel),
                  kept.name or str(kept.rel)]
     else:
         word = {"relname": "name", "reloid": "oid", "attname": "column", "attlist": "columns"}[kept.datum[0]]
         texts = [("no " if kept.is_absent else "") + "%s %s" % (word, kept.datum[-1])]
-    return label(layout, x, top, bottom, [text.strip() for text in texts], KEPT_BROWN, taken_heights(layout, served))
+    return label(x, top, bottom, [text.strip() for text in texts], KEPT_BROWN, taken, is_hatched)
 
 
 def serve_mark(x, y):

@@ -23,6 +23,7 @@ text.number { fill: #767676 }
 text.label { font: 9px 'DejaVu Sans Mono', Menlo, Consolas, monospace }
 text.waits { font: bold 9px 'DejaVu Sans', Verdana, sans-serif; fill: %(blue)s;
   paint-order: stroke; stroke: #ffffff; stroke-width: 3px }
+text.halo { paint-order: stroke; stroke: #ffffff; stroke-width: 2.5px }
 text.error { fill: #963800 }
 text.bold { font-weight: bold }
 .leader { stroke: #d0d0d0; stroke-dasharray: 1 3 }
@@ -71,7 +72,7 @@ def life_line(layout: Layout, life):
 
 def lane_names(layout: Layout, y, height):
     """The names of the lanes; where they are narrow, the numbers of the backends."""
-    drawn = [element("rect", x=0, y=y, width=layout.width, height=height, fill="#e4e4e4")]
+    drawn = [element("rect", x=0, y=y, width=layout.right, height=height, fill="#e4e4e4")]
     word = "backend %d" if len(layout.lanes) <= MOST_WIDE_LANES else "%d"
     for lane in layout.lanes.values():
         drawn.append(text_at(lane.left + 6, y + 15, word % lane.backend, "head"))
@@ -81,15 +82,17 @@ def lane_names(layout: Layout, y, height):
 def row_ground(layout: Layout, row):
     """What lies below an entry's row: a stripe that shows on hover, and a line from its lane to its text."""
     step = row.content
-    stripe = element("rect", x=0, y=row.y, width=layout.width, height=row.height, class_="row", id="row%d" % step.first)
+    stripe = element("rect", x=0, y=row.y, width=layout.right, height=row.height, class_="row", id="row%d" % step.first)
     lane = layout.lanes[step.main.backend]
     return stripe + element("path", d=path("M", lane.mark, row.middle, "H", layout.text - 5), class_="leader")
 
 
-def text_lines(x, y, lines):
-    """The lines of one text, as parts of it."""
-    return "".join('<tspan x="%s" y="%s">%s</tspan>' % (number(x), number(y + at * LINE), escape(line))
-                   for at, line in enumerate(lines))
+def text_lines(layout: Layout, row, text, class_="line"):
+    """The lines of a row's text, as parts of it. A page breaks a longer text anew as its window is wide, and has all of it."""
+    lines = "".join('<tspan x="%s" y="%s">%s</tspan>' % (number(layout.text), number(row.middle + 4 + at * LINE), escape(line))
+                    for at, line in enumerate(row.lines))
+    whole = {"data_text": text} if layout.right > layout.width and len(row.lines) > 1 else {}
+    return "%s>%s</text>" % (opened("text", dict(class_=class_, **whole)), lines)
 
 
 def cut(row):
@@ -107,7 +110,7 @@ def entry_text(layout: Layout, row, sentences):
     titles += [step.text] if row.cut else []
     drawn = text_at(layout.numbers - 8, y, numbers, "number", text_anchor="end")
     drawn += element("use", href="#" + mark_of_step(step), x=lane.mark, y=row.middle)
-    drawn += '<text class="line">%s</text>' % text_lines(layout.text, y, row.lines)
+    drawn += text_lines(layout, row, step.text)
     return group(drawn, "\n".join(titles), class_="entry" + cut(row), id="entry%d" % step.first)
 
 
@@ -116,11 +119,11 @@ def answer_text(layout: Layout, row):
     answer = row.content
     mark, refused = layout.lanes[answer.backend].mark, answer.text.startswith("error")
     fill, colour, class_ = ("#fdeadf", RED, "line error") if refused else ("#eaf4ec", GREEN, "line")
-    drawn = element("rect", x=layout.text - 6, y=row.y + 1, width=layout.width - layout.text - 2, height=row.height - 2,
+    drawn = element("rect", x=layout.text - 6, y=row.y + 1, width=layout.right - layout.text - 2, height=row.height - 2,
                     fill=fill, rx=2)
     drawn += element("path", d=path("M", mark + 3, row.middle, "H", layout.text - 6), stroke=colour, stroke_opacity=0.5)
     drawn += element("circle", cx=mark, cy=row.middle, r=2.5, fill=colour)
-    drawn += '<text class="%s">%s</text>' % (class_, text_lines(layout.text, row.middle + 4, row.lines))
+    drawn += text_lines(layout, row, answer.line, class_)
     title = "the answer of command %d of backend %d" % (answer.command, answer.backend)
     return group(drawn, title + ("\n" + answer.line if row.cut else ""), class_="answer" + cut(row))
 
@@ -129,11 +132,11 @@ def command_text(layout: Layout, row):
     """A command of the script, above its first entry."""
     command = row.content
     mark = layout.lanes[command.backend].mark
-    drawn = element("rect", x=layout.text - 6, y=row.y + 1, width=layout.width - layout.text - 2, height=row.height - 2,
+    drawn = element("rect", x=layout.text - 6, y=row.y + 1, width=layout.right - layout.text - 2, height=row.height - 2,
                     fill="#eef1f8", rx=2)
     drawn += element("path", d=path("M", mark + 4, row.middle, "H", layout.text - 6), stroke=BLUE, stroke_opacity=0.5)
     drawn += element("circle", cx=mark, cy=row.middle, r=2.5, fill="#ffffff", stroke=BLUE, stroke_width=1.4)
-    drawn += '<text class="line bold">%s</text>' % text_lines(layout.text, row.middle + 4, row.lines)
+    drawn += text_lines(layout, row, command.text, "line bold")
     title = "command %d of backend %d" % (command.number, command.backend)
     return group(drawn, title + ("\n" + command.text if row.cut else ""), class_="command" + cut(row))
 
@@ -175,10 +178,12 @@ def title_for(story: Story, span):
     return title
 
 
-def svg(width, height, content, y=0):
-    """A whole SVG, from a height of its picture on."""
+def svg(width, height, content, y=0, in_page=False):
+    """A whole SVG, from a height of its picture on. In a page it may be wider, and then its content stays on the left."""
     attributes = {"xmlns": "http://www.w3.org/2000/svg", "width": width, "height": height,
                   "viewBox": "0 %s %s %s" % (number(y), number(width), number(height))}
+    if in_page:
+        attributes["preserveAspectRatio"] = "xMinYMin"
     return opened("svg", attributes) + ">" + content + "</svg>\n"
 
 

@@ -1,6 +1,6 @@
 """Events as the lines of a history write them. docs/HISTORY.md says what each is.
 
-docs/TOOLS.md has what else a new event, scan or row needs beside its pattern here.
+docs/GROWING.md has what else a new event, scan or row needs beside its pattern here.
 """
 import functools
 import re

@@ -6,7 +6,7 @@ from .access import Accesses
 from .arguments import MOST_ORDERS, Arguments, count_of
 from .counting import counted_script
 from .expected import NEVER, OWN, SOME, Answers, Expectation
-from .faults import Fault, read_file, read_input, write_output
+from .faults import Fault, faults_of, names_in, read_file, read_input, write_output
 from .orders import Search
 from .program import Program, proved_program
 from .progress import Progress
@@ -41,12 +41,9 @@ def arguments_of(words):
 
 def scripts_at(path):
     """The scripts of a folder, or the file."""
-    try:
-        if not os.path.isdir(path):
-            return [path]
-        found = [os.path.join(path, name) for name in sorted(os.listdir(path)) if name.endswith(".script")]
-    except OSError as error:
-        raise Fault("%s: %s" % (path, error.strerror))
+    if not os.path.isdir(path):
+        return [path]
+    found = [os.path.join(path, name) for name in names_in(path) if name.endswith(".script")]
     if not found:
         raise Fault("%s: no file there ends with .script" % path)
     return found
@@ -54,12 +51,10 @@ def scripts_at(path):
 
 def read_script(name, data):
     """A script that expects something."""
-    try:
+    with faults_of(name):
         source = read_source(data)
-    except Fault as fault:
-        raise Fault("%s: %s" % (name, fault))
-    if not source.expected:
-        raise Fault("%s: no line expects anything" % name)
+        if not source.expected:
+            raise Fault("no line expects anything")
     return Named(name, source)
 
 
@@ -113,12 +108,10 @@ class Trial:
 def trial_of(named: Named, program, most):
     """What became of a script's expectations."""
     trial = Trial(named.source, program, most)
-    try:
+    with faults_of(named.name):
         trial.run_own()
         if trial.left:
             trial.run_orders()
-    except Fault as fault:
-        raise Fault("%s: %s" % (named.name, fault))
     return trial.failures
 
 

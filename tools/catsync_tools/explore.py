@@ -4,7 +4,7 @@ import os
 import re
 
 from .arguments import MOST_ORDERS, Arguments, count_of
-from .faults import INTERRUPTED, Fault, check_file, make_folder, read_file, read_input, write_file, write_output
+from .faults import INTERRUPTED, Fault, check_file, make_folder, names_in, read_file, read_input, remove_file, write_file, write_output
 from .outputs import read_output
 from .parts import MOST_PARTS, Part, check_same, merged, part_text, read_part
 from .picture import commands_shown, picture_of, span_of
@@ -43,7 +43,8 @@ def arguments_of(words):
     parser.option("--interleaved", action="store_true", help="pass over what a serial order of commands leads to")
     parser.option("--places", action="store_true", help="answers that name other entries (as of N) are other answers; then "
                   "no two schedules are the same order")
-    parser.option("--picture", metavar="DIR", help="draw the schedule of each set, or the one that is found, in DIR")
+    parser.option("--picture", metavar="DIR", help="draw the schedule of each set, or the one that is found, in DIR, in "
+                  "place of those of an earlier search")
     parser.option("--html", action="store_true", help="pictures are pages")
     parser.option("--jobs", type=count_of, metavar="N", help="use N processors (all; with --part one)")
     parser.option("--part", type=part_of, metavar="K/N", help="do part K of N parts of the search, and print it for --merge")
@@ -68,8 +69,10 @@ def check(parser, options):
     for name in OF_SEARCHES:
         if options.merge and getattr(options, name) not in (None, False, []):
             parser.error("--%s doesn't go with --merge" % name)
-    if bool(options.merge) != bool(options.files):
-        parser.error("--merge needs FILEs" if options.merge else "FILEs are for --merge")
+    if options.merge and not options.files:
+        parser.error("--merge needs FILEs")
+    if options.files and not options.merge:
+        parser.refuse(options.files)
     if "" in options.find:
         parser.error("--find needs a text")
     if options.out and not options.part:
@@ -158,6 +161,7 @@ def tell_sets(options, exploration, status):
         sets = [shown for shown in sets if serial.is_interleaved(shown.answers)]
     for number, shown in enumerate(sets, 1):
         draw(options, exploration, "set%d" % number, shown.run)
+    remove_earlier(options, "set([0-9]+)", len(sets))
     write_output(report(extent_of(options, exploration), serial, sets))
     return status
 
@@ -166,6 +170,7 @@ def tell_find(options, exploration, status):
     """Tells what was found, and draws it if it is to be drawn; the exit status."""
     extent = extent_of(options, exploration)
     if exploration.found is None:
+        remove_earlier(options, "found()", 0)
         write_output(not_found(extent, options.find))
         return status or NOT_FOUND
     run = exploration.runner.with_turns(exploration.found)
@@ -185,6 +190,16 @@ def draw(options, exploration, name, run):
         output = read_output(run.output)
         commands = commands_shown(exploration.source)
         write_file(picture_path(options, name), picture_of(output, options.html, span_of(len(output.entries)), commands))
+
+
+def remove_earlier(options, names, count):
+    """Removes the pictures of an earlier search: those with such a name, beyond so many."""
+    if options.picture:
+        for name in names_in(options.picture):
+            path = os.path.join(options.picture, name)
+            found = re.fullmatch(names + "[.]" + ("html" if options.html else "svg"), name)
+            if found and int(found.group(1) or 1) > count and os.path.isfile(path):
+                remove_file(path)
 
 
 def merge(options):

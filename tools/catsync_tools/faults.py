@@ -1,7 +1,7 @@
 """Faults of the input or the command line: one line on standard error, and an exit status other than 0."""
+import contextlib
 import errno
 import os
-import signal
 import sys
 import tempfile
 
@@ -13,21 +13,13 @@ class Fault(Exception):
     """Something that the user gave is wrong; its text says what, and where."""
 
 
-def run(name, main, arguments):
-    """Runs a command; its exit status. A fault is said in one line that begins with the command's name. SIGTERM, by which
-    batch systems end what has taken too long, and SIGHUP, which comes as a terminal closes, are taken as Ctrl-C is; SIGHUP
-    not under nohup."""
-    signal.signal(signal.SIGTERM, signal.default_int_handler)
-    if signal.getsignal(signal.SIGHUP) != signal.SIG_IGN:
-        signal.signal(signal.SIGHUP, signal.default_int_handler)
+@contextlib.contextmanager
+def faults_of(path):
+    """What is faulty within it is of this file."""
     try:
-        return main(arguments)
+        yield
     except Fault as fault:
-        say("%s: %s" % (name, fault))
-        return BAD
-    except KeyboardInterrupt:
-        say("%s: interrupted" % name)
-        return INTERRUPTED
+        raise Fault("%s: %s" % (path, fault))
 
 
 def say(line):
@@ -74,7 +66,7 @@ def read_file(path):
         with open(path, "rb") as file:
             return file.read()
     except OSError as error:
-        raise Fault("%s: reading failed: %s" % (path, error.strerror))
+        raise Fault("%s: reading failed: %s" % (path or "''", error.strerror))
 
 
 def make_folder(path):
@@ -83,6 +75,22 @@ def make_folder(path):
         os.makedirs(path, exist_ok=True)
     except OSError as error:
         raise Fault("%s: the folder can't be made: %s" % (path, error.strerror))
+
+
+def names_in(path):
+    """The names in a folder, sorted."""
+    try:
+        return sorted(os.listdir(path))
+    except OSError as error:
+        raise Fault("%s: %s" % (path, error.strerror))
+
+
+def remove_file(path):
+    """Removes a file."""
+    try:
+        os.remove(path)
+    except OSError as error:
+        raise Fault("%s: removing failed: %s" % (path, error.strerror))
 
 
 def is_written_to(path):

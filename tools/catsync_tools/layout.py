@@ -13,6 +13,7 @@ HEADER = 22
 HEADER_EVERY = 40       # rows of entries between two headers
 LEAST_BELOW = 10        # entries below a header
 WIDTH = 1340            # what a laptop shows beside a page's edge
+WIDEST = 10000          # of a window, which a page's rows fill
 LEAST_CHARS, MOST_CHARS = 48, 100
 MOST_LINES = 3          # of an entry's text, before it is cut
 MOST_ANSWER_LINES = 6
@@ -44,7 +45,7 @@ class Span(NamedTuple):
 
 class Wanted(NamedTuple):
     """What a picture is to have: which entries, the texts of which commands, whether in brief, how wide it may be, and
-    whether it is part of a page, which itself has the names of the lanes and the sentences of entries."""
+    whether it is part of a page, which itself has the names of the lanes and the sentences of entries, and fills its window."""
     span: Span
     commands: Commands = {}
     brief: bool = False
@@ -88,7 +89,7 @@ class Lane(NamedTuple):
 
 
 class Layout(NamedTuple):
-    """Where everything is."""
+    """Where everything is. Rows go to the right edge, in a page to that of the window."""
     span: Span
     rows: List[Row]
     headers: List[Row]
@@ -100,6 +101,7 @@ class Layout(NamedTuple):
     bottom: float
     text: float
     width: float
+    right: float
     height: float
 
     def middle(self, number):
@@ -228,4 +230,4 @@ def layout_of(story: Story, wanted: Wanted, top, least_width):
     headers = [row for row in rows.rows if row.kind == "header"]
     width = max(text + rows.longest * CHAR + 10, least_width)
     return Layout(wanted.span, rows.rows, headers, middles, lanes, columns, numbers, headers[0].y + HEADER if headers else top,
-                  rows.y, text, width, rows.y + 8)
+                  rows.y, text, width, WIDEST if wanted.in_page else width, rows.y + 8)

@@ -118,6 +118,31 @@ function show(at) {
   if (below > 0 || box.offsetTop < state.scrollTop) state.scrollTop = Math.max(0, box.offsetTop - state.clientHeight / 3);
 }
 
+// A text as lines of so many characters at most, broken as the picture's own are (wrapped in layout.py).
+function wrapped(text, chars) {
+  const lines = [];
+  while (text.length > chars) {
+    const blank = text.lastIndexOf(' ', chars - 1) + 1, at = blank > Math.floor(chars / 3) ? blank : chars;
+    lines.push(text.slice(0, at));
+    text = text.slice(at);
+  }
+  return [...lines, text];
+}
+
+// Breaks the texts of several lines anew, so that they use the window's width. The heights of rows stay.
+const texts = [...rowsBox.querySelectorAll('text[data-text]')].map(text => [text.dataset.text, [...text.children]]);
+let chars = 0;
+function fit() {
+  const room = Math.floor((Math.max(picture.clientWidth, data.width) - data.text - 10) / data.char + 0.01);
+  if (room === chars) return;
+  chars = room;
+  for (const [text, parts] of texts) {
+    const lines = wrapped(text, chars), last = parts.length - 1;
+    if (last + 1 < lines.length) lines[last] = lines[last].trimEnd().slice(0, -4) + ' ...';
+    parts.forEach((part, at) => part.textContent = lines[at] || '');
+  }
+}
+
 // Brings a row and the lane of its backend into view.
 function reveal(at) {
   const [, last, y, height] = data.rows[at];
@@ -177,4 +202,6 @@ function fromAddress() {
   select(number ? rowOf(number) : Math.max(0, here));
 }
 window.addEventListener('hashchange', fromAddress);
+window.addEventListener('resize', fit);
+fit();
 fromAddress();

@@ -8,8 +8,9 @@ from .drawing import Drawing, lane_names, svg
 from .layout import HEADER, Wanted
 from .state import state_of
 from .story import Story
+from .svg import number
 
-PAGE_WIDTH = 900
+PAGE_WIDTH = 840        # of the picture in a window of 1300 by 800; in a wider one it is wider
 HERE = os.path.dirname(os.path.abspath(__file__))
 
 
@@ -30,10 +31,10 @@ def page(story: Story, wanted: Wanted, drawing: Drawing):
     top = layout.rows[0].y
     return part("page.html") % {
         "title": escape(drawing.title),
-        "style": part("page.css"),
-        "head": svg(layout.width, drawing.top, drawing.head),
-        "lanes": svg(layout.width, HEADER, lane_names(layout, 0, HEADER)),
-        "rows": svg(layout.width, layout.height - top, drawing.rows, top),
+        "style": part("page.css"), "width": number(layout.width),
+        "head": svg(layout.width, drawing.top, drawing.head, 0, True),
+        "lanes": svg(layout.width, HEADER, lane_names(layout, 0, HEADER), 0, True),
+        "rows": svg(layout.width, layout.height - top, drawing.rows, top, True),
         "data": data_of(state_of(story, wanted, layout, drawing.sentences)),
         "script": part("page.js"),
     }

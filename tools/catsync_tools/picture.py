@@ -1,7 +1,7 @@
 """The command tools/picture."""
 from .arguments import Arguments
 from .drawing import draw, picture
-from .faults import Fault, read_file, read_input, write_output
+from .faults import Fault, faults_of, read_file, read_input, write_output
 from .layout import WIDTH, Commands, Span, Wanted
 from .matching import check_script
 from .outputs import read_output
@@ -21,7 +21,8 @@ def arguments_of(words):
     parser.option("--html", action="store_true", help="a page to step through with the arrow keys, with each backend's state")
     parser.option("--script", metavar="FILE", help="the script, for each command's text above its first entry")
     parser.option("--brief", action="store_true", help="looks and the scans of a descriptor share a row")
-    parser.option("--width", type=int, metavar="N", help="how many pixels wide it is, if its lanes allow it (%d)" % WIDTH)
+    parser.option("--width", type=int, metavar="N", help="how many pixels wide it is, if its lanes allow it (%d); a page fills its "
+                  "window, if that is wider" % WIDTH)
     parser.option("--from", dest="first", type=int, metavar="N", help="the first entry to draw (1)")
     parser.option("--to", dest="last", type=int, metavar="N", help="the last entry to draw (the last there is)")
     options = parser.parse(words)
@@ -50,10 +51,8 @@ def commands_shown(source) -> Commands:
 def script_of(path, output) -> Commands:
     """The commands of the script in a file, of which this is an output."""
     data = read_file(path)
-    try:
+    with faults_of(path):
         source = read_source(data)
-    except Fault as fault:
-        raise Fault("%s: %s" % (path, fault))
     check_script(path, source, output)
     return commands_shown(source)
 
@@ -72,6 +71,6 @@ def main(words):
     options = arguments_of(words)
     output = read_output(read_input())
     span = span_of(len(output.entries), options.first, options.last)
-    commands = script_of(options.script, output) if options.script else None
+    commands = script_of(options.script, output) if options.script is not None else None
     write_output(picture_of(output, options.html, span, commands, options.brief, options.width))
     return 0

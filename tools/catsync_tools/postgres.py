@@ -10,6 +10,7 @@ import tempfile
 import time
 
 from .faults import Fault
+from .folder import Folder, remove_left
 from .interrupts import SIGNALS, waiting
 from .session import Session
 
@@ -50,7 +51,8 @@ class Server:
         if self.programs is None or not os.access(os.path.join(self.programs, "postgres"), os.X_OK):
             raise Fault("no PostgreSQL server in %s: 'apt-get install postgresql' brings one, --programs DIR names another" % (
                 self.programs or FOLDERS))
-        self.account, self.process, self.databases, self.folder, self.said = account(), None, 0, None, None
+        self.account, self.process, self.databases, self.own, self.said = account(), None, 0, None, None
+        remove_left(self.account)
         try:
             with waiting():
                 self.make_folder()
@@ -62,11 +64,14 @@ class Server:
     def make_folder(self):
         """Makes the folder, and a file for what the server's programs say."""
         try:
-            self.folder, self.said = tempfile.mkdtemp(prefix="catsync"), tempfile.TemporaryFile()
-            if self.account:
-                os.chown(self.folder, *self.account)
+            self.own, self.said = Folder(self.account), tempfile.TemporaryFile()
         except OSError as error:
             raise Fault("no folder can be made for the server: %s" % error.strerror)
+
+    @property
+    def folder(self):
+        """The path of its folder."""
+        return self.own.path
 
     def __enter__(self):
         return self
@@ -148,8 +153,8 @@ class Server:
         """Stops the server and removes its folder, whatever signals come."""
         with waiting():
             self.stop_process()
-            if self.folder is not None:
-                shutil.rmtree(self.folder, ignore_errors=True)
+            if self.own is not None:
+                self.own.remove()
             if self.said is not None:
                 self.said.close()
 

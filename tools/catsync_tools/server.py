@@ -1,8 +1,9 @@
 """The command tools/server."""
 from .arguments import Arguments
 from .beside import compare
+from .counting import counted_script
 from .differences import all_differences, profile
-from .faults import read_file, write_output
+from .faults import faults_of, read_file, write_output
 from .postgres import Server
 from .program import Program, proved_program
 from .sentences import counted
@@ -14,7 +15,7 @@ DIFFERS = 1
 def arguments_of(words):
     """The command line."""
     parser = Arguments("server", "[OPTION].. SCRIPT", "Runs a script's commands one after the other in the program and in a "
-                       "PostgreSQL server of its own, and prints answer beside answer.",
+                       "PostgreSQL server of its own, and prints answer beside answer. What a killed run has left is removed.",
                        ((0, "no answers differ but as docs/PROFILE.md says"), (1, "others differ")))
     parser.option("script", metavar="SCRIPT", help="a script's file")
     parser.option("--programs", metavar="DIR", help="the folder of initdb and postgres (that of Debian's newest package)")
@@ -25,10 +26,13 @@ def arguments_of(words):
 def main(words):
     """Compares a script's answers with those of a server."""
     options = arguments_of(words)
-    source = read_source(read_file(options.script))
-    program = Program(options.program or proved_program())
+    data, program = read_file(options.script), Program(options.program or proved_program())
+    with faults_of(options.script):
+        source = read_source(data)
+        program.run(counted_script(source, lambda: program))    # what is faulty in it needs no server
     with Server(options.programs) as server:
-        all_compared = compare(source, program, server)
+        with faults_of(options.script):
+            all_compared = compare(source, program, server)
         version = server.version()
     found = all_differences(all_compared, profile())
     write_output(report(version, all_compared, found))

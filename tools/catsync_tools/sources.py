@@ -18,8 +18,9 @@ from .expected import Expectation, check_expectation, read_expectation
 from .faults import Fault
 from .items import Answered, Count, Item, check_item, read_items
 from .scripts import Script
-from .spellings import refused, respelled, without_comment, words_of
+from .spellings import refused, respelled, tokens_of, without_comment, words_of
 
+MOST_BYTES = 1048576
 OTHER, COMMAND, STEPS, EXPECT = "other", "command", "steps", "expect"
 
 _COMMAND = re.compile(r"([ \t]*([0-9]{1,9})[ \t]*:)(.*)", re.DOTALL)
@@ -60,6 +61,11 @@ class Source(NamedTuple):
         return bool(self.setup) or any(not isinstance(item.until, Count) for item in self.items)
 
 
+def no_backends(number):
+    """The fault of a script without a line of backends, where another line stands in place of it."""
+    return Fault("line %d: NoBackends: the first line, but for a ring line, must read 'backends N'" % number)
+
+
 class Reader:
     """Reads the lines of a script one after the other."""
 
@@ -68,6 +74,7 @@ class Reader:
         self.backends = 0
         self.counts: Dict[int, int] = {}
         self.latest = OTHER
+        self.has_none = True            # no line yet but blank ones, comments, a ring and what is expected
 
     def read(self, line):
         """One more line, without its line feed."""
@@ -79,7 +86,7 @@ class Reader:
             line = text.encode("latin-1")
         if self.source.tail:
             if words and not words[0].startswith("--"):
-                raise Fault("line %d: only blank lines and comments may follow the 'end' line" % self.number)
+                raise Fault("line %d: AfterEnd: only blank lines and comments may follow the 'end' line" % self.number)
             self.source.tail.append(line)
         elif words == ["end"]:
             self.source.tail.append(line)
@@ -101,8 +108,13 @@ class Reader:
         """A line that counts, before `end`."""
         other = _OTHER_BYTE.search(text)
         if other:
-            raise Fault("line %d: the byte 0x%02X in column %d is neither printable ASCII nor a tab" % (
+            raise Fault("line %d: BadByte: the byte 0x%02X in column %d is neither printable ASCII nor a tab" % (
                 self.number, ord(other.group()), other.start() + 1))
+        first = tokens_of(text)[0]
+        if self.has_none and first not in ("ring", "expect"):
+            if first != "backends":
+                raise no_backends(self.number)
+            self.has_none = False
         if words[0] == "steps":
             self.put(STEPS, line, read_items(self.number, text))
             self.latest = STEPS
@@ -134,7 +146,7 @@ class Reader:
         """A command line; its backend."""
         place, backend, command = _COMMAND.fullmatch(text).groups()
         if self.latest == STEPS:
-            raise Fault("line %d: no command may follow a steps line" % self.number)
+            raise Fault("line %d: LateCommand: no command may follow a steps line" % self.number)
         if refused(command):
             raise Fault("line %d: %s" % (self.number, refused(command)))
         spelled = respelled(command)
@@ -147,8 +159,8 @@ class Reader:
         """The whole script, once all lines are read. What the grammar says of the lines themselves the program tells."""
         if not self.source.tail:
             # what follows the last line feed is a line only where there is something
-            is_line = self.source.lines[-1].text != b""
-            raise Fault("line %d: the input ends without an 'end' line" % (self.number - 1 + is_line))
+            number = self.number - 1 + (self.source.lines[-1].text != b"")
+            raise no_backends(number) if self.has_none else Fault("line %d: NoEnd: the input ends without an 'end' line" % number)
         if self.backends:
             for item in self.source.items:
                 check_item(item, self.backends, self.counts)
@@ -159,6 +171,8 @@ class Reader:
 
 def read_source(data):
     """The script of an input; a Fault names the line that has none of its forms."""
+    if len(data) > MOST_BYTES:
+        raise Fault("the script has more than %d bytes" % MOST_BYTES)
     reader = Reader()
     for line in data.split(b"\n"):
         reader.read(line)

@@ -6,7 +6,7 @@ A thing holds after its first entry and no more after its last. Numbers of entri
 import bisect
 from typing import Dict, List, NamedTuple, Optional
 
-from .layout import Layout, Wanted
+from .layout import CHAR, Layout, Wanted
 from .sentences import MODE_NAMES, listed
 from .story import Story
 from .why import Why, at
@@ -139,5 +139,6 @@ def state_of(story: Story, wanted: Wanted, layout: Layout, sentences):
         "lives": [[life.backend, life.first, life.last] for life in story.lives],
         "places": {str(backend): own for backend, own in story.log.places.items()},
         "lanes": {str(lane.backend): [lane.left, lane.right] for lane in layout.lanes.values()},
+        "text": layout.text, "char": CHAR, "width": layout.width,
         **part_of_log(story, span),
     }

@@ -189,7 +189,7 @@ fn is_mark(found: &[u8]) -> bool {
     matches!(found, [b'(' | b')' | b',' | b'=' | b':' | b'*' | b';'])
 }
 
-// Why a word is no name, or no number, where one is wanted.
+// Why a word is no name, no statistics target, or no number, where one is wanted.
 fn why_not(found: &[u8], wanted: &[Symbol]) -> Option<&'static str> {
     if is_wanted(wanted, Symbol::Name) {
         return match Name::new(found) {
@@ -202,6 +202,9 @@ fn why_not(found: &[u8], wanted: &[Symbol]) -> Option<&'static str> {
             ),
             _ => None,
         };
+    }
+    if is_wanted(wanted, Symbol::Target) && !found.is_empty() {
+        return Some(" (a statistics target is from -1 to 10000, and has at most nine digits)");
     }
     let is_number = found.iter().all(|byte| byte.is_ascii_digit());
     if is_wanted(wanted, Symbol::Number) && is_number && found.len() > 9 {
