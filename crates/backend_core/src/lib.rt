@@ -9,8 +9,8 @@
 //! of them covers, those of an open descriptor too, which it then makes again; after a fetch of 32
 //! it looks again. A backend that the queue has lapped fetches a reset in their place: all scans are
 //! dropped, a build that has made its first scan starts over with another look, and what an opened
-//! descriptor lacks is scanned before the command goes on. A command that has come out is answered, and then ended: a transaction of its
-//! own is committed or taken back, a block goes on, fails or ends
+//! descriptor lacks is scanned before the command goes on. A command that has come out is answered, and
+//! then ended: a transaction of its own is committed or taken back, a block goes on, fails or ends
 //! (`src/backend/access/transam/xact.c`). A commit publishes the messages of its writes between its
 //! visibility step and its release, at most 64 at a time, all for the catalog caches before all for
 //! descriptors; what a rollback takes back is never published. One step makes exactly one entry;
@@ -25,11 +25,10 @@
 //! what the commands answer, and the calls of the segment.
 //!
 //! The promise: a backend *stands* in the history of its segment (`specs/Agrees.antt`): its progress holds
-//! its session there, its transcript is its part of the lines. A step keeps that, and its entry is one that the history allows and that the
-//! script's commands make next (`specs/Steps.antt`). An entry of another backend keeps it too: of all
-//! that a backend holds nothing depends on others' entries, but that a relation which it has found is
-//! there still, and that is a law of histories whose writes keep tables (cacheless, `TableWrites` and
-//! `StillSeen`). What a backend shows of a field under locks that protect it is the field's text as it
+//! its session there, its transcript is its part of the lines. A step keeps that, and its entry is one that
+//! the history allows and that the script's commands make next (`specs/Steps.antt`). An entry of another
+//! backend changes nothing that a backend holds. Its next step rests on a law of histories whose writes
+//! keep tables: a relation that it has found still exists (cacheless, `TableWrites` and `StillSeen`). What a backend shows of a field under locks that protect it is the field's text as it
 //! is now by another law (cacheless, `ProtectedFields`); any other field is shown as it was read.
 //!
 //! ```text

@@ -19,7 +19,7 @@ impl Backend {
     ghost use Rattle.backend_core.specs.Agrees.{AgreesNow, GoesOn, AwaitsEntry, is_to_answer_at};
     ghost use Rattle.backend_core.specs.Answering.{IsToldText};
 
-    // Goes on as far as it can without an entry. The segment is there for what is said of it.
+    // Goes on as far as it can without an entry. The segment isn't used: the contract names it.
     pub(crate) fn settle<L: Seg>(&mut self, alloc: Global, seg: &L) -> Result<(), NoMemory>
         requires agrees { AgreesNow (L.script seg.now) (L.history seg.now) self.old }
         ensures waits { OnOk result (AwaitsEntry (L.script seg.now) (L.history seg.now) self.new) }

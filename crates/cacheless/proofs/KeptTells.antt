@@ -1,4 +1,4 @@
--- Scans that a backend keeps, with what they gave and where they stand, tell of a command what its last scans tell. They may be kept as values of any type.
+-- An answer made of the cached scans is the one made of the last scans. They may be kept as values of any type.
 use Rattle.std.proofs.Common.{◌≡◌, ◌∙◌, ℕ, Bool, true, false, Some, List, [], ◌∷◌, ◌||◌, cond, if◌then◌else◌, refl, sym, ap, ◌≤◌, length}
 use Rattle.std.specs.List.{AllByRecursion, find, list_any}
 use Rattle.std.specs.Option.{option_map_or}

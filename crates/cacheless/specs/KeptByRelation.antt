@@ -36,7 +36,7 @@ module _ {S : Type 0} where
     pub there : get nat_eq starts (relation_of k.scan) ≡ Some start
     pub after : start ≤ number
 
-  -- so is each of the scans, which are numbered from this one on
+  -- each of these scans, numbered from this one on, is for a descriptor and not before its relation's start
   abbrev pub AreFound : HashMap ℕ ℕ S → ℕ → List KeptScan → Type 0
   AreFound starts number [] = ⊤
   AreFound starts number (k ∷ kept) = IsFound starts number k × AreFound starts (suc number) kept

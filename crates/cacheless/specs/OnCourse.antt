@@ -87,7 +87,7 @@ NamedFits seen b (Do (Lookup name mode) rest) true = IsFirstSeen seen b (rows_re
 NamedFits seen b (Absent name) read = class_oid (rows_read seen b (scans.RelName name)) ≡ None
 NamedFits seen b plan read = ⊤
 
--- a command that failed to find a relation was at its first act before, to which a fetch brings it back
+-- a command that found no relation has done only its lookup, which a fetch repeats
 pub record WasSought (seen : List Entry) (b : ℕ) (s : Session) (command : Command) (name : List ℕ) : Type 0 where
   pub mode : Mode
   pub rest : List Row → Plan

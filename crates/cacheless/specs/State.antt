@@ -106,7 +106,7 @@ rows_kept kept scan = option_map_or (λ k. k.rows) (find (λ k. same_scan k.scan
 abbrev pub kept_spared : List Message → List KeptScan → List KeptScan
 kept_spared messages kept = filter (λ k. is_spared k.scan messages) kept
 
--- whether the scan of the name or the column on which the plan rests, or with which a search found no relation, serves after messages
+-- whether the scan behind the next act, or behind the answer that no relation has the name, is usable after messages
 abbrev pub named_spared : List Message → Plan → Bool → Bool
 named_spared messages (Do (Lookup name mode) rest) named = named && is_spared (scans.RelName name) messages
 named_spared messages (Do (Column rel name) rest) named = named && is_spared (scans.AttName rel name) messages

@@ -1,4 +1,4 @@
-// What the entries make of it that begin and end a session, and those of an accept of messages
+// How a session changes with its start and its stop, and with the look, fetch and reset of an accept of messages
 // (`AcceptInvalidationMessages` in `src/backend/utils/cache/inval.c`, `ReceiveSharedInvalidMessages` in
 // `src/backend/storage/ipc/sinval.c`).
 
