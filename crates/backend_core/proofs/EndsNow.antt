@@ -19,12 +19,11 @@ use Rattle.cacheless.specs.Plays.{IsEnd, IsLastEnd, MayPlay, MayPlayLast, MayPla
 use Rattle.cacheless.specs.Runs.{runs}
 use Rattle.cacheless.specs.Session.{Session, Outcome, Well, Badly, Unsettled, none_open, number_of, outcome_of, is_settled, plan_admitted, plan_first, refused_first}
 use Rattle.cacheless.specs.Sessions.{ends_command}
-use Rattle.cacheless.specs.Settled.{blocks_after}
 use Rattle.cacheless.specs.Types.{CommandError}
 use Rattle.cacheless.proofs.OwnEntries.{ends_out}
 use Rattle.cacheless.proofs.SilentActs.{both_empty}
 use Rattle.backend_core.specs.Types.{Xid, Command, Event}
-use Rattle.backend_core.specs.Fits.{first_at, RunsBy, TransactionFits, is_inside, Fits}
+use Rattle.backend_core.specs.Fits.{outermost, first_at, RunsFailed, RunsIn, RunsBy, RunsAfter, TransactionFits, Fits}
 use Rattle.backend_core.proofs.NextTransaction.{some_first}
 
 -- the end of the running command, or after the last one that of what still runs
@@ -188,6 +187,12 @@ from_well facts o s commands.Commit from by is = from_block facts s.blocks.block
 from_well facts o s commands.Rollback from by is = from_block facts s.blocks.block false (number_of s) from is
 from_well facts o s command from by is = from_alone facts o s s.blocks.block from by is
 
+-- one level is the outermost and the innermost
+one_outermost : (n : ℕ) (levels : List Level) → length levels ≤ 1 → outermost n levels ≡ innermost n levels
+one_outermost n [] one = refl
+one_outermost n (level ∷ []) one = refl
+one_outermost n (level ∷ inner ∷ levels) one = absurd (omega (arith, one))
+
 -- outside blocks the innermost level is the command itself
 level_outside : (levels : List Level) (n : ℕ) → false ≡ not (is_empty levels) → innermost n levels ≡ n
 level_outside [] n is = refl
@@ -223,7 +228,7 @@ module _ (facts : Facts) (o : Option Command) (s : Session) (looked to_build : B
     where
       by_block : (block : Block) → s.blocks.block ≡ block → s.blocked ≡ false → RunsBy facts o s block → first_begun facts s ≡ innermost (number_of s) s.blocks.levels
       by_block Outside outside admitted by = first_alone facts o s by ∙ sym (level_outside s.blocks.levels (number_of s) (ap (λ b. elim b as (λ x. Bool) [ Outside ↦ false | block ↦ true ]) (sym outside) ∙ fits.opens))
-      by_block Inside inside admitted by = first_some facts.running (number_of s) (innermost (number_of s) s.blocks.levels) by.runs (by.first (number_of s))
+      by_block Inside inside admitted by = first_some facts.running (number_of s) (innermost (number_of s) s.blocks.levels) by.runs (by.first (number_of s) ∙ one_outermost (number_of s) s.blocks.levels fits.one_level)
       by_block Failed failed admitted by = absurd (let no : Well ≡ Badly = sym (ap outcome_of (failed_done failed admitted)) ∙ badly in cc no)
 
       by_blocked : (t : Bool) → s.blocked ≡ t → end_from (elim t as (λ x. End) [ true ↦ Ends | false ↦ TakesBack (innermost (number_of s) s.blocks.levels) ]) ≡ Some from → first_begun facts s ≡ from
@@ -244,28 +249,34 @@ pub end_first : (facts : Facts) (o : Option Command) (s : Session) (looked to_bu
 end_first facts None s looked to_build from built fits going is = from_all facts.running (number_of s) from is
 end_first facts (Some command) s looked to_build from built fits going is = first_of_end facts (Some command) s looked to_build command refl (built command refl) fits going from is
 
--- after it no block goes on
-pub over_after : (facts : Facts) (command : Command) (s : Session) (from : ℕ) → end_from (end_of facts command s) ≡ Some from → is_inside (blocks_after command s) ≡ false
-over_after facts command s from is = by_outcome (outcome_of s.left) is
-  where
-    badly : (block : Block) → s.blocks.block ≡ block → is_inside (elim block as (λ x. Blocks) [ Outside ↦ s.blocks | other ↦ record { block = Failed; levels = s.blocks.levels } ]) ≡ false
-    badly Outside at = ap (λ b. elim b as (λ x. Bool) [ Inside ↦ true | block ↦ false ]) at
-    badly Inside at = refl
-    badly Failed at = refl
+-- a block that failed and has one level runs none
+failed_none : (facts : Facts) (levels : List Level) → length levels ≤ 1 → facts.running ≡ None → RunsFailed facts levels
+failed_none facts [] one none = none
+failed_none facts (level ∷ []) one none = none
+failed_none facts (level ∷ inner ∷ levels) one none = absurd (omega (arith, one))
 
-    stays : (block : Block) → s.blocks.block ≡ block → end_from (elim block as (λ x. End) [ Outside ↦ Commits (number_of s) | other ↦ Ends ]) ≡ Some from → is_inside s.blocks ≡ false
-    stays Outside at end = ap (λ b. elim b as (λ x. Bool) [ Inside ↦ true | block ↦ false ]) at
+-- where an end left none, none belongs to the blocks after it
+pub none_after : (facts later : Facts) (command : Command) (s : Session) (from : ℕ) → length s.blocks.levels ≤ 1 → end_from (end_of facts command s) ≡ Some from → later.running ≡ None → RunsAfter later (Some command) s
+none_after facts later command s from one is none = by_outcome (outcome_of s.left) is
+  where
+    badly : (block : Block) → s.blocks.block ≡ block → RunsIn later (elim block as (λ x. Blocks) [ Outside ↦ s.blocks | other ↦ record { block = Failed; levels = s.blocks.levels } ]).levels (elim block as (λ x. Blocks) [ Outside ↦ s.blocks | other ↦ record { block = Failed; levels = s.blocks.levels } ]).block
+    badly Outside at = subst (RunsIn later s.blocks.levels) (sym at) none
+    badly Inside at = failed_none later s.blocks.levels one none
+    badly Failed at = failed_none later s.blocks.levels one none
+
+    stays : (block : Block) → s.blocks.block ≡ block → end_from (elim block as (λ x. End) [ Outside ↦ Commits (number_of s) | other ↦ Ends ]) ≡ Some from → RunsIn later s.blocks.levels s.blocks.block
+    stays Outside at end = subst (RunsIn later s.blocks.levels) (sym at) none
     stays Inside at end = absurd (cc end)
     stays Failed at end = absurd (cc end)
 
-    well : (c : Command) → end_from (end_well facts c s) ≡ Some from → is_inside (blocks_well (number_of s) c s.blocks) ≡ false
+    well : (c : Command) → end_from (end_well facts c s) ≡ Some from → RunsIn later (blocks_well (number_of s) c s.blocks).levels (blocks_well (number_of s) c s.blocks).block
     well commands.Begin end = absurd (cc end)
-    well commands.Commit end = refl
-    well commands.Rollback end = refl
+    well commands.Commit end = none
+    well commands.Rollback end = none
     well c end = stays s.blocks.block refl end
 
     by_outcome : (x : Outcome) → end_from (elim x as (λ y. End) [ Well ↦ end_well facts command s | Badly ↦ end_badly s | Unsettled ↦ Ends ]) ≡ Some from
-        → is_inside (elim x as (λ y. Blocks) [ Well ↦ blocks_well (number_of s) command s.blocks | outcome ↦ blocks_badly s.blocks ]) ≡ false
+        → RunsIn later (elim x as (λ y. Blocks) [ Well ↦ blocks_well (number_of s) command s.blocks | outcome ↦ blocks_badly s.blocks ]).levels (elim x as (λ y. Blocks) [ Well ↦ blocks_well (number_of s) command s.blocks | outcome ↦ blocks_badly s.blocks ]).block
     by_outcome Well end = well command end
     by_outcome Badly end = badly s.blocks.block refl
     by_outcome Unsettled end = absurd (cc end)

@@ -7,7 +7,7 @@ use Rattle.std.proofs.lemmas.Bool.{both_ways, eq-eqb, le-leb, lt-leb, ltb-true, 
 use Rattle.base_types.specs.declared.command.Command.TheVariants as commands
 use Rattle.event_kinds.specs.declared.entry.Event.TheVariants as events
 use Rattle.inval_messages.specs.Lists.{Written, has_write_from, lists_before}
-use Rattle.txn_blocks.specs.Blocks.{Block, Outside, Inside, Failed}
+use Rattle.txn_blocks.specs.Blocks.{Block, Level, Outside, Inside, Failed}
 use Rattle.ddl_effect.specs.Plans.{Plan, Done, Fails, Absent, NotBuilt, Do}
 use Rattle.history_model.specs.Sent.{ends_transaction}
 use Rattle.history_model.specs.Transactions.{Running, begun, after_release, is_visible}
@@ -19,8 +19,8 @@ use Rattle.cacheless.specs.Plays.{started_in}
 use Rattle.cacheless.specs.Runs.{runs}
 use Rattle.cacheless.specs.Session.{Session, Outcome, Well, Badly, Unsettled, number_of, outcome_of, is_settled}
 use Rattle.backend_core.specs.Types.{Purpose, Command, Event, OwnLock}
-use Rattle.backend_core.specs.Fits.{looks_due, first_at, RunsBy, TransactionFits, OnCommit, OnTakingBack, Fits}
-use Rattle.backend_core.proofs.EndsNow.{end_by, EndsBy, IsCommit, end_from, end_first, over_after}
+use Rattle.backend_core.specs.Fits.{looks_due, first_at, RunsBlock, RunsFailed, RunsBy, RunsAfter, TransactionFits, OnCommit, OnTakingBack, Fits}
+use Rattle.backend_core.proofs.EndsNow.{end_by, EndsBy, IsCommit, end_from, end_first, none_after}
 
 -- the session after an entry of an end, with its locks
 abbrev pub later_at : Session → List OwnLock → ℕ → Session
@@ -96,11 +96,19 @@ module _ (facts later : Facts) (o : Option Command) (s : Session) (looked to_bui
       none_runs : {X : Type 0} → facts.running ≡ None → X
       none_runs none = absurd (both_ways _ (ap (λ r. is_some r) none) goes.runs)
 
+      block_later : (levels : List Level) → RunsBlock facts levels → RunsBlock later levels
+      block_later levels block = record { runs = goes.some; first = λ c. first_same facts later goes ∙ block.first c }
+
+      by_levels : (levels : List Level) → RunsFailed facts levels → RunsFailed later levels
+      by_levels [] none = none_runs none
+      by_levels (level ∷ []) none = none_runs none
+      by_levels (level ∷ inner ∷ levels) block = block_later (level ∷ inner ∷ levels) block
+
       by_block : (block : Block) → RunsBy facts o s block → RunsBy later o (later_at s locks at) block
       by_block Outside (inl none) = none_runs none
       by_block Outside (inr alone) = inr (record { command = alone.command; at = alone.at; begins = alone.begins; first = first_same facts later goes ∙ alone.first })
-      by_block Inside block = record { runs = goes.some; first = λ c. first_same facts later goes ∙ block.first c }
-      by_block Failed none = none_runs none
+      by_block Inside block = block_later s.blocks.levels block
+      by_block Failed failed = by_levels s.blocks.levels failed
 
   -- where the transaction goes on
   pub fits_ending : GoesOn facts later → (has_write_from 0 later.lists ≡ true → option_map_or (λ t. is_some t.xid) later.running false ≡ true)
@@ -111,12 +119,12 @@ module _ (facts later : Facts) (o : Option Command) (s : Session) (looked to_bui
     first = subst (λ n. n ≤ number_of s) (sym (first_same facts later goes)) fits.first;
     opens = fits.opens;
     levels = fits.levels;
+    one_level = fits.one_level;
     blocked = fits.blocked;
     settled = fits.settled;
     written = written;
     visible = visible;
     taken = taken;
-    over = λ c here over. absurd (both_ways _ ends.going over);
     accepts = λ owes. absurd (both_ways _ owes (ap (λ l. is_empty l) goes.free));
     past = λ none. let p = fits.past none in record { out = p.out; opened = p.opened; free = goes.free };
   }
@@ -150,6 +158,7 @@ module _ (facts later : Facts) (o : Option Command) (s : Session) (looked to_bui
       by_command (Some command) is = record {
         command = command;
         at = is;
+        going = ends.going;
         out = ends.out;
         free = owed_later facts later command s locks at goes ends.out none;
         end = end_same facts later command s locks at goes ∙ ap (λ x. end_by facts x s) (sym is) ∙ commit.is ∙ ap Commits (sym first_is);
@@ -158,7 +167,7 @@ module _ (facts later : Facts) (o : Option Command) (s : Session) (looked to_bui
 
   -- taking back goes on
   pub takes_back_on : (from : ℕ) → GoesOn facts later → end_by facts o s ≡ TakesBack from → has_write_from from later.lists ≡ false → (outcome_of s.left ≡ Well → builds_owed later s.opened ≡ []) → OnTakingBack later o (later_at s locks at) from
-  takes_back_on from goes back bare none = record { runs = goes.some; out = ends.out; end = by_command o back; none = bare }
+  takes_back_on from goes back bare none = record { runs = goes.some; going = ends.going; out = ends.out; end = by_command o back; none = bare }
     where
       by_command : (x : Option Command) → end_by facts x s ≡ TakesBack from → elim x as (λ y. Type 0) [ Some c ↦ (end_of later c (later_at s locks at) ≡ TakesBack from) × (owed_of later c (later_at s locks at) ≡ []) | None ↦ end_of_all later ≡ TakesBack from ]
       by_command (Some c) is = (end_same facts later c s locks at goes ∙ is, owed_later facts later c s locks at goes ends.out none)
@@ -168,19 +177,23 @@ module _ (facts later : Facts) (o : Option Command) (s : Session) (looked to_bui
   pub fits_released : (from : ℕ) → later.running ≡ None → later.last ≡ Some (events.Release from) → has_write_from 0 later.lists ≡ false → end_from (end_by facts o s) ≡ Some from → Fits later o (record s { ended = true; locks = locks; last = at }) looked to_build
   fits_released from none last bare ends_from = record {
     looks = λ going. absurd (cc going);
-    transaction = none;
+    transaction = by_command o ends_from;
     first = subst (λ n. n ≤ number_of s) (sym (ap (λ r. option_map_or (λ (t : Running). t.first) r 0) none)) (omega arith);
     opens = fits.opens;
     levels = fits.levels;
+    one_level = fits.one_level;
     blocked = fits.blocked;
     settled = fits.settled;
     written = λ is. absurd (both_ways _ bare is);
     visible = λ is. absurd (both_ways _ (ap (λ r. is_visible r) none) is);
     taken = λ n is. absurd (let no : Some (events.Release from) ≡ Some (events.Gone n) = sym last ∙ is in cc no);
-    over = λ command here over. over_after facts command s from (ap (λ x. end_from (end_by facts x s)) (sym here) ∙ ends_from);
     accepts = λ owes. absurd (both_ways _ owes (ap (λ l. is_empty (owed_after l)) last));
     past = λ past. let p = fits.past past in record { out = p.out; opened = p.opened; free = ap owed_after last };
   }
+    where
+      by_command : (x : Option Command) → end_from (end_by facts x s) ≡ Some from → RunsAfter later x (record s { ended = true; locks = locks; last = at })
+      by_command None end = none
+      by_command (Some command) end = none_after facts later command s from fits.one_level end none
 
 -- a write of a later command is one
 pub write_from_first : (from : ℕ) (lists : List Written) → has_write_from from lists ≡ true → has_write_from 0 lists ≡ true

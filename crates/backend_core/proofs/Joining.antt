@@ -59,12 +59,12 @@ fits_first facts o at runs lists last = record {
   first = omega (arith, ap (λ r. option_map_or (λ (t : Running). t.first) r 0) runs);
   opens = refl;
   levels = omega arith;
+  one_level = omega arith;
   blocked = refl;
   settled = λ is. refl;
   written = λ is. absurd (both_ways _ (ap (has_write_from 0) lists) is);
   visible = λ is. absurd (both_ways _ (ap (λ r. is_visible r) runs) is);
   taken = λ from is. absurd (let both : Some events.Start ≡ Some (events.Gone from) = sym last ∙ is in cc both);
-  over = λ c here ended. absurd (cc ended);
   accepts = λ owes. absurd (both_ways _ owes (ap (λ l. is_empty (owed_after l)) last));
   past = λ none. subst (λ x. IsPast facts (at_command no_block [] [] at x)) (sym none) (record { out = refl; opened = refl; free = ap owed_after last });
 }

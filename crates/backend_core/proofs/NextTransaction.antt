@@ -1,5 +1,5 @@
 -- The blocks and the transaction of a backend when it passes to its next command.
-use Rattle.std.proofs.Common.{◌≡◌, ◌≤◌, ◌+◌, ◌∙◌, ◌&&◌, ◌∷◌, inl, inr, ℕ, Bool, true, false, not, Option, Some, None, List, [], refl, sym, ap, subst, is_none, is_some, arith}
+use Rattle.std.proofs.Common.{◌≡◌, ◌≤◌, ◌+◌, ◌∙◌, ◌&&◌, ◌∷◌, inl, inr, ℕ, Bool, true, false, not, Option, Some, None, List, [], refl, sym, ap, subst, length, is_none, is_some, arith}
 use Rattle.std.specs.Option.{option_map_or}
 use Rattle.std.proofs.lemmas.Bool.{both_ways}
 use Rattle.std.proofs.Math.Bool.{and-false}
@@ -10,49 +10,39 @@ use Rattle.history_model.specs.Writes.{is_empty}
 use Rattle.cacheless.specs.Facts.{Facts}
 use Rattle.cacheless.specs.Session.{Session, Outcome, Well, Badly, Unsettled, number_of, outcome_of, is_settled, refused_first}
 use Rattle.cacheless.specs.Owed.{OwesLook, owed_at_start, begins}
-use Rattle.cacheless.specs.Ends.{End, Ends, Commits, TakesBack, end_of_block, end_well, end_badly, end_of}
+use Rattle.cacheless.specs.Ends.{End, Ends, Commits, TakesBack, end_of_all, end_of_block, end_well, end_badly, end_of}
 use Rattle.cacheless.specs.Settled.{blocks_after}
 use Rattle.backend_core.specs.Types.{Command}
-use Rattle.backend_core.specs.Fits.{RunsBy}
-
--- the transaction before the next command: that of a block, or none
-abbrev pub NextBy : Option Running → List Level → Block → Type 0
-NextBy own levels Inside = (is_some own ≡ true) × ((command : ℕ) → option_map_or (λ t. t.first) own 0 ≡ innermost command levels)
-NextBy own levels block = own ≡ None
-
--- and after a command whose end is made
-pub next_ended : (own : Option Running) (levels : List Level) (block : Block) → own ≡ None → elim block [ Inside ↦ true | other ↦ false ] ≡ false → NextBy own levels block
-next_ended own levels Outside none over = none
-next_ended own levels Inside none over = absurd (cc)
-next_ended own levels Failed none over = none
+use Rattle.backend_core.specs.Fits.{RunsIn, RunsBy}
 
 -- the levels of blocks before a command of this number
 pub record LevelsFit (number : ℕ) (blocks : Blocks) : Type 0 where
   pub opens : is_open blocks ≡ not (is_empty blocks.levels)
   pub low : innermost number blocks.levels ≤ number
+  pub one : length blocks.levels ≤ 1
 
 low_more : (n : ℕ) (levels : List Level) → innermost n levels ≤ n → innermost (n + 1) levels ≤ n + 1
 low_more n [] low = omega arith
 low_more n (level ∷ levels) low = omega (arith, low)
 
 levels_stay : (n : ℕ) (blocks : Blocks) → LevelsFit n blocks → LevelsFit (n + 1) blocks
-levels_stay n blocks fits = record { opens = fits.opens; low = low_more n blocks.levels fits.low }
+levels_stay n blocks fits = record { opens = fits.opens; low = low_more n blocks.levels fits.low; one = fits.one }
 
 levels_begun : (n : ℕ) (blocks : Blocks) → LevelsFit n blocks → (block : Block) → LevelsFit (n + 1) (elim block as (λ x. Blocks) [ Outside ↦ record { block = Inside; levels = record { first = n; savepoint = None } ∷ [] } | other ↦ blocks ])
-levels_begun n blocks fits Outside = record { opens = refl; low = omega arith }
+levels_begun n blocks fits Outside = record { opens = refl; low = omega arith; one = omega arith }
 levels_begun n blocks fits Inside = levels_stay n blocks fits
 levels_begun n blocks fits Failed = levels_stay n blocks fits
 
 levels_well : (n : ℕ) (command : Command) (blocks : Blocks) → LevelsFit n blocks → LevelsFit (n + 1) (blocks_well n command blocks)
 levels_well n commands.Begin blocks fits = levels_begun n blocks fits blocks.block
-levels_well n commands.Commit blocks fits = record { opens = refl; low = omega arith }
-levels_well n commands.Rollback blocks fits = record { opens = refl; low = omega arith }
+levels_well n commands.Commit blocks fits = record { opens = refl; low = omega arith; one = omega arith }
+levels_well n commands.Rollback blocks fits = record { opens = refl; low = omega arith; one = omega arith }
 levels_well n command blocks fits = levels_stay n blocks fits
 
 levels_badly : (n : ℕ) (blocks : Blocks) → LevelsFit n blocks → (block : Block) → blocks.block ≡ block → LevelsFit (n + 1) (elim block as (λ x. Blocks) [ Outside ↦ blocks | other ↦ record { block = Failed; levels = blocks.levels } ])
 levels_badly n blocks fits Outside at = levels_stay n blocks fits
-levels_badly n blocks fits Inside at = record { opens = ap (λ b. elim b [ Outside ↦ false | block ↦ true ]) (sym at) ∙ fits.opens; low = low_more n blocks.levels fits.low }
-levels_badly n blocks fits Failed at = record { opens = ap (λ b. elim b [ Outside ↦ false | block ↦ true ]) (sym at) ∙ fits.opens; low = low_more n blocks.levels fits.low }
+levels_badly n blocks fits Inside at = record { opens = ap (λ b. elim b [ Outside ↦ false | block ↦ true ]) (sym at) ∙ fits.opens; low = low_more n blocks.levels fits.low; one = fits.one }
+levels_badly n blocks fits Failed at = record { opens = ap (λ b. elim b [ Outside ↦ false | block ↦ true ]) (sym at) ∙ fits.opens; low = low_more n blocks.levels fits.low; one = fits.one }
 
 pub levels_next : (s : Session) (command : Command) → LevelsFit (number_of s) s.blocks → LevelsFit (number_of s + 1) (blocks_after command s)
 levels_next s command fits = by_outcome (outcome_of s.left)
@@ -62,11 +52,16 @@ levels_next s command fits = by_outcome (outcome_of s.left)
     by_outcome Badly = levels_badly (number_of s) s.blocks fits s.blocks.block refl
     by_outcome Unsettled = levels_badly (number_of s) s.blocks fits s.blocks.block refl
 
--- a block that ends leaves no transaction
+-- what is taken back as a whole leaves no transaction
+own_none : (own : Option Running) (facts : Facts) → facts.running ≡ own → end_of_all facts ≡ Ends → own ≡ None
+own_none None facts is end = refl
+own_none (Some t) facts is end = absurd (let both : TakesBack t.first ≡ Ends = ap (λ o. option_map_or (λ (x : Running). TakesBack x.first) o Ends) (sym is) ∙ end in cc both)
+
+-- nor does a block that ends
 own_closed : (own : Option Running) (facts : Facts) (c : Bool) → facts.running ≡ own → is_some own ≡ true → end_of_block facts Inside c ≡ Ends → own ≡ None
 own_closed None facts c is some end = refl
 own_closed (Some t) facts true is some end = absurd (let both : Commits t.first ≡ Ends = ap (λ o. option_map_or (λ (x : Running). Commits x.first) o Ends) (sym is) ∙ end in cc both)
-own_closed (Some t) facts false is some end = absurd (let both : TakesBack t.first ≡ Ends = ap (λ o. option_map_or (λ (x : Running). TakesBack x.first) o Ends) (sym is) ∙ end in cc both)
+own_closed (Some t) facts false is some end = own_none (Some t) facts is end
 
 pub some_first : (own : Option Running) (n : ℕ) → option_map_or (λ t. t.first) own 0 ≡ n + 1 → is_some own ≡ true
 some_first None n is = absurd (omega (arith, is))
@@ -95,46 +90,46 @@ module _ (facts : Facts) (o : Option Command) (s : Session) (command : Command) 
   none_alone (inl none) not_begins = none
   none_alone (inr alone) not_begins = let same : alone.command ≡ command = cc (alone.at, at) in absurd (both_ways _ not_begins (ap (λ c. begins c s) (sym same) ∙ alone.begins))
 
-  next_stays : (block : Block) → s.blocks.block ≡ block → (block ≡ Outside → facts.running ≡ None) → RunsBy facts o s block → NextBy facts.running s.blocks.levels s.blocks.block
-  next_stays Outside is none runs = subst (NextBy facts.running s.blocks.levels) (sym is) (none refl)
-  next_stays Inside is none runs = subst (NextBy facts.running s.blocks.levels) (sym is) (runs.runs, runs.first)
-  next_stays Failed is none runs = subst (NextBy facts.running s.blocks.levels) (sym is) runs
+  next_stays : (block : Block) → s.blocks.block ≡ block → (block ≡ Outside → facts.running ≡ None) → RunsBy facts o s block → RunsIn facts s.blocks.levels s.blocks.block
+  next_stays Outside is none runs = subst (RunsIn facts s.blocks.levels) (sym is) (none refl)
+  next_stays Inside is none runs = subst (RunsIn facts s.blocks.levels) (sym is) runs
+  next_stays Failed is none runs = subst (RunsIn facts s.blocks.levels) (sym is) runs
 
   closed : (block : Block) (commits : Bool) → RunsBy facts o s block → (block ≡ Outside → facts.running ≡ None) → end_of_block facts block commits ≡ Ends → facts.running ≡ None
   closed Outside commits runs none ends = none refl
-  closed Failed commits runs none ends = runs
+  closed Failed commits runs none ends = own_none facts.running facts refl ends
   closed Inside commits runs none ends = own_closed facts.running facts commits refl runs.runs ends
 
   -- where a block begins, its transaction runs
-  begun_first : s.blocks.block ≡ Outside → begins command s ≡ true → owed_at_start facts command s ≡ [] → RunsBy facts o s Outside → NextBy facts.running (record { first = number_of s; savepoint = None } ∷ []) Inside
+  begun_first : s.blocks.block ≡ Outside → begins command s ≡ true → owed_at_start facts command s ≡ [] → RunsBy facts o s Outside → RunsIn facts (record { first = number_of s; savepoint = None } ∷ []) Inside
   begun_first is starts free (inl none) = absurd (let owes : owed_at_start facts command s ≡ OwesLook ∷ [] = (λ i. elim (starts i && is_none (none i)) [ true ↦ OwesLook ∷ [] | false ↦ [] ]) in cc (owes, free))
-  begun_first is starts free (inr alone) = (some_first facts.running _ alone.first, λ _. alone.first)
+  begun_first is starts free (inr alone) = record { runs = some_first facts.running _ alone.first; first = λ _. alone.first }
 
-  next_badly : RunsBy facts o s s.blocks.block → end_badly s ≡ Ends → NextBy facts.running (blocks_badly s.blocks).levels (blocks_badly s.blocks).block
+  next_badly : RunsBy facts o s s.blocks.block → end_badly s ≡ Ends → RunsIn facts (blocks_badly s.blocks).levels (blocks_badly s.blocks).block
   next_badly runs ends = by_blocked s.blocked refl ends
     where
       refuses : s.blocked ≡ true → is_some (refused_in s.blocks.block command) ≡ true
       refuses is = ap (λ c. is_some (refused_first s.blocks c)) (sym at) ∙ sym blocked ∙ is
 
       by_block : (block : Block) → s.blocks.block ≡ block → s.blocked ≡ true → RunsBy facts o s block
-          → NextBy facts.running (elim block as (λ x. Blocks) [ Outside ↦ s.blocks | other ↦ record { block = Failed; levels = s.blocks.levels } ]).levels (elim block as (λ x. Blocks) [ Outside ↦ s.blocks | other ↦ record { block = Failed; levels = s.blocks.levels } ]).block
+          → RunsIn facts (elim block as (λ x. Blocks) [ Outside ↦ s.blocks | other ↦ record { block = Failed; levels = s.blocks.levels } ]).levels (elim block as (λ x. Blocks) [ Outside ↦ s.blocks | other ↦ record { block = Failed; levels = s.blocks.levels } ]).block
       by_block Outside is stops r = next_stays Outside is (λ _. none_alone r (not_begun_refused (ap (λ b. is_some (refused_in b command)) (sym is) ∙ refuses stops))) r
       by_block Inside is stops r = absurd (both_ways _ refl (ap (λ b. is_some (refused_in b command)) (sym is) ∙ refuses stops))
       by_block Failed is stops r = r
 
-      by_blocked : (t : Bool) → s.blocked ≡ t → elim t [ true ↦ Ends | false ↦ TakesBack (innermost (number_of s) s.blocks.levels) ] ≡ Ends → NextBy facts.running (blocks_badly s.blocks).levels (blocks_badly s.blocks).block
+      by_blocked : (t : Bool) → s.blocked ≡ t → elim t [ true ↦ Ends | false ↦ TakesBack (innermost (number_of s) s.blocks.levels) ] ≡ Ends → RunsIn facts (blocks_badly s.blocks).levels (blocks_badly s.blocks).block
       by_blocked true is e = by_block s.blocks.block refl is runs
       by_blocked false is e = absurd (cc)
 
   -- a command that came out well and ends with no entry
-  next_well : (c : Command) → command ≡ c → s.ended ≡ false → owed_at_start facts command s ≡ [] → RunsBy facts o s s.blocks.block → end_well facts c s ≡ Ends → NextBy facts.running (blocks_well (number_of s) c s.blocks).levels (blocks_well (number_of s) c s.blocks).block
+  next_well : (c : Command) → command ≡ c → s.ended ≡ false → owed_at_start facts command s ≡ [] → RunsBy facts o s s.blocks.block → end_well facts c s ≡ Ends → RunsIn facts (blocks_well (number_of s) c s.blocks).levels (blocks_well (number_of s) c s.blocks).block
   next_well commands.Begin same going free runs ends = by_block s.blocks.block refl runs
     where
       starts : s.blocks.block ≡ Outside → begins command s ≡ true
       starts is = ap (λ c. begins c s) same ∙ ap (λ b. elim b as (λ x. Bool) [ Outside ↦ not s.ended && true | other ↦ false ]) is ∙ ap (λ t. not t && true) going
 
       by_block : (block : Block) → s.blocks.block ≡ block → RunsBy facts o s block
-          → NextBy facts.running (elim block as (λ x. Blocks) [ Outside ↦ record { block = Inside; levels = record { first = number_of s; savepoint = None } ∷ [] } | other ↦ s.blocks ]).levels (elim block as (λ x. Blocks) [ Outside ↦ record { block = Inside; levels = record { first = number_of s; savepoint = None } ∷ [] } | other ↦ s.blocks ]).block
+          → RunsIn facts (elim block as (λ x. Blocks) [ Outside ↦ record { block = Inside; levels = record { first = number_of s; savepoint = None } ∷ [] } | other ↦ s.blocks ]).levels (elim block as (λ x. Blocks) [ Outside ↦ record { block = Inside; levels = record { first = number_of s; savepoint = None } ∷ [] } | other ↦ s.blocks ]).block
       by_block Outside is r = begun_first is (starts is) free r
       by_block Inside is r = next_stays Inside is (λ x. absurd (cc)) r
       by_block Failed is r = next_stays Failed is (λ x. absurd (cc)) r
@@ -142,17 +137,17 @@ module _ (facts : Facts) (o : Option Command) (s : Session) (command : Command) 
   next_well commands.Rollback same going free runs ends = closed s.blocks.block false runs (λ is. none_alone (subst (RunsBy facts o s) is runs) (not_begun (ap ends_block same))) ends
   next_well c same going free runs ends = by_block s.blocks.block refl runs ends
     where
-      by_block : (block : Block) → s.blocks.block ≡ block → RunsBy facts o s block → ◌≡◌ {A = End} (elim block [ Outside ↦ Commits (number_of s) | other ↦ Ends ]) Ends → NextBy facts.running s.blocks.levels s.blocks.block
+      by_block : (block : Block) → s.blocks.block ≡ block → RunsBy facts o s block → ◌≡◌ {A = End} (elim block [ Outside ↦ Commits (number_of s) | other ↦ Ends ]) Ends → RunsIn facts s.blocks.levels s.blocks.block
       by_block Outside is r e = absurd (cc)
       by_block Inside is r e = next_stays Inside is (λ x. absurd (cc)) r
       by_block Failed is r e = next_stays Failed is (λ x. absurd (cc)) r
 
   -- the transaction after a command that ends with no entry
-  pub next_silent : s.ended ≡ false → is_settled (outcome_of s.left) ≡ true → owed_at_start facts command s ≡ [] → RunsBy facts o s s.blocks.block → end_of facts command s ≡ Ends → NextBy facts.running (blocks_after command s).levels (blocks_after command s).block
+  pub next_silent : s.ended ≡ false → is_settled (outcome_of s.left) ≡ true → owed_at_start facts command s ≡ [] → RunsBy facts o s s.blocks.block → end_of facts command s ≡ Ends → RunsIn facts (blocks_after command s).levels (blocks_after command s).block
   next_silent going out free runs ends = by_outcome (outcome_of s.left) out ends
     where
       by_outcome : (x : Outcome) → is_settled x ≡ true → ◌≡◌ {A = End} (elim x [ Well ↦ end_well facts command s | Badly ↦ end_badly s | Unsettled ↦ Ends ]) Ends
-          → NextBy facts.running (elim x as (λ y. Blocks) [ Well ↦ blocks_well (number_of s) command s.blocks | outcome ↦ blocks_badly s.blocks ]).levels (elim x as (λ y. Blocks) [ Well ↦ blocks_well (number_of s) command s.blocks | outcome ↦ blocks_badly s.blocks ]).block
+          → RunsIn facts (elim x as (λ y. Blocks) [ Well ↦ blocks_well (number_of s) command s.blocks | outcome ↦ blocks_badly s.blocks ]).levels (elim x as (λ y. Blocks) [ Well ↦ blocks_well (number_of s) command s.blocks | outcome ↦ blocks_badly s.blocks ]).block
       by_outcome Well is e = next_well command refl going free runs e
       by_outcome Badly is e = next_badly runs e
       by_outcome Unsettled is e = absurd (cc)

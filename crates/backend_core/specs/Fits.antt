@@ -1,9 +1,9 @@
 -- What the program's choice keeps of a session, by the facts of the backend's entries, the running command and the looks for the next scans.
-use Rattle.std.specs.Prelude.{◌≡◌, ◌≤◌, ◌+◌, ◌*◌, ◌⊎◌, ℕ, Bool, true, false, Option, Some, None, List, [], ◌∷◌, is_some, not}
+use Rattle.std.specs.Prelude.{◌≡◌, ◌≤◌, ◌+◌, ◌*◌, ◌⊎◌, ℕ, Bool, true, false, Option, Some, None, List, [], ◌∷◌, is_some, not, length}
 use Rattle.std.specs.Option.{option_map_or}
 use Rattle.event_kinds.specs.declared.entry.Event.TheVariants as events
 use Rattle.inval_messages.specs.Lists.{has_write_from}
-use Rattle.txn_blocks.specs.Blocks.{Block, Outside, Inside, Failed, Blocks, is_open, innermost}
+use Rattle.txn_blocks.specs.Blocks.{Block, Level, Outside, Inside, Failed, is_open, innermost}
 use Rattle.history_model.specs.Transactions.{is_visible}
 use Rattle.history_model.specs.Writes.{is_empty}
 use Rattle.cacheless.specs.Facts.{Facts}
@@ -40,26 +40,47 @@ pub record RunsAlone (facts : Facts) (o : Option Command) (s : Session) : Type 0
   pub begins : begins command s ≡ true
   pub first : first_at facts ≡ number_of s
 
--- the transaction of a block, whichever command runs
-pub record RunsBlock (facts : Facts) (s : Session) : Type 0 where
-  pub runs : is_some facts.running ≡ true
-  pub first : (command : ℕ) → first_at facts ≡ innermost command s.blocks.levels
+-- the first command of the outermost level, or this one where there is no level
+abbrev pub outermost : ℕ → List Level → ℕ
+outermost number [] = number
+outermost number (level ∷ levels) = level.first
 
--- the transaction of a backend, by its blocks: outside blocks that of the running command, in a block that of the block's first command
+-- the transaction of a block, whichever command runs: its outermost level began it
+pub record RunsBlock (facts : Facts) (levels : List Level) : Type 0 where
+  pub runs : is_some facts.running ≡ true
+  pub first : (command : ℕ) → first_at facts ≡ outermost command levels
+
+-- the transaction of a block whose innermost level failed: none where that was the outermost one too
+abbrev pub RunsFailed : Facts → List Level → Type 0
+RunsFailed facts (level ∷ inner ∷ levels) = RunsBlock facts (level ∷ inner ∷ levels)
+RunsFailed facts levels = facts.running ≡ None
+
+-- the transaction of a backend between two commands, by its blocks
+abbrev pub RunsIn : Facts → List Level → Block → Type 0
+RunsIn facts levels Outside = facts.running ≡ None
+RunsIn facts levels Inside = RunsBlock facts levels
+RunsIn facts levels Failed = RunsFailed facts levels
+
+-- the transaction of a backend in a command, by the blocks before it: outside blocks that of the command
 abbrev pub RunsBy : Facts → Option Command → Session → Block → Type 0
 RunsBy facts o s Outside = (facts.running ≡ None) ⊎ RunsAlone facts o s
-RunsBy facts o s Inside = RunsBlock facts s
-RunsBy facts o s Failed = facts.running ≡ None
+RunsBy facts o s block = RunsIn facts s.blocks.levels block
 
--- none once the release is made
+-- the transaction once the release is made, by the blocks after the command: none after the last one
+abbrev pub RunsAfter : Facts → Option Command → Session → Type 0
+RunsAfter facts None s = facts.running ≡ None
+RunsAfter facts (Some command) s = RunsIn facts (blocks_after command s).levels (blocks_after command s).block
+
+-- the transaction of a backend, before the release and after it
 abbrev pub TransactionFits : Facts → Option Command → Session → Bool → Type 0
-TransactionFits facts o s true = facts.running ≡ None
+TransactionFits facts o s true = RunsAfter facts o s
 TransactionFits facts o s false = RunsBy facts o s s.blocks.block
 
 -- a commit on its way: it is that of the running transaction, and nothing has to come before its next entry
 pub record OnCommit (facts : Facts) (o : Option Command) (s : Session) : Type 0 where
   pub command : Command
   pub at : o ≡ Some command
+  pub going : s.ended ≡ false
   pub out : is_settled (outcome_of s.left) ≡ true
   pub free : owed_of facts command s ≡ []
   pub end : end_of facts command s ≡ Commits (first_at facts)
@@ -68,6 +89,7 @@ pub record OnCommit (facts : Facts) (o : Option Command) (s : Session) : Type 0 
 -- taking back on its way: nothing is left of it but the release
 pub record OnTakingBack (facts : Facts) (o : Option Command) (s : Session) (from : ℕ) : Type 0 where
   pub runs : is_some facts.running ≡ true
+  pub going : s.ended ≡ false
   pub out : is_settled (outcome_of s.left) ≡ true
   pub end : elim o as (λ x. Type 0) [ Some command ↦ (end_of facts command s ≡ TakesBack from) × (owed_of facts command s ≡ []) | None ↦ end_of_all facts ≡ TakesBack from ]
   pub none : has_write_from from facts.lists ≡ false
@@ -78,10 +100,6 @@ pub record IsPast (facts : Facts) (s : Session) : Type 0 where
   pub opened : s.opened ≡ []
   pub free : owed_after facts.last ≡ []
 
--- a block is open that hasn't failed
-abbrev pub is_inside : Blocks → Bool
-is_inside blocks = elim blocks.block [ Inside ↦ true | block ↦ false ]
-
 -- what the choice keeps
 pub record Fits (facts : Facts) (o : Option Command) (s : Session) (looked to_build : Bool) : Type 0 where
   pub looks : s.ended ≡ false → LooksFit facts s looked to_build
@@ -89,11 +107,12 @@ pub record Fits (facts : Facts) (o : Option Command) (s : Session) (looked to_bu
   pub first : first_at facts ≤ number_of s
   pub opens : is_open s.blocks ≡ not (is_empty s.blocks.levels)
   pub levels : innermost (number_of s) s.blocks.levels ≤ number_of s
+  -- a block has one level today: savepoints, which begin more, replace this fact
+  pub one_level : length s.blocks.levels ≤ 1
   pub blocked : s.blocked ≡ is_some (refused_first s.blocks o)
   pub settled : is_settled (outcome_of (plan_first s.blocks o)) ≡ true → s.left ≡ plan_first s.blocks o
   pub written : has_write_from 0 facts.lists ≡ true → option_map_or (λ t. is_some t.xid) facts.running false ≡ true
   pub visible : is_visible facts.running ≡ true → OnCommit facts o s
   pub taken : (from : ℕ) → facts.last ≡ Some (events.Gone from) → OnTakingBack facts o s from
-  pub over : (command : Command) → o ≡ Some command → s.ended ≡ true → is_inside (blocks_after command s) ≡ false
   pub accepts : is_empty (owed_after facts.last) ≡ false → is_some facts.running ≡ true
   pub past : o ≡ None → IsPast facts s
