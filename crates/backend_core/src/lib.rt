@@ -21,7 +21,7 @@
 //! is, so no new body of these changes a proof here.
 //!
 //! How far a backend is, what its transaction holds and what it has read is its `Progress` (crate
-//! cacheless), which takes any entry that the definitions allow. Here is the choice among them (`nexts.rt`),
+//! cacheless), which takes any entry that the definitions allow. Here is the choice among them (`choice.rt`),
 //! what the commands answer, and the calls of the segment.
 //!
 //! The promise: a backend *stands* in the history of its segment (`specs/Agrees.antt`): its progress holds
@@ -45,13 +45,14 @@
 
 mod answers;
 mod backend;
+mod choice;
 mod ends;
 mod join;
 mod life;
+mod locks;
 mod looks;
 mod next;
-mod nexts;
-mod reads;
+mod scans;
 mod settle;
 mod steps;
 mod writes;

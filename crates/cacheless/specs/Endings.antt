@@ -1,7 +1,7 @@
 -- How the code says how a command ends.
 use Rattle.cacheless.specs.Ends.{End, Ends, Commits, TakesBack}
-use Rattle.cacheless.specs.declared.ends.Ending.{Ending}
-use Rattle.cacheless.specs.declared.ends.Ending.TheVariants as endings
+use Rattle.cacheless.specs.declared.ending.Ending.{Ending}
+use Rattle.cacheless.specs.declared.ending.Ending.TheVariants as endings
 
 -- the end of a command
 abbrev pub end_of_ending : Ending → End

@@ -36,22 +36,23 @@
 #![tactic(auto)]
 
 mod begun;
-mod end;
-mod ends;
+mod draft_items;
+mod ending;
 mod enter;
+mod enter_ends;
+mod enter_locks;
+mod enter_scans;
+mod enter_writes;
 mod execute;
 mod kept_scan;
 mod kept_scans;
 mod may;
 mod opening;
 mod progress;
-mod read;
 mod scans;
 mod silent;
-mod write;
-mod writes;
 
-pub use ends::Ending;
+pub use ending::Ending;
 pub use execute::is_covered;
 pub use kept_scan::KeptScan;
 pub use kept_scans::KeptScans;

@@ -8,8 +8,8 @@ ghost use Rattle.ddl_effect.specs.Stages.{plan_at, want_of};
 ghost use Rattle.txn_blocks.specs.Blocks.{ends_block as does_end_block};
 ghost use Rattle.cacheless.specs.May.{is_first_missing as is_first, names_relation as names};
 
+use crate::draft_items::{gives_name, writes_items};
 use crate::scans::{first_lacking, first_missing, has_kept};
-use crate::writes::{gives_name, writes_items};
 use crate::{Due, KeptScans, Progress};
 use base_types::{Command, Kind, Mode, Name, Oid, Purpose, Row, same_scan};
 use ddl_effect::Want;

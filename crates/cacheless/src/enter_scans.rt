@@ -1,16 +1,14 @@
-// What scans and locks make of it.
+// How a session changes with its scans.
 
-ghost use Rattle.std.specs.Prelude.{◌≡◌, ◌≤◌, ◌<◌, true, false, OnOk};
+ghost use Rattle.std.specs.Prelude.{◌≡◌, ◌≤◌, true, false, OnOk};
 ghost use Rattle.base_types.specs.Scenario.{Scenario};
 ghost use Rattle.event_kinds.specs.declared.entry.Entry.{Entry};
-ghost use Rattle.lock_modes.specs.Own.{has_lock};
 ghost use Rattle.history_model.specs.Versions.{answer_of};
 
 use crate::enter::accept;
 use crate::{Due, KeptScan, Progress};
-use base_types::{Listed, Mode, NoMemory, Oid, Purpose, Row, same_scan};
-use command_answers::CommandError;
-use ddl_effect::{Exec, Want};
+use base_types::{Listed, NoMemory, Purpose, Row, same_scan};
+use ddl_effect::Want;
 use event_kinds::Event;
 use txn_blocks::RunningTransaction;
 
@@ -18,7 +16,7 @@ impl Progress {
     ghost use Rattle.std.specs.Prelude.{List, ℕ, ◌++◌, ◌∷◌, [], if◌then◌else◌};
     ghost use Rattle.ddl_effect.specs.Stages.{plan_at};
     ghost use Rattle.cacheless.specs.Sessions.{is_wanted as is_wanted_by};
-    ghost use Rattle.cacheless.specs.State.{FailsWith, IsLockedIn, newly_kept};
+    ghost use Rattle.cacheless.specs.State.{newly_kept};
     ghost use Rattle.cacheless.specs.May.{HasRoom, is_next_at};
     ghost use Rattle.cacheless.specs.Holds.{Rests, HasEntered};
 
@@ -94,59 +92,5 @@ impl Progress {
             Want::Column { rel, name } => same_scan(scan, &Purpose::AttName(rel, name)),
             _ => false,
         }
-    }
-
-    /// Makes room for one more lock. Out of memory, nothing changes.
-    pub fn reserve_lock(&mut self) -> Result<(), NoMemory>
-        ensures same { IsLockedIn self.old.locks.items self.old self.new }
-        ensures ok { OnOk result (0 < self.new.locks.room) }
-        ensures rests { (scenario : Scenario) (seen : List Entry) → Rests scenario seen self.old → Rests scenario seen self.new }
-    {
-        self.locks.reserve()
-    }
-
-    /// It was granted a lock. Conditions: there is room for it, it doesn't hold it, and its counts are
-    /// small enough to be summed.
-    pub fn enter_lock(&mut self, rel: Oid, mode: Mode)
-        requires few { self.old.finished ≤ 20000 }
-        requires room { HasRoom self.old }
-        requires place { 0 < self.old.locks.room }
-        requires new { has_lock self.old.locks.items rel mode ≡ false }
-        ensures kept { self.new.kept ≡ self.old.kept }
-        ensures given_at { self.new.given_at ≡ self.old.given_at }
-        ensures holds { (scenario : Scenario) (seen : List Entry) → (rests : Rests scenario seen self.old) → HasEntered scenario seen self.old (Event.LockOk rel mode) rests self.new }
-    {
-        self.running = Some(RunningTransaction::begun(self.finished + 1, self.running));
-        self.due = Due::Look;
-        self.tally.grants += 1;
-        self.locks.add(rel, mode, self.finished + 1);
-    }
-
-    /// It was refused a lock, which ends its command: this is the first other holder of a mode that
-    /// conflicts, and that mode.
-    pub fn enter_refused(&mut self, rel: Oid, mode: Mode, holder: u32, held: Mode)
-        requires few { self.old.finished ≤ 20000 }
-        ensures kept { self.new.kept ≡ self.old.kept }
-        ensures given_at { self.new.given_at ≡ self.old.given_at }
-        ensures holds { (scenario : Scenario) (seen : List Entry) → (rests : Rests scenario seen self.old) → HasEntered scenario seen self.old (Event.LockHeld rel mode holder held) rests self.new }
-    {
-        let _mode = mode;
-        let error = CommandError::Locked {
-            rel,
-            holder,
-            mode: held,
-        };
-        self.fail(error);
-    }
-
-    // An entry showed this error, which ends the command.
-    pub(crate) fn fail(&mut self, error: CommandError)
-        requires few { self.old.finished ≤ 20000 }
-        ensures { FailsWith error self.old self.new }
-    {
-        self.running = Some(RunningTransaction::begun(self.finished + 1, self.running));
-        self.due = Due::Nothing;
-        self.exec = Exec::Failing(error);
-        self.locks.clear_all();
     }
 }

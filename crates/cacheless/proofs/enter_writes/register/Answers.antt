@@ -4,7 +4,7 @@ use Rattle.inval_messages.specs.Lists.{Written}
 use Rattle.command_lists.specs.Lists.{all_lists, command_ended, new_list, with_messages}
 use Rattle.command_lists.proofs.Writes.{ended-all}
 use Rattle.cacheless.proofs.Registering.{registering_starts, registering_begins, registering_order, registering_more, registering_ends}
-use Rattle.cacheless.proofs.write.register.Goals as goal
+use Rattle.cacheless.proofs.enter_writes.register.Goals as goal
 
 pub loop-message-init : goal.loop-message-init
 loop-message-init c = registering_starts (command_ended c.args.lists.now.lists) c.args.command (length c.args.messages.now) c.args.messages.now c.reserve.new.self c.begin_command.new.self refl (c.in_ok-reserve.ensures.lists ∙ c.end_command.ensures.lists) c.in_ok-reserve.ensures.ok c.begin_command.ensures.lists c.begin_command.ensures.spare

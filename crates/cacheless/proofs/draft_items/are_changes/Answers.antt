@@ -1,7 +1,7 @@
 use Rattle.std.proofs.Common.{◌<◌, ◌∙◌, ◌&&◌, ◌+◌, ap, sym, length, drop, arith}
 use Rattle.cacheless.specs.SameItems.{changes_match}
 use Rattle.cacheless.proofs.Matching.{changes_at, changes_end}
-use Rattle.cacheless.proofs.writes.are_changes.Goals as goal
+use Rattle.cacheless.proofs.draft_items.are_changes.Goals as goal
 
 pub returns-then-not-is_change : goal.returns-then-not-is_change
 returns-then-not-is_change c =

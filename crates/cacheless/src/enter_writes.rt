@@ -1,4 +1,4 @@
-// What writes make of it, and those that are refused.
+// How a session changes with its writes, and with those that are refused.
 
 ghost use Rattle.std.specs.Prelude.{◌≡◌, ◌≤◌, ◌<◌, ◌++◌, ◌∷◌, ◌+◌, [], false, Some, OnOk};
 ghost use Rattle.std.specs.List.{AllByRecursion, flat_map};

@@ -1,7 +1,7 @@
 use Rattle.std.proofs.Common.{◌<◌, ◌∙◌, ◌&&◌, ◌+◌, ap, sym, length, drop, arith}
 use Rattle.cacheless.specs.SameItems.{forced_match}
 use Rattle.cacheless.proofs.Matching.{forced_at, forced_end, forced_long}
-use Rattle.cacheless.proofs.writes.are_forced.Goals as goal
+use Rattle.cacheless.proofs.draft_items.are_forced.Goals as goal
 
 pub returns-then-items-forced : goal.returns-then-items-forced
 returns-then-items-forced c = sym (forced_long c.args.items.now c.args.forced.now c.if-items-forced.true)

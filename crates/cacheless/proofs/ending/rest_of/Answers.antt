@@ -1,5 +1,5 @@
 use Rattle.cacheless.proofs.Unsent.{rest_second}
-use Rattle.cacheless.proofs.ends.rest_of.Goals as goal
+use Rattle.cacheless.proofs.ending.rest_of.Goals as goal
 
 pub returns-else-published-cats-clause-rest : goal.returns-else-published-cats-clause-rest
 returns-else-published-cats-clause-rest c = rest_second c.args.published c.min.result c.args.cats.now c.args.rels.now c.if-published-cats.false c.min.ensures

@@ -1,4 +1,4 @@
-// What the entries of a command's end make of it.
+// How a session changes with the entries of a command's end.
 
 ghost use Rattle.std.specs.Prelude.{◌≡◌, ◌≤◌, ◌<◌, ◌+◌, ◌^◌, true, false, Some};
 ghost use Rattle.base_types.specs.Scenario.{Scenario};

@@ -2,7 +2,7 @@ use Rattle.std.proofs.Common.{◌∙◌, ◌&&◌, sym, ap, drop, length}
 use Rattle.std.proofs.lemmas.List.{take_rest}
 use Rattle.cacheless.specs.SameItems.{forced_match}
 use Rattle.cacheless.proofs.Matching.{drafted_is, drafted_short}
-use Rattle.cacheless.proofs.writes.are_drafted.Goals as goal
+use Rattle.cacheless.proofs.draft_items.are_drafted.Goals as goal
 
 pub returns-then-items-changes : goal.returns-then-items-changes
 returns-then-items-changes c = sym (drafted_short c.args.next c.args.new_oids c.args.items.now c.args.changes.now c.args.forced.now c.if-items-changes.true)
