@@ -1,13 +1,11 @@
 -- Grants go on excluding each other.
-use Rattle.std.proofs.Common.{◌≡◌, ◌∙◌, ◌==◌, ◌&&◌, ◌||◌, ℕ, Bool, true, false, not, cond, Some, None, List, [], ◌∷◌, ◌++◌, filter, refl, sym, ap, subst, append_assoc, append-nil}
-use Rattle.std.specs.List.{find, list_any, AllByRecursion}
+use Rattle.std.proofs.Common.{◌≡◌, ◌∙◌, ◌==◌, ◌&&◌, ◌||◌, Bool, true, false, not, cond, Some, None, List, [], ◌∷◌, ◌++◌, filter, refl, sym, ap, subst, append_assoc, append-nil}
+use Rattle.std.specs.List.{find, AllByRecursion}
 use Rattle.base_types.specs.Modes.{conflicts}
 use Rattle.base_types.specs.Scans.{same_oid}
 use Rattle.lock_modes.specs.Types.{Grant}
 use Rattle.lock_modes.specs.Grants.{is_lock, holds, first_conflict}
-use Rattle.lock_modes.specs.Changes.{is_kept}
 use Rattle.lock_modes.specs.Excluding.{IsApart, IsFree, AreFree, DoExclude}
-use Rattle.lock_modes.proofs.Filters.{filter_step}
 
 -- what holds of all holds of one more that has it
 all_more : (P : Grant → Type 0) (xs : List Grant) (x : Grant) → AllByRecursion P xs → P x → AllByRecursion P (xs ++ x ∷ [])

@@ -1,3 +1,4 @@
+mod Changes
 mod Marks
 mod Filters
 mod Conflicts

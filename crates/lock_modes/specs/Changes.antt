@@ -1,5 +1,5 @@
 -- What becomes of the grants of a table.
-use Rattle.std.specs.Prelude.{Bool, not, ℕ, List, [], ◌∷◌, ◌++◌, ◌==◌, ◌&&◌, nat_le, filter}
+use Rattle.std.specs.Prelude.{Bool, not, ℕ, List, [], ◌∷◌, ◌++◌, ◌==◌, ◌&&◌, nat_le, filter, fold}
 use Rattle.lock_modes.specs.Types.{Grant, Released, LockChange}
 use Rattle.lock_modes.specs.Grants.{is_lock}
 use Rattle.lock_modes.specs.declared.change.Released.TheVariants as releases
@@ -22,3 +22,7 @@ is_out released rel g = (g.rel.0 == rel) && is_released released g
 abbrev pub changed : LockChange → List Grant → List Grant
 changed (changes.Grant g) old = old ++ g ∷ []
 changed (changes.Release released) old = filter (is_kept released) old
+
+-- the grants after changes, of which the oldest comes first
+abbrev pub held_after : List LockChange → List Grant
+held_after changes = fold (λ old change. changed change old) [] changes

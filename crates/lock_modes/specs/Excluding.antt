@@ -1,5 +1,5 @@
 -- Grants that exclude each other.
-use Rattle.std.specs.Prelude.{ℕ, not, false, List, [], ◌∷◌, ◌++◌, ◌≡◌, ◌==◌, ◌&&◌}
+use Rattle.std.specs.Prelude.{not, false, List, [], ◌∷◌, ◌++◌, ◌≡◌, ◌==◌, ◌&&◌}
 use Rattle.std.specs.List.{AllByRecursion}
 use Rattle.base_types.specs.Modes.{conflicts}
 use Rattle.base_types.specs.Scans.{same_oid}

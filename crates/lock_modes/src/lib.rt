@@ -25,15 +25,14 @@
 //!
 //! The grants are kept by relation and by backend. A request passes over those of its relation, a release
 //! over those of its backend and of the relations on which it releases something. A relation that
-//! nobody holds any more is forgotten (`CleanUpLock`); a backend's list keeps its memory. The list of all
-//! grants takes none: contracts alone see it.
+//! nobody holds any more is forgotten (`CleanUpLock`); a backend's list keeps its memory. All changes of
+//! the grants are a list that takes none: contracts alone see it, and the grants are what it leaves.
 //!
 //! Different from the server: a request never waits, so there are no wait queues and no deadlocks; there
 //! is no fast path; a mode is held once however often it is asked for, and in the command of its
 //! grant, where the server counts by resource owner.
 #![tactic(auto)]
 
-mod all_grants;
 mod change;
 mod grant;
 mod grant_list;

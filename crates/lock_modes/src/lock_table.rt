@@ -3,17 +3,17 @@ ghost use Rattle.std.specs.List.{list_any};
 ghost use Rattle.base_types.specs.Modes.{conflicts as do_conflict};
 ghost use Rattle.base_types.specs.Scans.{same_oid};
 ghost use Rattle.lock_modes.specs.Grants.{is_lock, holds as do_hold, first_conflict, stays};
-ghost use Rattle.lock_modes.specs.Changes.{is_kept, is_out, is_released};
+ghost use Rattle.lock_modes.specs.Changes.{changed, held_after, is_kept, is_out, is_released};
 ghost use Rattle.lock_modes.specs.Excluding.{AreFree, DoExclude};
 ghost use Rattle.lock_modes.specs.GrantLists.{grants_at};
 ghost use Rattle.lock_modes.specs.Kept.{Holds, HasRoom};
 ghost use Rattle.lock_modes.specs.Requests.{Requests};
 
-use crate::all_grants::AllGrants;
 use crate::change::{LockChange, Released, is_of};
 use crate::grant_lists::GrantLists;
 use crate::{Grant, Granted, LockRefusal};
 use base_types::{Mode, NoMemory, Oid, conflicts};
+use ghost_list::GhostList;
 use std::alloc::Global;
 use std::marker::Model;
 
@@ -24,7 +24,8 @@ pub struct LockTable {
     by_rel: GrantLists,
     by_backend: GrantLists,
     prepared: Vec<Grant>,
-    all: AllGrants,
+    // all that was granted and released, in order; contracts alone see it
+    changes: GhostList<LockChange>,
 }
 
 impl Model for LockTable {
@@ -32,11 +33,12 @@ impl Model for LockTable {
 
     ghost Value = { Holding };
 
+    ghost use Rattle.lock_modes.specs.Changes.{held_after};
     ghost use Rattle.lock_modes.specs.Kept.{Keeps};
 
-    ghost view = { λ table. record { held = table.all.held; prepared = table.prepared.items } };
+    ghost view = { λ table. record { held = held_after table.changes.items; prepared = table.prepared.items } };
 
-    ghost invariant = { λ table. Keeps table.by_rel table.by_backend table.prepared.items table.all.held };
+    ghost invariant = { λ table. Keeps table.by_rel table.by_backend table.prepared.items (held_after table.changes.items) };
 }
 
 impl LockTable {
@@ -49,7 +51,7 @@ impl LockTable {
             by_rel: GrantLists::new(alloc),
             by_backend: GrantLists::new(alloc),
             prepared: Vec::new(alloc),
-            all: AllGrants::new(),
+            changes: GhostList::new(),
         }
     }
 
@@ -101,7 +103,7 @@ impl LockTable {
         add(
             &mut self.by_rel,
             &mut self.by_backend,
-            &mut self.all,
+            &mut self.changes,
             &grants,
         );
         Ok(Granted::New)
@@ -131,7 +133,7 @@ impl LockTable {
         add(
             &mut self.by_rel,
             &mut self.by_backend,
-            &mut self.all,
+            &mut self.changes,
             &self.prepared,
         );
         self.prepared.clear();
@@ -166,7 +168,7 @@ impl LockTable {
         self.prepared.clear();
         take_out_each(&mut self.by_rel, self.by_backend.get(backend), &released);
         self.by_backend.take_out(backend, &released);
-        self.all = AllGrants::after(&self.all, &LockChange::Release(released));
+        note(&mut self.changes, &LockChange::Release(released));
     }
 }
 
@@ -212,17 +214,29 @@ fn reserve(
 }
 
 // Adds these grants, for which there is room.
-fn add(by_rel: &mut GrantLists, by_backend: &mut GrantLists, all: &mut AllGrants, grants: &[Grant])
-    requires holds { Holds by_rel.old by_backend.old all.old.held }
+fn add(
+    by_rel: &mut GrantLists,
+    by_backend: &mut GrantLists,
+    changes: &mut GhostList<LockChange>,
+    grants: &[Grant],
+)
+    requires holds { Holds by_rel.old by_backend.old (held_after changes.old.items) }
     requires room { HasRoom by_rel.old by_backend.old grants.now (length grants.now) (length grants.now) }
-    ensures all { all.new.held ≡ all.old.held ++ grants.now }
-    ensures holds { Holds by_rel.new by_backend.new all.new.held }
+    ensures all { held_after changes.new.items ≡ held_after changes.old.items ++ grants.now }
+    ensures holds { Holds by_rel.new by_backend.new (held_after changes.new.items) }
 {
     for grant in grants {
         by_rel.push(grant.rel.0, *grant);
         by_backend.push(grant.backend, *grant);
-        *all = AllGrants::after(all, &LockChange::Grant(*grant));
+        note(changes, &LockChange::Grant(*grant));
     }
+}
+
+// Notes a change of the grants.
+fn note(changes: &mut GhostList<LockChange>, change: &LockChange)
+    ensures { held_after changes.new.items ≡ changed change.now (held_after changes.old.items) }
+{
+    changes.push(change);
 }
 
 // Takes what is released out of the lists of the relations on which a backend has these locks.

@@ -48,7 +48,6 @@
 mod call;
 mod cleaned;
 mod cleanup;
-mod log;
 mod reader;
 mod ring;
 mod window;

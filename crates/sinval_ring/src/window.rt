@@ -1,10 +1,10 @@
 ghost use Rattle.std.specs.Prelude.{◌≡◌, ◌≤◌, ◌-◌, ◌^◌, ◌<◌, ◌++◌, [], length, min, take, drop, IfOk};
 
-use crate::log::Log;
 use crate::reader::MOST_FETCHED;
 use arrayvec::ArrayVec;
 use base_types::NoMemory;
 use circular_buffer::HeapCircularBuffer;
+use ghost_list::GhostList;
 use inval_messages::Message;
 use std::alloc::Global;
 use std::marker::Model;
@@ -13,7 +13,8 @@ use std::marker::Model;
 #[derive(Drop)]
 pub(crate) struct Window {
     buffer: HeapCircularBuffer<Message>,
-    log: Log,
+    // all of them, in order; contracts alone see it
+    log: GhostList<Message>,
 }
 
 impl Model for Window {
@@ -37,7 +38,7 @@ impl Window {
         let buffer = HeapCircularBuffer::with_capacity(alloc, size as usize)?;
         Ok(Window {
             buffer,
-            log: Log::new(),
+            log: GhostList::new(),
         })
     }
 

@@ -9,8 +9,8 @@ use Rattle.lock_modes.proofs.lock_table.LockTable.take_out.Goals as goal
 pub invariant_of-self : goal.invariant_of-self
 invariant_of-self c = record {
   holds =
-      subst (Holds c.take_out_each.new.by_rel c.take_out.new.self) (sym c.after-self-inside.ensures)
+      subst (Holds c.take_out_each.new.by_rel c.take_out.new.self) (sym c.note.ensures)
       (holds_released c.args.released c.args.backend c.requires _ _ _ _ _ c.get.result.now c.get.ensures c.take_out_each.ensures c.take_out.ensures c.self.invariant.holds);
   room = room_for_none _ _ _ c.clear.ensures.items;
-  exclude = exclude_released (is_kept c.args.released) _ _ _ _ c.clear.ensures.items c.after-self-inside.ensures c.self.invariant.exclude;
+  exclude = exclude_released (is_kept c.args.released) _ _ _ _ c.clear.ensures.items c.note.ensures c.self.invariant.exclude;
 }
