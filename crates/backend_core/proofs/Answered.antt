@@ -23,9 +23,9 @@ use Rattle.cacheless.specs.Session.{number_of}
 use Rattle.cacheless.specs.Settled.{finished_as}
 use Rattle.cacheless.specs.State.{Rest, session_at}
 use Rattle.cacheless.specs.Told.{told_field, told_fields, told_open, told_well, told_left}
-use Rattle.cacheless.proofs.KeptTells.{Keeps, rows_kept, place_kept, AreKept, line_kept}
-use Rattle.cacheless.proofs.ToldAnswers.{HasComeOut}
-use Rattle.cacheless.proofs.ToldFields.{map_same}
+use Rattle.cacheless.proofs.Answers.KeptTells.{Keeps, rows_kept, place_kept, AreKept, line_kept}
+use Rattle.cacheless.proofs.Answers.ToldAnswers.{HasComeOut}
+use Rattle.cacheless.proofs.Answers.ToldFields.{map_same}
 use Rattle.backend_core.specs.Types.{Oid, Field, Command, Answer, Opening, KeptScan, Scenario, Entry, Progress}
 use Rattle.backend_core.specs.Agrees.{KeptAt}
 use Rattle.backend_core.specs.Answering.{kept_for, shown_kept, shown_all, shown_one, of_open, answer_done, answer_left, answer_at}

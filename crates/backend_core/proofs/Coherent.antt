@@ -16,7 +16,7 @@ use Rattle.cacheless.specs.State.{is_kept}
 use Rattle.backend_core.specs.declared.life.Life.TheVariants as lives
 use Rattle.backend_core.specs.Agrees.{KeptAt, HasNotJoined, AwaitsEntry, HasLeft, Stands}
 use Rattle.backend_core.specs.Coherent.{IsCoherentScan, IsCoherent}
-use Rattle.cacheless.proofs.ReadPlaces.{read_at_place}
+use Rattle.cacheless.proofs.Answers.ReadPlaces.{read_at_place}
 
 -- each scan that is kept is among those kept
 each_kept : (kept : List KeptScan) → AllByRecursion (λ k. is_kept kept k.scan ≡ true) kept

@@ -4,7 +4,7 @@ use Rattle.std.specs.List.{list_any}
 use Rattle.base_types.specs.Scans.{same_scan, build_scans}
 use Rattle.base_types.proofs.SameScan.{same_scan-true}
 use Rattle.cacheless.specs.OpenedReads.{is_of_opened}
-use Rattle.cacheless.proofs.SilentActs.{both_empty}
+use Rattle.cacheless.proofs.Plans.SilentActs.{both_empty}
 use Rattle.cacheless.specs.State.{is_kept, missing, builds_missing}
 use Rattle.backend_core.specs.Types.{Purpose, Opening, KeptScan}
 

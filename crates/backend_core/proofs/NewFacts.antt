@@ -9,7 +9,7 @@ use Rattle.history_model.specs.Read.{rows_read}
 use Rattle.cacheless.specs.Facts.{facts_of}
 use Rattle.cacheless.specs.Holds.{ReadRight, FactsFit}
 use Rattle.cacheless.specs.State.{owed_at, running_of, is_kept, is_absent, IsNew}
-use Rattle.cacheless.proofs.EnteredLooks.{not_absent}
+use Rattle.cacheless.proofs.Entries.EnteredLooks.{not_absent}
 use Rattle.backend_core.specs.Types.{Command, Progress}
 
 -- what a new backend holds are the facts of one that has no entry

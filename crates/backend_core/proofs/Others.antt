@@ -11,10 +11,10 @@ use Rattle.cacheless.specs.Lines.{lines_from, lines_of_backend}
 use Rattle.cacheless.specs.Session.{Session}
 use Rattle.cacheless.specs.Sessions.{session_of}
 use Rattle.cacheless.specs.Settled.{settled}
-use Rattle.cacheless.proofs.JudgedLines.{session_placed, finished_lines-more, line_stays}
-use Rattle.cacheless.proofs.Others.{holds-other, not_started-other}
+use Rattle.cacheless.proofs.Answers.JudgedLines.{session_placed, finished_lines-more, line_stays}
+use Rattle.cacheless.proofs.Entries.Others.{holds-other, not_started-other}
 use Rattle.cacheless.proofs.Reading.{facts_of-other, session_of-other}
-use Rattle.cacheless.proofs.StaysOnCourse.{has_written-other}
+use Rattle.cacheless.proofs.Allowed.StaysOnCourse.{has_written-other}
 use Rattle.backend_core.specs.Types.{Entry, KeptScan, Life, Backend}
 use Rattle.backend_core.specs.declared.life.Life.TheVariants as lives
 use Rattle.backend_core.specs.Agrees.{KeptAt, PlaceFits, command_at, AwaitsEntry, HasNotJoined, HasLeft, Stands}

@@ -21,13 +21,13 @@ use Rattle.cacheless.specs.Session.{Session, number_of, outcome_of, is_settled}
 use Rattle.cacheless.specs.Sessions.{noted, ends_command, placed_at, commands_left, entered, session_of}
 use Rattle.cacheless.specs.Settled.{finished_as}
 use Rattle.cacheless.specs.State.{session_at}
-use Rattle.cacheless.proofs.Economical.{plays_needed}
-use Rattle.cacheless.proofs.JudgedLines.{session_placed, finished_lines-more, judged_here, judged_still, line_stays}
-use Rattle.cacheless.proofs.NextKeeps.{next_keeps}
-use Rattle.cacheless.proofs.NextOnCourse.{counted_tally, entered_noted, noted_finished, enters_on_course, with_entry}
-use Rattle.cacheless.proofs.OwnEntries.{IsNoted}
+use Rattle.cacheless.proofs.Allowed.Economical.{plays_needed}
+use Rattle.cacheless.proofs.Answers.JudgedLines.{session_placed, finished_lines-more, judged_here, judged_still, line_stays}
+use Rattle.cacheless.proofs.Allowed.NextKeeps.{next_keeps}
+use Rattle.cacheless.proofs.Allowed.NextOnCourse.{counted_tally, entered_noted, noted_finished, enters_on_course, with_entry}
+use Rattle.cacheless.proofs.Allowed.OwnEntries.{IsNoted}
 use Rattle.cacheless.proofs.Resting.{settled_at_rest}
-use Rattle.cacheless.proofs.StaysOnCourse.{MayCome}
+use Rattle.cacheless.proofs.Allowed.StaysOnCourse.{MayCome}
 use Rattle.backend_core.specs.Types.{Command, Scenario, Entry, Event, Backend}
 use Rattle.backend_core.specs.Agrees.{IsPlayed, command_at, Keeps, AnswerFits, IsJudgedHere, AgreesNow, AwaitsEntry}
 use Rattle.backend_core.specs.Fits.{Fits}

@@ -20,22 +20,22 @@ use Rattle.cacheless.specs.Silently.{IsAtRest}
 use Rattle.cacheless.specs.State.{is_out, session_at}
 use Rattle.cacheless.specs.May.{owes_nothing}
 use Rattle.cacheless.specs.Owed.{owed_of}
-use Rattle.cacheless.proofs.ActOrder.{at_lookup}
-use Rattle.cacheless.proofs.AfterActs.{IsUnfound, after_lookup, after_opening, opening_alike, after_column, after_reading, no_lock}
-use Rattle.cacheless.proofs.EnteredLooks.{not_absent}
+use Rattle.cacheless.proofs.Plans.ActOrder.{at_lookup}
+use Rattle.cacheless.proofs.Plans.AfterActs.{IsUnfound, after_lookup, after_opening, opening_alike, after_column, after_reading, no_lock}
+use Rattle.cacheless.proofs.Entries.EnteredLooks.{not_absent}
 use Rattle.cacheless.proofs.HeldLocks.{settled-locks}
 use Rattle.cacheless.proofs.Resting.{first_left, left_command}
 use Rattle.cacheless.proofs.Same.{owes_nothing_is}
-use Rattle.cacheless.proofs.SilentActs.{empty_list, on_its_way, its_place, made_already, IsDoneHere, is_done_here}
-use Rattle.cacheless.proofs.ToldAnswers.{has_come_out}
-use Rattle.cacheless.proofs.SettledCourse.{HasSession, act_enters, finish_enters}
+use Rattle.cacheless.proofs.Plans.SilentActs.{empty_list, on_its_way, its_place, made_already, IsDoneHere, is_done_here}
+use Rattle.cacheless.proofs.Answers.ToldAnswers.{has_come_out}
+use Rattle.cacheless.proofs.Allowed.SettledCourse.{HasSession, act_enters, finish_enters}
 use Rattle.backend_core.specs.Types.{Row, Command, Scenario, Entry, Event, Line, Progress, Backend}
 use Rattle.backend_core.specs.Agrees.{KeptAt, PlaceFits, command_at, is_to_answer_at, IsJudgedHere, AgreesNow, GoesOn, AwaitsEntry}
 use Rattle.backend_core.specs.Answering.{IsToldText}
 use Rattle.backend_core.specs.Fits.{Fits}
 use Rattle.backend_core.proofs.Answered.{are_kept, told_line}
-use Rattle.backend_core.proofs.FitsOn.{fits_act, gone_unfinished, fits_pass}
-use Rattle.backend_core.proofs.Joining.{place_first}
+use Rattle.backend_core.proofs.Fitting.FitsOn.{fits_act, gone_unfinished, fits_pass}
+use Rattle.backend_core.proofs.Entries.Joining.{place_first}
 use Rattle.backend_core.proofs.LinesPush.{lines-push}
 
 -- the session of the history, whose locks are those at hand

@@ -4,7 +4,7 @@ use Rattle.backend_core.specs.Types.{Scenario, Entry, Backend}
 use Rattle.backend_core.specs.declared.life.Life.TheVariants as lives
 use Rattle.history_model.specs.Legal.{IsLegal}
 use Rattle.cacheless.specs.Plays.{Plays}
-use Rattle.cacheless.proofs.AllowedHistories.{plays_on_course}
+use Rattle.cacheless.proofs.Allowed.AllowedHistories.{plays_on_course}
 use Rattle.backend_core.specs.Agrees.{IsPlayed, AwaitsEntry, HasNotJoined, HasLeft, Stands, IsReady}
 use Rattle.backend_core.specs.Steps.{MakesEntry, Enters, Steps, IsRefused, After}
 use Rattle.backend_core.proofs.Coherent.{stands_coherent}

@@ -43,7 +43,7 @@ use Rattle.cacheless.specs.Plays.{IsNext, Plays}
 use Rattle.cacheless.proofs.Reading.{session_of-own, session_of-other}
 use Rattle.cacheless.proofs.Settling.{is_empty-after}
 use Rattle.cacheless.proofs.HeldLocks.{grant_of, is_of, locks_of, settled-locks, counted-locks, Follows, locks_are_held}
-use Rattle.cacheless.proofs.Patient.{IsNoFetch, IsPatient, patient}
+use Rattle.cacheless.proofs.Allowed.Patient.{IsNoFetch, IsPatient, patient}
 
 -- what is known while so much is owed: nothing while a fetch is; where a look is, only if nothing waited
 abbrev Known : List Owes → Bool → Type 0 → Type 0

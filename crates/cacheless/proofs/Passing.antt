@@ -33,8 +33,8 @@ use Rattle.cacheless.proofs.Settling.{settled-act, settled-finish, acted-out}
 use Rattle.cacheless.proofs.StillSeen.{given_seen}
 use Rattle.cacheless.proofs.Tests.{and_true, right_none, not_both}
 use Rattle.cacheless.proofs.Resting.{first_left, left_command, kept_rows, cond_none, read_made, named_made, Free, free_now, lacks_none, here, finished_same}
-use Rattle.cacheless.proofs.Putting.{puts_first}
-use Rattle.cacheless.proofs.EnteredLooks.{not_absent}
+use Rattle.cacheless.proofs.Written.Putting.{puts_first}
+use Rattle.cacheless.proofs.Entries.EnteredLooks.{not_absent}
 
 -- the rows that a scan gave are such as it asks for
 rows_asked : (history : List Entry) (b : ℕ) (scan : Purpose) → AreGivenBy scan (rows_read history b scan)

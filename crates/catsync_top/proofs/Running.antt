@@ -13,7 +13,7 @@ use Rattle.walk_run.specs.Built.{is_built}
 use Rattle.walk_run.specs.Sessions.{AreSessions}
 use Rattle.out_text.specs.Typed.{IsTyped, IsLine}
 use Rattle.out_text.proofs.OneHistory.{spells_only}
-use Rattle.cacheless.proofs.WritesChange.{allowed_changes}
+use Rattle.cacheless.proofs.Written.WritesChange.{allowed_changes}
 use Rattle.catsync_top.proofs.Readable.{all_read}
 use Rattle.catsync_top.specs.Top.{Ran}
 

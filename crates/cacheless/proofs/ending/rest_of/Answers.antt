@@ -1,4 +1,4 @@
-use Rattle.cacheless.proofs.Unsent.{rest_second}
+use Rattle.cacheless.proofs.Written.Unsent.{rest_second}
 use Rattle.cacheless.proofs.ending.rest_of.Goals as goal
 
 pub returns-else-published-cats-clause-rest : goal.returns-else-published-cats-clause-rest

@@ -1,5 +1,5 @@
-use Rattle.backend_core.proofs.Entered.{is_few}
-use Rattle.backend_core.proofs.Committing.{commit_call, commit_enters}
+use Rattle.backend_core.proofs.Fitting.Entered.{is_few}
+use Rattle.backend_core.proofs.Entries.Committing.{commit_call, commit_enters}
 use Rattle.backend_core.proofs.backend.Backend.commit.Goals as goal
 
 pub visible-requires-clause-call : goal.visible-requires-clause-call

@@ -1,4 +1,4 @@
-use Rattle.backend_core.proofs.Fetching.{fetch_call, messages_enter, reset_enters}
+use Rattle.backend_core.proofs.Entries.Fetching.{fetch_call, messages_enter, reset_enters}
 use Rattle.backend_core.proofs.backend.Backend.fetch.Goals as goal
 
 pub fetch-requires-clause-call : goal.fetch-requires-clause-call

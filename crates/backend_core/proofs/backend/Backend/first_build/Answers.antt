@@ -1,4 +1,4 @@
-use Rattle.backend_core.proofs.Nexting.{first_built}
+use Rattle.backend_core.proofs.Choosing.Nexting.{first_built}
 use Rattle.backend_core.proofs.backend.Backend.first_build.Goals as goal
 
 pub returns-in-Some : goal.returns-in-Some

@@ -1,5 +1,5 @@
 use Rattle.backend_core.proofs.Stepped.{stepped_on, refused_after}
-use Rattle.backend_core.proofs.Nexting.{reads_now}
+use Rattle.backend_core.proofs.Choosing.Nexting.{reads_now}
 use Rattle.backend_core.proofs.backend.Backend.go_on.Goals as goal
 
 pub next-next-requires-clause-reads : goal.next-next-requires-clause-reads

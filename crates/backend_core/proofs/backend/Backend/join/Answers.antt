@@ -1,4 +1,4 @@
-use Rattle.backend_core.proofs.Joining.{join_call, join_enters}
+use Rattle.backend_core.proofs.Entries.Joining.{join_call, join_enters}
 use Rattle.backend_core.proofs.backend.Backend.join.Goals as goal
 
 pub start-requires-clause-call : goal.start-requires-clause-call

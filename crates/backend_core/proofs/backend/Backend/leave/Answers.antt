@@ -1,5 +1,5 @@
-use Rattle.backend_core.proofs.Entered.{is_few}
-use Rattle.backend_core.proofs.Leaving.{leave_call, leave_steps}
+use Rattle.backend_core.proofs.Fitting.Entered.{is_few}
+use Rattle.backend_core.proofs.Entries.Leaving.{leave_call, leave_steps}
 use Rattle.backend_core.proofs.backend.Backend.leave.Goals as goal
 
 pub stop-requires-clause-call : goal.stop-requires-clause-call

@@ -1,7 +1,7 @@
 use Rattle.std.proofs.Common.{arith}
-use Rattle.backend_core.proofs.Alike.{reserved_id, reserved_awaits, reserved_lock}
-use Rattle.backend_core.proofs.Entered.{has_room, is_few}
-use Rattle.backend_core.proofs.Locking.{lock_request, lock_free, lock_new, lock_drawn, held_appends, granted_enters, refused_enters}
+use Rattle.backend_core.proofs.Entries.Alike.{reserved_id, reserved_awaits, reserved_lock}
+use Rattle.backend_core.proofs.Fitting.Entered.{has_room, is_few}
+use Rattle.backend_core.proofs.Entries.Locking.{lock_request, lock_free, lock_new, lock_drawn, held_appends, granted_enters, refused_enters}
 use Rattle.backend_core.proofs.backend.Backend.lock.Goals as goal
 
 pub lock-requires-clause-call : goal.lock-requires-clause-call

@@ -1,4 +1,4 @@
-use Rattle.backend_core.proofs.Looking.{look_call, look_enters}
+use Rattle.backend_core.proofs.Entries.Looking.{look_call, look_enters}
 use Rattle.backend_core.proofs.backend.Backend.look.Goals as goal
 
 pub looked-requires-clause-call : goal.looked-requires-clause-call

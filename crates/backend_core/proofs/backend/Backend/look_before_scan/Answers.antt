@@ -1,4 +1,4 @@
-use Rattle.backend_core.proofs.Looking.{look_before_call, look_before_enters}
+use Rattle.backend_core.proofs.Entries.Looking.{look_before_call, look_before_enters}
 use Rattle.backend_core.proofs.backend.Backend.look_before_scan.Goals as goal
 
 pub looked-requires-clause-call : goal.looked-requires-clause-call

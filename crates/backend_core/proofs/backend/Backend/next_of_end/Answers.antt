@@ -1,6 +1,6 @@
 use Rattle.std.proofs.Common.{◌∙◌, sym, ap}
 use Rattle.cacheless.specs.Endings.{end_of_ending}
-use Rattle.backend_core.proofs.Nexting.{commits_next, takes_back_next}
+use Rattle.backend_core.proofs.Choosing.Nexting.{commits_next, takes_back_next}
 use Rattle.backend_core.proofs.backend.Backend.next_of_end.Goals as goal
 
 pub returns-in-Commits : goal.returns-in-Commits

@@ -1,5 +1,5 @@
 use Rattle.std.proofs.Common.{◌∙◌, sym}
-use Rattle.backend_core.proofs.Nexting.{build_next, build_none}
+use Rattle.backend_core.proofs.Choosing.Nexting.{build_next, build_none}
 use Rattle.backend_core.proofs.backend.Backend.next_of_going.Goals as goal
 
 pub next_of_build-requires : goal.next_of_build-requires

@@ -1,5 +1,5 @@
 use Rattle.std.proofs.Common.{◌∙◌, sym}
-use Rattle.backend_core.proofs.NextActs.{lookup_next}
+use Rattle.backend_core.proofs.Choosing.NextActs.{lookup_next}
 use Rattle.backend_core.proofs.backend.Backend.next_of_lookup.Goals as goal
 
 pub next_of_name-requires : goal.next_of_name-requires

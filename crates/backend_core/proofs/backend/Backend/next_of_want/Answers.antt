@@ -1,5 +1,5 @@
 use Rattle.std.proofs.Common.{◌∙◌, sym, refl, inl, inr}
-use Rattle.backend_core.proofs.NextActs.{open_next, read_none, fails_none}
+use Rattle.backend_core.proofs.Choosing.NextActs.{open_next, read_none, fails_none}
 use Rattle.backend_core.proofs.backend.Backend.next_of_want.Goals as goal
 
 pub next_of_build-requires : goal.next_of_build-requires

@@ -1,5 +1,5 @@
-use Rattle.backend_core.proofs.Entered.{is_few}
-use Rattle.backend_core.proofs.Committing.{publish_call, publish_these, publish_enters}
+use Rattle.backend_core.proofs.Fitting.Entered.{is_few}
+use Rattle.backend_core.proofs.Entries.Committing.{publish_call, publish_these, publish_enters}
 use Rattle.backend_core.proofs.backend.Backend.publish.Goals as goal
 
 pub publish-requires-clause-call : goal.publish-requires-clause-call

@@ -1,5 +1,5 @@
-use Rattle.backend_core.proofs.Entered.{is_few}
-use Rattle.backend_core.proofs.Releasing.{release_call, release_enters}
+use Rattle.backend_core.proofs.Fitting.Entered.{is_few}
+use Rattle.backend_core.proofs.Entries.Releasing.{release_call, release_enters}
 use Rattle.backend_core.proofs.backend.Backend.release.Goals as goal
 
 pub release-requires-clause-call : goal.release-requires-clause-call

@@ -1,7 +1,7 @@
 use Rattle.std.proofs.Common.{arith}
-use Rattle.backend_core.proofs.Entered.{has_room, is_few}
-use Rattle.backend_core.proofs.Inside.{made_refused}
-use Rattle.backend_core.proofs.Scanning.{scan_request, scan_makes, scan_enters}
+use Rattle.backend_core.proofs.Fitting.Entered.{has_room, is_few}
+use Rattle.backend_core.proofs.Entries.Inside.{made_refused}
+use Rattle.backend_core.proofs.Entries.Scanning.{scan_request, scan_makes, scan_enters}
 use Rattle.backend_core.proofs.backend.Backend.scan.Goals as goal
 
 pub scan-requires : goal.scan-requires

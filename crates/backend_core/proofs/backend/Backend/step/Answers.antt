@@ -1,4 +1,4 @@
-use Rattle.cacheless.proofs.AllowedHistories.{plays_on_course}
+use Rattle.cacheless.proofs.Allowed.AllowedHistories.{plays_on_course}
 use Rattle.backend_core.proofs.Stepped.{is_ready, stepped_on, refused_after}
 use Rattle.backend_core.proofs.backend.Backend.step.Goals as goal
 

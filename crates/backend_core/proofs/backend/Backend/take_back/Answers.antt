@@ -1,5 +1,5 @@
-use Rattle.backend_core.proofs.Entered.{is_few}
-use Rattle.backend_core.proofs.TakingBack.{take_back_call, take_back_enters}
+use Rattle.backend_core.proofs.Fitting.Entered.{is_few}
+use Rattle.backend_core.proofs.Entries.TakingBack.{take_back_call, take_back_enters}
 use Rattle.backend_core.proofs.backend.Backend.take_back.Goals as goal
 
 pub gone-requires-clause-call : goal.gone-requires-clause-call

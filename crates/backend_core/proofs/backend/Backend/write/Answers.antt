@@ -1,6 +1,6 @@
 use Rattle.std.proofs.Common.{refl, rules}
-use Rattle.backend_core.proofs.Alike.{reserved_id, reserved_awaits, reserved_write, drafted_awaits, drafted_write}
-use Rattle.backend_core.proofs.Writing.{write_request, may_write, lists_before, new_free, wrote_refused, wrote_agrees, clash_enters}
+use Rattle.backend_core.proofs.Entries.Alike.{reserved_id, reserved_awaits, reserved_write, drafted_awaits, drafted_write}
+use Rattle.backend_core.proofs.Entries.Writing.{write_request, may_write, lists_before, new_free, wrote_refused, wrote_agrees, clash_enters}
 use Rattle.backend_core.proofs.backend.Backend.write.Goals as goal
 
 pub write-requires-clause-call : goal.write-requires-clause-call

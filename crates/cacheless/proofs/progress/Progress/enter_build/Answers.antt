@@ -1,7 +1,7 @@
 use Rattle.std.proofs.Common.{◌∙◌, ap}
 use Rattle.cacheless.specs.State.{locks_accepted}
-use Rattle.cacheless.proofs.EnteredScans.{next_lacks}
-use Rattle.cacheless.proofs.EntryCodes.{built_code}
+use Rattle.cacheless.proofs.Entries.EnteredScans.{next_lacks}
+use Rattle.cacheless.proofs.Entries.EntryCodes.{built_code}
 use Rattle.cacheless.proofs.progress.Progress.enter_build.Goals as goal
 
 pub push-requires : goal.push-requires

@@ -1,4 +1,4 @@
-use Rattle.cacheless.proofs.EntryCodes.{clash_code}
+use Rattle.cacheless.proofs.Entries.EntryCodes.{clash_code}
 use Rattle.cacheless.proofs.progress.Progress.enter_clash.Goals as goal
 
 pub returns-clause-holds : goal.returns-clause-holds

@@ -1,6 +1,6 @@
 use Rattle.std.proofs.Common.{◌∙◌, ap, refl}
 use Rattle.cacheless.specs.State.{locks_accepted}
-use Rattle.cacheless.proofs.EntryCodes.{fetch_code}
+use Rattle.cacheless.proofs.Entries.EntryCodes.{fetch_code}
 use Rattle.cacheless.proofs.progress.Progress.enter_fetch.Goals as goal
 
 pub returns-clause-holds : goal.returns-clause-holds

@@ -2,7 +2,7 @@ use Rattle.std.proofs.Common.{◌∙◌, ap}
 use Rattle.cacheless.specs.State.{locks_accepted}
 use Rattle.command_lists.specs.Lists.{all_lists}
 use Rattle.command_lists.proofs.Writes.{aborted-all}
-use Rattle.cacheless.proofs.EntryCodes.{gone_code}
+use Rattle.cacheless.proofs.Entries.EntryCodes.{gone_code}
 use Rattle.cacheless.proofs.progress.Progress.enter_gone.Goals as goal
 
 pub returns-clause-holds : goal.returns-clause-holds

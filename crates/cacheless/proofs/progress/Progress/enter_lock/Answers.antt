@@ -1,4 +1,4 @@
-use Rattle.cacheless.proofs.EntryCodes.{granted_code}
+use Rattle.cacheless.proofs.Entries.EntryCodes.{granted_code}
 use Rattle.cacheless.proofs.progress.Progress.enter_lock.Goals as goal
 
 pub returns-clause-holds : goal.returns-clause-holds

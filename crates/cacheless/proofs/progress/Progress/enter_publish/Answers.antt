@@ -1,6 +1,6 @@
 use Rattle.std.proofs.Common.{◌∙◌, ap}
 use Rattle.cacheless.specs.State.{locks_accepted}
-use Rattle.cacheless.proofs.EntryCodes.{publish_code}
+use Rattle.cacheless.proofs.Entries.EntryCodes.{publish_code}
 use Rattle.cacheless.proofs.progress.Progress.enter_publish.Goals as goal
 
 pub returns-clause-holds : goal.returns-clause-holds

@@ -1,4 +1,4 @@
-use Rattle.cacheless.proofs.EntryCodes.{refused_code}
+use Rattle.cacheless.proofs.Entries.EntryCodes.{refused_code}
 use Rattle.cacheless.proofs.progress.Progress.enter_refused.Goals as goal
 
 pub returns-clause-holds : goal.returns-clause-holds

@@ -1,4 +1,4 @@
-use Rattle.cacheless.proofs.EnteredLooks.{start_starts}
+use Rattle.cacheless.proofs.Entries.EnteredLooks.{start_starts}
 use Rattle.cacheless.proofs.progress.Progress.enter_start.Goals as goal
 
 pub returns-clause-holds : goal.returns-clause-holds

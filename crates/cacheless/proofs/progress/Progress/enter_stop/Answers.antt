@@ -1,6 +1,6 @@
 use Rattle.std.proofs.Common.{◌∙◌, ap}
 use Rattle.cacheless.specs.State.{locks_accepted}
-use Rattle.cacheless.proofs.EnteredLooks.{stop_holds}
+use Rattle.cacheless.proofs.Entries.EnteredLooks.{stop_holds}
 use Rattle.cacheless.proofs.progress.Progress.enter_stop.Goals as goal
 
 pub returns-clause-holds : goal.returns-clause-holds

@@ -1,7 +1,7 @@
 use Rattle.std.proofs.Common.{◌∙◌, ap, Some}
 use Rattle.cacheless.specs.State.{locks_accepted}
 use Rattle.txn_blocks.specs.declared.transaction.RunningTransaction.{RunningTransaction}
-use Rattle.cacheless.proofs.EntryCodes.{write_code}
+use Rattle.cacheless.proofs.Entries.EntryCodes.{write_code}
 use Rattle.cacheless.proofs.progress.Progress.enter_write.Goals as goal
 
 pub returns-clause-holds : goal.returns-clause-holds

@@ -1,7 +1,7 @@
 use Rattle.std.proofs.Common.{◌∙◌, ap}
 use Rattle.inval_messages.specs.Lists.{rest_of_parts}
 use Rattle.cacheless.specs.State.{published_at}
-use Rattle.cacheless.proofs.Unsent.{unpublished_is}
+use Rattle.cacheless.proofs.Written.Unsent.{unpublished_is}
 use Rattle.cacheless.proofs.progress.Progress.unpublished.Goals as goal
 
 pub returns-clause-next : goal.returns-clause-next

@@ -1,0 +1,6 @@
+-- What comes next.
+pub mod EndsNow
+pub mod Nexting
+pub mod NextActs
+pub mod Chosen
+pub mod ActsRun

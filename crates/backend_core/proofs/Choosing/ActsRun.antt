@@ -1,0 +1,115 @@
+-- In a command that acts or scans, and whose transaction's first look is made, a transaction runs.
+use Rattle.std.proofs.Common.{◌≡◌, ◌≢◌, ◌∙◌, ◌&&◌, ◌||◌, inl, inr, Bool, true, false, not, Option, Some, None, List, [], ◌∷◌, refl, sym, ap, subst, is_none, is_some}
+use Rattle.std.specs.List.{list_any}
+use Rattle.std.proofs.lemmas.Bool.{both_ways}
+use Rattle.std.proofs.lemmas.Option.{slice_get_within, get_or_from_slice_get}
+use Rattle.base_types.specs.declared.command.Command.TheVariants as commands
+use Rattle.command_answers.specs.declared.error.CommandError.TheVariants as errors
+use Rattle.txn_blocks.specs.Blocks.{Block, Outside, Inside, Failed, no_block, ends_block, ends_failure, refused_in, refused_by}
+use Rattle.ddl_effect.specs.Commands.{plan_of}
+use Rattle.ddl_effect.specs.Plans.{Act, Plan, Done, Fails, Absent, NotBuilt, Do}
+use Rattle.ddl_effect.specs.Stages.{plan_at}
+use Rattle.cacheless.specs.Facts.{Facts, facts_of}
+use Rattle.cacheless.specs.May.{is_first_missing, is_next_of_act, has_failed, is_next_at}
+use Rattle.cacheless.specs.OnCourse.{OnItsWay, AllOnCourse}
+use Rattle.cacheless.specs.Owed.{Owes, OwesLook, begins, owed_at_start}
+use Rattle.cacheless.specs.Runs.{runs}
+use Rattle.cacheless.specs.Session.{Session, Unsettled, Badly, none_open, outcome_of, is_settled, plan_admitted, plan_first, refused_first}
+use Rattle.cacheless.specs.State.{owed_first}
+use Rattle.cacheless.specs.Types.{CommandError}
+use Rattle.cacheless.proofs.Same.{start_owed}
+use Rattle.cacheless.proofs.Plans.SilentActs.{on_its_way}
+use Rattle.cacheless.proofs.Tests.{and_true, not_true, or_either}
+use Rattle.cacheless.proofs.Plans.Ways.{acts as acting, none_reached}
+use Rattle.backend_core.specs.Types.{Row, Purpose, Command, Scenario, Entry, Backend}
+use Rattle.backend_core.specs.Agrees.{command_at, AwaitsEntry}
+use Rattle.backend_core.specs.Fits.{RunsBy, TransactionFits, Fits}
+use Rattle.backend_core.proofs.Fitting.NextTransaction.{some_first}
+use Rattle.backend_core.proofs.Own.{waiting, follows, going}
+
+-- a command that the blocks refuse fails
+refused_badly : (o : Option Command) (s : Session) → is_some (refused_first s.blocks o) ≡ true → outcome_of (plan_first s.blocks o) ≡ Badly
+refused_badly None s is = absurd (cc is)
+refused_badly (Some command) s is = by_error (refused_by s.blocks command) is
+  where
+    by_error : (error : Option CommandError) → is_some error ≡ true → outcome_of (plan_admitted error command) ≡ Badly
+    by_error None some = absurd (cc some)
+    by_error (Some error) some = refl
+
+-- a command that does something ends no block
+ends_none : (command : Command) → plan_of none_open command ≢ Done → ends_block command ≡ false
+ends_none commands.Commit acts = absurd (acts refl)
+ends_none commands.Rollback acts = absurd (acts refl)
+ends_none command acts = refl
+
+-- and one that the program runs mends none
+mends_none : (command : Command) → runs command ≡ true → plan_of none_open command ≢ Done → ends_failure command ≡ false
+mends_none commands.Commit built acts = absurd (acts refl)
+mends_none commands.Rollback built acts = absurd (acts refl)
+mends_none (commands.RollbackTo name) built acts = absurd (cc built)
+mends_none command built acts = refl
+
+none_left : {X : Type 0} (o : Option X) → is_some o ≡ false → is_none o ≡ true
+none_left None is = refl
+none_left (Some x) is = absurd (cc is)
+
+pub acts_run : (facts : Facts) (o : Option Command) (s : Session) (looked to_build : Bool) (command : Command) → o ≡ Some command → Fits facts o s looked to_build → s.ended ≡ false → s.blocked ≡ false → runs command ≡ true → plan_of none_open command ≢ Done → owed_at_start facts command s ≡ []
+    → is_some facts.running ≡ true
+acts_run facts o s looked to_build command at fits going unblocked built acts free = by_block s.blocks.block refl (subst (TransactionFits facts o s) going fits.transaction)
+  where
+    admitted : is_some (refused_in s.blocks.block command) ≡ false
+    admitted = ap (λ c. is_some (refused_first s.blocks c)) (sym at) ∙ sym fits.blocked ∙ unblocked
+
+    -- outside blocks it would owe its first look
+    starts : s.blocks.block ≡ Outside → begins command s ≡ true
+    starts is = ap (λ b. elim b as (λ x. Bool) [ Outside ↦ not (ends_block command) && not s.ended && is_none (refused_by no_block command) | other ↦ false ]) is
+        ∙ (λ i. not (ends_none command acts i) && not (going i) && none_left (refused_by no_block command) (ap (λ b. is_some (refused_in b command)) (sym is) ∙ admitted) i)
+
+    by_block : (block : Block) → s.blocks.block ≡ block → RunsBy facts o s block → is_some facts.running ≡ true
+    by_block Outside is (inl none) = absurd (let owes : owed_at_start facts command s ≡ OwesLook ∷ [] = (λ i. elim (starts is i && is_none (none i)) as (λ x. List Owes) [ true ↦ OwesLook ∷ [] | false ↦ [] ]) in cc (owes, free))
+    by_block Outside is (inr alone) = some_first facts.running _ alone.first
+    by_block Inside is block = block.runs
+    by_block Failed is none = absurd (both_ways _ admitted (ap (λ b. is_some (refused_in b command)) is ∙ ap (λ t. is_some (elim t as (λ x. Option CommandError) [ true ↦ None | false ↦ Some errors.BlockFailed ])) (mends_none command built acts)))
+
+-- a backend that waits in a command whose transaction's first look is made
+module _ (scenario : Scenario) (seen : List Entry) (s : Backend) (waits : AwaitsEntry scenario seen s) (courses : AllOnCourse scenario seen) (command : Command) (at : command_at s ≡ Some command) where
+  built : runs command ≡ true
+  built = subst (λ c. runs c ≡ true) (get_or_from_slice_get s.progress.commands s.progress.finished command command at) (waits.keeps.built s.progress.finished command (slice_get_within s.progress.commands s.progress.finished command at))
+
+  -- the blocks haven't refused it, where it hasn't failed
+  unblocked_here : outcome_of (plan_at s.progress.exec) ≢ Badly → s.progress.blocked ≡ false
+  unblocked_here goes = by_test s.progress.blocked refl
+    where
+      by_test : (t : Bool) → s.progress.blocked ≡ t → s.progress.blocked ≡ false
+      by_test false is = is
+      by_test true is = absurd (let badly : outcome_of (plan_first (waiting waits).blocks (command_at s)) ≡ Badly = refused_badly (command_at s) (waiting waits) (sym waits.fits.blocked ∙ is) in goes (ap outcome_of (waits.fits.settled (ap is_settled badly)) ∙ badly))
+
+  runs_here : owed_first s.progress command ≡ [] → outcome_of (plan_at s.progress.exec) ≢ Badly → plan_of none_open command ≢ Done → is_some (facts_of seen s.progress.id).running ≡ true
+  runs_here free goes acts = acts_run (facts_of seen s.progress.id) (command_at s) (waiting waits) s.looked s.looked_to_build command at waits.fits (going scenario seen s waits courses command at) (unblocked_here goes) built acts
+      (start_owed (facts_of seen s.progress.id) command s.progress waits.rests.holds.rest waits.rests.holds.facts ∙ free)
+
+  -- what it does isn't all of an empty plan
+  acts_none : (act : Act) (rest : List Row → Plan) → plan_at s.progress.exec ≡ Do act rest → plan_of none_open command ≢ Done
+  acts_none act rest acts none = let way : OnItsWay seen s.progress.id (waiting waits) command = on_its_way seen s.progress.id (waiting waits) command act rest (follows scenario seen s waits courses command at) acts in
+      none_reached way.gave (plan_of none_open command) act rest (ap acting none) (sym way.plan ∙ acts)
+
+  -- before an act
+  pub act_runs : (act : Act) (rest : List Row → Plan) → plan_at s.progress.exec ≡ Do act rest → owed_first s.progress command ≡ [] → is_some (facts_of seen s.progress.id).running ≡ true
+  act_runs act rest acts free = runs_here free (λ badly. let no : Unsettled ≡ Badly = ap outcome_of (sym acts) ∙ badly in cc no) (acts_none act rest acts)
+
+  -- before a scan
+  pub scan_runs : (scan : Purpose) → is_next_at scan s.progress ≡ true → owed_first s.progress command ≡ [] → is_some (facts_of seen s.progress.id).running ≡ true
+  scan_runs scan next free = runs_here free (λ badly. both_ways _ (not_true (has_failed s.progress) both.0) (ap (λ o. elim o as (λ x. Bool) [ Badly ↦ true | other ↦ false ]) badly))
+      (λ none. or_either (list_any (λ o. is_first_missing scan s.progress.kept o.kind o.rel) s.progress.opened) (is_next_of_act scan s.progress (plan_at s.progress.exec)) both.1
+      (λ opened. both_ways _ (ap (list_any (λ o. is_first_missing scan s.progress.kept o.kind o.rel)) ((follows scenario seen s waits courses command at).plain none)) opened)
+      (λ act. by_plan (plan_at s.progress.exec) refl act none))
+    where
+      both : (not (has_failed s.progress) ≡ true) × ((list_any (λ o. is_first_missing scan s.progress.kept o.kind o.rel) s.progress.opened || is_next_of_act scan s.progress (plan_at s.progress.exec)) ≡ true)
+      both = and_true (not (has_failed s.progress)) _ next
+
+      by_plan : (p : Plan) → plan_at s.progress.exec ≡ p → is_next_of_act scan s.progress p ≡ true → plan_of none_open command ≢ Done
+      by_plan (Do act rest) is of = acts_none act rest is
+      by_plan Done is of = absurd (cc of)
+      by_plan (Fails error) is of = absurd (cc of)
+      by_plan (Absent name) is of = absurd (cc of)
+      by_plan NotBuilt is of = absurd (cc of)

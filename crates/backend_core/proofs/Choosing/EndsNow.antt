@@ -1,0 +1,294 @@
+-- What the next entry of an end rests on, by the facts of its backend, the running command and the session.
+use Rattle.std.proofs.Common.{◌≡◌, ◌≤◌, ◌+◌, ◌∙◌, ◌⊎◌, inl, inr, ℕ, suc, zero, Bool, true, false, not, Option, Some, None, List, [], ◌∷◌, ◌++◌, refl, sym, ap, subst, length, map, min, is_some, if◌then◌else◌, arith}
+use Rattle.std.specs.Option.{option_map_or}
+use Rattle.std.specs.Prelude.{nat_le}
+use Rattle.std.proofs.lemmas.Bool.{leb-true, leb-false}
+use Rattle.base_types.specs.declared.command.Command.TheVariants as commands
+use Rattle.event_kinds.specs.declared.entry.Event.TheVariants as events
+use Rattle.inval_messages.specs.Lists.{has_write_from}
+use Rattle.txn_blocks.specs.Blocks.{Block, Level, Blocks, Outside, Inside, Failed, refused_in, refused_by, innermost, blocks_well, blocks_badly}
+use Rattle.ddl_effect.specs.Commands.{plan_of}
+use Rattle.ddl_effect.specs.Plans.{Done}
+use Rattle.history_model.specs.Sent.{unsent_in}
+use Rattle.history_model.specs.Transactions.{Running, is_visible}
+use Rattle.history_model.specs.Writes.{is_empty}
+use Rattle.cacheless.specs.Ends.{End, Ends, Commits, TakesBack, end_of_all, end_of_block, end_well, end_badly, end_of, xid_of, next_sent, next_of_end}
+use Rattle.cacheless.specs.Facts.{Facts}
+use Rattle.cacheless.specs.Owed.{Owes, OwesScan, owed_at_start, owed_after, scans_owed, owed_of}
+use Rattle.cacheless.specs.Plays.{IsEnd, IsLastEnd, MayPlay, MayPlayLast, MayPlayIn}
+use Rattle.cacheless.specs.Runs.{runs}
+use Rattle.cacheless.specs.Session.{Session, Outcome, Well, Badly, Unsettled, none_open, number_of, outcome_of, is_settled, plan_admitted, plan_first, refused_first}
+use Rattle.cacheless.specs.Sessions.{ends_command}
+use Rattle.cacheless.specs.Types.{CommandError}
+use Rattle.cacheless.proofs.Allowed.OwnEntries.{ends_out}
+use Rattle.cacheless.proofs.Plans.SilentActs.{both_empty}
+use Rattle.backend_core.specs.Types.{Xid, Command, Event}
+use Rattle.backend_core.specs.Fits.{outermost, first_at, RunsFailed, RunsIn, RunsBy, RunsAfter, TransactionFits, Fits}
+use Rattle.backend_core.proofs.Fitting.NextTransaction.{some_first}
+
+-- the end of the running command, or after the last one that of what still runs
+abbrev pub end_by : Facts → Option Command → Session → End
+end_by facts None s = end_of_all facts
+end_by facts (Some command) s = end_of facts command s
+
+-- its next entry
+pub record EndsBy (facts : Facts) (o : Option Command) (s : Session) (event : Event) : Type 0 where
+  pub going : s.ended ≡ false
+  pub out : is_settled (outcome_of s.left) ≡ true
+  pub after : owed_after facts.last ≡ []
+  pub comes : next_of_end facts (end_by facts o s) ≡ Some event
+
+pub is_end : (next : ℕ) (facts : Facts) (command : Command) (s : Session) (event : Event) → ends_command event ≡ true → MayPlay next facts command s event → IsEnd facts command s event
+is_end next facts command s (events.Visible xid) ends is = is
+is_end next facts command s (events.Publish count) ends is = is
+is_end next facts command s (events.Gone from) ends is = is
+is_end next facts command s (events.Release from) ends is = is
+is_end next facts command s event ends is = absurd (cc ends)
+
+is_last : (facts : Facts) (s : Session) (event : Event) → ends_command event ≡ true → MayPlayLast facts s event → IsLastEnd facts event
+is_last facts s (events.Gone from) ends is = is
+is_last facts s (events.Release from) ends is = is
+is_last facts s (events.Visible xid) ends is = absurd is
+is_last facts s (events.Publish count) ends is = absurd is
+is_last facts s event ends is = absurd (cc ends)
+
+pub ends_by : (next : ℕ) (facts : Facts) (o : Option Command) (s : Session) (looked to_build : Bool) (event : Event) → ends_command event ≡ true → Fits facts o s looked to_build → MayPlayIn next facts o s event → EndsBy facts o s event
+ends_by next facts (Some command) s looked to_build event ends fits plays = by_ended s.ended refl end.1
+  where
+    end : IsEnd facts command s event
+    end = is_end next facts command s event ends plays
+
+    free : owed_of facts command s ≡ [] → owed_after facts.last ≡ []
+    free none = (both_empty (owed_at_start facts command s) (owed_after facts.last) (both_empty (owed_at_start facts command s ++ owed_after facts.last) (map OwesScan (scans_owed facts s)) none).0).1
+
+    by_end : (e : End) → elim e as (λ x. List Owes) [ TakesBack from ↦ owed_after facts.last | other ↦ owed_of facts command s ] ≡ [] → owed_after facts.last ≡ []
+    by_end Ends none = free none
+    by_end (Commits first) none = free none
+    by_end (TakesBack from) none = none
+
+    by_ended : (t : Bool) → s.ended ≡ t → elim t as (λ x. Option Event) [ true ↦ None | false ↦ next_of_end facts (end_of facts command s) ] ≡ Some event → EndsBy facts (Some command) s event
+    by_ended true is none = absurd (cc none)
+    by_ended false is comes = record { going = is; out = ends_out facts command s event end.1; after = by_end (end_of facts command s) end.0; comes = comes }
+ends_by next facts None s looked to_build event ends fits plays = record { going = by_ended s.ended refl fits.transaction; out = (fits.past refl).out; after = end.0; comes = end.1 }
+  where
+    end : IsLastEnd facts event
+    end = is_last facts s event ends plays
+
+    by_ended : (t : Bool) → s.ended ≡ t → TransactionFits facts None s t → s.ended ≡ false
+    by_ended false is runs_it = is
+    by_ended true is none = absurd (let no : None ≡ Some event = sym (ap (λ r. next_of_end facts (option_map_or (λ (t : Running). TakesBack t.first) r Ends)) none) ∙ end.1 in cc no)
+
+-- a commit of writes
+pub record IsCommit (facts : Facts) (end : End) : Type 0 where
+  pub first : ℕ
+  pub is : end ≡ Commits first
+  pub written : has_write_from first facts.lists ≡ true
+
+-- the visibility step
+pub record ShowsNow (facts : Facts) (end : End) (xid : Xid) : Type 0 where
+  pub commit : IsCommit facts end
+  pub hidden : is_visible facts.running ≡ false
+  pub xid_is : xid.0 ≡ xid_of facts
+
+-- a publish
+pub record PublishesNow (facts : Facts) (end : End) (count : ℕ) : Type 0 where
+  pub commit : IsCommit facts end
+  pub visible : is_visible facts.running ≡ true
+  pub some : 1 ≤ count
+  pub most : count ≡ min 64 (length (unsent_in facts.lists facts.running))
+
+-- the first command of what an end releases
+abbrev pub end_from : End → Option ℕ
+end_from Ends = None
+end_from (Commits first) = Some first
+end_from (TakesBack from) = Some from
+
+-- the release, once all is sent or where nothing is written
+pub data LetsGo (facts : Facts) (end : End) (from : ℕ) : Type 0 where
+  AllSent : end ≡ Commits from → is_visible facts.running ≡ true → length (unsent_in facts.lists facts.running) ≡ 0 → LetsGo facts end from
+  NoWrite : (end ≡ Commits from) ⊎ (end ≡ TakesBack from) → has_write_from from facts.lists ≡ false → LetsGo facts end from
+
+-- what each event that comes next of an end tells of it
+abbrev pub ComesNow : Facts → End → Event → Type 0
+ComesNow facts end (events.Visible xid) = ShowsNow facts end xid
+ComesNow facts end (events.Publish count) = PublishesNow facts end count
+ComesNow facts end (events.Gone from) = (end ≡ TakesBack from) × (has_write_from from facts.lists ≡ true)
+ComesNow facts end (events.Release from) = LetsGo facts end from
+ComesNow facts end event = ⊥
+
+-- how many messages a publish sends of so many
+sends_most : (unsent : ℕ) → (if nat_le unsent 64 then unsent else 64) ≡ min 64 unsent
+sends_most n = by_test (nat_le n 64) refl
+  where
+    by_test : (t : Bool) → nat_le n 64 ≡ t → (if t then n else 64) ≡ min 64 n
+    by_test true low = omega (arith, leb-true n 64 low)
+    by_test false high = omega (arith, leb-false n 64 high)
+
+pub comes_now : (facts : Facts) (end : End) (event : Event) → next_of_end facts end ≡ Some event → ComesNow facts end event
+comes_now facts Ends event is = absurd (cc is)
+comes_now facts (Commits first) event is = by_written (has_write_from first facts.lists) refl is
+  where
+    sent : (n : ℕ) → length (unsent_in facts.lists facts.running) ≡ n → has_write_from first facts.lists ≡ true → is_visible facts.running ≡ true → ComesNow facts (Commits first) (next_sent first n)
+    sent zero none written shown = AllSent refl shown none
+    sent (suc n) some written shown = record { commit = record { first = first; is = refl; written = written }; visible = shown; some = omega (arith, sends_most (suc n)); most = sends_most (suc n) ∙ ap (min 64) (sym some) }
+
+    by_visible : (t : Bool) → is_visible facts.running ≡ t → has_write_from first facts.lists ≡ true → Some (elim t as (λ x. Event) [ true ↦ next_sent first (length (unsent_in facts.lists facts.running)) | false ↦ events.Visible (record { 0 = xid_of facts }) ]) ≡ Some event → ComesNow facts (Commits first) event
+    by_visible true shown written one = subst (ComesNow facts (Commits first)) (cc one) (sent (length (unsent_in facts.lists facts.running)) refl written shown)
+    by_visible false hidden written one = subst (ComesNow facts (Commits first)) (let same : events.Visible (record { 0 = xid_of facts }) ≡ event = cc one in same) (record { commit = record { first = first; is = refl; written = written }; hidden = hidden; xid_is = refl })
+
+    by_written : (t : Bool) → has_write_from first facts.lists ≡ t → Some (elim t as (λ x. Event) [ true ↦ elim (is_visible facts.running) [ true ↦ next_sent first (length (unsent_in facts.lists facts.running)) | false ↦ events.Visible (record { 0 = xid_of facts }) ] | false ↦ events.Release first ]) ≡ Some event → ComesNow facts (Commits first) event
+    by_written true written one = by_visible (is_visible facts.running) refl written one
+    by_written false bare one = subst (ComesNow facts (Commits first)) (let same : events.Release first ≡ event = cc one in same) (NoWrite (inl refl) bare)
+comes_now facts (TakesBack from) event is = by_written (has_write_from from facts.lists) refl is
+  where
+    by_written : (t : Bool) → has_write_from from facts.lists ≡ t → Some (elim t as (λ x. Event) [ true ↦ events.Gone from | false ↦ events.Release from ]) ≡ Some event → ComesNow facts (TakesBack from) event
+    by_written true written one = subst (ComesNow facts (TakesBack from)) (let same : events.Gone from ≡ event = cc one in same) (refl, written)
+    by_written false bare one = subst (ComesNow facts (TakesBack from)) (let same : events.Release from ≡ event = cc one in same) (NoWrite (inr refl) bare)
+
+pub from_of : (facts : Facts) (end : End) (from : ℕ) → LetsGo facts end from → end_from end ≡ Some from
+from_of facts end from (AllSent is visible none) = ap end_from is
+from_of facts end from (NoWrite (inl is) bare) = ap end_from is
+from_of facts end from (NoWrite (inr is) bare) = ap end_from is
+
+-- the first command of the transaction that an entry is of
+abbrev pub first_begun : Facts → Session → ℕ
+first_begun facts s = option_map_or (λ t. t.first) facts.running (number_of s)
+
+from_all : (own : Option Running) (n from : ℕ) → end_from (option_map_or (λ t. TakesBack t.first) own Ends) ≡ Some from → option_map_or (λ t. t.first) own n ≡ from
+from_all None n from is = absurd (cc is)
+from_all (Some t) n from is = cc is
+
+from_commit : (own : Option Running) (n from : ℕ) → end_from (option_map_or (λ t. Commits t.first) own Ends) ≡ Some from → option_map_or (λ t. t.first) own n ≡ from
+from_commit None n from is = absurd (cc is)
+from_commit (Some t) n from is = cc is
+
+from_block : (facts : Facts) (block : Block) (commits : Bool) (n from : ℕ) → end_from (end_of_block facts block commits) ≡ Some from → option_map_or (λ t. t.first) facts.running n ≡ from
+from_block facts Outside commits n from is = absurd (cc is)
+from_block facts Inside true n from is = from_commit facts.running n from is
+from_block facts Inside false n from is = from_all facts.running n from is
+from_block facts Failed commits n from is = from_all facts.running n from is
+
+first_some : (own : Option Running) (n first : ℕ) → is_some own ≡ true → option_map_or (λ t. t.first) own 0 ≡ first → option_map_or (λ t. t.first) own n ≡ first
+first_some None n first some is = absurd (cc some)
+first_some (Some t) n first some is = is
+
+first_alone : (facts : Facts) (o : Option Command) (s : Session) → RunsBy facts o s Outside → first_begun facts s ≡ number_of s
+first_alone facts o s (inl none) = ap (λ r. option_map_or (λ (t : Running). t.first) r (number_of s)) none
+first_alone facts o s (inr alone) = first_some facts.running (number_of s) (number_of s) (some_first facts.running _ alone.first) alone.first
+
+from_alone : (facts : Facts) (o : Option Command) (s : Session) (block : Block) (from : ℕ) → RunsBy facts o s block → end_from (elim block [ Outside ↦ Commits (number_of s) | other ↦ Ends ]) ≡ Some from → first_begun facts s ≡ from
+from_alone facts o s Outside from by is = first_alone facts o s by ∙ cc is
+from_alone facts o s Inside from by is = absurd (cc is)
+from_alone facts o s Failed from by is = absurd (cc is)
+
+from_well : (facts : Facts) (o : Option Command) (s : Session) (command : Command) (from : ℕ) → RunsBy facts o s s.blocks.block → end_from (end_well facts command s) ≡ Some from → first_begun facts s ≡ from
+from_well facts o s commands.Begin from by is = absurd (cc is)
+from_well facts o s commands.Commit from by is = from_block facts s.blocks.block true (number_of s) from is
+from_well facts o s commands.Rollback from by is = from_block facts s.blocks.block false (number_of s) from is
+from_well facts o s command from by is = from_alone facts o s s.blocks.block from by is
+
+-- one level is the outermost and the innermost
+one_outermost : (n : ℕ) (levels : List Level) → length levels ≤ 1 → outermost n levels ≡ innermost n levels
+one_outermost n [] one = refl
+one_outermost n (level ∷ []) one = refl
+one_outermost n (level ∷ inner ∷ levels) one = absurd (omega (arith, one))
+
+-- outside blocks the innermost level is the command itself
+level_outside : (levels : List Level) (n : ℕ) → false ≡ not (is_empty levels) → innermost n levels ≡ n
+level_outside [] n is = refl
+level_outside (level ∷ levels) n is = absurd (cc is)
+
+-- a failed block admits what ends it, whose plan is empty
+ends_failed : (command : Command) → is_some (refused_in Failed command) ≡ false → runs command ≡ true → plan_of none_open command ≡ Done
+ends_failed commands.Commit admitted built = refl
+ends_failed commands.Rollback admitted built = refl
+ends_failed (commands.RollbackTo name) admitted built = absurd (cc built)
+ends_failed command admitted built = absurd (cc admitted)
+
+admitted_plan : (error : Option CommandError) (command : Command) → is_some error ≡ false → plan_admitted error command ≡ plan_of none_open command
+admitted_plan None command none = refl
+admitted_plan (Some error) command none = absurd (cc none)
+
+module _ (facts : Facts) (o : Option Command) (s : Session) (looked to_build : Bool) (command : Command) (at : o ≡ Some command) (built : runs command ≡ true) (fits : Fits facts o s looked to_build) (going : s.ended ≡ false) where
+  runs_by : RunsBy facts o s s.blocks.block
+  runs_by = subst (TransactionFits facts o s) going fits.transaction
+
+  failed_done : s.blocks.block ≡ Failed → s.blocked ≡ false → s.left ≡ Done
+  failed_done failed admitted = fits.settled (ap (λ p. is_settled (outcome_of p)) first) ∙ first
+    where
+      free : is_some (refused_by s.blocks command) ≡ false
+      free = ap (λ c. is_some (refused_first s.blocks c)) (sym at) ∙ sym fits.blocked ∙ admitted
+
+      first : plan_first s.blocks o ≡ Done
+      first = ap (plan_first s.blocks) at ∙ admitted_plan (refused_by s.blocks command) command free ∙ ends_failed command (ap (λ b. is_some (refused_in b command)) (sym failed) ∙ free) built
+
+  -- what a command that failed takes back
+  from_badly : (from : ℕ) → outcome_of s.left ≡ Badly → end_from (end_badly s) ≡ Some from → first_begun facts s ≡ from
+  from_badly from badly is = by_blocked s.blocked refl is
+    where
+      by_block : (block : Block) → s.blocks.block ≡ block → s.blocked ≡ false → RunsBy facts o s block → first_begun facts s ≡ innermost (number_of s) s.blocks.levels
+      by_block Outside outside admitted by = first_alone facts o s by ∙ sym (level_outside s.blocks.levels (number_of s) (ap (λ b. elim b as (λ x. Bool) [ Outside ↦ false | block ↦ true ]) (sym outside) ∙ fits.opens))
+      by_block Inside inside admitted by = first_some facts.running (number_of s) (innermost (number_of s) s.blocks.levels) by.runs (by.first (number_of s) ∙ one_outermost (number_of s) s.blocks.levels fits.one_level)
+      by_block Failed failed admitted by = absurd (let no : Well ≡ Badly = sym (ap outcome_of (failed_done failed admitted)) ∙ badly in cc no)
+
+      by_blocked : (t : Bool) → s.blocked ≡ t → end_from (elim t as (λ x. End) [ true ↦ Ends | false ↦ TakesBack (innermost (number_of s) s.blocks.levels) ]) ≡ Some from → first_begun facts s ≡ from
+      by_blocked true blocked end = absurd (cc end)
+      by_blocked false blocked end = by_block s.blocks.block refl blocked runs_by ∙ cc end
+
+  -- an end with an entry is the end of the transaction as a whole
+  first_of_end : (from : ℕ) → end_from (end_of facts command s) ≡ Some from → first_begun facts s ≡ from
+  first_of_end from is = by_outcome (outcome_of s.left) refl is
+    where
+      by_outcome : (x : Outcome) → outcome_of s.left ≡ x → end_from (elim x as (λ y. End) [ Well ↦ end_well facts command s | Badly ↦ end_badly s | Unsettled ↦ Ends ]) ≡ Some from → first_begun facts s ≡ from
+      by_outcome Well outcome end = from_well facts o s command from runs_by end
+      by_outcome Badly outcome end = from_badly from outcome end
+      by_outcome Unsettled outcome end = absurd (cc end)
+
+-- so is that after the last command
+pub end_first : (facts : Facts) (o : Option Command) (s : Session) (looked to_build : Bool) (from : ℕ) → ((command : Command) → o ≡ Some command → runs command ≡ true) → Fits facts o s looked to_build → s.ended ≡ false → end_from (end_by facts o s) ≡ Some from → first_begun facts s ≡ from
+end_first facts None s looked to_build from built fits going is = from_all facts.running (number_of s) from is
+end_first facts (Some command) s looked to_build from built fits going is = first_of_end facts (Some command) s looked to_build command refl (built command refl) fits going from is
+
+-- a block that failed and has one level runs none
+failed_none : (facts : Facts) (levels : List Level) → length levels ≤ 1 → facts.running ≡ None → RunsFailed facts levels
+failed_none facts [] one none = none
+failed_none facts (level ∷ []) one none = none
+failed_none facts (level ∷ inner ∷ levels) one none = absurd (omega (arith, one))
+
+-- where an end left none, none belongs to the blocks after it
+pub none_after : (facts later : Facts) (command : Command) (s : Session) (from : ℕ) → length s.blocks.levels ≤ 1 → end_from (end_of facts command s) ≡ Some from → later.running ≡ None → RunsAfter later (Some command) s
+none_after facts later command s from one is none = by_outcome (outcome_of s.left) is
+  where
+    badly : (block : Block) → s.blocks.block ≡ block → RunsIn later (elim block as (λ x. Blocks) [ Outside ↦ s.blocks | other ↦ record { block = Failed; levels = s.blocks.levels } ]).levels (elim block as (λ x. Blocks) [ Outside ↦ s.blocks | other ↦ record { block = Failed; levels = s.blocks.levels } ]).block
+    badly Outside at = subst (RunsIn later s.blocks.levels) (sym at) none
+    badly Inside at = failed_none later s.blocks.levels one none
+    badly Failed at = failed_none later s.blocks.levels one none
+
+    stays : (block : Block) → s.blocks.block ≡ block → end_from (elim block as (λ x. End) [ Outside ↦ Commits (number_of s) | other ↦ Ends ]) ≡ Some from → RunsIn later s.blocks.levels s.blocks.block
+    stays Outside at end = subst (RunsIn later s.blocks.levels) (sym at) none
+    stays Inside at end = absurd (cc end)
+    stays Failed at end = absurd (cc end)
+
+    well : (c : Command) → end_from (end_well facts c s) ≡ Some from → RunsIn later (blocks_well (number_of s) c s.blocks).levels (blocks_well (number_of s) c s.blocks).block
+    well commands.Begin end = absurd (cc end)
+    well commands.Commit end = none
+    well commands.Rollback end = none
+    well c end = stays s.blocks.block refl end
+
+    by_outcome : (x : Outcome) → end_from (elim x as (λ y. End) [ Well ↦ end_well facts command s | Badly ↦ end_badly s | Unsettled ↦ Ends ]) ≡ Some from
+        → RunsIn later (elim x as (λ y. Blocks) [ Well ↦ blocks_well (number_of s) command s.blocks | outcome ↦ blocks_badly s.blocks ]).levels (elim x as (λ y. Blocks) [ Well ↦ blocks_well (number_of s) command s.blocks | outcome ↦ blocks_badly s.blocks ]).block
+    by_outcome Well end = well command end
+    by_outcome Badly end = badly s.blocks.block refl
+    by_outcome Unsettled end = absurd (cc end)
+
+-- a visible transaction is on its commit
+pub commit_end : (facts : Facts) (o : Option Command) (s : Session) (looked to_build : Bool) → Fits facts o s looked to_build → is_visible facts.running ≡ true → end_by facts o s ≡ Commits (first_at facts)
+commit_end facts o s looked to_build fits visible = let c = fits.visible visible in ap (λ x. end_by facts x s) c.at ∙ c.end
+
+-- and what is taken back on its taking back
+pub back_end : (facts : Facts) (o : Option Command) (s : Session) (looked to_build : Bool) (from : ℕ) → Fits facts o s looked to_build → facts.last ≡ Some (events.Gone from) → end_by facts o s ≡ TakesBack from
+back_end facts o s looked to_build from fits gone = by_command o (fits.taken from gone).end
+  where
+    by_command : (x : Option Command) → elim x as (λ y. Type 0) [ Some c ↦ (end_of facts c s ≡ TakesBack from) × (owed_of facts c s ≡ []) | None ↦ end_of_all facts ≡ TakesBack from ] → end_by facts x s ≡ TakesBack from
+    by_command (Some c) both = both.0
+    by_command None is = is

@@ -1,0 +1,174 @@
+-- A commit becomes visible, and publishes its messages.
+use Rattle.std.proofs.Common.{◌≡◌, ◌+◌, ◌∙◌, ◌==◌, ℕ, Bool, true, false, Option, Some, None, List, [], refl, sym, ap, subst, length, take, is_some, All}
+use Rattle.std.specs.Option.{option_map_or, unwrap_or}
+use Rattle.std.proofs.lemmas.Bool.{eq-eqb}
+use Rattle.std.proofs.lemmas.List.{length-take, take_min}
+use Rattle.event_kinds.specs.declared.entry.Event.TheVariants as events
+use Rattle.inval_messages.specs.Lists.{Written, unsent_after}
+use Rattle.history_model.specs.Drawn.{next_oid}
+use Rattle.history_model.specs.Legal.{FollowsVisible, FollowsGone}
+use Rattle.history_model.specs.Sent.{unsent_in, unsent_of}
+use Rattle.history_model.specs.Transactions.{Running, begun, has_xid, is_visible}
+use Rattle.seg_calls.specs.Calls.{entry_of, ArePublishedNext, MayCall, Appends}
+use Rattle.txn_blocks.specs.declared.transaction.RunningTransaction.{RunningTransaction}
+use Rattle.cacheless.specs.Ends.{Ends, Commits, TakesBack}
+use Rattle.cacheless.specs.Facts.{Facts, facts_of}
+use Rattle.cacheless.specs.Holds.{HasEntered}
+use Rattle.cacheless.specs.OnCourse.{AllOnCourse}
+use Rattle.cacheless.specs.Owed.{Owes, owed_after, owed_of, builds_owed}
+use Rattle.cacheless.specs.Plays.{MayPlayIn}
+use Rattle.cacheless.specs.Session.{Session, Well, outcome_of}
+use Rattle.cacheless.specs.Sessions.{ends_command}
+use Rattle.cacheless.specs.State.{running_of, lists_at, unsent_at}
+use Rattle.cacheless.proofs.Allowed.Releases.{owes_none_built}
+use Rattle.backend_core.specs.Types.{Xid, Command, Scenario, Entry, Event, Message, OwnLock, Progress, Backend}
+use Rattle.backend_core.specs.Agrees.{IsPlayed, KeptAt, command_at, AwaitsEntry}
+use Rattle.backend_core.specs.Fits.{Fits}
+use Rattle.backend_core.specs.Steps.{EndsNext, Enters}
+use Rattle.backend_core.proofs.Entries.EndEntries.{end_plays, end_now, end_call, built_at, end_enters}
+use Rattle.backend_core.proofs.Choosing.EndsNow.{end_by, is_end, EndsBy, IsCommit, ShowsNow, PublishesNow, comes_now, back_end}
+use Rattle.backend_core.proofs.Fitting.FitsEnds.{later_at, GoesOn, fits_ending, commits_on, write_from_first, goes_first, begun_xid, written_runs}
+use Rattle.backend_core.proofs.Own.{waiting}
+
+-- the Xid of a transaction that has written
+xid_own : (own : Option Running) (xid : ℕ) → option_map_or (λ t. is_some t.xid) own false ≡ true → xid ≡ option_map_or (λ t. unwrap_or t.xid 0) own 0 → has_xid xid own ≡ true
+xid_own None xid some is = absurd (cc some)
+xid_own (Some t) xid some is = by_xid t.xid some is
+  where
+    by_xid : (o : Option ℕ) → is_some o ≡ true → xid ≡ unwrap_or o 0 → option_map_or (λ own. own == xid) o false ≡ true
+    by_xid None none at = absurd (cc none)
+    by_xid (Some x) there at = eq-eqb x xid (sym at)
+
+-- where a commit comes next nothing was taken back
+none_gone : (facts : Facts) (o : Option Command) (s : Session) (looked to_build : Bool) (event : Event) → Fits facts o s looked to_build → IsCommit facts (end_by facts o s) → FollowsGone facts.last event
+none_gone facts o s looked to_build event fits commit = by_last facts.last refl
+  where
+    by_last : (last : Option Event) → facts.last ≡ last → FollowsGone last event
+    by_last (Some (events.Gone from)) is = absurd (let no : TakesBack from ≡ Commits commit.first = sym (back_end facts o s looked to_build from fits is) ∙ commit.is in cc no)
+    by_last last is = tt
+
+module _ (facts : Facts) (o : Option Command) (s : Session) (looked to_build : Bool) (next : ℕ) (event : Event) (ends : ends_command event ≡ true) (fits : Fits facts o s looked to_build) (plays : MayPlayIn next facts o s event) (commit : IsCommit facts (end_by facts o s)) where
+  -- its command owes no scan
+  commit_built : outcome_of s.left ≡ Well → builds_owed facts s.opened ≡ []
+  commit_built well = by_command o plays commit
+    where
+      by_command : (x : Option Command) → MayPlayIn next facts x s event → IsCommit facts (end_by facts x s) → builds_owed facts s.opened ≡ []
+      by_command None may own = absurd (all_back facts.running own.is)
+        where
+          all_back : (r : Option Running) → option_map_or (λ t. TakesBack t.first) r Ends ≡ Commits own.first → ⊥
+          all_back None is = cc is
+          all_back (Some t) is = cc is
+      by_command (Some command) may own = owes_none_built facts command s well (sym (ap (λ e. elim e as (λ x. List Owes) [ TakesBack from ↦ owed_after facts.last | end ↦ owed_of facts command s ]) own.is) ∙ (is_end next facts command s event ends may).0)
+
+-- it may be entered
+pub commit_call : (scenario : Scenario) (seen : List Entry) (s : Backend) (xid : Xid) → AwaitsEntry scenario seen s → EndsNext s.progress (events.Visible xid) → MayCall scenario seen (entry_of s.progress.id (s.progress.finished + 1) (events.Visible xid))
+commit_call scenario seen s xid waits next = end_call scenario seen s waits (events.Visible xid) refl next (subst (λ v. FollowsVisible v (events.Visible xid)) (sym now.hidden) tt)
+    (none_gone facts (command_at s) (waiting waits) s.looked s.looked_to_build (events.Visible xid) waits.fits now.commit)
+    (xid_own facts.running xid.0 (waits.fits.written (write_from_first now.commit.first facts.lists now.commit.written)) now.xid_is, write_from_first now.commit.first facts.lists now.commit.written)
+  where
+    facts : Facts
+    facts = facts_of seen s.progress.id
+
+    now : ShowsNow facts (end_by facts (command_at s) (waiting waits)) xid
+    now = comes_now facts (end_by facts (command_at s) (waiting waits)) (events.Visible xid) (end_now scenario seen s waits (events.Visible xid) refl next).comes
+
+-- what is published next
+unsent_own : (lists : List Written) (own : Option RunningTransaction) → is_some own ≡ true → unsent_in lists (running_of own) ≡ unsent_after (option_map_or (λ t. t.published) own 0) lists
+unsent_own lists None some = absurd (cc some)
+unsent_own lists (Some t) some = refl
+
+runs_own : (own : Option RunningTransaction) → is_some (running_of own) ≡ true → is_some own ≡ true
+runs_own None some = absurd (cc some)
+runs_own (Some t) some = refl
+
+visible_runs : (own : Option Running) → is_visible own ≡ true → is_some own ≡ true
+visible_runs None is = absurd (cc is)
+visible_runs (Some t) is = refl
+
+shown : (v : Bool) (count : ℕ) → FollowsVisible v (events.Publish count)
+shown true count = tt
+shown false count = tt
+
+-- the messages of a publish that comes next
+module _ (scenario : Scenario) (seen : List Entry) (s : Backend) (messages : List Message) (waits : AwaitsEntry scenario seen s) (next : EndsNext s.progress (events.Publish (length (take 64 (unsent_at s.progress))))) (is : messages ≡ take 64 (unsent_at s.progress)) where
+  publish_next : EndsNext s.progress (events.Publish (length messages))
+  publish_next = subst (λ l. EndsNext s.progress (events.Publish (length l))) (sym is) next
+
+  abbrev facts : Facts
+  facts = facts_of seen s.progress.id
+
+  publish_now : PublishesNow facts (end_by facts (command_at s) (waiting waits)) (length messages)
+  publish_now = comes_now facts (end_by facts (command_at s) (waiting waits)) (events.Publish (length messages)) (end_now scenario seen s waits (events.Publish (length messages)) refl publish_next).comes
+
+  unsent_same : unsent_of seen s.progress.id ≡ unsent_at s.progress
+  unsent_same = ap (unsent_in facts.lists) waits.rests.holds.facts.running ∙ ap (λ l. unsent_in l (running_of s.progress.running)) waits.rests.holds.facts.lists
+      ∙ unsent_own (lists_at s.progress) s.progress.running (runs_own s.progress.running (ap (λ r. is_some r) (sym waits.rests.holds.facts.running) ∙ visible_runs facts.running publish_now.visible))
+
+  -- it may be entered
+  pub publish_call : MayCall scenario seen (entry_of s.progress.id (s.progress.finished + 1) (events.Publish (length messages)))
+  publish_call = end_call scenario seen s waits (events.Publish (length messages)) refl publish_next (shown (is_visible facts.running) (length messages))
+      (none_gone facts (command_at s) (waiting waits) s.looked s.looked_to_build (events.Publish (length messages)) waits.fits publish_now.commit) (publish_now.visible, publish_now.some, publish_now.most)
+
+  -- and these are the next
+  pub publish_these : ArePublishedNext seen s.progress.id messages
+  publish_these = is ∙ sym (take_min 64 (unsent_at s.progress)) ∙ ap (λ n. take n (unsent_at s.progress)) (sym (ap length is ∙ length-take 64 (unsent_at s.progress))) ∙ ap (take (length messages)) (sym unsent_same)
+
+-- an entry of a commit, which leaves its messages and its scans
+module _ (scenario : Scenario) (old : List Entry) (was : Backend) (event : Event) (waits : AwaitsEntry scenario old was) (ends : ends_command event ≡ true) (next : EndsNext was.progress event)
+    (commit : IsCommit (facts_of old was.progress.id) (end_by (facts_of old was.progress.id) (command_at was) (waiting waits))) (published : ℕ) (visible : Bool) where
+  abbrev before : Facts
+  before = facts_of old was.progress.id
+
+  -- the facts after it
+  abbrev after_commit : Facts
+  after_commit = record before { last = Some event; running = Some (record { first = (begun (was.progress.finished + 1) before.running).first; xid = (begun (was.progress.finished + 1) before.running).xid; published = published; visible = visible }) }
+
+  commit_fits : (locks : List OwnLock) (at : ℕ) → owed_after (Some event) ≡ [] → ((from : ℕ) → Some event ≡ Some (events.Gone from) → ⊥) → Fits after_commit (command_at was) (later_at (waiting waits) locks at) was.looked was.looked_to_build
+  commit_fits locks at free standing = fits_ending before after_commit (command_at was) (waiting waits) was.looked was.looked_to_build event locks at waits.fits now goes
+      (λ is. begun_xid (was.progress.finished + 1) before.running (waits.fits.written is))
+      (λ is. commits_on before after_commit (command_at was) (waiting waits) was.looked was.looked_to_build event locks at waits.fits now goes commit (built_at scenario old was waits) refl
+      (commit_built before (command_at was) (waiting waits) was.looked was.looked_to_build (next_oid old) event ends waits.fits (end_plays scenario old was waits event ends next) commit))
+      (λ from is. absurd (standing from is))
+    where
+      now : EndsBy before (command_at was) (waiting waits) event
+      now = end_now scenario old was waits event ends next
+
+      runs_it : is_some before.running ≡ true
+      runs_it = written_runs before.running (waits.fits.written (write_from_first commit.first before.lists commit.written))
+
+      goes : GoesOn before after_commit
+      goes = record { runs = runs_it; some = refl; same = goes_first (was.progress.finished + 1) before.running runs_it; free = free }
+
+-- the state after its visibility step
+pub commit_enters : (scenario : Scenario) (old new : List Entry) (had has : ℕ → ℕ) (was : Backend) (xid : Xid) (p : Progress) (waits : AwaitsEntry scenario old was) → IsPlayed scenario old → AllOnCourse scenario old → EndsNext was.progress (events.Visible xid)
+    → HasEntered scenario old was.progress (events.Visible xid) waits.rests p → p.kept ≡ was.progress.kept → p.given_at ≡ was.progress.given_at → Appends old new had has (entry_of was.progress.id (was.progress.finished + 1) (events.Visible xid)) → Enters scenario old new had has was (record was { progress = p })
+commit_enters scenario old new had has was xid p waits played courses next goes kept given_at appends =
+    end_enters scenario old new had has was event p waits refl played courses next goes (subst (All (KeptAt old was.progress.id)) (sym kept) waits.keeps.kept) given_at
+    (commit_fits scenario old was event waits refl next now.commit (begun (was.progress.finished + 1) facts.running).published true _ (length old + 1) refl (λ from is. cc is)) appends
+  where
+    event : Event
+    event = events.Visible xid
+
+    facts : Facts
+    facts = facts_of old was.progress.id
+
+    now : ShowsNow facts (end_by facts (command_at was) (waiting waits)) xid
+    now = comes_now facts (end_by facts (command_at was) (waiting waits)) event (end_now scenario old was waits event refl next).comes
+
+-- the state after a publish
+pub publish_enters : (scenario : Scenario) (old new : List Entry) (had has : ℕ → ℕ) (was : Backend) (messages : List Message) (p : Progress) (waits : AwaitsEntry scenario old was) → IsPlayed scenario old → AllOnCourse scenario old
+    → EndsNext was.progress (events.Publish (length (take 64 (unsent_at was.progress)))) → messages ≡ take 64 (unsent_at was.progress)
+    → HasEntered scenario old was.progress (events.Publish (length messages)) waits.rests p → p.kept ≡ was.progress.kept → p.given_at ≡ was.progress.given_at
+    → Appends old new had has (entry_of was.progress.id (was.progress.finished + 1) (events.Publish (length messages))) → Enters scenario old new had has was (record was { progress = p })
+publish_enters scenario old new had has was messages p waits played courses next is goes kept given_at appends =
+    end_enters scenario old new had has was event p waits refl played courses now_next goes (subst (All (KeptAt old was.progress.id)) (sym kept) waits.keeps.kept) given_at
+    (commit_fits scenario old was event waits refl now_next (publish_now scenario old was messages waits next is).commit ((begun (was.progress.finished + 1) facts.running).published + length messages) (begun (was.progress.finished + 1) facts.running).visible _ (length old + 1) refl (λ from same. cc same)) appends
+  where
+    event : Event
+    event = events.Publish (length messages)
+
+    facts : Facts
+    facts = facts_of old was.progress.id
+
+    now_next : EndsNext was.progress event
+    now_next = publish_next scenario old was messages waits next is

@@ -1,0 +1,140 @@
+-- The entries of an end of a backend that waits.
+use Rattle.std.proofs.Common.{◌≡◌, ◌≤◌, ◌+◌, ◌∙◌, ◌&&◌, ℕ, Bool, true, false, Option, Some, None, List, [], refl, sym, ap, subst, length, drop, is_some, All, arith}
+use Rattle.std.specs.Option.{option_map_or}
+use Rattle.std.proofs.lemmas.Bool.{both_ways}
+use Rattle.std.proofs.lemmas.Option.{slice_get_within, get_or_from_slice_get}
+use Rattle.event_kinds.specs.declared.entry.Event.TheVariants as events
+use Rattle.history_model.specs.Drawn.{next_oid}
+use Rattle.history_model.specs.Lapped.{FetchesFrom}
+use Rattle.history_model.specs.Legal.{FollowsVisible, FollowsGone, AllowsEvent}
+use Rattle.history_model.specs.Lives.{Alive, FollowsLife, life_by, last_event_of}
+use Rattle.history_model.specs.Read.{is_scan_of}
+use Rattle.history_model.specs.Transactions.{is_visible, running_transaction_of}
+use Rattle.history_model.specs.Writes.{is_empty}
+use Rattle.seg_calls.specs.Calls.{entry_of, MayCall, Appends}
+use Rattle.txn_blocks.specs.declared.transaction.RunningTransaction.{RunningTransaction}
+use Rattle.cacheless.specs.Facts.{facts_of, facts_by}
+use Rattle.cacheless.specs.Holds.{HasEntered, with_own}
+use Rattle.cacheless.specs.May.{is_next_of_back, is_next_of_end, owes_nothing, may_end_at, may_play_at, may_last_at, may_play_now}
+use Rattle.cacheless.specs.OnCourse.{AllOnCourse}
+use Rattle.cacheless.specs.Plays.{MayPlayIn}
+use Rattle.cacheless.specs.Runs.{runs}
+use Rattle.cacheless.specs.Schedule.{LooksTruly}
+use Rattle.cacheless.specs.Session.{Session}
+use Rattle.cacheless.specs.Sessions.{ends_command, noted, entered}
+use Rattle.cacheless.specs.State.{owed_at, has_write_since, is_out, end_of_running}
+use Rattle.cacheless.proofs.Deciding.{holds_decides}
+use Rattle.cacheless.proofs.Allowed.NextOnCourse.{entered_noted}
+use Rattle.cacheless.proofs.Allowed.OwnEntries.{IsNoted}
+use Rattle.cacheless.proofs.Tests.{both_true}
+use Rattle.backend_core.specs.Types.{Purpose, Command, Scenario, Entry, Event, Progress, Backend}
+use Rattle.backend_core.specs.Agrees.{IsPlayed, KeptAt, command_at, AwaitsEntry}
+use Rattle.backend_core.specs.Fits.{Fits}
+use Rattle.backend_core.specs.Steps.{EndsNext, InCommand, AfterAll, Enters}
+use Rattle.backend_core.proofs.Choosing.EndsNow.{EndsBy, ends_by}
+use Rattle.backend_core.proofs.Fitting.Entered.{fits_at, keeps_still}
+use Rattle.backend_core.proofs.Own.{waiting, AtEnd, own_enters, end_left}
+
+may_end : (next : ℕ) (command : Command) (p : Progress) (event : Event) → ends_command event ≡ true → may_end_at command p event ≡ true → may_play_at next command p event ≡ true
+may_end next command p (events.Visible xid) ends may = may
+may_end next command p (events.Publish count) ends may = may
+may_end next command p (events.Gone from) ends may = may
+may_end next command p (events.Release from) ends may = may
+may_end next command p event ends may = absurd (cc ends)
+
+may_last : (p : Progress) (event : Event) → ends_command event ≡ true → owed_at p.due ≡ [] → is_next_of_end p event (end_of_running p.running) ≡ true → may_last_at p event ≡ true
+may_last p event ends free next = by_event event ends next
+  where
+    by_own : (e : Event) (own : Option RunningTransaction) → is_next_of_end p e (end_of_running own) ≡ true → option_map_or (λ (t : RunningTransaction). is_empty (owed_at p.due) && is_next_of_back t.first p e) own false ≡ true
+    by_own e None is = absurd (cc is)
+    by_own e (Some t) is = both_true (is_empty (owed_at p.due)) (is_next_of_back t.first p e) (ap (λ l. is_empty l) free) is
+
+    never : (e : Event) (own : Option RunningTransaction) → ((from : ℕ) → is_next_of_back from p e ≡ true → ⊥) → is_next_of_end p e (end_of_running own) ≡ true → ⊥
+    never e None none is = cc is
+    never e (Some t) none is = none t.first is
+
+    no_back : (t : Bool) → elim t as (λ x. Bool) [ true ↦ false | false ↦ false ] ≡ true → ⊥
+    no_back true is = cc is
+    no_back false is = cc is
+
+    by_event : (e : Event) → ends_command e ≡ true → is_next_of_end p e (end_of_running p.running) ≡ true → may_last_at p e ≡ true
+    by_event (events.Gone from) last is = by_own (events.Gone from) p.running is
+    by_event (events.Release from) last is = by_own (events.Release from) p.running is
+    by_event (events.Visible xid) last is = absurd (never (events.Visible xid) p.running (λ from. no_back (has_write_since from p)) is)
+    by_event (events.Publish count) last is = absurd (never (events.Publish count) p.running (λ from. no_back (has_write_since from p)) is)
+    by_event e last is = absurd (cc last)
+
+-- what is so of each event of an end
+record IsPlain (scenario : Scenario) (old : List Entry) (b c : ℕ) (event : Event) : Type 0 where
+  truly : LooksTruly old b event
+  queue : FetchesFrom scenario.size old b event
+  lives : life_by c event ≡ Alive c
+  unread : (scan : Purpose) → is_scan_of scan event ≡ false
+  read : (s : Session) → (noted event s).read ≡ s.read
+  follows : (last : ℕ) → last ≤ c → FollowsLife (Alive last) c event
+
+is_plain : (scenario : Scenario) (old : List Entry) (b c : ℕ) (event : Event) → ends_command event ≡ true → IsPlain scenario old b c event
+is_plain scenario old b c (events.Visible xid) ends = record { truly = tt; queue = tt; lives = refl; unread = λ scan. refl; read = λ s. refl; follows = λ last low. low }
+is_plain scenario old b c (events.Publish count) ends = record { truly = tt; queue = tt; lives = refl; unread = λ scan. refl; read = λ s. refl; follows = λ last low. low }
+is_plain scenario old b c (events.Gone from) ends = record { truly = tt; queue = tt; lives = refl; unread = λ scan. refl; read = λ s. refl; follows = λ last low. low }
+is_plain scenario old b c (events.Release from) ends = record { truly = tt; queue = tt; lives = refl; unread = λ scan. refl; read = λ s. refl; follows = λ last low. low }
+is_plain scenario old b c event ends = absurd (cc ends)
+
+module _ (scenario : Scenario) (seen : List Entry) (s : Backend) (waits : AwaitsEntry scenario seen s) (event : Event) (ends : ends_command event ≡ true) (next : EndsNext s.progress event) where
+  may_now : may_play_now (next_oid seen) s.progress event ≡ true
+  may_now = by_case next
+    where
+      by_case : EndsNext s.progress event → may_play_now (next_oid seen) s.progress event ≡ true
+      by_case (InCommand command free out owes may) = ap (λ o. elim o as (λ x. Bool) [ Some c ↦ may_play_at (next_oid seen) c s.progress event | None ↦ may_last_at s.progress event ]) free.at ∙ may_end (next_oid seen) command s.progress event ends may
+      by_case (AfterAll past comes) = ap (λ o. elim o as (λ x. Bool) [ Some c ↦ may_play_at (next_oid seen) c s.progress event | None ↦ may_last_at s.progress event ]) past
+          ∙ may_last s.progress event ends (sym waits.rests.holds.facts.owed ∙ (waits.fits.past past).free) comes
+
+  -- it may come next by the script
+  pub end_plays : MayPlayIn (next_oid seen) (facts_of seen s.progress.id) (command_at s) (waiting waits) event
+  end_plays = (holds_decides s.progress (next_oid seen) event true (sym may_now) scenario seen waits.rests.holds).0 refl
+
+  pub end_now : EndsBy (facts_of seen s.progress.id) (command_at s) (waiting waits) event
+  end_now = ends_by (next_oid seen) (facts_of seen s.progress.id) (command_at s) (waiting waits) s.looked s.looked_to_build event ends waits.fits end_plays
+
+  -- its command is answered
+  end_answered : (command : Command) → command_at s ≡ Some command → is_some s.answer ≡ true
+  end_answered command at = by_case next
+    where
+      by_case : EndsNext s.progress event → is_some s.answer ≡ true
+      by_case (InCommand c free out owes may) = waits.answered (ap (λ o. elim o as (λ x. Bool) [ Some x ↦ is_out s.progress && owes_nothing x s.progress | None ↦ false ]) free.at ∙ both_true (is_out s.progress) (owes_nothing c s.progress) out owes)
+      by_case (AfterAll past comes) = absurd (let no : Some command ≡ None = sym at ∙ past in cc no)
+
+  -- it may be called for
+  pub end_call : FollowsVisible (is_visible (running_transaction_of seen s.progress.id)) event → FollowsGone (last_event_of seen s.progress.id) event → AllowsEvent seen s.progress.id (s.progress.finished + 1) event → MayCall scenario seen (entry_of s.progress.id (s.progress.finished + 1) event)
+  end_call visible gone allows = record {
+    backend = waits.rests.holds.number;
+    number = omega (arith, waits.rests.holds.most, ap length waits.rests.holds.commands);
+    follows = record {
+      life = subst (λ l. FollowsLife l (s.progress.finished + 1) event) (sym waits.keeps.life.alive) ((is_plain scenario seen s.progress.id (s.progress.finished + 1) event ends).follows waits.keeps.life.last waits.keeps.life.most);
+      visible = visible;
+      gone = gone;
+      event = allows;
+    };
+  }
+
+-- the program runs the running command
+pub built_at : (scenario : Scenario) (seen : List Entry) (s : Backend) → AwaitsEntry scenario seen s → (command : Command) → command_at s ≡ Some command → runs command ≡ true
+built_at scenario seen s waits command at = subst (λ c. runs c ≡ true) (get_or_from_slice_get s.progress.commands s.progress.finished command command at) (waits.keeps.built s.progress.finished command (slice_get_within s.progress.commands s.progress.finished command at))
+
+-- after an entry of an end the backend agrees
+pub end_enters : (scenario : Scenario) (old new : List Entry) (had has : ℕ → ℕ) (was : Backend) (event : Event) (p : Progress) (waits : AwaitsEntry scenario old was) → ends_command event ≡ true → IsPlayed scenario old → AllOnCourse scenario old → EndsNext was.progress event
+    → HasEntered scenario old was.progress event waits.rests p → All (KeptAt old was.progress.id) p.kept → p.given_at ≡ was.progress.given_at
+    → Fits (facts_by old was.progress.id (was.progress.finished + 1) event (facts_of old was.progress.id)) (command_at was)
+    (entered (facts_of (with_own old was.progress event) was.progress.id) (drop was.progress.finished was.progress.commands) (length old + 1) (was.progress.finished + 1) event (waiting waits)) was.looked was.looked_to_build
+    → Appends old new had has (entry_of was.progress.id (was.progress.finished + 1) event) → Enters scenario old new had has was (record was { progress = p })
+end_enters scenario old new had has was event p waits ends played courses next goes kept given_at fits appends =
+    own_enters scenario old new had has was (record was { progress = p }) event waits played courses (record { plays = end_plays scenario old was waits event ends next; truly = plain.truly; queue = plain.queue }) goes
+    (keeps_still scenario old was event waits p goes (record was { progress = p }) refl plain.lives plain.unread kept
+    (ap (λ (x : Session). x.left) goes.session ∙ noted_is.after.left ∙ end_left event (waiting waits) ends) (ap (λ (x : Session). x.read) goes.session ∙ noted_is.read ∙ plain.read (waiting waits)) given_at)
+    (fits_at scenario old was event waits p goes was.looked was.looked_to_build fits) refl (AtEnd ends (end_answered scenario old was waits event ends next) refl) (λ inside. absurd (both_ways _ inside ends)) appends
+  where
+    plain : IsPlain scenario old was.progress.id (was.progress.finished + 1) event
+    plain = is_plain scenario old was.progress.id (was.progress.finished + 1) event ends
+
+    noted_is : IsNoted (noted event (waiting waits)) (entered (facts_of (with_own old was.progress event) was.progress.id) (drop was.progress.finished was.progress.commands) (length old + 1) (was.progress.finished + 1) event (waiting waits))
+    noted_is = entered_noted (facts_of (with_own old was.progress event) was.progress.id) (drop was.progress.finished was.progress.commands) (length old + 1) (was.progress.finished + 1) event (waiting waits)

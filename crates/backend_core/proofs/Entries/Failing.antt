@@ -1,0 +1,107 @@
+-- An entry that shows an error, which ends its command: a lock or a write that is refused.
+use Rattle.std.proofs.Common.{◌≡◌, ◌+◌, ◌∙◌, ℕ, true, false, Some, None, List, [], refl, sym, ap, subst, length, drop, is_some, All, arith}
+use Rattle.std.proofs.lemmas.Bool.{both_ways}
+use Rattle.event_kinds.specs.declared.entry.Event.TheVariants as events
+use Rattle.row_visibility.specs.declared.clash.Clash.{Clash}
+use Rattle.row_visibility.specs.declared.clash.Clash.TheVariants as clashes
+use Rattle.command_answers.specs.declared.error.CommandError.TheVariants as errors
+use Rattle.ddl_effect.specs.Plans.{Fails}
+use Rattle.ddl_effect.specs.Stages.{plan_at}
+use Rattle.history_model.specs.Drawn.{next_oid}
+use Rattle.history_model.specs.Lapped.{FetchesFrom}
+use Rattle.history_model.specs.Lives.{Alive, life_by}
+use Rattle.history_model.specs.Read.{is_scan_of}
+use Rattle.history_model.specs.Transactions.{begun}
+use Rattle.seg_calls.specs.Calls.{entry_of, Appends}
+use Rattle.cacheless.specs.Facts.{Facts, facts_of, facts_by}
+use Rattle.cacheless.specs.Holds.{HasEntered, with_own}
+use Rattle.cacheless.specs.OnCourse.{AllOnCourse}
+use Rattle.cacheless.specs.Owed.{owed_after}
+use Rattle.cacheless.specs.Plays.{started_in, MayPlayIn}
+use Rattle.cacheless.specs.Schedule.{LooksTruly}
+use Rattle.cacheless.specs.Session.{Session, Tally, number_of, outcome_of, is_settled}
+use Rattle.cacheless.specs.Sessions.{noted, ends_command, entered}
+use Rattle.cacheless.specs.State.{clash_event, error_of}
+use Rattle.backend_core.specs.Types.{Oid, Mode, Purpose, Command, CommandError, Scenario, Entry, Event, Progress, Backend}
+use Rattle.backend_core.specs.Agrees.{IsPlayed, command_at, KeptAt, PlaceFits, AwaitsEntry}
+use Rattle.backend_core.specs.Fits.{looks_due, LooksFit}
+use Rattle.backend_core.specs.Steps.{Enters}
+use Rattle.backend_core.proofs.Choosing.Chosen.{Acts}
+use Rattle.backend_core.proofs.Fitting.Entered.{fits_at, keeps_at, kept_stays}
+use Rattle.backend_core.proofs.Entries.Inside.{runs_on, inside_fits}
+use Rattle.backend_core.proofs.Own.{waiting, going, Inside, own_enters}
+
+-- the facts and the session after such an entry
+abbrev later_of : List Entry → Backend → Event → Facts
+later_of old was event = facts_by old was.progress.id (was.progress.finished + 1) event (facts_of old was.progress.id)
+
+abbrev now_of : List Entry → Backend → Event → Session → Session
+now_of old was event s = entered (facts_of (with_own old was.progress event) was.progress.id) (drop was.progress.finished was.progress.commands) (length old + 1) (was.progress.finished + 1) event s
+
+-- its transaction runs on, and its plan has failed with the error
+pub record ShowsError (scenario : Scenario) (old : List Entry) (was : Backend) (s : Session) (event : Event) (error : CommandError) : Type 0 where
+  truly : LooksTruly old was.progress.id event
+  queue : FetchesFrom scenario.size old was.progress.id event
+  lives : life_by (was.progress.finished + 1) event ≡ Alive (was.progress.finished + 1)
+  others : (scan : Purpose) → is_scan_of scan event ≡ false
+  inside : ends_command event ≡ false
+  goes_on : (noted event s).ended ≡ s.ended
+  running : (later_of old was event).running ≡ Some (begun (was.progress.finished + 1) (facts_of old was.progress.id).running)
+  lists : (later_of old was event).lists ≡ (facts_of old was.progress.id).lists
+  last : (from : ℕ) → Some event ≡ Some (events.Gone from) → ⊥
+  owes : owed_after (Some event) ≡ []
+  blocks : (now_of old was event s).blocks ≡ s.blocks
+  finished : (now_of old was event s).finished ≡ s.finished
+  blocked : (now_of old was event s).blocked ≡ s.blocked
+  ended : (now_of old was event s).ended ≡ s.ended
+  left : (now_of old was event s).left ≡ Fails error
+  tally : (now_of old was event s).tally ≡ s.tally
+
+pub held_shows : (scenario : Scenario) (old : List Entry) (was : Backend) (s : Session) (rel : Oid) (mode : Mode) (holder : ℕ) (held : Mode) → ShowsError scenario old was s (events.LockHeld rel mode holder held) (errors.Locked rel holder held)
+held_shows scenario old was s rel mode holder held = record { truly = tt; queue = tt; lives = refl; others = λ scan. refl; inside = refl; goes_on = refl; running = refl; lists = refl; last = λ from is. cc is; owes = refl; blocks = refl; finished = refl; blocked = refl; ended = refl; left = refl; tally = refl }
+
+pub clash_shows : (scenario : Scenario) (old : List Entry) (was : Backend) (s : Session) (name : List ℕ) (clash : Clash) → ShowsError scenario old was s (clash_event name clash) (error_of name clash)
+clash_shows scenario old was s name (clashes.Row rel) = record { truly = tt; queue = tt; lives = refl; others = λ scan. refl; inside = refl; goes_on = refl; running = refl; lists = refl; last = λ from is. cc is; owes = refl; blocks = refl; finished = refl; blocked = refl; ended = refl; left = refl; tally = refl }
+clash_shows scenario old was s name (clashes.Running xid) = record { truly = tt; queue = tt; lives = refl; others = λ scan. refl; inside = refl; goes_on = refl; running = refl; lists = refl; last = λ from is. cc is; owes = refl; blocks = refl; finished = refl; blocked = refl; ended = refl; left = refl; tally = refl }
+
+-- a backend before such an entry: an act of its command comes next
+pub record IsActing (scenario : Scenario) (old : List Entry) (was : Backend) (command : Command) : Type 0 where
+  pub at : command_at was ≡ Some command
+  pub unsettled : is_settled (outcome_of (plan_at was.progress.exec)) ≡ false
+  pub runs : is_some (facts_of old was.progress.id).running ≡ true
+  pub owed : owed_after (facts_of old was.progress.id).last ≡ []
+
+-- after it the backend agrees
+pub failed_enters : (scenario : Scenario) (old new : List Entry) (had has : ℕ → ℕ) (was : Backend) (p : Progress) (event : Event) (error : CommandError) (command : Command) (waits : AwaitsEntry scenario old was) → IsPlayed scenario old → AllOnCourse scenario old → IsActing scenario old was command
+    → ShowsError scenario old was (waiting waits) event error → MayPlayIn (next_oid old) (facts_of old was.progress.id) (command_at was) (waiting waits) event → HasEntered scenario old was.progress event waits.rests p → p.kept ≡ was.progress.kept
+    → Appends old new had has (entry_of was.progress.id (was.progress.finished + 1) event) → Enters scenario old new had has was (record was { progress = p; answer = None })
+failed_enters scenario old new had has was p event error command waits played courses acting shows plays goes kept appends =
+    own_enters scenario old new had has was (record was { progress = p; answer = None }) event waits played courses (record { plays = plays; truly = shows.truly; queue = shows.queue }) goes
+    (keeps_at scenario old was event waits p goes (record was { progress = p; answer = None }) refl shows.lives
+    (kept_stays old (entry_of was.progress.id (was.progress.finished + 1) event) was.progress.id p.kept shows.others (subst (All (KeptAt old was.progress.id)) (sym kept) waits.keeps.kept))
+    (subst (λ q. PlaceFits (with_own old was.progress event) was.progress.id q p.read p.given_at) (sym (ap (λ (x : Session). x.left) goes.session ∙ shows.left)) tt))
+    (fits_at scenario old was event waits p goes was.looked was.looked_to_build
+    (inside_fits scenario old was waits courses command acting.at later now was.looked was.looked_to_build same shows.lists shows.last
+    (record { blocks = shows.blocks; finished = ap length shows.finished; blocked = shows.blocked; ended = shows.ended; left = λ is there. absurd (both_ways _ acting.unsettled is) }) acting.runs (Acts acting.unsettled) looks))
+    refl (Inside shows.inside refl) (λ inside. shows.goes_on) appends
+  where
+    later : Facts
+    later = later_of old was event
+
+    now : Session
+    now = now_of old was event (waiting waits)
+
+    same : later.running ≡ (facts_of old was.progress.id).running
+    same = shows.running ∙ runs_on (was.progress.finished + 1) (facts_of old was.progress.id).running acting.runs
+
+    before : LooksFit (facts_of old was.progress.id) (waiting waits) was.looked was.looked_to_build
+    before = waits.fits.looks (going scenario old was waits courses command acting.at)
+
+    started : started_in (number_of now) later ≡ started_in (number_of (waiting waits)) (facts_of old was.progress.id)
+    started = (λ i. started_in (length (shows.finished i) + 1) (record (facts_of old was.progress.id) { running = same i }))
+
+    looks : LooksFit later now was.looked was.looked_to_build
+    looks = record {
+      enough = omega (arith, before.enough, ap looks_due acting.owed, ap looks_due shows.owes, started, ap (λ (t : Tally). t.looks) shows.tally, ap (λ (t : Tally). t.scans) shows.tally, ap (λ (t : Tally). t.grants) shows.tally, ap (λ (t : Tally). t.full) shows.tally);
+      within = omega (arith, before.within, ap looks_due acting.owed, ap looks_due shows.owes, started, ap (λ (t : Tally). t.looks) shows.tally, ap (λ (t : Tally). t.scans) shows.tally, ap (λ (t : Tally). t.grants) shows.tally, ap (λ (t : Tally). t.fetches) shows.tally);
+    }

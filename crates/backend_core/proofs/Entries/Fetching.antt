@@ -1,0 +1,275 @@
+-- The fetch of messages that wait, or of a reset.
+use Rattle.std.proofs.Common.{◌≡◌, ◌≤◌, ◌+◌, ◌-◌, ◌∙◌, ◌==◌, ◌&&◌, ℕ, Bool, true, false, not, Option, Some, None, List, [], ◌∷◌, ◌++◌, refl, sym, ap, subst, length, drop, is_some, All, arith}
+use Rattle.std.proofs.Math.Bool.{and-false}
+use Rattle.std.proofs.Math.Nat.{min-le_right}
+use Rattle.std.proofs.lemmas.List.{length-take-le, length-drop}
+use Rattle.std.proofs.lemmas.List.Elements.{All-filter}
+use Rattle.base_types.specs.declared.fetched.Fetched.TheVariants as fetches
+use Rattle.event_kinds.specs.declared.entry.Event.TheVariants as events
+use Rattle.inval_messages.specs.Messages.{is_spared}
+use Rattle.ddl_effect.specs.Plans.{Plan, Absent}
+use Rattle.ddl_effect.specs.Stages.{plan_at}
+use Rattle.history_model.specs.Drawn.{next_oid}
+use Rattle.history_model.specs.Lapped.{is_lapped}
+use Rattle.history_model.specs.Lives.{Alive, life_by, last_event_of}
+use Rattle.history_model.specs.Log.{log_of, position_of, fetched_by}
+use Rattle.history_model.specs.Read.{is_scan_of}
+use Rattle.history_model.specs.Transactions.{begun, is_visible}
+use Rattle.history_model.specs.Writes.{is_empty}
+use Rattle.seg_calls.specs.Calls.{entry_of, due_to, MayCall, Appends, Fetches}
+use Rattle.cacheless.specs.declared.progress.Due.TheVariants as dues
+use Rattle.cacheless.specs.Facts.{Facts, facts_of, facts_by}
+use Rattle.cacheless.specs.Holds.{HasEntered, with_own}
+use Rattle.cacheless.specs.OnCourse.{is_absent, WasSought, AllOnCourse}
+use Rattle.cacheless.specs.Owed.{Owes, OwesFetch, OwesLook, owed_after, owes_build_scan}
+use Rattle.cacheless.specs.Plays.{started_in, MayPlayIn}
+use Rattle.cacheless.specs.Session.{Session, Tally, number_of}
+use Rattle.cacheless.specs.Sessions.{resumed, noted, ends_command, placed_at, entered}
+use Rattle.cacheless.specs.State.{owed_at, one_if, kept_spared}
+use Rattle.cacheless.proofs.Allowed.NextOnCourse.{entered_noted}
+use Rattle.cacheless.proofs.Answers.ReadPlaces.{place_read-more}
+use Rattle.base_types.specs.declared.scan.Purpose.TheVariants as scans
+use Rattle.backend_core.specs.Types.{Purpose, Command, Scenario, Entry, Event, Message, Progress, Backend}
+use Rattle.backend_core.specs.Agrees.{IsPlayed, command_at, KeptAt, PlaceFits, AwaitsEntry}
+use Rattle.backend_core.specs.Fits.{looks_due, LooksFit, Fits}
+use Rattle.backend_core.specs.Steps.{Enters}
+use Rattle.backend_core.specs.Words.{has_begun, marks_build}
+use Rattle.backend_core.proofs.Choosing.Chosen.{Busy, due_busy, may_call, hidden, one_at_most, started_still}
+use Rattle.backend_core.proofs.Fitting.Entered.{fits_at, keeps_at, kept_stays, place_stays}
+use Rattle.backend_core.proofs.Fitting.FitsEntries.{StaysAt, Goes, fits_inside}
+use Rattle.backend_core.proofs.Entries.Looking.{begun_written}
+use Rattle.backend_core.proofs.Own.{waiting, follows, going, OwnEntry, Inside as StaysWithin, own_enters}
+
+-- a backend whose fetch is due
+record IsDue (seen : List Entry) (s : Backend) : Type 0 where
+  command : Command
+  at : command_at s ≡ Some command
+  owed : owed_after (facts_of seen s.progress.id).last ≡ OwesFetch ∷ []
+  runs : is_some (facts_of seen s.progress.id).running ≡ true
+  busy : Busy s.progress command
+
+is_due : (scenario : Scenario) (seen : List Entry) (s : Backend) → AwaitsEntry scenario seen s → s.progress.due ≡ dues.Fetch → IsDue seen s
+is_due scenario seen s waits due = by_command (command_at s) refl
+  where
+    owed : owed_after (facts_of seen s.progress.id).last ≡ OwesFetch ∷ []
+    owed = waits.rests.holds.facts.owed ∙ ap owed_at due
+
+    by_command : (o : Option Command) → command_at s ≡ o → IsDue seen s
+    by_command (Some command) is = record { command = command; at = is; owed = owed; runs = waits.fits.accepts (ap is_empty owed); busy = due_busy s.progress command (ap (λ d. is_empty (owed_at d)) due) }
+    by_command None is = absurd (let none : OwesFetch ∷ [] ≡ [] = sym owed ∙ (waits.fits.past is).free in cc none)
+
+-- a fetch is owed after a look that said yes alone
+fetch_owed : (last : Option Event) → owed_after last ≡ OwesFetch ∷ [] → last ≡ Some (events.Look true)
+fetch_owed (Some (events.Look true)) is = refl
+fetch_owed (Some (events.Fetch count)) is = by_test (count == 32) is
+  where
+    by_test : (t : Bool) → elim t as (λ x. List Owes) [ true ↦ OwesLook ∷ [] | false ↦ [] ] ≡ OwesFetch ∷ [] → Some (events.Fetch count) ≡ Some (events.Look true)
+    by_test true same = absurd (cc)
+    by_test false same = absurd (cc)
+fetch_owed last is = absurd (cc)
+
+-- so the fetch may be made
+pub fetch_call : (scenario : Scenario) (seen : List Entry) (s : Backend) → AwaitsEntry scenario seen s → s.progress.due ≡ dues.Fetch → MayCall scenario seen (entry_of s.progress.id (s.progress.finished + 1) (events.Fetch (due_to seen s.progress.id)))
+fetch_call scenario seen s waits due = let d : IsDue seen s = is_due scenario seen s waits due in
+    may_call scenario seen s waits d.command d.at (events.Fetch (due_to seen s.progress.id)) d.busy refl (fetch_owed (last_event_of seen s.progress.id) d.owed, refl)
+
+-- a search that found no relation is taken up again, and nothing else changes
+record IsResumed (p : Plan) (s : Session) : Type 0 where
+  blocks : (resumed p s).blocks ≡ s.blocks
+  finished : (resumed p s).finished ≡ s.finished
+  blocked : (resumed p s).blocked ≡ s.blocked
+  ended : (resumed p s).ended ≡ s.ended
+  left : is_absent p ≡ false → (resumed p s).left ≡ s.left
+
+is_resumed : (p : Plan) (s : Session) → IsResumed p s
+is_resumed (Absent name) s = record { blocks = refl; finished = refl; blocked = refl; ended = refl; left = λ present. absurd (cc present) }
+is_resumed p s = record { blocks = refl; finished = refl; blocked = refl; ended = refl; left = λ present. refl }
+
+-- the place of its scan stays
+place_fetched : (old : List Entry) (e : Entry) (b : ℕ) (s : Session) (command : Command) (at : ℕ) → ((scan : Purpose) → is_scan_of scan e.event ≡ false) → ((name : List ℕ) → s.left ≡ Absent name → WasSought old b s command name) → PlaceFits old b s.left s.read at
+    → PlaceFits (old ++ e ∷ []) b (resumed s.left s).left (resumed s.left s).read at
+place_fetched old e b s command at others sought fits = by_plan s.left refl fits
+  where
+    by_plan : (p : Plan) → s.left ≡ p → PlaceFits old b p s.read at → PlaceFits (old ++ e ∷ []) b (resumed p s).left (resumed p s).read at
+    by_plan (Absent name) is place = subst (λ x. PlaceFits (old ++ e ∷ []) b x true at) (sym (sought name is).looks) (place_read-more old e b (scans.RelName name) (others (scans.RelName name)) ∙ place)
+    by_plan p is place = subst (λ x. PlaceFits (old ++ e ∷ []) b x s.read at) (sym is) (place_stays old e b p s.read at others place)
+
+-- the session after a fetch: one more fetch, which is full at most where it asks for a look
+record IsFetched (s now : Session) (event : Event) : Type 0 where
+  stays : StaysAt s now
+  looks : now.tally.looks ≡ s.tally.looks
+  scans : now.tally.scans ≡ s.tally.scans
+  grants : now.tally.grants ≡ s.tally.grants
+  fetches : now.tally.fetches ≡ s.tally.fetches + 1
+  full : now.tally.full ≤ s.tally.full + looks_due (owed_after (Some event))
+  due : looks_due (owed_after (Some event)) ≤ 1
+  last : (from : ℕ) → Some event ≡ Some (events.Gone from) → ⊥
+
+abbrev fetched_facts : Facts → Session → Event → (Purpose → Bool) → Facts
+fetched_facts facts s event usable = record facts { last = Some event; running = Some (begun (number_of s) facts.running); usable = usable }
+
+-- a look may not count any more
+fewer_looked : (looked marked : Bool) → one_if (looked && not marked) ≤ one_if looked
+fewer_looked looked true = omega (arith, ap one_if (and-false looked))
+fewer_looked true false = omega arith
+fewer_looked false false = omega arith
+
+-- what the choice keeps after it
+fetch_fits : (facts : Facts) (o : Option Command) (s now : Session) (event : Event) (usable : Purpose → Bool) (command : Command) (looked to_build marked : Bool) → o ≡ Some command → Fits facts o s looked to_build → IsFetched s now event → is_some facts.running ≡ true → is_visible facts.running ≡ false
+    → s.ended ≡ false → owed_after facts.last ≡ OwesFetch ∷ [] → Fits (fetched_facts facts s event usable) o now looked (to_build && not marked)
+fetch_fits facts o s now event usable command looked to_build marked at fits fetched runs hides goes owed = fits_inside facts later o s now looked to_build looked (to_build && not marked) command at fits
+    (record { runs = refl; written = λ is. begun_written (number_of s) facts.running (fits.written is); last = fetched.last }) fetched.stays (Goes runs) hides goes looks
+  where
+    later : Facts
+    later = fetched_facts facts s event usable
+
+    before : LooksFit facts s looked to_build
+    before = fits.looks goes
+
+    started : started_in (number_of now) later ≡ started_in (number_of s) facts
+    started = ap (λ n. started_in (n + 1) later) fetched.stays.finished ∙ started_still (number_of s) (number_of s) facts.running runs
+
+    looks : LooksFit later now looked (to_build && not marked)
+    looks = record {
+      enough = omega (arith, before.enough, ap looks_due owed, started, fetched.looks, fetched.scans, fetched.grants, fetched.full, fewer_looked to_build marked);
+      within = omega (arith, before.within, ap looks_due owed, started, fetched.looks, fetched.scans, fetched.grants, fetched.fetches, fetched.due, one_at_most to_build);
+    }
+
+-- what an event has of a fetch
+record BringsBack (scenario : Scenario) (old : List Entry) (was : Backend) (event : Event) (waits : AwaitsEntry scenario old was) : Type 0 where
+  own : OwnEntry scenario old was event waits
+  lives : life_by (was.progress.finished + 1) event ≡ Alive (was.progress.finished + 1)
+  others : (scan : Purpose) → is_scan_of scan event ≡ false
+  inside : ends_command event ≡ false
+  notes : noted event (waiting waits) ≡ resumed (waiting waits).left (waiting waits)
+  usable : Purpose → Bool
+  facts : facts_by old was.progress.id (was.progress.finished + 1) event (facts_of old was.progress.id) ≡ fetched_facts (facts_of old was.progress.id) (waiting waits) event usable
+  fetched : IsFetched (waiting waits) (entered (facts_of (with_own old was.progress event) was.progress.id) (drop was.progress.finished was.progress.commands) (length old + 1) (was.progress.finished + 1) event (waiting waits)) event
+
+-- after either the backend agrees
+fetch_agrees : (scenario : Scenario) (old new : List Entry) (had has : ℕ → ℕ) (was : Backend) (p : Progress) (event : Event) (marked : Bool) (waits : AwaitsEntry scenario old was) → IsPlayed scenario old → AllOnCourse scenario old → was.progress.due ≡ dues.Fetch → BringsBack scenario old was event waits
+    → HasEntered scenario old was.progress event waits.rests p → All (KeptAt old was.progress.id) p.kept → p.given_at ≡ was.progress.given_at → Appends old new had has (entry_of was.progress.id (was.progress.finished + 1) event)
+    → Enters scenario old new had has was (record was { progress = p; looked_to_build = was.looked_to_build && not marked; answer = None })
+fetch_agrees scenario old new had has was p event marked waits played courses is_fetch brings goes kept given_at appends =
+    own_enters scenario old new had has was (record was { progress = p; looked_to_build = was.looked_to_build && not marked; answer = None }) event waits played courses brings.own goes
+    (keeps_at scenario old was event waits p goes (record was { progress = p; looked_to_build = was.looked_to_build && not marked; answer = None }) refl brings.lives (kept_stays old e b p.kept brings.others kept)
+    (subst (λ x. PlaceFits (old ++ e ∷ []) b x p.read p.given_at) (sym left) (subst (λ t. PlaceFits (old ++ e ∷ []) b (resumed s.left s).left t p.given_at) (sym read) (subst (λ n. PlaceFits (old ++ e ∷ []) b (resumed s.left s).left (resumed s.left s).read n) (sym given_at)
+    (place_fetched old e b s due.command was.progress.given_at brings.others (follows scenario old was waits courses due.command due.at).sought waits.keeps.given_at)))))
+    (fits_at scenario old was event waits p goes was.looked (was.looked_to_build && not marked) (subst (λ f. Fits f (command_at was) (entered (facts_of (with_own old was.progress event) b) (drop was.progress.finished was.progress.commands) (length old + 1) (was.progress.finished + 1) event s) was.looked (was.looked_to_build && not marked)) (sym brings.facts)
+    (fetch_fits (facts_of old b) (command_at was) s _ event brings.usable due.command was.looked was.looked_to_build marked due.at waits.fits brings.fetched due.runs (hidden scenario old was waits due.command due.at due.busy) (going scenario old was waits courses due.command due.at) due.owed)))
+    refl (StaysWithin brings.inside refl) (λ inside. ap (λ (x : Session). x.ended) brings.notes ∙ (is_resumed s.left s).ended) appends
+  where
+    b : ℕ
+    b = was.progress.id
+
+    e : Entry
+    e = entry_of b (was.progress.finished + 1) event
+
+    s : Session
+    s = waiting waits
+
+    due : IsDue old was
+    due = is_due scenario old was waits is_fetch
+
+    left : plan_at p.exec ≡ (resumed s.left s).left
+    left = ap (λ (x : Session). x.left) goes.session ∙ (entered_noted (facts_of (with_own old was.progress event) b) (drop was.progress.finished was.progress.commands) (length old + 1) (was.progress.finished + 1) event s).after.left ∙ ap (λ (x : Session). x.left) brings.notes
+
+    read : p.read ≡ (resumed s.left s).read
+    read = ap (λ (x : Session). x.read) goes.session ∙ (entered_noted (facts_of (with_own old was.progress event) b) (drop was.progress.finished was.progress.commands) (length old + 1) (was.progress.finished + 1) event s).read ∙ ap (λ (x : Session). x.read) brings.notes
+
+due_fetched : (count : ℕ) → looks_due (owed_after (Some (events.Fetch count))) ≡ one_if (count == 32)
+due_fetched count = elim (count == 32) as (λ t. looks_due (elim t as (λ x. List Owes) [ true ↦ OwesLook ∷ [] | false ↦ [] ]) ≡ one_if t) [ true ↦ refl | false ↦ refl ]
+
+full_most : (t counts : Bool) (tally : Tally) → (elim (t && counts) as (λ x. Tally) [ true ↦ record tally { full = tally.full + 1 } | false ↦ tally ]).full ≤ tally.full + one_if t
+full_most true true tally = omega arith
+full_most true false tally = omega arith
+full_most false counts tally = omega arith
+
+-- a full fetch counts in the tally alone
+full_same : (t : Bool) (tally : Tally) (get : Tally → ℕ) → ((n : ℕ) → get (record tally { full = n }) ≡ get tally) → get (elim t as (λ x. Tally) [ true ↦ record tally { full = tally.full + 1 } | false ↦ tally ]) ≡ get tally
+full_same true tally get same = same (tally.full + 1)
+full_same false tally get same = refl
+
+messages_bring : (scenario : Scenario) (old : List Entry) (was : Backend) (count : ℕ) (waits : AwaitsEntry scenario old was) → was.progress.due ≡ dues.Fetch → is_lapped scenario.size old was.progress.id ≡ false → BringsBack scenario old was (events.Fetch count) waits
+messages_bring scenario old was count waits due served = record {
+  own = record { plays = subst (λ o. MayPlayIn (next_oid old) (facts_of old was.progress.id) o s (events.Fetch count)) (sym (is_due scenario old was waits due).at) tt; truly = tt; queue = served };
+  lives = refl;
+  others = λ scan. refl;
+  inside = refl;
+  notes = refl;
+  usable = (facts_by old was.progress.id (was.progress.finished + 1) (events.Fetch count) (facts_of old was.progress.id)).usable;
+  facts = λ i. record (facts_by old was.progress.id (was.progress.finished + 1) (events.Fetch count) (facts_of old was.progress.id)) { running = Some (begun (sym waits.rests.holds.count i + 1) (facts_of old was.progress.id).running) };
+  fetched = record {
+    stays = let r = is_resumed s.left s in record { blocks = r.blocks; finished = ap length r.finished; blocked = r.blocked; ended = r.ended; left = λ out present. r.left present };
+    looks = full_same full more (λ t. t.looks) (λ n. refl);
+    scans = full_same full more (λ t. t.scans) (λ n. refl);
+    grants = full_same full more (λ t. t.grants) (λ n. refl);
+    fetches = full_same full more (λ t. t.fetches) (λ n. refl);
+    full = omega (arith, full_most (count == 32) (not (owes_build_scan (facts_of (with_own old was.progress (events.Fetch count)) was.progress.id) placed)) more, due_fetched count);
+    due = omega (arith, due_fetched count, one_at_most (count == 32));
+    last = λ from is. cc is;
+  };
+}
+  where
+    s : Session
+    s = waiting waits
+
+    placed : Session
+    placed = placed_at (length old + 1) (was.progress.finished + 1) (events.Fetch count) s
+
+    more : Tally
+    more = record s.tally { fetches = s.tally.fetches + 1 }
+
+    full : Bool
+    full = (count == 32) && not (owes_build_scan (facts_of (with_own old was.progress (events.Fetch count)) was.progress.id) placed)
+
+reset_brings : (scenario : Scenario) (old : List Entry) (was : Backend) (waits : AwaitsEntry scenario old was) → was.progress.due ≡ dues.Fetch → is_lapped scenario.size old was.progress.id ≡ true → BringsBack scenario old was events.FetchReset waits
+reset_brings scenario old was waits due lapped = record {
+  own = record { plays = subst (λ o. MayPlayIn (next_oid old) (facts_of old was.progress.id) o s events.FetchReset) (sym (is_due scenario old was waits due).at) tt; truly = tt; queue = lapped };
+  lives = refl;
+  others = λ scan. refl;
+  inside = refl;
+  notes = refl;
+  usable = (facts_by old was.progress.id (was.progress.finished + 1) events.FetchReset (facts_of old was.progress.id)).usable;
+  facts = λ i. record (facts_by old was.progress.id (was.progress.finished + 1) events.FetchReset (facts_of old was.progress.id)) { running = Some (begun (sym waits.rests.holds.count i + 1) (facts_of old was.progress.id).running) };
+  fetched = record {
+    stays = let r = is_resumed s.left s in record { blocks = r.blocks; finished = ap length r.finished; blocked = r.blocked; ended = r.ended; left = λ out present. r.left present };
+    looks = refl;
+    scans = refl;
+    grants = refl;
+    fetches = refl;
+    full = omega arith;
+    due = omega arith;
+    last = λ from is. cc is;
+  };
+}
+  where
+    s : Session
+    s = waiting waits
+
+-- a fetch gives as many messages as its entry says
+fetched_count : (old : List Entry) (b count : ℕ) → count ≡ due_to old b → length (fetched_by old b count) ≡ count
+fetched_count old b count due = length-take-le count (drop (position_of old b) (log_of old)) (omega (arith, due, min-le_right 32 (length (log_of old) - position_of old b), length-drop (position_of old b) (log_of old)))
+
+-- the messages of a fetch
+pub messages_enter : (scenario : Scenario) (old new : List Entry) (had has : ℕ → ℕ) (was now : Backend) (count : ℕ) (taken given : List Message) (waits : AwaitsEntry scenario old was) → IsPlayed scenario old → AllOnCourse scenario old → was.progress.due ≡ dues.Fetch
+    → Fetches scenario.size old new had has was.progress.id (was.progress.finished + 1) taken (fetches.Messages count) → given ≡ taken
+    → (given ≡ fetched_by old was.progress.id (length given) → HasEntered scenario old was.progress (events.Fetch (length given)) waits.rests now.progress) → now.progress.kept ≡ kept_spared given was.progress.kept → now.progress.given_at ≡ was.progress.given_at
+    → now ≡ record was { progress = now.progress; looked_to_build = was.looked_to_build && not (marks_build was.progress given); answer = None } → Enters scenario old new had has was now
+messages_enter scenario old new had has was now count taken given waits played courses due gives same goes kept given_at is =
+    subst (Enters scenario old new had has was) (sym is)
+    (fetch_agrees scenario old new had has was now.progress (events.Fetch (length given)) (marks_build was.progress given) waits played courses due (messages_bring scenario old was (length given) waits due gives.served) (goes (same ∙ gives.messages ∙ ap (fetched_by old was.progress.id) counts))
+    (subst (All (KeptAt old was.progress.id)) (sym kept) (All-filter (λ k. is_spared k.scan given) (KeptAt old was.progress.id) was.progress.kept waits.keeps.kept)) given_at
+    (subst (λ n. Appends old new had has (entry_of was.progress.id (was.progress.finished + 1) (events.Fetch n))) counts gives.appends))
+  where
+    counts : count ≡ length given
+    counts = sym (ap length (same ∙ gives.messages) ∙ fetched_count old was.progress.id count gives.due)
+
+-- a reset
+pub reset_enters : (scenario : Scenario) (old new : List Entry) (had has : ℕ → ℕ) (was now : Backend) (given : List Message) (waits : AwaitsEntry scenario old was) → IsPlayed scenario old → AllOnCourse scenario old → was.progress.due ≡ dues.Fetch
+    → Fetches scenario.size old new had has was.progress.id (was.progress.finished + 1) given fetches.Reset → HasEntered scenario old was.progress events.FetchReset waits.rests now.progress → now.progress.kept ≡ [] → now.progress.given_at ≡ was.progress.given_at
+    → now ≡ record was { progress = now.progress; looked_to_build = was.looked_to_build && not (has_begun was.progress); answer = None } → Enters scenario old new had has was now
+reset_enters scenario old new had has was now given waits played courses due gives goes kept given_at is =
+    subst (Enters scenario old new had has was) (sym is)
+    (fetch_agrees scenario old new had has was now.progress events.FetchReset (has_begun was.progress) waits played courses due (reset_brings scenario old was waits due gives.lapped) goes
+    (subst (All (KeptAt old was.progress.id)) (sym kept) (λ i d within. absurd (omega (arith, within)))) given_at gives.appends)

@@ -1,0 +1,144 @@
+-- A backend joins.
+use Rattle.std.proofs.Common.{◌≡◌, ◌+◌, ◌∙◌, ◌∷◌, ◌++◌, ◌==◌, inl, ℕ, true, false, Option, Some, None, List, [], refl, sym, ap, subst, length, All, is_some, slice_get, arith}
+use Rattle.std.proofs.lemmas.Bool.{eq-eqb, both_ways}
+use Rattle.std.proofs.lemmas.List.{length_push}
+use Rattle.std.proofs.lemmas.List.Elements.{All-nil}
+use Rattle.event_kinds.specs.declared.entry.Event.TheVariants as events
+use Rattle.txn_blocks.specs.Blocks.{no_block}
+use Rattle.ddl_effect.specs.Commands.{commands_of}
+use Rattle.ddl_effect.specs.Plans.{Plan, Absent, Do, Lookup}
+use Rattle.ddl_effect.specs.Stages.{plan_at}
+use Rattle.inval_messages.specs.Lists.{has_write_from}
+use Rattle.std.specs.Option.{option_map_or}
+use Rattle.history_model.specs.Legal.{FollowsVisible, FollowsGone}
+use Rattle.history_model.specs.Lives.{FollowsLife, life_of, last_event_of}
+use Rattle.history_model.specs.Transactions.{Running, is_visible}
+use Rattle.history_model.specs.Writes.{is_empty}
+use Rattle.history_model.proofs.Reading.{life_of-own, last_event_of-own}
+use Rattle.seg_calls.specs.Calls.{entry_of, MayCall, Appends}
+use Rattle.cacheless.specs.Facts.{Facts, facts_of, facts_by}
+use Rattle.cacheless.specs.Holds.{HasStarted}
+use Rattle.cacheless.specs.Lines.{lines_from}
+use Rattle.cacheless.specs.OnCourse.{is_over, EntersCourse}
+use Rattle.cacheless.specs.Owed.{owed_after}
+use Rattle.cacheless.specs.Plays.{started_in, MayPlayAt}
+use Rattle.cacheless.specs.Runs.{runs}
+use Rattle.cacheless.specs.Session.{Session, first_of, at_command}
+use Rattle.cacheless.specs.State.{is_absent, session_at}
+use Rattle.cacheless.proofs.Entries.EnteredLooks.{not_absent}
+use Rattle.cacheless.proofs.Resting.{first_left}
+use Rattle.cacheless.proofs.Reading.{facts_of-own}
+use Rattle.cacheless.proofs.Allowed.SettledCourse.{begins_on_course}
+use Rattle.cacheless.proofs.Allowed.StaysOnCourse.{has_written-quiet}
+use Rattle.backend_core.specs.Types.{Command, Scenario, Entry, KeptScan, Progress, Backend}
+use Rattle.backend_core.specs.declared.life.Life.TheVariants as lives
+use Rattle.backend_core.specs.Agrees.{IsPlayed, KeptAt, PlaceFits, AgreesNow, HasNotJoined}
+use Rattle.backend_core.specs.Fits.{looks_due, IsPast, Fits}
+use Rattle.backend_core.specs.Steps.{MakesEntry, Enters}
+use Rattle.backend_core.proofs.Own.{appended_makes}
+use Rattle.backend_core.proofs.Played.{IsPlayed-more}
+
+-- it may be entered
+pub join_call : (scenario : Scenario) (seen : List Entry) (s : Backend) → HasNotJoined scenario seen s → MayCall scenario seen (entry_of s.progress.id 0 events.Start)
+join_call scenario seen s before = record {
+  backend = before.waits.number;
+  number = omega arith;
+  follows = record {
+    life = subst (λ l. FollowsLife l 0 events.Start) (sym before.life) refl;
+    visible = subst (λ o. FollowsVisible (is_visible o) events.Start) (sym (ap (λ f. f.running) before.facts)) tt;
+    gone = subst (λ o. FollowsGone o events.Start) (sym (ap (λ f. f.last) before.facts)) tt;
+    event = tt;
+  };
+}
+
+-- what its choice keeps from then on
+fits_first : (facts : Facts) (o : Option Command) (at : ℕ) → facts.running ≡ None → facts.lists ≡ [] → facts.last ≡ Some events.Start → Fits facts o (at_command no_block [] [] at o) false false
+fits_first facts o at runs lists last = record {
+  looks = λ _. record { enough = omega (arith, none, ap (λ l. looks_due (owed_after l)) last); within = omega (arith, none, ap (λ l. looks_due (owed_after l)) last) };
+  transaction = inl runs;
+  first = omega (arith, ap (λ r. option_map_or (λ (t : Running). t.first) r 0) runs);
+  opens = refl;
+  levels = omega arith;
+  one_level = omega arith;
+  blocked = refl;
+  settled = λ is. refl;
+  written = λ is. absurd (both_ways _ (ap (has_write_from 0) lists) is);
+  visible = λ is. absurd (both_ways _ (ap (λ r. is_visible r) runs) is);
+  taken = λ from is. absurd (let both : Some events.Start ≡ Some (events.Gone from) = sym last ∙ is in cc both);
+  accepts = λ owes. absurd (both_ways _ owes (ap (λ l. is_empty (owed_after l)) last));
+  past = λ none. subst (λ x. IsPast facts (at_command no_block [] [] at x)) (sym none) (record { out = refl; opened = refl; free = ap owed_after last });
+}
+  where
+    none : started_in 1 facts ≡ 0
+    none = ap (λ r. option_map_or (λ (t : Running). elim (t.first == 1) as (λ x. ℕ) [ true ↦ 1 | false ↦ 0 ]) r 0) runs
+
+-- a plan that has read nothing rests on no place
+pub place_first : (seen : List Entry) (b : ℕ) (plan : Plan) (at : ℕ) → is_absent plan ≡ false → PlaceFits seen b plan false at
+place_first seen b (Absent name) at there = absurd (cc there)
+place_first seen b (Do (Lookup name mode) rest) at there = tt
+place_first seen b plan at there = tt
+
+-- the state after it
+pub join_enters : (scenario : Scenario) (old new : List Entry) (had has : ℕ → ℕ) (was : Backend) (p : Progress) → HasNotJoined scenario old was → IsPlayed scenario old → HasStarted scenario old was.progress p → p.kept ≡ was.progress.kept
+    → Appends old new had has (entry_of was.progress.id 0 events.Start) → Enters scenario old new had has was (record was { progress = p; life = lives.Alive })
+join_enters scenario old new had has was p before played started kept appends = record {
+  makes = makes;
+  id = started.moves.id;
+  agrees = subst (λ h. AgreesNow scenario h now) (sym appends.entries) (record {
+    played = IsPlayed-more scenario old e played makes.may;
+    keeps = record {
+      alive = refl;
+      life = record { last = 0; alive = ap (life_of (old ++ e ∷ [])) started.moves.id ∙ life_of-own old e b own; most = omega arith };
+      built = subst (All (λ c. runs c ≡ true)) (sym started.moves.commands) before.built;
+      kept = subst (λ (l : List KeptScan). All (KeptAt (old ++ e ∷ []) p.id) l) (sym (kept ∙ before.new.progress.kept)) (All-nil (KeptAt (old ++ e ∷ []) p.id));
+      given_at = subst (λ r. PlaceFits (old ++ e ∷ []) p.id (plan_at p.exec) r p.given_at) (sym (ap (λ (s : Session). s.read) started.session))
+          (place_first (old ++ e ∷ []) p.id (plan_at p.exec) p.given_at (ap is_absent (ap (λ (s : Session). s.left) started.session) ∙ not_absent no_block (slice_get was.progress.commands 0)));
+    };
+    holds = started.holds;
+    course = subst (λ k. EntersCourse scenario (old ++ e ∷ []) k (session_at p started.holds.rest)) (sym started.moves.id) (subst (EntersCourse scenario (old ++ e ∷ []) b) (sym (started.session ∙ ap (at_command no_block [] [] (length old + 1)) first_is))
+        (begins_on_course scenario (old ++ e ∷ []) b no_block [] [] (length old + 1) (commands_of scenario b) refl (λ n after. has_written-quiet old e b n refl ∙ before.unwritten n) refl));
+    fits = subst (λ f. Fits f (slice_get p.commands p.finished) (session_at p started.holds.rest) was.looked was.looked_to_build) (sym facts_are)
+        (subst (λ x. Fits facts (slice_get p.commands p.finished) x was.looked was.looked_to_build) (sym started.session)
+        (subst (λ o. Fits facts o (at_command no_block [] [] (length old + 1) (slice_get was.progress.commands 0)) was.looked was.looked_to_build) (sym first_command)
+        (subst (λ t. Fits facts (slice_get was.progress.commands 0) (at_command no_block [] [] (length old + 1) (slice_get was.progress.commands 0)) was.looked t) (sym before.new.looked_to_build)
+        (subst (λ t. Fits facts (slice_get was.progress.commands 0) (at_command no_block [] [] (length old + 1) (slice_get was.progress.commands 0)) t false) (sym before.new.looked)
+        (fits_first facts (slice_get was.progress.commands 0) (length old + 1) refl (ap (λ f. f.lists) before.facts) refl)))));
+    tells = record {
+      lines = before.new.lines ∙ sym (ap (λ l. lines_from scenario (old ++ e ∷ []) p.id 1 l p.commands) (ap (λ (s : Session). s.finished) started.session));
+      answer = λ text command told at. absurd (let both : None ≡ Some text = sym before.new.answer ∙ told in cc both);
+      out = λ some. absurd (both_ways _ (ap (λ o. is_some o) before.new.answer) some);
+    };
+    here = λ command at none. record {
+      judged = omega (arith, length_push old e, ap (λ (s : Session). s.judged) started.session);
+      stands = (λ i. is_over (last_event_of (old ++ e ∷ []) (started.moves.id i)) (started.session i)) ∙ ap (λ o. is_over o (at_command no_block [] [] (length old + 1) (slice_get was.progress.commands 0))) (last_event_of-own old e b own);
+    };
+    last = omega (arith, length_push old e, ap (λ (s : Session). s.last) started.session);
+  });
+}
+  where
+    b : ℕ
+    b = was.progress.id
+
+    e : Entry
+    e = entry_of was.progress.id 0 events.Start
+
+    now : Backend
+    now = record was { progress = p; life = lives.Alive }
+
+    own : (e.backend == b) ≡ true
+    own = eq-eqb b b refl
+
+    facts : Facts
+    facts = facts_by old b 0 events.Start (facts_of old b)
+
+    facts_are : facts_of (old ++ e ∷ []) p.id ≡ facts
+    facts_are = ap (facts_of (old ++ e ∷ [])) started.moves.id ∙ facts_of-own old e b own
+
+    first_command : slice_get p.commands p.finished ≡ slice_get was.progress.commands 0
+    first_command = ap (λ l. slice_get l p.finished) started.moves.commands ∙ ap (slice_get was.progress.commands) (started.moves.finished ∙ before.new.progress.finished)
+
+    first_is : slice_get was.progress.commands 0 ≡ first_of (commands_of scenario b)
+    first_is = sym (first_left was.progress.commands 0) ∙ ap first_of before.waits.commands
+
+    makes : MakesEntry scenario old new had has b
+    makes = appended_makes scenario old new had has e (before.waits.number, subst (λ o. MayPlayAt scenario old b o 0 events.Start) (sym before.session) tt) (record { needed = tt; truly = tt; tables = tt; queue = tt }) appends

@@ -1,0 +1,162 @@
+-- The locks that a backend asks for.
+use Rattle.std.proofs.Common.{◌≡◌, ◌<◌, ◌+◌, ◌∙◌, ◌&&◌, ℕ, Bool, true, false, Some, None, Err, List, [], ◌∷◌, refl, sym, ap, subst, length, drop, is_some, All, arith}
+use Rattle.std.proofs.lemmas.Bool.{and_parts}
+use Rattle.base_types.specs.declared.row.Row.TheVariants as rows
+use Rattle.event_kinds.specs.declared.entry.Event.TheVariants as events
+use Rattle.command_answers.specs.declared.error.CommandError.TheVariants as errors
+use Rattle.lock_modes.specs.Grants.{holds}
+use Rattle.lock_modes.specs.Own.{has_lock}
+use Rattle.lock_modes.specs.declared.granted.LockRefusal.{LockRefusal}
+use Rattle.lock_modes.specs.declared.granted.LockRefusal.TheVariants.{Conflict}
+use Rattle.ddl_effect.specs.Plans.{Act, Plan, Done, Fails, Absent, NotBuilt, Do, Lookup, Open, Column, Read, Lock, Write}
+use Rattle.ddl_effect.specs.Stages.{plan_at}
+use Rattle.history_model.specs.Drawn.{next_oid}
+use Rattle.history_model.specs.Held.{held_of}
+use Rattle.history_model.specs.Transactions.{begun}
+use Rattle.seg_calls.specs.Calls.{entry_of, MayRequest, Appends, Locks}
+use Rattle.cacheless.specs.Facts.{Facts, facts_of, facts_by}
+use Rattle.cacheless.specs.Holds.{HasEntered, with_own}
+use Rattle.cacheless.specs.May.{owes_nothing, names_relation, is_lock_at, may_play_at, may_last_at}
+use Rattle.cacheless.specs.OnCourse.{AllOnCourse}
+use Rattle.cacheless.specs.Owed.{owed_of}
+use Rattle.cacheless.specs.Plays.{started_in, IsLock, MayPlayIn}
+use Rattle.cacheless.specs.Session.{Session, number_of, outcome_of, is_settled}
+use Rattle.cacheless.specs.Sessions.{entered}
+use Rattle.cacheless.specs.Settled.{if_locked, looked_up}
+use Rattle.cacheless.specs.Silently.{gives_next}
+use Rattle.cacheless.specs.State.{owed_at}
+use Rattle.cacheless.proofs.Plans.AloneLocks.{session_holds}
+use Rattle.cacheless.proofs.Allowed.NextKeeps as keeping
+use Rattle.cacheless.proofs.SameRows.{oid_decides}
+use Rattle.backend_core.specs.Types.{Oid, Mode, Row, OwnLock, Scenario, Entry, Event, Progress, Backend}
+use Rattle.backend_core.specs.Agrees.{IsPlayed, command_at, KeptAt, AwaitsEntry}
+use Rattle.backend_core.specs.Fits.{looks_due, LooksFit}
+use Rattle.backend_core.specs.Steps.{IsLockNext, Enters}
+use Rattle.backend_core.proofs.Choosing.ActsRun.{act_runs}
+use Rattle.backend_core.proofs.Entries.Alike.{alike_enters}
+use Rattle.backend_core.proofs.Choosing.Chosen.{Acts, may_request, now_plays}
+use Rattle.backend_core.proofs.Fitting.Entered.{fits_at, keeps_still}
+use Rattle.backend_core.proofs.Entries.Failing.{IsActing, held_shows, failed_enters}
+use Rattle.backend_core.proofs.Entries.Inside.{runs_on, inside_fits}
+use Rattle.backend_core.proofs.Own.{waiting, waiting_is, follows, going, Inside, own_enters}
+
+-- the relation that the rows name isn't locked, where they wait for its lock
+unlocked : (locks : List OwnLock) (mode : Mode) (given : List Row) (rel : Oid) → names_relation rel given ≡ true → is_some (looked_up locks mode given) ≡ false → has_lock locks rel mode ≡ false
+unlocked locks mode [] rel names none = absurd (cc names)
+unlocked locks mode (rows.Class oid own kind fill ∷ more) rel names none = subst (λ r. has_lock locks r mode ≡ false) (sym ((oid_decides rel oid).0 names)) (by_test (has_lock locks oid mode) none)
+  where
+    by_test : (t : Bool) → is_some (if_locked t (rows.Class oid own kind fill ∷ more)) ≡ false → t ≡ false
+    by_test true gives = absurd (cc gives)
+    by_test false gives = refl
+unlocked locks mode (row ∷ more) rel names none = absurd (cc names)
+
+unlocked_still : (t : Bool) → is_some (if_locked t []) ≡ false → t ≡ false
+unlocked_still true gives = absurd (cc gives)
+unlocked_still false gives = refl
+
+-- the lock that comes next isn't held
+not_held : (facts : Facts) (s : Progress) (p : Plan) (rel : Oid) (mode : Mode) → is_lock_at s p rel mode ≡ true → IsLock facts p rel mode → gives_next s p ≡ false → has_lock s.locks.items rel mode ≡ false
+not_held facts s (Do (Lookup name wanted) rest) rel mode is asks none = subst (λ m. has_lock s.locks.items rel m ≡ false) (sym asks.1) (unlocked s.locks.items wanted s.given.items rel (and_parts (names_relation rel s.given.items) _ is).0 none)
+not_held facts s (Do (Lock other wanted) rest) rel mode is asks none = (λ i. has_lock s.locks.items (asks.0 i) (asks.1 i)) ∙ unlocked_still (has_lock s.locks.items other wanted) none
+not_held facts s (Do (Open of kind) rest) rel mode is asks none = absurd asks
+not_held facts s (Do (Column of name) rest) rel mode is asks none = absurd asks
+not_held facts s (Do (Read scan) rest) rel mode is asks none = absurd asks
+not_held facts s (Do (Write draft) rest) rel mode is asks none = absurd asks
+not_held facts s p rel mode is asks none = absurd asks
+
+-- an act asks for it
+record IsAct (p : Plan) : Type 0 where
+  act : Act
+  rest : List Row → Plan
+  is : p ≡ Do act rest
+
+locks_act : (facts : Facts) (p : Plan) (rel : Oid) (mode : Mode) → IsLock facts p rel mode → IsAct p
+locks_act facts (Do act rest) rel mode asks = record { act = act; rest = rest; is = refl }
+locks_act facts Done rel mode asks = absurd asks
+locks_act facts (Fails error) rel mode asks = absurd asks
+locks_act facts (Absent name) rel mode asks = absurd asks
+locks_act facts NotBuilt rel mode asks = absurd asks
+
+-- the entry of a lock that is refused, by what the call answered
+pub held_appends : (old new : List Entry) (had has : ℕ → ℕ) (b c : ℕ) (rel : Oid) (mode : Mode) (refusal : LockRefusal) (holder of : ℕ) (held under : Mode) → refusal ≡ Conflict holder held → of ≡ holder → under ≡ held → Locks old new had has b c rel mode (Err refusal)
+    → Appends old new had has (entry_of b c (events.LockHeld rel mode of under))
+held_appends old new had has b c rel mode refusal holder of held under is holder_is held_is locks =
+    subst (λ e. Appends old new had has (entry_of b c e)) (λ i. events.LockHeld rel mode (sym holder_is i) (sym held_is i)) (subst (λ r. Locks old new had has b c rel mode (Err r)) is locks)
+
+-- all that a lock rests on
+module _ (scenario : Scenario) (old : List Entry) (was : Backend) (waits : AwaitsEntry scenario old was) (played : IsPlayed scenario old) (courses : AllOnCourse scenario old) (rel : Oid) (mode : Mode) (next : IsLockNext was.progress rel mode) where
+  abbrev facts : Facts
+  facts = facts_of old was.progress.id
+
+  abbrev s : Session
+  s = waiting waits
+
+  may : (owes_nothing next.command was.progress ≡ true) × (is_lock_at was.progress (plan_at was.progress.exec) rel mode ≡ true)
+  may = and_parts (owes_nothing next.command was.progress) _ next.may
+
+  plays : (event : Event) → may_play_at (next_oid old) next.command was.progress event ≡ true → MayPlayIn (next_oid old) facts (command_at was) s event
+  plays event is = now_plays scenario old was waits next.command next.free.at event (ap (λ o. elim o as (λ x. Bool) [ Some command ↦ may_play_at (next_oid old) command was.progress event | None ↦ may_last_at was.progress event ]) next.free.at ∙ is)
+
+  asks : (owed_of facts next.command s ≡ []) × IsLock facts (plan_at was.progress.exec) rel mode
+  asks = subst (λ o. MayPlayIn (next_oid old) facts o s (events.LockOk rel mode)) next.free.at (plays (events.LockOk rel mode) next.may)
+
+  is_act : IsAct (plan_at was.progress.exec)
+  is_act = locks_act facts (plan_at was.progress.exec) rel mode asks.1
+
+  acting : IsActing scenario old was next.command
+  acting = record {
+    at = next.free.at;
+    unsettled = ap (λ p. is_settled (outcome_of p)) is_act.is;
+    runs = act_runs scenario old was waits courses next.command next.free.at is_act.act is_act.rest is_act.is next.free.first;
+    owed = waits.rests.holds.facts.owed ∙ ap owed_at next.free.due;
+  }
+
+  before : LooksFit facts s was.looked was.looked_to_build
+  before = waits.fits.looks (going scenario old was waits courses next.command next.free.at)
+
+  same : Some (begun (was.progress.finished + 1) facts.running) ≡ facts.running
+  same = runs_on (was.progress.finished + 1) facts.running acting.runs
+
+  -- it may be asked for
+  pub lock_request : MayRequest scenario old was.progress.id (was.progress.finished + 1)
+  lock_request = may_request scenario old was waits next.command next.free.at (Acts acting.unsettled)
+
+  pub lock_free : has_lock was.progress.locks.items rel mode ≡ false
+  lock_free = not_held facts was.progress (plan_at was.progress.exec) rel mode may.1 asks.1 (ap (λ t. t && gives_next was.progress (plan_at was.progress.exec)) (sym may.0) ∙ (waits.rests.still next.command next.free.at).0)
+
+  pub lock_new : holds (held_of old) was.progress.id rel mode ≡ false
+  lock_new = session_holds scenario old was.progress.id s played.sound (waiting_is scenario old was waits) rel mode ∙ lock_free
+
+  pub lock_drawn : rel.0 < next_oid old
+  lock_drawn = keeping.lock_drawn old was.progress.id s next.command rel mode played.sound (follows scenario old was waits courses next.command next.free.at) asks.0 asks.1
+
+  -- a lock that is granted, to a backend that had the room for it made
+  module _ (first : Backend) (id : was.progress.id ≡ first.progress.id) (new : List Entry) (had has : ℕ → ℕ) (p : Progress) (kept : p.kept ≡ was.progress.kept) where
+    pub granted_enters : HasEntered scenario old was.progress (events.LockOk rel mode) waits.rests p → p.given_at ≡ was.progress.given_at
+        → Appends old new had has (entry_of was.progress.id (was.progress.finished + 1) (events.LockOk rel mode)) → Enters scenario old new had has first (record was { progress = p; answer = None })
+    granted_enters goes given_at appends = alike_enters scenario old new had has first was (record was { progress = p; answer = None }) id (
+        own_enters scenario old new had has was (record was { progress = p; answer = None }) event waits played courses (record { plays = plays event next.may; truly = tt; queue = tt }) goes
+        (keeps_still scenario old was event waits p goes (record was { progress = p; answer = None }) refl refl (λ scan. refl) (subst (All (KeptAt old was.progress.id)) (sym kept) waits.keeps.kept)
+        (ap (λ (x : Session). x.left) goes.session) (ap (λ (x : Session). x.read) goes.session) given_at)
+        (fits_at scenario old was event waits p goes was.looked was.looked_to_build
+        (inside_fits scenario old was waits courses next.command next.free.at later now was.looked was.looked_to_build same refl (λ from is. cc is) (record { blocks = refl; finished = refl; blocked = refl; ended = refl; left = λ is there. refl }) acting.runs (Acts acting.unsettled)
+        (record { enough = omega (arith, before.enough, ap looks_due acting.owed, started); within = omega (arith, before.within, ap looks_due acting.owed, started) })))
+        refl (Inside refl refl) (λ inside. refl) appends)
+      where
+        event : Event
+        event = events.LockOk rel mode
+
+        later : Facts
+        later = facts_by old was.progress.id (was.progress.finished + 1) event facts
+
+        now : Session
+        now = entered (facts_of (with_own old was.progress event) was.progress.id) (drop was.progress.finished was.progress.commands) (length old + 1) (was.progress.finished + 1) event s
+
+        started : started_in (number_of now) later ≡ started_in (number_of s) facts
+        started = ap (λ o. started_in (number_of s) (record facts { running = o })) same
+
+    -- and one that is refused
+    pub refused_enters : (holder : ℕ) (held : Mode) → HasEntered scenario old was.progress (events.LockHeld rel mode holder held) waits.rests p
+        → Appends old new had has (entry_of was.progress.id (was.progress.finished + 1) (events.LockHeld rel mode holder held)) → Enters scenario old new had has first (record was { progress = p; answer = None })
+    refused_enters holder held goes appends = alike_enters scenario old new had has first was (record was { progress = p; answer = None }) id (failed_enters scenario old new had has was p (events.LockHeld rel mode holder held) (errors.Locked rel holder held) next.command waits played courses acting
+        (held_shows scenario old was s rel mode holder held) (plays (events.LockHeld rel mode holder held) next.may) goes kept appends)

@@ -1,0 +1,111 @@
+-- The locks of a transaction are released.
+use Rattle.std.proofs.Common.{◌≡◌, ◌≤◌, ◌+◌, ◌∙◌, ◌∷◌, ◌⊎◌, inl, inr, ℕ, Bool, true, false, Option, Some, None, List, [], cond, refl, sym, ap, subst, length, drop, All, arith}
+use Rattle.std.specs.Option.{option_map, option_map_or}
+use Rattle.std.specs.Prelude.{nat_lt}
+use Rattle.std.proofs.lemmas.Bool.{both_ways, ltb-true, false_from_ne_true}
+use Rattle.std.proofs.lemmas.List.{length-drop}
+use Rattle.event_kinds.specs.declared.entry.Event.TheVariants as events
+use Rattle.inval_messages.specs.Lists.{Written, has_write_from, cats_in, sent_in, left_after, unsent_after}
+use Rattle.history_model.specs.Legal.{FollowsVisible, FollowsGone, MayRelease}
+use Rattle.history_model.specs.Sent.{left_in, unsent_in}
+use Rattle.history_model.specs.Transactions.{Running, is_visible}
+use Rattle.seg_calls.specs.Calls.{entry_of, MayCall, Appends}
+use Rattle.cacheless.specs.Ends.{Commits, TakesBack}
+use Rattle.cacheless.specs.Facts.{Facts, facts_of, facts_by}
+use Rattle.cacheless.specs.Holds.{HasEntered}
+use Rattle.cacheless.specs.OnCourse.{AllOnCourse}
+use Rattle.cacheless.specs.Session.{Session}
+use Rattle.backend_core.specs.Types.{Command, Scenario, Entry, Event, OwnLock, Message, Progress, Backend}
+use Rattle.backend_core.specs.Agrees.{IsPlayed, KeptAt, command_at, AwaitsEntry}
+use Rattle.backend_core.specs.Fits.{first_at, Fits}
+use Rattle.backend_core.specs.Steps.{EndsNext, Enters}
+use Rattle.backend_core.proofs.Entries.EndEntries.{end_now, end_call, built_at, end_enters}
+use Rattle.backend_core.proofs.Choosing.EndsNow.{end_by, EndsBy, LetsGo, AllSent, NoWrite, comes_now, from_of, end_first, commit_end, back_end}
+use Rattle.backend_core.proofs.Fitting.FitsEnds.{fits_released, ended_running, ended_lists}
+use Rattle.backend_core.proofs.Own.{waiting}
+
+-- where a publish would send nothing, all is published
+left_none : (published : ℕ) (lists : List Written) → length (unsent_after published lists) ≡ 0 → left_after published lists ≡ []
+left_none published lists none = by_test (nat_lt published (length (cats_in lists))) refl none
+  where
+    no_length : (xs : List Message) → length xs ≡ 0 → xs ≡ []
+    no_length [] is = refl
+    no_length (x ∷ xs) is = absurd (omega (arith, is))
+
+    by_test : (t : Bool) → nat_lt published (length (cats_in lists)) ≡ t → length (cond t (drop published (cats_in lists)) (drop published (sent_in lists))) ≡ 0 → left_after published lists ≡ []
+    by_test true before empty = absurd (omega (arith, ltb-true published (length (cats_in lists)) before, length-drop published (cats_in lists), empty))
+    by_test false after empty = no_length (drop published (sent_in lists)) empty
+
+all_left : (lists : List Written) (own : Option Running) → length (unsent_in lists own) ≡ 0 → left_in lists own ≡ []
+all_left lists None none = refl
+all_left lists (Some t) none = left_none t.published lists none
+
+low_from : (own : Option Running) (n from : ℕ) → option_map_or (λ t. t.first) own n ≡ from → option_map_or (λ t. t.first) own 0 ≤ n → from ≤ n
+low_from None n from is low = omega (arith, is)
+low_from (Some t) n from is low = omega (arith, is, low)
+
+first_visible : (own : Option Running) (n from : ℕ) → is_visible own ≡ true → option_map_or (λ t. t.first) own n ≡ from → option_map (λ t. t.first) own ≡ Some from
+first_visible None n from visible is = absurd (cc visible)
+first_visible (Some t) n from visible is = ap Some is
+
+-- without a write the transaction isn't visible
+bare_hidden : (facts : Facts) (o : Option Command) (s : Session) (looked to_build : Bool) (from : ℕ) → Fits facts o s looked to_build → (end_by facts o s ≡ Commits from) ⊎ (end_by facts o s ≡ TakesBack from) → has_write_from from facts.lists ≡ false → is_visible facts.running ≡ false
+bare_hidden facts o s looked to_build from fits end bare = false_from_ne_true (is_visible facts.running) (λ is. by_end is end)
+  where
+    by_end : is_visible facts.running ≡ true → (end_by facts o s ≡ Commits from) ⊎ (end_by facts o s ≡ TakesBack from) → ⊥
+    by_end is (inl commits) = let same : first_at facts ≡ from = (let both : Commits (first_at facts) ≡ Commits from = sym (commit_end facts o s looked to_build fits is) ∙ commits in cc both) in
+        both_ways _ bare (subst (λ n. has_write_from n facts.lists ≡ true) same (fits.visible is).written)
+    by_end is (inr back) = let no : Commits (first_at facts) ≡ TakesBack from = sym (commit_end facts o s looked to_build fits is) ∙ back in cc no
+
+-- what was taken back is what is released
+release_gone : (facts : Facts) (o : Option Command) (s : Session) (looked to_build : Bool) (from : ℕ) → Fits facts o s looked to_build → LetsGo facts (end_by facts o s) from → FollowsGone facts.last (events.Release from)
+release_gone facts o s looked to_build from fits lets = by_last facts.last refl
+  where
+    by_case : (n : ℕ) → end_by facts o s ≡ TakesBack n → LetsGo facts (end_by facts o s) from → from ≡ n
+    by_case n back (AllSent commits visible sent) = absurd (let no : Commits from ≡ TakesBack n = sym commits ∙ back in cc no)
+    by_case n back (NoWrite (inl commits) bare) = absurd (let no : Commits from ≡ TakesBack n = sym commits ∙ back in cc no)
+    by_case n back (NoWrite (inr takes) bare) = let both : TakesBack from ≡ TakesBack n = sym takes ∙ back in cc both
+
+    by_last : (last : Option Event) → facts.last ≡ last → FollowsGone last (events.Release from)
+    by_last (Some (events.Gone n)) is = by_case n (back_end facts o s looked to_build n fits is) lets
+    by_last last is = tt
+
+released : (v : Bool) (from : ℕ) → FollowsVisible v (events.Release from)
+released true from = tt
+released false from = tt
+
+module _ (scenario : Scenario) (old : List Entry) (was : Backend) (from : ℕ) (waits : AwaitsEntry scenario old was) (next : EndsNext was.progress (events.Release from)) where
+  abbrev facts : Facts
+  facts = facts_of old was.progress.id
+
+  abbrev s : Session
+  s = waiting waits
+
+  now : EndsBy facts (command_at was) s (events.Release from)
+  now = end_now scenario old was waits (events.Release from) refl next
+
+  lets : LetsGo facts (end_by facts (command_at was) s) from
+  lets = comes_now facts (end_by facts (command_at was) s) (events.Release from) now.comes
+
+  first_is : option_map_or (λ (t : Running). t.first) facts.running (was.progress.finished + 1) ≡ from
+  first_is = ap (λ n. option_map_or (λ (t : Running). t.first) facts.running (n + 1)) (sym waits.rests.holds.count)
+      ∙ end_first facts (command_at was) s was.looked was.looked_to_build from (built_at scenario old was waits) waits.fits now.going (from_of facts (end_by facts (command_at was) s) from lets)
+
+  may_release : LetsGo facts (end_by facts (command_at was) s) from → MayRelease (is_visible facts.running) old was.progress.id from
+  may_release (AllSent commits visible sent) = subst (λ v. MayRelease v old was.progress.id from) (sym visible) (first_visible facts.running (was.progress.finished + 1) from visible first_is, all_left facts.lists facts.running sent)
+  may_release (NoWrite end bare) = subst (λ v. MayRelease v old was.progress.id from) (sym (bare_hidden facts (command_at was) s was.looked was.looked_to_build from waits.fits end bare)) bare
+
+  -- it may be entered
+  pub release_call : MayCall scenario old (entry_of was.progress.id (was.progress.finished + 1) (events.Release from))
+  release_call = end_call scenario old was waits (events.Release from) refl next (released (is_visible facts.running) from) (release_gone facts (command_at was) s was.looked was.looked_to_build from waits.fits lets)
+      (low_from facts.running (was.progress.finished + 1) from first_is (subst (λ n. first_at facts ≤ n + 1) waits.rests.holds.count waits.fits.first), may_release lets)
+
+  release_fits : (locks : List OwnLock) (at : ℕ) → Fits (facts_by old was.progress.id (was.progress.finished + 1) (events.Release from) facts) (command_at was) (record s { ended = true; locks = locks; last = at }) was.looked was.looked_to_build
+  release_fits locks at = fits_released facts (facts_by old was.progress.id (was.progress.finished + 1) (events.Release from) facts) (command_at was) s was.looked was.looked_to_build (events.Release from) locks at waits.fits now from
+      (ended_running facts.running (was.progress.finished + 1) from first_is) refl (ended_lists facts.running facts.lists (was.progress.finished + 1) from first_is waits.fits.written) (from_of facts (end_by facts (command_at was) s) from lets)
+
+-- the state after it
+pub release_enters : (scenario : Scenario) (old new : List Entry) (had has : ℕ → ℕ) (was : Backend) (from : ℕ) (p : Progress) (waits : AwaitsEntry scenario old was) → IsPlayed scenario old → AllOnCourse scenario old → EndsNext was.progress (events.Release from)
+    → HasEntered scenario old was.progress (events.Release from) waits.rests p → p.kept ≡ was.progress.kept → p.given_at ≡ was.progress.given_at → Appends old new had has (entry_of was.progress.id (was.progress.finished + 1) (events.Release from)) → Enters scenario old new had has was (record was { progress = p })
+release_enters scenario old new had has was from p waits played courses next goes kept given_at appends =
+    end_enters scenario old new had has was (events.Release from) p waits refl played courses next goes (subst (All (KeptAt old was.progress.id)) (sym kept) waits.keeps.kept) given_at (release_fits scenario old was from waits next _ (length old + 1)) appends

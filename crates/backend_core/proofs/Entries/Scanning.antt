@@ -1,0 +1,188 @@
+-- The scans of a backend.
+use Rattle.std.proofs.Common.{◌≡◌, ◌≢◌, ◌≤◌, ◌+◌, ◌∙◌, ◌&&◌, ◌||◌, ℕ, Bool, true, false, not, None, List, [], ◌∷◌, ◌++◌, if◌then◌else◌, refl, sym, ap, subst, length, drop, get_or, All, arith}
+use Rattle.std.proofs.lemmas.Bool.{both_ways, eq-eqb, lt-ltb}
+use Rattle.std.proofs.lemmas.List.{append-nil}
+use Rattle.std.proofs.lemmas.List.Elements.{All-push}
+use Rattle.std.proofs.lemmas.List.Folds.{list_any_at}
+use Rattle.base_types.specs.Scans.{same_scan, is_build_scan}
+use Rattle.base_types.specs.declared.scan.Purpose.TheVariants as scans
+use Rattle.base_types.proofs.SameScan.{same_scan-true, same_scan-itself}
+use Rattle.event_kinds.specs.declared.entry.Event.TheVariants as events
+use Rattle.ddl_effect.specs.Plans.{Plan, Absent, Do, Lookup, Column}
+use Rattle.ddl_effect.specs.Stages.{plan_at}
+use Rattle.history_model.specs.Drawn.{next_oid}
+use Rattle.history_model.specs.Read.{place_read}
+use Rattle.seg_calls.specs.Calls.{entry_of, MayRequest, Appends}
+use Rattle.cacheless.specs.Facts.{Facts, facts_of, facts_by}
+use Rattle.cacheless.specs.Holds.{HasEntered, with_own}
+use Rattle.cacheless.specs.May.{has_failed, is_next_at}
+use Rattle.cacheless.specs.OnCourse.{AllOnCourse}
+use Rattle.cacheless.specs.Owed.{owed_after}
+use Rattle.cacheless.specs.Plays.{started_in, has_looked, MayPlayIn}
+use Rattle.cacheless.specs.Session.{Session, Badly, number_of, outcome_of}
+use Rattle.cacheless.specs.Sessions.{is_wanted, entered}
+use Rattle.cacheless.specs.State.{owed_at, one_if, is_kept, newly_kept}
+use Rattle.cacheless.proofs.Entries.EnteredScans.{next_lacks}
+use Rattle.cacheless.proofs.Answers.ReadPlaces.{place_read-more, place_read-scan}
+use Rattle.cacheless.proofs.Same.{next_same}
+use Rattle.cacheless.proofs.Tests.{and_true, not_true}
+use Rattle.backend_core.specs.Types.{Row, Purpose, Scenario, Entry, Event, KeptScan, Progress, Backend}
+use Rattle.backend_core.specs.Agrees.{IsPlayed, command_at, KeptAt, PlaceFits, AwaitsEntry}
+use Rattle.backend_core.specs.Fits.{looks_due, LooksFit, Fits}
+use Rattle.backend_core.specs.Steps.{IsScanNext, MakesEntry, Enters}
+use Rattle.backend_core.specs.Words.{is_looked_for}
+use Rattle.backend_core.proofs.Choosing.ActsRun.{scan_runs}
+use Rattle.backend_core.proofs.Choosing.Chosen.{may_request}
+use Rattle.backend_core.proofs.Fitting.Entered.{fits_at, keeps_at}
+use Rattle.backend_core.proofs.Entries.Inside.{runs_on, inside_fits}
+use Rattle.backend_core.proofs.Entries.Looking.{scan_busy}
+use Rattle.backend_core.proofs.Own.{waiting, going, OwnEntry, Inside, own_makes, own_enters}
+
+-- the scan that comes next may be asked for
+pub scan_request : (scenario : Scenario) (seen : List Entry) (s : Backend) (scan : Purpose) (builds : Bool) → AwaitsEntry scenario seen s → IsScanNext s.progress scan builds → MayRequest scenario seen s.progress.id (s.progress.finished + 1)
+scan_request scenario seen s scan builds waits next = may_request scenario seen s waits next.command next.free.at (scan_busy s.progress next.command next.lacks)
+
+-- a look was made for it
+one_less : (builds looked to_build l t : Bool) → elim builds as (λ x. Bool) [ true ↦ to_build | false ↦ looked ] ≡ true → l ≡ (looked && not (not builds)) → t ≡ (to_build && not builds) → one_if l + one_if t + 1 ≡ one_if looked + one_if to_build
+one_less true true true l t is left right = omega (arith, ap one_if left, ap one_if right)
+one_less true false true l t is left right = omega (arith, ap one_if left, ap one_if right)
+one_less true looked false l t is left right = absurd (cc is)
+one_less false true true l t is left right = omega (arith, ap one_if left, ap one_if right)
+one_less false true false l t is left right = omega (arith, ap one_if left, ap one_if right)
+one_less false false to_build l t is left right = absurd (cc is)
+
+looked_enough : (facts : Facts) (s : Session) (looked to_build : Bool) → LooksFit facts s looked to_build → owed_after facts.last ≡ [] → 1 ≤ one_if looked + one_if to_build → has_looked facts s ≡ true
+looked_enough facts s looked to_build fits none some = lt-ltb (s.tally.scans + s.tally.grants + started_in (number_of s) facts + s.tally.full) s.tally.looks (omega (arith, fits.enough, ap looks_due none, some))
+
+-- the scan of a name or a column is none for a descriptor
+wanted_named : (scan : Purpose) (p : Plan) → is_wanted scan p ≡ true → is_build_scan scan ≡ false
+wanted_named scan (Do (Lookup name mode) rest) is = ap is_build_scan (same_scan-true scan (scans.RelName name) is)
+wanted_named scan (Do (Column rel name) rest) is = ap is_build_scan (same_scan-true scan (scans.AttName rel name) is)
+wanted_named scan p is = absurd (cc is)
+
+-- what comes next isn't kept
+none_kept : (p : Progress) (scan : Purpose) (k : KeptScan) → is_next_at scan p ≡ true → is_build_scan k.scan ≡ true → (same_scan k.scan scan ≡ true → is_kept p.kept scan ≡ true) → same_scan scan k.scan ≡ false
+none_kept p scan k next build among = by_same (same_scan scan k.scan) refl
+  where
+    by_wanted : scan ≡ k.scan → (t : Bool) → is_wanted scan (plan_at p.exec) ≡ t → ⊥
+    by_wanted same true is = both_ways _ (wanted_named scan (plan_at p.exec) is) (ap is_build_scan same ∙ build)
+    by_wanted same false is = both_ways _ (not_true (is_kept p.kept scan) (next_lacks p scan is next).0) (among (subst (λ x. same_scan x scan ≡ true) same (same_scan-itself scan)))
+
+    by_same : (t : Bool) → same_scan scan k.scan ≡ t → same_scan scan k.scan ≡ false
+    by_same false is = is
+    by_same true is = absurd (by_wanted (same_scan-true scan k.scan is) (is_wanted scan (plan_at p.exec)) refl)
+
+-- the place of the scan on which the plan rests
+module _ (old : List Entry) (b c : ℕ) (scan : Purpose) (count : ℕ) where
+  abbrev new : List Entry
+  new = old ++ entry_of b c (events.Scan scan count) ∷ []
+
+  here : (named : Purpose) → same_scan scan named ≡ true → place_read new b named ≡ length old + 1
+  here named is = place_read-scan old (entry_of b c (events.Scan scan count)) b named (eq-eqb b b refl) is
+
+  scan_place : (plan : Plan) (read : Bool) (at : ℕ) → outcome_of plan ≢ Badly → PlaceFits old b plan read at → PlaceFits new b plan (is_wanted scan plan || read) (if is_wanted scan plan then length old + 1 else at)
+  scan_place (Do (Lookup name mode) rest) read at goes fits = by_same (same_scan scan (scans.RelName name)) refl
+    where
+      by_read : (t : Bool) → same_scan scan (scans.RelName name) ≡ false → PlaceFits old b (Do (Lookup name mode) rest) t at → PlaceFits new b (Do (Lookup name mode) rest) t at
+      by_read true other is = place_read-more old (entry_of b c (events.Scan scan count)) b (scans.RelName name) other ∙ is
+      by_read false other is = tt
+
+      by_same : (t : Bool) → same_scan scan (scans.RelName name) ≡ t → PlaceFits new b (Do (Lookup name mode) rest) (t || read) (if t then length old + 1 else at)
+      by_same true is = here (scans.RelName name) is
+      by_same false is = by_read read is fits
+  scan_place (Do act rest) read at goes fits = tt
+  scan_place (Absent name) read at goes fits = absurd (goes refl)
+  scan_place plan read at goes fits = tt
+
+-- all that a scan rests on
+module _ (scenario : Scenario) (old : List Entry) (was : Backend) (waits : AwaitsEntry scenario old was) (courses : AllOnCourse scenario old) (scan : Purpose) (builds : Bool) (next : IsScanNext was.progress scan builds) (looked_for : is_looked_for builds was ≡ true) (count : ℕ) where
+  abbrev facts : Facts
+  facts = facts_of old was.progress.id
+
+  abbrev s : Session
+  s = waiting waits
+
+  abbrev event : Event
+  event = events.Scan scan count
+
+  abbrev later : Facts
+  later = facts_by old was.progress.id (was.progress.finished + 1) event facts
+
+  abbrev now : Session
+  now = entered (facts_of (with_own old was.progress event) was.progress.id) (drop was.progress.finished was.progress.commands) (length old + 1) (was.progress.finished + 1) event s
+
+  owed : owed_after facts.last ≡ []
+  owed = waits.rests.holds.facts.owed ∙ ap owed_at next.free.due
+
+  looked_flag : elim builds as (λ x. Bool) [ true ↦ was.looked_to_build | false ↦ was.looked ] ≡ true
+  looked_flag = by_kind builds looked_for
+    where
+      by_kind : (t : Bool) → is_looked_for t was ≡ true → elim t as (λ x. Bool) [ true ↦ was.looked_to_build | false ↦ was.looked ] ≡ true
+      by_kind true is = is
+      by_kind false is = is
+
+  before : LooksFit facts s was.looked was.looked_to_build
+  before = waits.fits.looks (going scenario old was waits courses next.command next.free.at)
+
+  scan_own : OwnEntry scenario old was event waits
+  scan_own = record {
+    plays = subst (λ o. MayPlayIn (next_oid old) facts o s event) (sym next.free.at) (
+      owed,
+      next_same facts was.progress waits.rests.holds.rest scan waits.rests.holds.facts ∙ next.next,
+      looked_enough facts s was.looked was.looked_to_build before owed (omega (arith, one_less builds was.looked was.looked_to_build (was.looked && not (not builds)) (was.looked_to_build && not builds) looked_flag refl refl)),
+    );
+    truly = tt;
+    queue = tt;
+  }
+
+  -- out of memory, its entry is made
+  pub scan_makes : (new : List Entry) (had has : ℕ → ℕ) → IsPlayed scenario old → Appends old new had has (entry_of was.progress.id (was.progress.finished + 1) event) → MakesEntry scenario old new had has was.progress.id
+  scan_makes new had has played appends = own_makes scenario old new had has was event waits played courses scan_own appends
+
+  same : later.running ≡ facts.running
+  same = runs_on (was.progress.finished + 1) facts.running (scan_runs scenario old was waits courses next.command next.free.at scan next.next next.free.first)
+
+  looks_less : (l t : Bool) → l ≡ (was.looked && not (not builds)) → t ≡ (was.looked_to_build && not builds) → LooksFit later now l t
+  looks_less l t left right = record {
+    enough = omega (arith, before.enough, ap looks_due owed, started, one_less builds was.looked was.looked_to_build l t looked_flag left right);
+    within = omega (arith, before.within, ap looks_due owed, started, one_less builds was.looked was.looked_to_build l t looked_flag left right);
+  }
+    where
+      started : started_in (number_of now) later ≡ started_in (number_of s) facts
+      started = ap (λ o. started_in (number_of s) (record facts { running = o })) same
+
+  scan_fits : (l t : Bool) → l ≡ (was.looked && not (not builds)) → t ≡ (was.looked_to_build && not builds) → Fits later (command_at was) now l t
+  scan_fits l t left right = inside_fits scenario old was waits courses next.command next.free.at later now l t same refl (λ from is. cc is) (record { blocks = refl; finished = refl; blocked = refl; ended = refl; left = λ is there. refl })
+      (scan_runs scenario old was waits courses next.command next.free.at scan next.next next.free.first) (scan_busy was.progress next.command next.lacks) (looks_less l t left right)
+
+  -- what was kept stays where it is, and the scan stands at its entry
+  kept_then : (rows : List Row) (t : Bool) → All (KeptAt (with_own old was.progress event) was.progress.id) (was.progress.kept ++ newly_kept t scan rows (length old + 1))
+  kept_then rows t = by_kind t
+    where
+      stay : All (KeptAt (with_own old was.progress event) was.progress.id) was.progress.kept
+      stay = λ i d within. place_read-more old (entry_of was.progress.id (was.progress.finished + 1) event) was.progress.id (get_or was.progress.kept i d).scan
+          (none_kept was.progress scan (get_or was.progress.kept i d) next.next (waits.rests.holds.facts.kept i d within).build (list_any_at (λ k. same_scan k.scan scan) was.progress.kept i d within))
+          ∙ waits.keeps.kept i d within
+
+      by_kind : (u : Bool) → All (KeptAt (with_own old was.progress event) was.progress.id) (was.progress.kept ++ newly_kept u scan rows (length old + 1))
+      by_kind true = subst (All (KeptAt (with_own old was.progress event) was.progress.id)) (sym (append-nil was.progress.kept)) stay
+      by_kind false = All-push (KeptAt (with_own old was.progress event) was.progress.id) was.progress.kept (record { scan = scan; rows = rows; at = length old + 1 }) stay (here old was.progress.id (was.progress.finished + 1) scan count scan (same_scan-itself scan))
+
+  goes_well : outcome_of (plan_at was.progress.exec) ≢ Badly
+  goes_well badly = both_ways _ (not_true (has_failed was.progress) (and_true (not (has_failed was.progress)) _ next.next).0) (ap (λ o. elim o as (λ x. Bool) [ Badly ↦ true | other ↦ false ]) badly)
+
+  -- so after it the backend agrees
+  pub scan_enters : (new : List Entry) (had has : ℕ → ℕ) (p : Progress) (l t : Bool) (rows : List Row) (at : ℕ) → IsPlayed scenario old → HasEntered scenario old was.progress event waits.rests p → at ≡ length old + 1
+      → p.kept ≡ was.progress.kept ++ newly_kept (is_wanted scan (plan_at was.progress.exec)) scan rows at → p.given_at ≡ (if is_wanted scan (plan_at was.progress.exec) then at else was.progress.given_at)
+      → l ≡ (was.looked && not (not builds)) → t ≡ (was.looked_to_build && not builds)
+      → Appends old new had has (entry_of was.progress.id (was.progress.finished + 1) event) → Enters scenario old new had has was (record was { progress = p; looked = l; looked_to_build = t; answer = None })
+  scan_enters new had has p l t rows at played goes at_is kept given_at left right appends =
+      own_enters scenario old new had has was (record was { progress = p; looked = l; looked_to_build = t; answer = None }) event waits played courses scan_own goes
+      (keeps_at scenario old was event waits p goes (record was { progress = p; looked = l; looked_to_build = t; answer = None }) refl refl
+      (subst (All (KeptAt (with_own old was.progress event) was.progress.id)) (sym (kept ∙ ap (λ n. was.progress.kept ++ newly_kept (is_wanted scan (plan_at was.progress.exec)) scan rows n) at_is)) (kept_then rows (is_wanted scan (plan_at was.progress.exec))))
+      (subst (PlaceFits (with_own old was.progress event) was.progress.id (plan_at p.exec) p.read) (sym (given_at ∙ ap (λ n. if is_wanted scan (plan_at was.progress.exec) then n else was.progress.given_at) at_is))
+      (subst (λ r. PlaceFits (with_own old was.progress event) was.progress.id (plan_at p.exec) r (if is_wanted scan (plan_at was.progress.exec) then length old + 1 else was.progress.given_at)) (sym (ap (λ (x : Session). x.read) goes.session))
+      (subst (λ q. PlaceFits (with_own old was.progress event) was.progress.id q (is_wanted scan (plan_at was.progress.exec) || was.progress.read) (if is_wanted scan (plan_at was.progress.exec) then length old + 1 else was.progress.given_at)) (sym (ap (λ (x : Session). x.left) goes.session))
+      (scan_place old was.progress.id (was.progress.finished + 1) scan count (plan_at was.progress.exec) was.progress.read was.progress.given_at goes_well waits.keeps.given_at)))))
+      (fits_at scenario old was event waits p goes l t (scan_fits l t left right))
+      refl (Inside refl refl) (λ inside. refl) appends

@@ -1,0 +1,98 @@
+-- What was written is taken back.
+use Rattle.std.proofs.Common.{◌≡◌, ◌+◌, ◌∙◌, ℕ, Bool, true, false, Option, Some, None, List, [], refl, sym, ap, subst, length, is_some, All}
+use Rattle.std.specs.Option.{option_map_or}
+use Rattle.std.proofs.lemmas.Bool.{both_ways, false_from_ne_true}
+use Rattle.std.proofs.lemmas.List.Elements.{All-filter}
+use Rattle.event_kinds.specs.declared.entry.Event.TheVariants as events
+use Rattle.inval_messages.specs.Lists.{has_write_from, lists_from, cats_in, rels_in}
+use Rattle.inval_messages.specs.Messages.{is_spared}
+use Rattle.history_model.specs.Legal.{FollowsVisible, FollowsGone}
+use Rattle.history_model.specs.Transactions.{Running, is_visible}
+use Rattle.seg_calls.specs.Calls.{entry_of, MayCall, Appends}
+use Rattle.cacheless.specs.Ends.{Commits, TakesBack}
+use Rattle.cacheless.specs.Facts.{Facts, facts_of, facts_by}
+use Rattle.cacheless.specs.Holds.{HasEntered}
+use Rattle.cacheless.specs.OnCourse.{AllOnCourse}
+use Rattle.cacheless.specs.Owed.{Owes, owed_after, owed_of, builds_owed}
+use Rattle.cacheless.specs.Session.{Session, Well, outcome_of}
+use Rattle.cacheless.specs.State.{lists_at, kept_spared}
+use Rattle.cacheless.proofs.Allowed.Releases.{ends_built}
+use Rattle.backend_core.specs.Types.{Command, Scenario, Entry, Event, OwnLock, Message, KeptScan, Progress, Backend}
+use Rattle.backend_core.specs.Agrees.{IsPlayed, KeptAt, command_at, AwaitsEntry}
+use Rattle.backend_core.specs.Fits.{first_at, Fits}
+use Rattle.backend_core.specs.Steps.{EndsNext, Enters}
+use Rattle.backend_core.proofs.Entries.EndEntries.{end_now, end_call, end_enters}
+use Rattle.backend_core.proofs.Choosing.EndsNow.{end_by, EndsBy, comes_now, commit_end, back_end}
+use Rattle.backend_core.proofs.Fitting.FitsEnds.{later_at, GoesOn, end_same, fits_ending, takes_back_on, write_from_first, none_from, goes_first, begun_xid, begun_visible, written_runs}
+use Rattle.backend_core.proofs.Own.{waiting, follows}
+
+-- a transaction that is taken back isn't visible
+back_hidden : (facts : Facts) (o : Option Command) (s : Session) (looked to_build : Bool) (from : ℕ) → Fits facts o s looked to_build → end_by facts o s ≡ TakesBack from → is_visible facts.running ≡ false
+back_hidden facts o s looked to_build from fits back = false_from_ne_true (is_visible facts.running) (λ is. let no : Commits (first_at facts) ≡ TakesBack from = sym (commit_end facts o s looked to_build fits is) ∙ back in cc no)
+
+-- and what was taken back isn't there any more
+not_gone : (facts : Facts) (o : Option Command) (s : Session) (looked to_build : Bool) (from : ℕ) → Fits facts o s looked to_build → end_by facts o s ≡ TakesBack from → has_write_from from facts.lists ≡ true → FollowsGone facts.last (events.Gone from)
+not_gone facts o s looked to_build from fits back written = by_last facts.last refl
+  where
+    by_last : (last : Option Event) → facts.last ≡ last → FollowsGone last (events.Gone from)
+    by_last (Some (events.Gone n)) is = absurd (let same : n ≡ from = (let both : TakesBack n ≡ TakesBack from = sym (back_end facts o s looked to_build n fits is) ∙ back in cc both) in
+        both_ways _ (subst (λ k. has_write_from k facts.lists ≡ false) same (fits.taken n is).none) written)
+    by_last last is = tt
+
+module _ (scenario : Scenario) (old : List Entry) (was : Backend) (from : ℕ) (waits : AwaitsEntry scenario old was) (next : EndsNext was.progress (events.Gone from)) where
+  abbrev facts : Facts
+  facts = facts_of old was.progress.id
+
+  abbrev s : Session
+  s = waiting waits
+
+  now : EndsBy facts (command_at was) s (events.Gone from)
+  now = end_now scenario old was waits (events.Gone from) refl next
+
+  takes : (end_by facts (command_at was) s ≡ TakesBack from) × (has_write_from from facts.lists ≡ true)
+  takes = comes_now facts (end_by facts (command_at was) s) (events.Gone from) now.comes
+
+  hidden : is_visible facts.running ≡ false
+  hidden = back_hidden facts (command_at was) s was.looked was.looked_to_build from waits.fits takes.0
+
+  -- it may be entered
+  pub take_back_call : MayCall scenario old (entry_of was.progress.id (was.progress.finished + 1) (events.Gone from))
+  take_back_call = end_call scenario old was waits (events.Gone from) refl next (subst (λ v. FollowsVisible v (events.Gone from)) (sym hidden) tt) (not_gone facts (command_at was) s was.looked was.looked_to_build from waits.fits takes.0 takes.1) takes.1
+
+  abbrev later : Facts
+  later = facts_by old was.progress.id (was.progress.finished + 1) (events.Gone from) facts
+
+  written : option_map_or (λ (t : Running). is_some t.xid) facts.running false ≡ true
+  written = waits.fits.written (write_from_first from facts.lists takes.1)
+
+  goes_on : GoesOn facts later
+  goes_on = record { runs = written_runs facts.running written; some = refl; same = goes_first (was.progress.finished + 1) facts.running (written_runs facts.running written); free = refl }
+
+  -- a command that comes out well and is taken back has opened nothing
+  none_built : AllOnCourse scenario old → (locks : List OwnLock) (at : ℕ) → outcome_of s.left ≡ Well → builds_owed later s.opened ≡ []
+  none_built courses locks at well = by_command (command_at was) refl
+    where
+      by_command : (o : Option Command) → command_at was ≡ o → builds_owed later s.opened ≡ []
+      by_command None past = ap (builds_owed later) (waits.fits.past past).opened
+      by_command (Some command) is = ends_built later command (later_at s locks at) (follows scenario old was waits courses command is).plain well
+          (ap (λ e. elim e as (λ x. List Owes) [ TakesBack n ↦ owed_after later.last | end ↦ owed_of later command (later_at s locks at) ]) (end_same facts later command s locks at goes_on ∙ ap (λ o. end_by facts o s) (sym is) ∙ takes.0))
+
+  take_back_fits : AllOnCourse scenario old → (locks : List OwnLock) (at : ℕ) → Fits later (command_at was) (later_at s locks at) was.looked was.looked_to_build
+  take_back_fits courses locks at = fits_ending facts later (command_at was) s was.looked was.looked_to_build (events.Gone from) locks at waits.fits now goes_on
+      (λ is. begun_xid (was.progress.finished + 1) facts.running written)
+      (λ is. absurd (both_ways _ hidden (sym (begun_visible (was.progress.finished + 1) facts.running) ∙ is)))
+      (λ n is. let same : from ≡ n = (let both : Some (events.Gone from) ≡ Some (events.Gone n) = is in cc both) in
+      takes_back_on facts later (command_at was) s was.looked was.looked_to_build (events.Gone from) locks at waits.fits now n goes_on (takes.0 ∙ ap TakesBack same) (subst (λ k. has_write_from k later.lists ≡ false) same (none_from from facts.lists)) (none_built courses locks at))
+
+-- what holds of each scan that was kept holds of each that is kept still
+spared_twice : (P : KeptScan → Type 0) (cats rels : List Message) (kept : List KeptScan) → All P kept → All P (kept_spared rels (kept_spared cats kept))
+spared_twice P cats rels kept holds = All-filter (λ k. is_spared k.scan rels) P (kept_spared cats kept) (All-filter (λ k. is_spared k.scan cats) P kept holds)
+
+-- the state after it
+pub take_back_enters : (scenario : Scenario) (old new : List Entry) (had has : ℕ → ℕ) (was : Backend) (from : ℕ) (p : Progress) (waits : AwaitsEntry scenario old was) → IsPlayed scenario old → AllOnCourse scenario old → EndsNext was.progress (events.Gone from)
+    → HasEntered scenario old was.progress (events.Gone from) waits.rests p → p.kept ≡ kept_spared (rels_in (lists_from from (lists_at was.progress))) (kept_spared (cats_in (lists_from from (lists_at was.progress))) was.progress.kept) → p.given_at ≡ was.progress.given_at
+    → Appends old new had has (entry_of was.progress.id (was.progress.finished + 1) (events.Gone from)) → Enters scenario old new had has was (record was { progress = p })
+take_back_enters scenario old new had has was from p waits played courses next goes kept given_at appends =
+    end_enters scenario old new had has was (events.Gone from) p waits refl played courses next goes
+    (subst (All (KeptAt old was.progress.id)) (sym kept) (spared_twice (KeptAt old was.progress.id) (cats_in (lists_from from (lists_at was.progress))) (rels_in (lists_from from (lists_at was.progress))) was.progress.kept waits.keeps.kept)) given_at
+    (take_back_fits scenario old was from waits next courses _ (length old + 1)) appends

@@ -1,0 +1,170 @@
+-- The write of a backend, where its draft is at hand.
+use Rattle.std.proofs.Common.{◌≡◌, ◌≤◌, ◌<◌, ◌+◌, ◌∙◌, ◌==◌, ◌&&◌, ◌||◌, ℕ, false, Some, None, Result, Ok, Err, OnOk, OnErr, List, [], ◌∷◌, refl, sym, ap, subst, length, drop, All, arith}
+use Rattle.std.specs.List.{AllByRecursion, flat_map}
+use Rattle.std.proofs.Math.Bool.{and-false}
+use Rattle.std.proofs.lemmas.Bool.{both_ways, ne_eqb}
+use Rattle.base_types.specs.Modes.{same_mode}
+use Rattle.base_types.specs.declared.mode.Mode.TheVariants.{AccessExclusive}
+use Rattle.event_kinds.specs.declared.entry.Event.TheVariants as events
+use Rattle.row_visibility.specs.declared.clash.Clash.{Clash}
+use Rattle.row_visibility.specs.declared.clash.Clash.TheVariants as clashes
+use Rattle.lock_modes.specs.declared.grant.Grant.{Grant}
+use Rattle.lock_modes.specs.Grants.{holds}
+use Rattle.lock_modes.specs.Own.{has_lock}
+use Rattle.inval_messages.specs.Lists.{Written}
+use Rattle.ddl_effect.specs.Commands.{writing}
+use Rattle.ddl_effect.specs.Plans.{Done, Write}
+use Rattle.ddl_effect.specs.Stages.{plan_at}
+use Rattle.history_model.specs.Drawn.{next_oid}
+use Rattle.history_model.specs.Held.{held_of}
+use Rattle.history_model.specs.Transactions.{begun}
+use Rattle.history_model.specs.Writes.{has_written}
+use Rattle.history_model.proofs.Ordered.{locks_exclude}
+use Rattle.seg_calls.specs.declared.refusal.Written.{Written as Made}
+use Rattle.seg_calls.specs.declared.refusal.WriteRefusal.TheVariants as refusals
+use Rattle.seg_calls.specs.Calls.{entry_of, items_drawn, MayRequest, MayWrite, MakesWrite, Clashes, Writes, Appends}
+use Rattle.cacheless.specs.Facts.{Facts, facts_of, facts_by}
+use Rattle.cacheless.specs.Holds.{Rests, HasEntered, with_own}
+use Rattle.cacheless.specs.Locks.{locked_by}
+use Rattle.cacheless.specs.OnCourse.{OnItsWay, AllOnCourse}
+use Rattle.cacheless.specs.Owed.{owed_of}
+use Rattle.cacheless.specs.Plays.{started_in, IsWrite, IsClash, MayPlay, MayPlayIn}
+use Rattle.cacheless.specs.Session.{Session, number_of, outcome_of, is_settled}
+use Rattle.cacheless.specs.Sessions.{written, entered}
+use Rattle.cacheless.specs.State.{owed_at, lists_at, kept_spared, locks_made, messages_in, clash_event, error_of}
+use Rattle.cacheless.proofs.Plans.AloneLocks.{session_holds}
+use Rattle.cacheless.proofs.Entries.EnteredFetches.{all-spared}
+use Rattle.cacheless.proofs.Written.Listed.{lists_before_it}
+use Rattle.cacheless.proofs.Same.{owes_nothing_is}
+use Rattle.cacheless.proofs.Plans.SilentActs.{empty_list, on_its_way}
+use Rattle.cacheless.proofs.Written.WriteFits.{WriteFits, write_fits}
+use Rattle.backend_core.specs.Types.{Oid, Xid, Command, Draft, Item, Message, Scenario, Entry, Event, Progress, Backend}
+use Rattle.backend_core.specs.Agrees.{IsPlayed, KeptAt, PlaceFits, AwaitsEntry}
+use Rattle.backend_core.specs.Fits.{looks_due, LooksFit}
+use Rattle.backend_core.specs.Steps.{IsWriteNext, MakesEntry, Enters, IsRefused}
+use Rattle.backend_core.proofs.Choosing.ActsRun.{act_runs}
+use Rattle.backend_core.proofs.Entries.Alike.{alike_enters}
+use Rattle.backend_core.proofs.Choosing.Chosen.{Acts, may_request, started_still}
+use Rattle.backend_core.proofs.Fitting.Entered.{fits_at, keeps_at, kept_stays}
+use Rattle.backend_core.proofs.Entries.Failing.{IsActing, clash_shows, failed_enters}
+use Rattle.backend_core.proofs.Entries.Inside.{made_refused, entry_fits}
+use Rattle.backend_core.proofs.Own.{waiting, waiting_is, follows, going, OwnEntry, Inside, own_makes, own_enters}
+
+-- on a relation that is still to be drawn there is no lock
+none_held : (b : ℕ) (rel : Oid) (next : ℕ) (held : List Grant) → rel.0 ≡ next → AllByRecursion (λ g. g.rel.0 < next) held → holds held b rel AccessExclusive ≡ false
+none_held b rel next [] new drawn = refl
+none_held b rel next (g ∷ held) new drawn =
+    (λ i. ((g.backend == b) && ne_eqb g.rel.0 rel.0 (λ same. absurd (omega (arith, same, new, drawn.0))) i && same_mode g.mode AccessExclusive) || none_held b rel next held new drawn.1 i)
+    ∙ ap (λ t. (t && same_mode g.mode AccessExclusive) || false) (and-false (g.backend == b))
+
+-- the entry of a write that is refused for a name
+clashes_as : (old new : List Entry) (had has : ℕ → ℕ) (b c : ℕ) (draft : Draft) (name : List ℕ) (clash : Clash) → Writes old new had has b c draft (Err (refusals.Clash name clash)) → Clashes old new had has b draft name (entry_of b c (clash_event name clash))
+clashes_as old new had has b c draft name (clashes.Row rel) writes = writes
+clashes_as old new had has b c draft name (clashes.Running xid) writes = writes
+
+-- which may come next
+clash_plays : (next : ℕ) (facts : Facts) (command : Command) (s : Session) (name : List ℕ) (clash : Clash) → owed_of facts command s ≡ [] → IsClash facts next s.left name → MayPlay next facts command s (clash_event name clash)
+clash_plays next facts command s name (clashes.Row rel) none clashes = (none, clashes)
+clash_plays next facts command s name (clashes.Running xid) none clashes = (none, clashes)
+
+-- all that a write rests on
+module _ (scenario : Scenario) (old : List Entry) (was : Backend) (draft : Draft) (at : plan_at was.progress.exec ≡ writing draft) (waits : AwaitsEntry scenario old was) (played : IsPlayed scenario old) (courses : AllOnCourse scenario old) (next : IsWriteNext was.progress) where
+  abbrev facts : Facts
+  facts = facts_of old was.progress.id
+
+  abbrev s : Session
+  s = waiting waits
+
+  owed_none : owed_of facts next.command s ≡ []
+  owed_none = empty_list (owed_of facts next.command s) (owes_nothing_is facts next.command was.progress waits.rests.holds.rest waits.rests.holds.facts ∙ next.owes)
+
+  acting : IsActing scenario old was next.command
+  acting = record {
+    at = next.free.at;
+    unsettled = ap (λ p. is_settled (outcome_of p)) at;
+    runs = act_runs scenario old was waits courses next.command next.free.at (Write draft) (λ given. Done) at next.free.first;
+    owed = waits.rests.holds.facts.owed ∙ ap owed_at next.free.due;
+  }
+
+  way : OnItsWay old was.progress.id s next.command
+  way = on_its_way old was.progress.id s next.command (Write draft) (λ given. Done) (follows scenario old was waits courses next.command next.free.at) at
+
+  unwritten : has_written old was.progress.id (was.progress.finished + 1) ≡ false
+  unwritten = subst (λ n. has_written old was.progress.id (n + 1) ≡ false) waits.rests.holds.count way.unwritten
+
+  -- what it is about to write may be written
+  suits : WriteFits old was.progress.id (was.progress.finished + 1) facts draft
+  suits = write_fits old was.progress.id (was.progress.finished + 1) facts next.command way.gave draft (λ given. Done) played.sound played.tables way.runs way.holds (sym way.plan ∙ at)
+
+  pub write_request : MayRequest scenario old was.progress.id (was.progress.finished + 1)
+  write_request = may_request scenario old was waits next.command next.free.at (Acts acting.unsettled)
+
+  pub may_write : MayWrite old was.progress.id (was.progress.finished + 1) draft
+  may_write = let fit = suits.fit in record { oids = fit.oids; keys = fit.keys; there = fit.there; kinds = fit.kinds; only = unwritten; guarded = fit.guarded; orderly = fit.orderly }
+
+  -- its lists are of commands before
+  pub lists_before : AllByRecursion (λ list. list.command < was.progress.finished + 1) (lists_at was.progress)
+  lists_before = subst (AllByRecursion (λ (list : Written). list.command < was.progress.finished + 1)) waits.rests.holds.facts.lists
+      (lists_before_it was.progress.id old (was.progress.finished + 1) played.sound unwritten (subst (AllByRecursion (λ (list : Written). list.command ≤ was.progress.finished + 1)) (sym waits.rests.holds.facts.lists) waits.rests.holds.order))
+
+  -- and the relation that it makes isn't locked before
+  pub new_free : (rel : Oid) → rel.0 ≡ next_oid old → has_lock was.progress.locks.items rel AccessExclusive ≡ false
+  new_free rel new = sym (session_holds scenario old was.progress.id s played.sound (waiting_is scenario old was waits) rel AccessExclusive) ∙ none_held was.progress.id rel (next_oid old) (held_of old) new (locks_exclude old played.sound).drawn
+
+  write_own : (xid : Xid) → OwnEntry scenario old was (events.Write xid (items_drawn old draft)) waits
+  write_own xid = record {
+    plays = subst (λ o. MayPlayIn (next_oid old) facts o s (events.Write xid (items_drawn old draft))) (sym next.free.at) (owed_none, subst (λ p. IsWrite (next_oid old) p (items_drawn old draft)) (sym at) refl);
+    truly = tt;
+    queue = tt;
+  }
+
+  -- out of memory, its entry is made
+  pub wrote_refused : {E : Type 0} (first : Backend) → was.progress.id ≡ first.progress.id → (new : List Entry) (had has : ℕ → ℕ) (result : Result (Unit {0}) E) (made : Made) → MakesWrite old new had has was.progress.id (was.progress.finished + 1) draft made → OnErr result (IsRefused scenario old new had has first.progress.id)
+  wrote_refused first id new had has result made makes = made_refused scenario old new had has first.progress.id result
+      (subst (MakesEntry scenario old new had has) id (own_makes scenario old new had has was (events.Write made.xid (items_drawn old draft)) waits played courses (write_own made.xid) makes.appends))
+
+  -- after it the backend agrees
+  wrote_enters : (new : List Entry) (had has : ℕ → ℕ) (p : Progress) (xid : Xid) (messages : List Message) → HasEntered scenario old was.progress (events.Write xid (items_drawn old draft)) waits.rests p → p.kept ≡ kept_spared messages was.progress.kept
+      → Appends old new had has (entry_of was.progress.id (was.progress.finished + 1) (events.Write xid (items_drawn old draft))) → Enters scenario old new had has was (record was { progress = p; answer = None })
+  wrote_enters new had has p xid messages goes kept appends =
+      own_enters scenario old new had has was (record was { progress = p; answer = None }) event waits played courses (write_own xid) goes
+      (keeps_at scenario old was event waits p goes (record was { progress = p; answer = None }) refl refl
+      (subst (All (KeptAt (with_own old was.progress event) was.progress.id)) (sym kept) (all-spared (KeptAt (with_own old was.progress event) was.progress.id) messages was.progress.kept
+      (kept_stays old (entry_of was.progress.id (was.progress.finished + 1) event) was.progress.id was.progress.kept (λ scan. refl) waits.keeps.kept)))
+      (subst (λ q. PlaceFits (with_own old was.progress event) was.progress.id q p.read p.given_at) (sym (ap (λ (x : Session). x.left) goes.session ∙ ap (λ q. (written q s).left) at)) tt))
+      (fits_at scenario old was event waits p goes was.looked was.looked_to_build
+      (entry_fits scenario old was waits courses next.command next.free.at later now was.looked was.looked_to_build
+      (record { runs = λ i. Some (record (begun (sym waits.rests.holds.count i + 1) facts.running) { xid = Some xid.0 }); written = λ is. refl; last = λ from is. cc is })
+      (record { blocks = ap (λ q. (written q s).blocks) at; finished = ap (λ q. length (written q s).finished) at; blocked = ap (λ q. (written q s).blocked) at; ended = ap (λ q. (written q s).ended) at; left = λ is there. absurd (both_ways _ acting.unsettled is) })
+      acting.runs (Acts acting.unsettled)
+      (record { enough = omega (arith, before.enough, ap looks_due acting.owed, started); within = omega (arith, before.within, ap looks_due acting.owed, started) })))
+      refl (Inside refl refl) (λ inside. ap (λ q. (written q s).ended) at) appends
+    where
+      event : Event
+      event = events.Write xid (items_drawn old draft)
+
+      later : Facts
+      later = facts_by old was.progress.id (was.progress.finished + 1) event facts
+
+      now : Session
+      now = entered (facts_of (with_own old was.progress event) was.progress.id) (drop was.progress.finished was.progress.commands) (length old + 1) (was.progress.finished + 1) event s
+
+      before : LooksFit facts s was.looked was.looked_to_build
+      before = waits.fits.looks (going scenario old was waits courses next.command next.free.at)
+
+      started : started_in (number_of now) later ≡ started_in (number_of s) facts
+      started = ap (λ q. started_in (length (written q s).finished + 1) later) at ∙ started_still (number_of s) (was.progress.finished + 1) facts.running acting.runs
+
+  -- so it does where memory for it isn't refused
+  pub wrote_agrees : {E : Type 0} (first : Backend) → was.progress.id ≡ first.progress.id → (new : List Entry) (had has : ℕ → ℕ) (p : Progress) (result : Result (Unit {0}) E) (made : Made) (messages : List Message) → MakesWrite old new had has was.progress.id (was.progress.finished + 1) draft made → messages ≡ made.messages.items → OnOk result (p.kept ≡ kept_spared messages was.progress.kept)
+      → OnOk result ((scenario : Scenario) (seen : List Entry) (items : List Item) → (rests : Rests scenario seen was.progress) → messages ≡ messages_in seen was.progress.id items → flat_map (locked_by (was.progress.finished + 1)) items ≡ locks_made draft.new_oids made.first_oid (was.progress.finished + 1) → HasEntered scenario seen was.progress (events.Write made.xid items) rests p)
+      → OnOk result (Enters scenario old new had has first (record was { progress = p; answer = None }))
+  wrote_agrees first id new had has p (Ok x) made messages makes are kept goes = alike_enters scenario old new had has first was (record was { progress = p; answer = None }) id (wrote_enters new had has p made.xid messages (goes scenario old (items_drawn old draft) waits.rests (are ∙ makes.messages) (suits.locks made.first_oid [] makes.first)) kept makes.appends)
+  wrote_agrees first id new had has p (Err e) made messages makes are kept goes = tt
+
+  -- and after one that is refused
+  pub clash_enters : (first : Backend) → was.progress.id ≡ first.progress.id → (new : List Entry) (had has : ℕ → ℕ) (p : Progress) (name : List ℕ) (clash : Clash) → HasEntered scenario old was.progress (clash_event name clash) waits.rests p → p.kept ≡ was.progress.kept
+      → Writes old new had has was.progress.id (was.progress.finished + 1) draft (Err (refusals.Clash name clash)) → Enters scenario old new had has first (record was { progress = p; answer = None })
+  clash_enters first id new had has p name clash goes kept writes = let refused = clashes_as old new had has was.progress.id (was.progress.finished + 1) draft name clash writes in alike_enters scenario old new had has first was (record was { progress = p; answer = None }) id (failed_enters scenario old new had has was p (clash_event name clash) (error_of name clash) next.command waits played courses acting (clash_shows scenario old was s name clash)
+      (subst (λ o. MayPlayIn (next_oid old) facts o s (clash_event name clash)) (sym next.free.at)
+      (clash_plays (next_oid old) facts next.command s name clash owed_none (subst (λ p. IsClash facts (next_oid old) p name) (sym at) (suits.names name refused.is_new)))) goes kept refused.appends)

@@ -1,0 +1,6 @@
+-- What the choice keeps of a session.
+pub mod Entered
+pub mod NextTransaction
+pub mod FitsOn
+pub mod FitsEntries
+pub mod FitsEnds

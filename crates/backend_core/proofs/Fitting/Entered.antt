@@ -1,0 +1,79 @@
+-- What a backend keeps with its own entry.
+use Rattle.std.proofs.Common.{◌≡◌, ◌≤◌, ◌+◌, ◌∙◌, ℕ, Bool, true, false, List, [], ◌∷◌, ◌++◌, refl, sym, ap, subst, length, drop, slice_get, get_or, All, arith}
+use Rattle.std.proofs.lemmas.Bool.{eq-eqb, lt-ltb}
+use Rattle.base_types.specs.declared.scan.Purpose.TheVariants as scans
+use Rattle.ddl_effect.specs.Plans.{Plan, Absent, Do, Lookup}
+use Rattle.ddl_effect.specs.Stages.{plan_at}
+use Rattle.history_model.specs.Lives.{Alive, life_by, life_of}
+use Rattle.history_model.specs.Read.{is_scan_of}
+use Rattle.history_model.proofs.Reading.{life_of-own}
+use Rattle.cacheless.specs.Facts.{facts_of, facts_by}
+use Rattle.cacheless.specs.Holds.{CountsFit, HasEntered, entry_of, with_own}
+use Rattle.cacheless.specs.May.{HasRoom}
+use Rattle.cacheless.specs.Runs.{runs}
+use Rattle.cacheless.specs.Sessions.{entered}
+use Rattle.cacheless.specs.State.{session_at}
+use Rattle.cacheless.proofs.Reading.{facts_of-own}
+use Rattle.cacheless.proofs.Answers.ReadPlaces.{place_read-more}
+use Rattle.backend_core.specs.Types.{Purpose, Scenario, Entry, Event, KeptScan, Progress, Backend}
+use Rattle.backend_core.specs.Agrees.{command_at, KeptAt, PlaceFits, Keeps, AwaitsEntry}
+use Rattle.backend_core.specs.Fits.{Fits}
+use Rattle.backend_core.proofs.Own.{waiting}
+
+-- its counts have room for one more, where the history is short
+pub has_room : (scenario : Scenario) (seen : List Entry) (s : Backend) → AwaitsEntry scenario seen s → length seen ≤ 72057594037927936 → HasRoom s.progress
+has_room scenario seen s waits short = let c : CountsFit s.progress.tally (length seen) = waits.rests.holds.counts in (
+  lt-ltb s.progress.tally.looks 1152921504606846976 (omega (arith, c.looks, short)),
+  lt-ltb s.progress.tally.scans 1152921504606846976 (omega (arith, c.scans, short)),
+  lt-ltb s.progress.tally.grants 1152921504606846976 (omega (arith, c.grants, short)),
+  lt-ltb s.progress.tally.fetches 1152921504606846976 (omega (arith, c.fetches, short)),
+  lt-ltb s.progress.tally.full 1152921504606846976 (omega (arith, c.full, c.fetches, short)),
+)
+
+pub is_few : (scenario : Scenario) (seen : List Entry) (s : Backend) → AwaitsEntry scenario seen s → s.progress.finished ≤ 20000
+is_few scenario seen s waits = omega (arith, waits.rests.holds.few, waits.rests.holds.most)
+
+-- the places of scans stay with an entry that is none
+pub kept_stays : (old : List Entry) (e : Entry) (b : ℕ) (kept : List KeptScan) → ((scan : Purpose) → is_scan_of scan e.event ≡ false) → All (KeptAt old b) kept → All (KeptAt (old ++ e ∷ []) b) kept
+kept_stays old e b kept others fits = λ i d within. place_read-more old e b (get_or kept i d).scan (others (get_or kept i d).scan) ∙ fits i d within
+
+pub place_stays : (old : List Entry) (e : Entry) (b : ℕ) (plan : Plan) (read : Bool) (at : ℕ) → ((scan : Purpose) → is_scan_of scan e.event ≡ false) → PlaceFits old b plan read at → PlaceFits (old ++ e ∷ []) b plan read at
+place_stays old e b (Do (Lookup name mode) rest) true at others fits = place_read-more old e b (scans.RelName name) (others (scans.RelName name)) ∙ fits
+place_stays old e b (Do (Lookup name mode) rest) false at others fits = tt
+place_stays old e b (Do act rest) read at others fits = tt
+place_stays old e b (Absent name) read at others fits = place_read-more old e b (scans.RelName name) (others (scans.RelName name)) ∙ fits
+place_stays old e b plan read at others fits = tt
+
+module _ (scenario : Scenario) (old : List Entry) (was : Backend) (event : Event) (waits : AwaitsEntry scenario old was) (p : Progress) (goes : HasEntered scenario old was.progress event waits.rests p) where
+  -- what the choice keeps of the session that the entry left, it keeps of what the code holds then
+  pub fits_at : (looked to_build : Bool) → Fits (facts_by old was.progress.id (was.progress.finished + 1) event (facts_of old was.progress.id)) (command_at was)
+      (entered (facts_of (with_own old was.progress event) was.progress.id) (drop was.progress.finished was.progress.commands) (length old + 1) (was.progress.finished + 1) event (waiting waits)) looked to_build
+      → Fits (facts_of (with_own old was.progress event) p.id) (slice_get p.commands p.finished) (session_at p goes.holds.rest) looked to_build
+  fits_at looked to_build fits =
+      subst (λ f. Fits f (slice_get p.commands p.finished) (session_at p goes.holds.rest) looked to_build)
+      (sym (ap (facts_of (with_own old was.progress event)) goes.moves.id ∙ facts_of-own old (entry_of was.progress.id (was.progress.finished + 1) event) was.progress.id (eq-eqb was.progress.id was.progress.id refl)))
+      (subst (λ o. Fits (facts_by old was.progress.id (was.progress.finished + 1) event (facts_of old was.progress.id)) o (session_at p goes.holds.rest) looked to_build)
+      (sym (ap (λ l. slice_get l p.finished) goes.moves.commands ∙ ap (slice_get was.progress.commands) goes.moves.finished))
+      (subst (λ x. Fits (facts_by old was.progress.id (was.progress.finished + 1) event (facts_of old was.progress.id)) (command_at was) x looked to_build) (sym goes.session) fits))
+
+  -- and so it keeps the rest, where the places of its scans are told
+  pub keeps_at : (now : Backend) → now.life ≡ was.life → life_by (was.progress.finished + 1) event ≡ Alive (was.progress.finished + 1) → All (KeptAt (with_own old was.progress event) was.progress.id) p.kept
+      → PlaceFits (with_own old was.progress event) was.progress.id (plan_at p.exec) p.read p.given_at → Keeps (with_own old was.progress event) (record now { progress = p })
+  keeps_at now life goes_on kept place = record {
+    alive = life ∙ waits.keeps.alive;
+    life = record {
+      last = was.progress.finished + 1;
+      alive = ap (life_of (with_own old was.progress event)) goes.moves.id ∙ life_of-own old (entry_of was.progress.id (was.progress.finished + 1) event) was.progress.id (eq-eqb was.progress.id was.progress.id refl) ∙ goes_on;
+      most = omega (arith, goes.moves.finished);
+    };
+    built = subst (All (λ c. runs c ≡ true)) (sym goes.moves.commands) waits.keeps.built;
+    kept = subst (λ b. All (KeptAt (with_own old was.progress event) b) p.kept) (sym goes.moves.id) kept;
+    given_at = subst (λ b. PlaceFits (with_own old was.progress event) b (plan_at p.exec) p.read p.given_at) (sym goes.moves.id) place;
+  }
+
+  -- so where the entry is no scan and leaves its plan
+  pub keeps_still : (now : Backend) → now.life ≡ was.life → life_by (was.progress.finished + 1) event ≡ Alive (was.progress.finished + 1) → ((scan : Purpose) → is_scan_of scan event ≡ false) → All (KeptAt old was.progress.id) p.kept
+      → plan_at p.exec ≡ plan_at was.progress.exec → p.read ≡ was.progress.read → p.given_at ≡ was.progress.given_at → Keeps (with_own old was.progress event) (record now { progress = p })
+  keeps_still now life goes_on others kept plan read at = keeps_at now life goes_on (kept_stays old (entry_of was.progress.id (was.progress.finished + 1) event) was.progress.id p.kept others kept)
+      (place_stays old (entry_of was.progress.id (was.progress.finished + 1) event) was.progress.id (plan_at p.exec) p.read p.given_at others
+      (subst (λ n. PlaceFits old was.progress.id (plan_at p.exec) p.read n) (sym at) (subst (λ t. PlaceFits old was.progress.id (plan_at p.exec) t was.progress.given_at) (sym read) (subst (λ x. PlaceFits old was.progress.id x was.progress.read was.progress.given_at) (sym plan) waits.keeps.given_at))))

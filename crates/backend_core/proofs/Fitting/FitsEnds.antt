@@ -1,0 +1,239 @@
+-- What the choice keeps with an entry of an end.
+use Rattle.std.proofs.Common.{◌≡◌, ◌≤◌, ◌+◌, ◌∙◌, ◌==◌, ◌&&◌, ◌||◌, inl, inr, ℕ, Bool, true, false, Option, Some, None, List, [], ◌∷◌, ◌++◌, cond, refl, sym, ap, subst, map, is_none, is_some, if◌then◌else◌, arith}
+use Rattle.std.specs.Option.{option_map, option_map_or}
+use Rattle.std.specs.Prelude.{nat_lt}
+use Rattle.std.proofs.Math.Bool.{and-false}
+use Rattle.std.proofs.lemmas.Bool.{both_ways, eq-eqb, le-leb, lt-leb, ltb-true, false_from_ne_true}
+use Rattle.base_types.specs.declared.command.Command.TheVariants as commands
+use Rattle.event_kinds.specs.declared.entry.Event.TheVariants as events
+use Rattle.inval_messages.specs.Lists.{Written, has_write_from, lists_before}
+use Rattle.txn_blocks.specs.Blocks.{Block, Level, Outside, Inside, Failed}
+use Rattle.ddl_effect.specs.Plans.{Plan, Done, Fails, Absent, NotBuilt, Do}
+use Rattle.history_model.specs.Sent.{ends_transaction}
+use Rattle.history_model.specs.Transactions.{Running, begun, after_release, is_visible}
+use Rattle.history_model.specs.Writes.{is_empty}
+use Rattle.cacheless.specs.Ends.{End, Ends, Commits, TakesBack, end_of_all, end_of_block, end_well, end_badly, end_of}
+use Rattle.cacheless.specs.Facts.{Facts}
+use Rattle.cacheless.specs.Owed.{Owes, OwesLook, OwesScan, owed_at_start, owed_after, begins, builds_owed, act_owed, scans_owed, owed_of}
+use Rattle.cacheless.specs.Plays.{started_in}
+use Rattle.cacheless.specs.Runs.{runs}
+use Rattle.cacheless.specs.Session.{Session, Outcome, Well, Badly, Unsettled, number_of, outcome_of, is_settled}
+use Rattle.backend_core.specs.Types.{Purpose, Command, Event, OwnLock}
+use Rattle.backend_core.specs.Fits.{looks_due, first_at, RunsBlock, RunsFailed, RunsBy, RunsAfter, TransactionFits, OnCommit, OnTakingBack, Fits}
+use Rattle.backend_core.proofs.Choosing.EndsNow.{end_by, EndsBy, IsCommit, end_from, end_first, none_after}
+
+-- the session after an entry of an end, with its locks
+abbrev pub later_at : Session → List OwnLock → ℕ → Session
+later_at s locks at = record s { locks = locks; last = at }
+
+-- the transaction goes on
+pub record GoesOn (facts later : Facts) : Type 0 where
+  pub runs : is_some facts.running ≡ true
+  pub some : is_some later.running ≡ true
+  pub same : option_map (λ t. t.first) later.running ≡ option_map (λ t. t.first) facts.running
+  pub free : owed_after later.last ≡ []
+
+-- what rests on its first command alone
+of_first : {X : Type 0} (f : ℕ → X) (x : X) (a b : Option Running) → option_map (λ t. t.first) a ≡ option_map (λ t. t.first) b → option_map_or (λ t. f t.first) a x ≡ option_map_or (λ t. f t.first) b x
+of_first f x a b same = as_map a ∙ ap (λ o. option_map_or f o x) same ∙ sym (as_map b)
+  where
+    as_map : (own : Option Running) → option_map_or (λ t. f t.first) own x ≡ option_map_or f (option_map (λ t. t.first) own) x
+    as_map None = refl
+    as_map (Some t) = refl
+
+first_same : (facts later : Facts) → GoesOn facts later → first_at later ≡ first_at facts
+first_same facts later goes = of_first (λ n. n) 0 later.running facts.running goes.same
+
+none_some : {X : Type 0} (o : Option X) → is_some o ≡ true → is_none o ≡ false
+none_some None some = absurd (cc some)
+none_some (Some x) some = refl
+
+-- the end stays the same
+pub end_same : (facts later : Facts) (command : Command) (s : Session) (locks : List OwnLock) (at : ℕ) → GoesOn facts later → end_of later command (later_at s locks at) ≡ end_of facts command s
+end_same facts later command s locks at goes = by_outcome (outcome_of s.left)
+  where
+    all : end_of_all later ≡ end_of_all facts
+    all = of_first TakesBack Ends later.running facts.running goes.same
+
+    by_block : (block : Block) (commits : Bool) → end_of_block later block commits ≡ end_of_block facts block commits
+    by_block Outside commits = refl
+    by_block Inside true = of_first Commits Ends later.running facts.running goes.same
+    by_block Inside false = all
+    by_block Failed commits = all
+
+    by_command : (c : Command) → end_well later c (later_at s locks at) ≡ end_well facts c s
+    by_command commands.Begin = refl
+    by_command commands.Commit = by_block s.blocks.block true
+    by_command commands.Rollback = by_block s.blocks.block false
+    by_command c = refl
+
+    by_outcome : (x : Outcome) → ◌≡◌ {A = End} (elim x [ Well ↦ end_well later command (later_at s locks at) | Badly ↦ end_badly (later_at s locks at) | Unsettled ↦ Ends ]) (elim x [ Well ↦ end_well facts command s | Badly ↦ end_badly s | Unsettled ↦ Ends ])
+    by_outcome Well = by_command command
+    by_outcome Badly = refl
+    by_outcome Unsettled = refl
+
+-- nothing is owed before its next entry
+owed_later : (facts later : Facts) (command : Command) (s : Session) (locks : List OwnLock) (at : ℕ) → GoesOn facts later → is_settled (outcome_of s.left) ≡ true → (outcome_of s.left ≡ Well → builds_owed later s.opened ≡ []) → owed_of later command (later_at s locks at) ≡ []
+owed_later facts later command s locks at goes out built =
+    ap (λ l. l ++ owed_after later.last ++ map OwesScan (scans_owed later (later_at s locks at))) start ∙ ap (λ l. l ++ map OwesScan (scans_owed later (later_at s locks at))) goes.free ∙ ap (map OwesScan) (by_plan s.left out built)
+  where
+    start : owed_at_start later command (later_at s locks at) ≡ []
+    start = ap (λ t. elim (begins command s && t) as (λ x. List Owes) [ true ↦ OwesLook ∷ [] | false ↦ [] ]) (none_some later.running goes.some)
+        ∙ ap (λ t. elim t as (λ x. List Owes) [ true ↦ OwesLook ∷ [] | false ↦ [] ]) (and-false (begins command s))
+
+    by_plan : (p : Plan) → is_settled (outcome_of p) ≡ true → (outcome_of p ≡ Well → builds_owed later s.opened ≡ []) → ◌≡◌ {A = List Purpose} (elim (outcome_of p) [ Badly ↦ [] | other ↦ builds_owed later s.opened ++ act_owed later locks s.read p ]) []
+    by_plan Done is none = ap (λ l. l ++ []) (none refl)
+    by_plan (Fails error) is none = refl
+    by_plan (Absent name) is none = refl
+    by_plan (Do act rest) is none = absurd (cc is)
+    by_plan NotBuilt is none = absurd (cc is)
+
+module _ (facts later : Facts) (o : Option Command) (s : Session) (looked to_build : Bool) (event : Event) (locks : List OwnLock) (at : ℕ) (fits : Fits facts o s looked to_build) (ends : EndsBy facts o s event) where
+  runs_later : GoesOn facts later → (t : Bool) → TransactionFits facts o s t → s.ended ≡ t → TransactionFits later o (later_at s locks at) t
+  runs_later goes true none is = absurd (both_ways _ ends.going is)
+  runs_later goes false by is = by_block s.blocks.block by
+    where
+      none_runs : {X : Type 0} → facts.running ≡ None → X
+      none_runs none = absurd (both_ways _ (ap (λ r. is_some r) none) goes.runs)
+
+      block_later : (levels : List Level) → RunsBlock facts levels → RunsBlock later levels
+      block_later levels block = record { runs = goes.some; first = λ c. first_same facts later goes ∙ block.first c }
+
+      by_levels : (levels : List Level) → RunsFailed facts levels → RunsFailed later levels
+      by_levels [] none = none_runs none
+      by_levels (level ∷ []) none = none_runs none
+      by_levels (level ∷ inner ∷ levels) block = block_later (level ∷ inner ∷ levels) block
+
+      by_block : (block : Block) → RunsBy facts o s block → RunsBy later o (later_at s locks at) block
+      by_block Outside (inl none) = none_runs none
+      by_block Outside (inr alone) = inr (record { command = alone.command; at = alone.at; begins = alone.begins; first = first_same facts later goes ∙ alone.first })
+      by_block Inside block = block_later s.blocks.levels block
+      by_block Failed failed = by_levels s.blocks.levels failed
+
+  -- where the transaction goes on
+  pub fits_ending : GoesOn facts later → (has_write_from 0 later.lists ≡ true → option_map_or (λ t. is_some t.xid) later.running false ≡ true)
+      → (is_visible later.running ≡ true → OnCommit later o (later_at s locks at)) → ((from : ℕ) → later.last ≡ Some (events.Gone from) → OnTakingBack later o (later_at s locks at) from) → Fits later o (later_at s locks at) looked to_build
+  fits_ending goes written visible taken = record {
+    looks = λ going. let l = fits.looks going in record { enough = omega (arith, l.enough, started, due, due_now); within = omega (arith, l.within, started, due, due_now) };
+    transaction = runs_later goes s.ended fits.transaction refl;
+    first = subst (λ n. n ≤ number_of s) (sym (first_same facts later goes)) fits.first;
+    opens = fits.opens;
+    levels = fits.levels;
+    one_level = fits.one_level;
+    blocked = fits.blocked;
+    settled = fits.settled;
+    written = written;
+    visible = visible;
+    taken = taken;
+    accepts = λ owes. absurd (both_ways _ owes (ap (λ l. is_empty l) goes.free));
+    past = λ none. let p = fits.past none in record { out = p.out; opened = p.opened; free = goes.free };
+  }
+    where
+      started : started_in (number_of s) later ≡ started_in (number_of s) facts
+      started = of_first (λ n. elim (n == number_of s) as (λ x. ℕ) [ true ↦ 1 | false ↦ 0 ]) 0 later.running facts.running goes.same
+
+      due : looks_due (owed_after facts.last) ≡ 0
+      due = ap looks_due ends.after
+
+      due_now : looks_due (owed_after later.last) ≡ 0
+      due_now = ap looks_due goes.free
+
+  -- a commit goes on
+  pub commits_on : GoesOn facts later → IsCommit facts (end_by facts o s) → ((command : Command) → o ≡ Some command → runs command ≡ true) → later.lists ≡ facts.lists → (outcome_of s.left ≡ Well → builds_owed later s.opened ≡ []) → OnCommit later o (later_at s locks at)
+  commits_on goes commit built lists none = by_command o refl
+    where
+      begun_is : (own : Option Running) (n : ℕ) → is_some own ≡ true → option_map_or (λ t. t.first) own 0 ≡ option_map_or (λ t. t.first) own n
+      begun_is None n some = absurd (cc some)
+      begun_is (Some t) n some = refl
+
+      first_is : first_at later ≡ commit.first
+      first_is = first_same facts later goes ∙ begun_is facts.running (number_of s) goes.runs ∙ end_first facts o s looked to_build commit.first built fits ends.going (ap end_from commit.is)
+
+      all_back : (own : Option Running) → option_map_or (λ t. TakesBack t.first) own Ends ≡ Commits commit.first → ⊥
+      all_back None is = cc is
+      all_back (Some t) is = cc is
+
+      by_command : (x : Option Command) → o ≡ x → OnCommit later o (later_at s locks at)
+      by_command None is = absurd (all_back facts.running (ap (λ x. end_by facts x s) (sym is) ∙ commit.is))
+      by_command (Some command) is = record {
+        command = command;
+        at = is;
+        going = ends.going;
+        out = ends.out;
+        free = owed_later facts later command s locks at goes ends.out none;
+        end = end_same facts later command s locks at goes ∙ ap (λ x. end_by facts x s) (sym is) ∙ commit.is ∙ ap Commits (sym first_is);
+        written = subst (λ n. has_write_from n later.lists ≡ true) (sym first_is) (ap (has_write_from commit.first) lists ∙ commit.written);
+      }
+
+  -- taking back goes on
+  pub takes_back_on : (from : ℕ) → GoesOn facts later → end_by facts o s ≡ TakesBack from → has_write_from from later.lists ≡ false → (outcome_of s.left ≡ Well → builds_owed later s.opened ≡ []) → OnTakingBack later o (later_at s locks at) from
+  takes_back_on from goes back bare none = record { runs = goes.some; going = ends.going; out = ends.out; end = by_command o back; none = bare }
+    where
+      by_command : (x : Option Command) → end_by facts x s ≡ TakesBack from → elim x as (λ y. Type 0) [ Some c ↦ (end_of later c (later_at s locks at) ≡ TakesBack from) × (owed_of later c (later_at s locks at) ≡ []) | None ↦ end_of_all later ≡ TakesBack from ]
+      by_command (Some c) is = (end_same facts later c s locks at goes ∙ is, owed_later facts later c s locks at goes ends.out none)
+      by_command None is = of_first TakesBack Ends later.running facts.running goes.same ∙ is
+
+  -- the release ends the transaction
+  pub fits_released : (from : ℕ) → later.running ≡ None → later.last ≡ Some (events.Release from) → has_write_from 0 later.lists ≡ false → end_from (end_by facts o s) ≡ Some from → Fits later o (record s { ended = true; locks = locks; last = at }) looked to_build
+  fits_released from none last bare ends_from = record {
+    looks = λ going. absurd (cc going);
+    transaction = by_command o ends_from;
+    first = subst (λ n. n ≤ number_of s) (sym (ap (λ r. option_map_or (λ (t : Running). t.first) r 0) none)) (omega arith);
+    opens = fits.opens;
+    levels = fits.levels;
+    one_level = fits.one_level;
+    blocked = fits.blocked;
+    settled = fits.settled;
+    written = λ is. absurd (both_ways _ bare is);
+    visible = λ is. absurd (both_ways _ (ap (λ r. is_visible r) none) is);
+    taken = λ n is. absurd (let no : Some (events.Release from) ≡ Some (events.Gone n) = sym last ∙ is in cc no);
+    accepts = λ owes. absurd (both_ways _ owes (ap (λ l. is_empty (owed_after l)) last));
+    past = λ past. let p = fits.past past in record { out = p.out; opened = p.opened; free = ap owed_after last };
+  }
+    where
+      by_command : (x : Option Command) → end_from (end_by facts x s) ≡ Some from → RunsAfter later x (record s { ended = true; locks = locks; last = at })
+      by_command None end = none
+      by_command (Some command) end = none_after facts later command s from fits.one_level end none
+
+-- a write of a later command is one
+pub write_from_first : (from : ℕ) (lists : List Written) → has_write_from from lists ≡ true → has_write_from 0 lists ≡ true
+write_from_first from [] is = absurd (cc is)
+write_from_first from (w ∷ lists) is = ap (λ t. t || has_write_from 0 lists) (le-leb 0 w.command (omega arith))
+
+-- the writes that stay are of commands before
+pub none_from : (from : ℕ) (lists : List Written) → has_write_from from (lists_before from lists) ≡ false
+none_from from [] = refl
+none_from from (w ∷ lists) = by_test (nat_lt w.command from) refl (none_from from lists)
+  where
+    by_test : (t : Bool) → nat_lt w.command from ≡ t → has_write_from from (lists_before from lists) ≡ false → has_write_from from (cond t (w ∷ lists_before from lists) (lists_before from lists)) ≡ false
+    by_test true below rest = ap (λ t. t || has_write_from from (lists_before from lists)) (lt-leb from w.command (ltb-true w.command from below)) ∙ rest
+    by_test false below rest = rest
+
+-- the transaction has ended
+pub ended_running : (own : Option Running) (n from : ℕ) → option_map_or (λ t. t.first) own n ≡ from → after_release from (begun n own) ≡ None
+ended_running None n from is = ap (λ t. if t then None else Some (begun n None)) (eq-eqb n from is)
+ended_running (Some t) n from is = ap (λ f. if f then None else Some t) (eq-eqb t.first from is)
+
+-- and no write of it is left
+pub ended_lists : (own : Option Running) (lists : List Written) (n from : ℕ) → option_map_or (λ t. t.first) own n ≡ from → (has_write_from 0 lists ≡ true → option_map_or (λ t. is_some t.xid) own false ≡ true)
+    → has_write_from 0 (elim (ends_transaction from own) as (λ x. List Written) [ true ↦ [] | false ↦ lists ]) ≡ false
+ended_lists None lists n from is written = false_from_ne_true (has_write_from 0 lists) (λ some. let no : false ≡ true = written some in cc no)
+ended_lists (Some t) lists n from is written = ap (λ f. has_write_from 0 (elim f as (λ x. List Written) [ true ↦ [] | false ↦ lists ])) (eq-eqb t.first from is)
+
+-- a transaction that runs goes on with its entries
+pub goes_first : (n : ℕ) (own : Option Running) → is_some own ≡ true → Some (begun n own).first ≡ option_map (λ t. t.first) own
+goes_first n None some = absurd (cc some)
+goes_first n (Some t) some = refl
+
+pub begun_xid : (n : ℕ) (own : Option Running) → option_map_or (λ t. is_some t.xid) own false ≡ true → is_some (begun n own).xid ≡ true
+begun_xid n None is = absurd (cc is)
+begun_xid n (Some t) is = is
+
+pub begun_visible : (n : ℕ) (own : Option Running) → (begun n own).visible ≡ is_visible own
+begun_visible n None = refl
+begun_visible n (Some t) = refl
+
+-- one that has written runs
+pub written_runs : (own : Option Running) → option_map_or (λ t. is_some t.xid) own false ≡ true → is_some own ≡ true
+written_runs None is = absurd (cc is)
+written_runs (Some t) is = refl

@@ -1,0 +1,111 @@
+-- What the choice keeps with an entry of a command that runs: a look, a fetch, a scan, a lock, a write, or one that is refused.
+use Rattle.std.proofs.Common.{◌≡◌, ◌≤◌, ◌+◌, ◌∙◌, ◌&&◌, inl, inr, ℕ, Bool, true, false, not, Option, Some, None, List, [], ◌∷◌, refl, sym, ap, subst, length, is_none, is_some, arith}
+use Rattle.std.specs.Option.{option_map_or}
+use Rattle.std.proofs.lemmas.Bool.{both_ways}
+use Rattle.event_kinds.specs.declared.entry.Event.TheVariants as events
+use Rattle.inval_messages.specs.Lists.{has_write_from}
+use Rattle.txn_blocks.specs.Blocks.{Block, Level, Outside, Inside, Failed, no_block, is_open, innermost, ends_block, refused_by}
+use Rattle.history_model.specs.Transactions.{Running, begun, is_visible}
+use Rattle.history_model.specs.Writes.{is_empty}
+use Rattle.cacheless.specs.Facts.{Facts}
+use Rattle.cacheless.specs.Session.{Session, number_of, outcome_of, is_settled, plan_first, refused_first}
+use Rattle.cacheless.specs.Owed.{begins}
+use Rattle.cacheless.specs.State.{is_absent}
+use Rattle.cacheless.proofs.Entries.EnteredLooks.{not_absent}
+use Rattle.backend_core.specs.Types.{Command}
+use Rattle.backend_core.specs.Fits.{LooksFit, first_at, RunsBlock, RunsFailed, RunsBy, TransactionFits, Fits}
+use Rattle.backend_core.proofs.Fitting.NextTransaction.{some_first}
+
+-- what such an entry leaves of the facts: its transaction runs, with its first command, and isn't visible
+pub record StaysInside (facts later : Facts) (number : ℕ) : Type 0 where
+  pub runs : later.running ≡ Some (record (begun number facts.running) { xid = option_map_or (λ t. t.xid) later.running None })
+  pub written : has_write_from 0 later.lists ≡ true → option_map_or (λ t. is_some t.xid) later.running false ≡ true
+  pub last : (from : ℕ) → later.last ≡ Some (events.Gone from) → ⊥
+
+-- and of the session
+pub record StaysAt (s later : Session) : Type 0 where
+  pub blocks : later.blocks ≡ s.blocks
+  pub finished : length later.finished ≡ length s.finished
+  pub blocked : later.blocked ≡ s.blocked
+  pub ended : later.ended ≡ s.ended
+  pub left : is_settled (outcome_of s.left) ≡ true → is_absent s.left ≡ false → later.left ≡ s.left
+
+begun_first : (number : ℕ) (own : Option Running) → (begun number own).first ≡ option_map_or (λ t. t.first) own number
+begun_first number None = refl
+begun_first number (Some t) = refl
+
+begun_hidden : (number : ℕ) (own : Option Running) → is_visible own ≡ false → (begun number own).visible ≡ false
+begun_hidden number None hidden = refl
+begun_hidden number (Some t) hidden = hidden
+
+-- a transaction runs, or one begins with this command
+pub data RunsHere (facts : Facts) (o : Option Command) (s : Session) : Type 0 where
+  Goes : is_some facts.running ≡ true → RunsHere facts o s
+  Starts : (command : Command) → o ≡ Some command → begins command s ≡ true → s.blocks.block ≡ Outside → facts.running ≡ None → RunsHere facts o s
+
+module _ (facts later : Facts) (o : Option Command) (s now : Session) (command : Command) (at : o ≡ Some command) (fits_first : (first_at facts ≤ number_of s)) (stays : StaysInside facts later (number_of s)) (same : StaysAt s now) (goes : RunsHere facts o s) where
+  number_same : number_of now ≡ number_of s
+  number_same = ap (λ n. n + 1) same.finished
+
+  -- the first command of the transaction
+  first_now : first_at later ≡ option_map_or (λ t. t.first) facts.running (number_of s)
+  first_now = ap (λ r. option_map_or (λ (t : Running). t.first) r 0) stays.runs ∙ begun_first (number_of s) facts.running
+
+  first_kept : is_some facts.running ≡ true → first_at later ≡ first_at facts
+  first_kept some = first_now ∙ by_own facts.running some
+    where
+      by_own : (own : Option Running) → is_some own ≡ true → option_map_or (λ (t : Running). t.first) own (number_of s) ≡ option_map_or (λ (t : Running). t.first) own 0
+      by_own None is = absurd (cc is)
+      by_own (Some t) is = refl
+
+  first_low : first_at later ≤ number_of now
+  first_low = subst (λ n. n ≤ number_of now) (sym first_now) (subst (λ n. option_map_or (λ (t : Running). t.first) facts.running (number_of s) ≤ n) (sym number_same) (by_own facts.running fits_first))
+    where
+      by_own : (own : Option Running) → option_map_or (λ (t : Running). t.first) own 0 ≤ number_of s → option_map_or (λ (t : Running). t.first) own (number_of s) ≤ number_of s
+      by_own None low = omega arith
+      by_own (Some t) low = low
+
+  begins_same : (c : Command) → begins c now ≡ begins c s
+  begins_same c = λ i. elim (same.blocks i).block as (λ x. Bool) [ Outside ↦ not (ends_block c) && not (same.ended i) && is_none (refused_by no_block c) | block ↦ false ]
+
+  block_now : (levels : List Level) → RunsBlock facts levels → RunsBlock later levels
+  block_now levels block = record { runs = ap (λ r. is_some r) stays.runs; first = λ c. first_kept block.runs ∙ block.first c }
+
+  runs_now : (block : Block) → s.blocks.block ≡ block → RunsBy facts o s block → RunsBy later o now block
+  runs_now Outside is (inl none) = by_goes goes
+    where
+      by_goes : RunsHere facts o s → RunsBy later o now Outside
+      by_goes (Goes some) = absurd (both_ways _ (ap (λ r. is_some r) none) some)
+      by_goes (Starts c here starts outside none') = inr (record { command = c; at = here; begins = begins_same c ∙ starts; first = first_now ∙ ap (λ r. option_map_or (λ (t : Running). t.first) r (number_of s)) none ∙ sym number_same })
+  runs_now Outside is (inr alone) = inr (record { command = alone.command; at = alone.at; begins = begins_same alone.command ∙ alone.begins; first = first_kept (some_first facts.running _ alone.first) ∙ alone.first ∙ sym number_same })
+  runs_now Inside is block = subst (λ b. RunsBlock later b.levels) (sym same.blocks) (block_now s.blocks.levels block)
+  runs_now Failed is failed = subst (λ b. RunsFailed later b.levels) (sym same.blocks) (by_levels s.blocks.levels failed)
+    where
+      none_runs : {X : Type 0} → facts.running ≡ None → RunsHere facts o s → X
+      none_runs none (Goes some) = absurd (both_ways _ (ap (λ r. is_some r) none) some)
+      none_runs none (Starts c here starts outside none') = absurd (let both : Failed ≡ Outside = sym is ∙ outside in cc both)
+
+      by_levels : (levels : List Level) → RunsFailed facts levels → RunsFailed later levels
+      by_levels [] none = none_runs none goes
+      by_levels (level ∷ []) none = none_runs none goes
+      by_levels (level ∷ inner ∷ levels) block = block_now (level ∷ inner ∷ levels) block
+
+-- what the choice keeps
+pub fits_inside : (facts later : Facts) (o : Option Command) (s now : Session) (looked to_build looked_now to_build_now : Bool) (command : Command) → o ≡ Some command → Fits facts o s looked to_build → StaysInside facts later (number_of s) → StaysAt s now → RunsHere facts o s → is_visible facts.running ≡ false → s.ended ≡ false
+    → LooksFit later now looked_now to_build_now → Fits later o now looked_now to_build_now
+fits_inside facts later o s now looked to_build looked_now to_build_now command at fits stays same goes hidden going looks = record {
+  looks = λ _. looks;
+  transaction = subst (TransactionFits later o now) (sym (same.ended ∙ going)) (subst (λ b. RunsBy later o now b.block) (sym same.blocks) (runs_now facts later o s now command at fits.first stays same goes s.blocks.block refl (subst (TransactionFits facts o s) going fits.transaction)));
+  first = first_low facts later o s now command at fits.first stays same goes;
+  opens = subst (λ b. is_open b ≡ not (is_empty b.levels)) (sym same.blocks) fits.opens;
+  levels = subst (λ b. innermost (number_of now) b.levels ≤ number_of now) (sym same.blocks) (subst (λ n. innermost n s.blocks.levels ≤ n) (sym (ap (λ n. n + 1) same.finished)) fits.levels);
+  one_level = subst (λ b. length b.levels ≤ 1) (sym same.blocks) fits.one_level;
+  blocked = same.blocked ∙ fits.blocked ∙ ap (λ b. is_some (refused_first b o)) (sym same.blocks);
+  settled = λ is. let first = fits.settled (ap (λ b. is_settled (outcome_of (plan_first b o))) (sym same.blocks) ∙ is) in
+      same.left (ap (λ p. is_settled (outcome_of p)) first ∙ ap (λ b. is_settled (outcome_of (plan_first b o))) (sym same.blocks) ∙ is) (ap is_absent first ∙ not_absent s.blocks o) ∙ first ∙ ap (λ b. plan_first b o) (sym same.blocks);
+  written = stays.written;
+  visible = λ is. absurd (both_ways _ (ap (λ r. is_visible r) stays.runs ∙ begun_hidden (number_of s) facts.running hidden) is);
+  taken = λ from is. absurd (stays.last from is);
+  accepts = λ _. ap (λ r. is_some r) stays.runs;
+  past = λ none. absurd (let both : Some command ≡ None = sym at ∙ none in cc both);
+}

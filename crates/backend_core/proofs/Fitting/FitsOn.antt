@@ -1,0 +1,139 @@
+-- What the choice keeps where a backend goes on without an entry.
+use Rattle.std.proofs.Common.{◌≡◌, ◌≤◌, ◌+◌, ◌∙◌, ◌==◌, ◌&&◌, ◌++◌, inl, inr, ℕ, Bool, true, false, Option, Some, None, List, [], refl, sym, ap, subst, map, is_none, arith}
+use Rattle.std.specs.Option.{option_map_or}
+use Rattle.std.proofs.lemmas.Bool.{both_ways, ne_eqb, and_parts}
+use Rattle.std.proofs.lemmas.List.{length_push}
+use Rattle.txn_blocks.specs.Blocks.{Block, Outside, Inside, Failed, innermost}
+use Rattle.ddl_effect.specs.Plans.{Act, Plan, Do}
+use Rattle.event_kinds.specs.declared.entry.Event.TheVariants as events
+use Rattle.history_model.specs.Transactions.{Running}
+use Rattle.history_model.specs.Writes.{is_empty}
+use Rattle.cacheless.specs.Facts.{Facts}
+use Rattle.cacheless.specs.Session.{Session, number_of, outcome_of, is_settled}
+use Rattle.cacheless.specs.Owed.{OwesScan, owed_at_start, owed_after, scans_owed, owed_of}
+use Rattle.cacheless.specs.Ends.{End, Ends, Commits, TakesBack, end_of, end_of_all, end_left, next_of_end}
+use Rattle.cacheless.specs.Settled.{act_done, is_finished, blocks_after, finished_as, next_session}
+use Rattle.cacheless.specs.Plays.{started_in}
+use Rattle.cacheless.proofs.Plans.SilentActs.{both_empty, empty_list}
+use Rattle.backend_core.specs.Types.{Row, Command, Event}
+use Rattle.backend_core.specs.Fits.{looks_due, first_at, RunsIn, RunsBy, RunsAfter, TransactionFits, IsPast, Fits}
+use Rattle.backend_core.proofs.Fitting.NextTransaction.{LevelsFit, levels_next, next_silent}
+
+-- an act that is done without an entry
+pub fits_act : (facts : Facts) (o : Option Command) (s : Session) (looked to_build : Bool) (command : Command) (act : Act) (further : List Row → Plan) (given : List Row) → o ≡ Some command → s.left ≡ Do act further → s.ended ≡ false → Fits facts o s looked to_build → Fits facts o (act_done act given (further given) s) looked to_build
+fits_act facts o s looked to_build command act further given at left going fits = record {
+  looks = λ _. let l = fits.looks going in record { enough = l.enough; within = l.within };
+  transaction = subst (TransactionFits facts o (act_done act given (further given) s)) (sym going) (by_block s.blocks.block (subst (TransactionFits facts o s) going fits.transaction));
+  first = fits.first;
+  opens = fits.opens;
+  levels = fits.levels;
+  one_level = fits.one_level;
+  blocked = fits.blocked;
+  settled = λ is. absurd (unsettled (ap (λ p. is_settled (outcome_of p)) (fits.settled is) ∙ is));
+  written = fits.written;
+  visible = λ is. absurd (unsettled (fits.visible is).out);
+  taken = λ from is. absurd (unsettled (fits.taken from is).out);
+  accepts = fits.accepts;
+  past = λ none. absurd (let both : Some command ≡ None = sym at ∙ none in cc both);
+}
+  where
+    unsettled : is_settled (outcome_of s.left) ≡ true → ⊥
+    unsettled out = both_ways _ (ap (λ p. is_settled (outcome_of p)) left) out
+
+    by_block : (block : Block) → RunsBy facts o s block → RunsBy facts o (act_done act given (further given) s) block
+    by_block Outside (inl none) = inl none
+    by_block Outside (inr alone) = inr (record { command = alone.command; at = alone.at; begins = alone.begins; first = alone.first })
+    by_block Inside runs = runs
+    by_block Failed runs = runs
+
+-- the parts of a finished command
+record IsFinished (facts : Facts) (command : Command) (s : Session) : Type 0 where
+  out : is_settled (outcome_of s.left) ≡ true
+  none : is_none (end_left facts command s) ≡ true
+  first : owed_at_start facts command s ≡ []
+  after : owed_after facts.last ≡ []
+
+parts_of : (facts : Facts) (command : Command) (s : Session) → is_finished facts command s ≡ true → IsFinished facts command s
+parts_of facts command s is = record { out = front.0; none = front.1; first = (both_empty (owed_at_start facts command s) (owed_after facts.last) owed).0; after = (both_empty (owed_at_start facts command s) (owed_after facts.last) owed).1 }
+  where
+    both : (is_settled (outcome_of s.left) && is_none (end_left facts command s) ≡ true) × (is_empty (owed_of facts command s) ≡ true)
+    both = and_parts (is_settled (outcome_of s.left) && is_none (end_left facts command s)) (is_empty (owed_of facts command s)) is
+
+    front : (is_settled (outcome_of s.left) ≡ true) × (is_none (end_left facts command s) ≡ true)
+    front = and_parts (is_settled (outcome_of s.left)) (is_none (end_left facts command s)) both.0
+
+    owed : owed_at_start facts command s ++ owed_after facts.last ≡ []
+    owed = (both_empty (owed_at_start facts command s ++ owed_after facts.last) (map OwesScan (scans_owed facts s)) (empty_list (owed_of facts command s) both.1)).0
+
+-- an end without an entry
+none_ends : (facts : Facts) (end : End) → is_none (next_of_end facts end) ≡ true → end ≡ Ends
+none_ends facts Ends is = refl
+none_ends facts (Commits first) is = absurd (cc)
+none_ends facts (TakesBack from) is = absurd (cc)
+
+-- the transaction before the next command
+passes_to : (facts : Facts) (o : Option Command) (s : Session) (looked to_build : Bool) (command : Command) → o ≡ Some command → IsFinished facts command s → Fits facts o s looked to_build → RunsIn facts (blocks_after command s).levels (blocks_after command s).block
+passes_to facts o s looked to_build command at done fits = by_ended s.ended refl fits.transaction done.none
+  where
+    by_ended : (t : Bool) → s.ended ≡ t → TransactionFits facts o s t → is_none (elim t as (λ x. Option Event) [ true ↦ None | false ↦ next_of_end facts (end_of facts command s) ]) ≡ true → RunsIn facts (blocks_after command s).levels (blocks_after command s).block
+    by_ended true is runs over = subst (λ x. RunsAfter facts x s) at runs
+    by_ended false is runs over = next_silent facts o s command at fits.blocked is done.out done.first runs (none_ends facts (end_of facts command s) over)
+
+-- by which it runs then
+runs_next : (facts : Facts) (o : Option Command) (s : Session) (block : Block) → RunsIn facts s.blocks.levels block → RunsBy facts o s block
+runs_next facts o s Outside none = inl none
+runs_next facts o s Inside runs = runs
+runs_next facts o s Failed runs = runs
+
+-- an end on its way isn't finished
+on_its_way : (facts : Facts) (command : Command) (s : Session) (event : Event) → IsFinished facts command s → s.ended ≡ false → next_of_end facts (end_of facts command s) ≡ Some event → ⊥
+on_its_way facts command s event done going comes = both_ways _ (ap (λ e. is_none e) comes) (subst (λ t. is_none (elim t as (λ x. Option Event) [ true ↦ None | false ↦ next_of_end facts (end_of facts command s) ]) ≡ true) going done.none)
+
+-- where the last entry took writes back the command isn't finished
+pub gone_unfinished : (facts : Facts) (o : Option Command) (s : Session) (looked to_build : Bool) (command : Command) (from : ℕ) → o ≡ Some command → is_finished facts command s ≡ true → Fits facts o s looked to_build → facts.last ≡ Some (events.Gone from) → ⊥
+gone_unfinished facts o s looked to_build command from at finished fits is = on_its_way facts command s _ (parts_of facts command s finished) (fits.taken from is).going
+    (ap (next_of_end facts) (subst (λ x. elim x as (λ y. Type 0) [ Some c ↦ (end_of facts c s ≡ TakesBack from) × (owed_of facts c s ≡ []) | None ↦ end_of_all facts ≡ TakesBack from ]) at (fits.taken from is).end).0)
+
+not_started : (number : ℕ) (own : Option Running) → option_map_or (λ t. t.first) own 0 ≤ number → option_map_or (λ t. elim (t.first == number + 1) as (λ x. ℕ) [ true ↦ 1 | false ↦ 0 ]) own 0 ≡ 0
+not_started number None low = refl
+not_started number (Some t) low = ap (λ x. elim x as (λ y. ℕ) [ true ↦ 1 | false ↦ 0 ]) (ne_eqb t.first (number + 1) (λ same. absurd (omega (arith, same, low))))
+
+-- a command that is finished is passed over
+pub fits_pass : (facts : Facts) (o : Option Command) (s : Session) (looked to_build : Bool) (command : Command) (next : Option Command) → o ≡ Some command → is_finished facts command s ≡ true → Fits facts o s looked to_build → Fits facts next (next_session command next s) false false
+fits_pass facts o s looked to_build command next at finished fits = record {
+  looks = λ going. record {
+    enough = omega (arith, started);
+    within = omega (arith, ap looks_due done.after);
+  };
+  transaction = runs_next facts next now now.blocks.block (passes_to facts o s looked to_build command at done fits);
+  first = subst (λ n. first_at facts ≤ n) (sym counts) (omega (arith, fits.first));
+  opens = levels.opens;
+  levels = subst (λ n. innermost n now.blocks.levels ≤ n) (sym counts) levels.low;
+  one_level = levels.one;
+  blocked = refl;
+  settled = λ is. refl;
+  written = fits.written;
+  visible = λ is. absurd (on_its_way facts command s _ done (fits.visible is).going (let c = fits.visible is in
+      ap (next_of_end facts) (subst (λ x. end_of facts x s ≡ Commits (first_at facts)) (one c.command c.at) c.end)));
+  taken = λ from is. absurd (gone_unfinished facts o s looked to_build command from at finished fits is);
+  accepts = fits.accepts;
+  past = λ none. subst (λ x. IsPast facts (next_session command x s)) (sym none) (record { out = refl; opened = refl; free = done.after });
+}
+  where
+    now : Session
+    now = next_session command next s
+
+    done : IsFinished facts command s
+    done = parts_of facts command s finished
+
+    counts : number_of now ≡ number_of s + 1
+    counts = ap (λ n. n + 1) (length_push s.finished (finished_as s))
+
+    started : started_in (number_of now) facts ≡ 0
+    started = ap (λ n. started_in n facts) counts ∙ not_started (number_of s) facts.running fits.first
+
+    levels : LevelsFit (number_of s + 1) (blocks_after command s)
+    levels = levels_next s command (record { opens = fits.opens; low = fits.levels; one = fits.one_level })
+
+    one : (c : Command) → o ≡ Some c → c ≡ command
+    one c is = let both : Some c ≡ Some command = sym is ∙ at in cc both

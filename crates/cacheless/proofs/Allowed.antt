@@ -1,0 +1,10 @@
+-- What holds of every allowed history.
+pub mod Patient
+pub mod StaysOnCourse
+pub mod SettledCourse
+pub mod OwnEntries
+pub mod Releases
+pub mod NextOnCourse
+pub mod NextKeeps
+pub mod AllowedHistories
+pub mod Economical

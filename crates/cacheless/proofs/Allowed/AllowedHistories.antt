@@ -1,0 +1,56 @@
+-- An allowed history is sound, its writes keep tables, and each of its backends is on its course.
+use Rattle.std.proofs.Common.{ℕ, List, [], ◌∷◌, ◌++◌, refl}
+use Rattle.history_model.specs.Legal.{MayFollow, IsLegal}
+use Rattle.history_model.specs.Orderly.{IsOrderly, MayComeNext, IsSound}
+use Rattle.history_model.proofs.Prefixes.{EachEntry-more, EachFrom-both, each-keeps}
+use Rattle.cacheless.specs.Types.{Scenario, Entry}
+use Rattle.cacheless.specs.OnCourse.{AllOnCourse}
+use Rattle.cacheless.specs.Played.{IsPlayed}
+use Rattle.cacheless.specs.Plays.{IsNext, Plays}
+use Rattle.cacheless.specs.Output.{IsAllowed, IsOutput}
+use Rattle.cacheless.specs.TableWrites.{WritesTables}
+use Rattle.cacheless.proofs.Allowed.NextKeeps.{next_keeps}
+use Rattle.cacheless.proofs.Allowed.NextOnCourse.{all_stay}
+
+-- a played history whose backends are on their courses stays so with each entry that it allows and that its backend may do next
+pub played_more : (scenario : Scenario) (history : List Entry) (e : Entry) → IsPlayed scenario history → AllOnCourse scenario history → MayFollow history e → IsNext scenario history e → IsPlayed scenario (history ++ e ∷ []) × AllOnCourse scenario (history ++ e ∷ [])
+played_more scenario history e played courses follows next = (later, all_stay scenario history e later (record { sound = played.sound; tables = played.tables; comes = comes; keeps = kept.1 }) next courses)
+  where
+    kept : IsOrderly history e × WritesTables history e
+    kept = next_keeps scenario history e played courses next
+
+    comes : MayComeNext history e
+    comes = record { follows = follows; orderly = kept.0 }
+
+    later : IsPlayed scenario (history ++ e ∷ [])
+    later = record {
+      sound = EachEntry-more MayComeNext history e played.sound comes;
+      plays = EachEntry-more (IsNext scenario) history e played.plays next;
+      tables = EachEntry-more WritesTables history e played.tables kept.1;
+    }
+
+-- nothing is played
+pub played_start : (scenario : Scenario) → IsPlayed scenario [] × AllOnCourse scenario []
+played_start scenario = (record { sound = tt; plays = tt; tables = tt }, λ b c. refl)
+
+-- a legal history in which backends do what their commands say is played, and each is on its course
+pub plays_on_course : (scenario : Scenario) (history : List Entry) → IsLegal history → Plays scenario history → IsPlayed scenario history × AllOnCourse scenario history
+plays_on_course scenario history legal plays =
+    each-keeps (λ before e. MayFollow before e × IsNext scenario before e) (λ h. IsPlayed scenario h × AllOnCourse scenario h) (played_start scenario) (λ before e k may. played_more scenario before e k.0 k.1 may.0 may.1) history
+    (EachFrom-both MayFollow (IsNext scenario) [] history legal plays)
+
+-- so an allowed history is
+pub allowed_played : (scenario : Scenario) (history : List Entry) → IsAllowed scenario history → IsPlayed scenario history
+allowed_played scenario history allowed = (plays_on_course scenario history allowed.legal allowed.plays).0
+
+-- and sound: what is proved of sound histories holds of whatever the program writes
+pub allowed_sound : (scenario : Scenario) (history : List Entry) → IsAllowed scenario history → IsSound history
+allowed_sound scenario history allowed = (allowed_played scenario history allowed).sound
+
+-- and each of its backends is on its course
+pub allowed_on_course : (scenario : Scenario) (history : List Entry) → IsAllowed scenario history → AllOnCourse scenario history
+allowed_on_course scenario history allowed = (plays_on_course scenario history allowed.legal allowed.plays).1
+
+-- as is the history of an output
+pub output_sound : (scenario : Scenario) (text : List ℕ) (output : IsOutput scenario text) → IsSound output.history
+output_sound scenario text output = allowed_sound scenario output.history output.allowed

@@ -1,0 +1,255 @@
+-- An entry of a backend keeps its running command on its course.
+use Rattle.std.proofs.Common.{◌≡◌, ◌+◌, ◌-◌, ◌∙◌, ℕ, Bool, true, false, Option, Some, None, List, [], ◌∷◌, ◌++◌, ◌&&◌, ◌||◌, refl, sym, ap, subst, length, take}
+use Rattle.std.specs.List.{flat_map, list_any}
+use Rattle.std.proofs.Math.Bool.{or-true}
+use Rattle.std.proofs.lemmas.Bool.{eq-eqb}
+use Rattle.base_types.specs.Scans.{same_scan, build_scans}
+use Rattle.base_types.specs.declared.ids.Xid.{Xid}
+use Rattle.base_types.specs.declared.row.Row.TheVariants as rows
+use Rattle.base_types.specs.declared.scan.Purpose.TheVariants as scans
+use Rattle.event_kinds.specs.declared.entry.Event.TheVariants as events
+use Rattle.command_answers.specs.declared.error.CommandError.TheVariants as errors
+use Rattle.ddl_effect.specs.Plans.{Lookup, Open, Column, Read, Lock, Write, Plan, Done, Fails, Absent, NotBuilt, Do}
+use Rattle.history_model.specs.Drawn.{next_oid}
+use Rattle.history_model.specs.Lives.{last_event_of}
+use Rattle.history_model.specs.Orderly.{IsSound}
+use Rattle.history_model.specs.Read.{is_scan_of, rows_read}
+use Rattle.history_model.specs.Versions.{answer_of}
+use Rattle.history_model.specs.Writes.{has_written, is_write}
+use Rattle.history_model.proofs.Locked.{IsQuiet, found_first}
+use Rattle.history_model.proofs.Reading.{has_written-more, last_event_of-own, rows_read-own}
+use Rattle.history_model.proofs.Touched.{entry_of}
+use Rattle.cacheless.specs.Types.{Mode, Purpose, Row, Item, Opening, Command, CommandError, Entry, Event}
+use Rattle.cacheless.specs.Ends.{End, Ends, end_of, next_of_end, end_left, end_well, end_badly}
+use Rattle.cacheless.specs.Facts.{Facts, facts_of}
+use Rattle.cacheless.specs.OnCourse.{is_absent, OnItsWay, is_over, Begun, Wrote, Over, IsFirstSeen, NamedFits, WasSought, FollowsPlan}
+use Rattle.cacheless.specs.Owed.{unusable, act_next, is_next_scan}
+use Rattle.cacheless.specs.Plays.{IsWrite, MayPlay}
+use Rattle.cacheless.specs.Session.{Session, Outcome, Unsettled, Well, Badly, none_open, number_of, outcome_of, is_settled}
+use Rattle.cacheless.specs.Sessions.{refused_with, is_wanted, written, resumed, noted}
+use Rattle.cacheless.specs.Settled.{class_oid}
+use Rattle.cacheless.proofs.Plans.ActOrder.{at_write}
+use Rattle.cacheless.proofs.Plans.SilentActs.{on_its_way, its_place, unrefused}
+use Rattle.cacheless.proofs.Allowed.StaysOnCourse.{has_written-quiet, rows_read-unscanned, IsAfter, MayCome, first_seen-more, named_out, way-more, sought-more, follows-more, over_stays}
+use Rattle.ddl_effect.specs.Commands.{plan_of}
+
+-- an entry that the running command of a backend may make next
+pub record OwnEntry (history : List Entry) (b : ℕ) (s : Session) (command : Command) (event : Event) : Type 0 where
+  pub may : MayCome history (entry_of b (number_of s) event)
+  pub plays : MayPlay (next_oid history) (facts_of history b) command s event
+  pub follows : FollowsPlan history b s command
+
+abbrev pub with_own : List Entry → ℕ → Session → Event → List Entry
+with_own history b s event = history ++ entry_of b (number_of s) event ∷ []
+
+-- the session after an entry that left this one
+pub record IsNoted (s later : Session) : Type 0 where
+  pub after : IsAfter s later
+  pub read : later.read ≡ s.read
+  pub ended : later.ended ≡ s.ended
+
+own_over : (history : List Entry) (b : ℕ) (s later : Session) (command : Command) (event : Event) → OwnEntry history b s command event → IsQuiet event → later.ended ≡ s.ended → is_over (last_event_of history b) s ≡ true → is_over (last_event_of (with_own history b s event) b) later ≡ true
+own_over history b s later command event own quiet same over =
+    ap (λ last. is_over last later) (last_event_of-own history (entry_of b (number_of s) event) b (eq-eqb b b refl)) ∙ over_stays (last_event_of history b) event s later own.may.comes.follows.gone quiet same over
+
+-- an entry that changes nothing of the command
+quiet_follows : (history : List Entry) (b : ℕ) (s later : Session) (command : Command) (event : Event) → OwnEntry history b s command event → IsQuiet event → is_write event ≡ false → ((name : List ℕ) → is_scan_of (scans.RelName name) event ≡ false) → IsNoted s later → FollowsPlan (with_own history b s event) b later command
+quiet_follows history b s later command event own quiet unwritten unread noted = follows-more history (entry_of b (number_of s) event) b s later command own.may (λ mine. quiet) (λ c. has_written-quiet history (entry_of b (number_of s) event) b c unwritten)
+    (λ name. rows_read-unscanned history (entry_of b (number_of s) event) b (scans.RelName name) (unread name)) (own_over history b s later command event own quiet noted.ended) noted.after noted.read own.follows
+
+-- an entry that shows an error
+error_follows : (seen : List Entry) (b : ℕ) (s later : Session) (command : Command) (error : CommandError) → (plan_of none_open command ≡ Done → s.opened ≡ []) → IsNoted (refused_with error s) later → FollowsPlan seen b later command
+error_follows seen b s later command error plain noted = record {
+  refused = λ shown is. noted.after.left ∙ (let both : Some error ≡ Some shown = sym noted.after.refused ∙ is in cc both);
+  way = λ none. absurd (let both : Some error ≡ None = sym noted.after.refused ∙ none in cc both);
+  named = subst (λ p. NamedFits seen b p later.read) (sym noted.after.left) tt;
+  sought = λ name is. absurd (let both : Fails error ≡ Absent name = sym noted.after.left ∙ is in cc both);
+  plain = λ none. noted.after.opened ∙ plain none;
+}
+
+-- a command that failed to find a relation makes no scan
+scan_there : (facts : Facts) (s : Session) (scan : Purpose) (plan : Plan) → s.left ≡ plan → is_next_scan scan facts s ≡ true → is_absent plan ≡ false
+scan_there facts s scan (Absent name) at is = absurd (let no : false ≡ true = sym (ap (λ p. list_any (same_scan scan) (elim (outcome_of p) as (λ x. List Purpose) [ Badly ↦ [] | other ↦ flat_map (λ (o : Opening). take 1 (unusable facts (build_scans o.kind o.rel))) s.opened ++ act_next facts s.locks s.read p ])) at) ∙ is in cc no)
+scan_there facts s scan plan at is = refl
+
+-- the first relation that a scan gives is seen
+first_seen : (history : List Entry) (b : ℕ) (d : Purpose) (given : List Row) → IsSound history → answer_of history b d ≡ given → IsFirstSeen history b given
+first_seen history b d (rows.Class rel own kind fill ∷ more) sound is = let seen = found_first history b d rel own kind fill more sound is in record { name = own; fill = seen.0; row = seen.1 }
+first_seen history b d given sound is = tt
+
+-- a scan
+scan_follows : (history : List Entry) (b : ℕ) (s later : Session) (command : Command) (scan : Purpose) (count : ℕ) → OwnEntry history b s command (events.Scan scan count) → IsNoted (record s { read = is_wanted scan s.left || s.read }) later
+    → FollowsPlan (with_own history b s (events.Scan scan count)) b later command
+scan_follows history b s later command scan count own noted = record {
+  refused = λ error is. after.left ∙ own.follows.refused error (sym after.refused ∙ is);
+  way = λ none. way-more history e b s later command own.may (λ mine. tt) (λ c. has_written-quiet history e b c refl) (own_over history b s later command (events.Scan scan count) own tt noted.ended) after (own.follows.way (sym after.refused ∙ none));
+  named = subst (λ p. NamedFits new b p later.read) (sym after.left) (subst (NamedFits new b s.left) (sym noted.read) (by_plan s.left there own.follows.named));
+  sought = λ name is. absurd (let both : false ≡ true = sym there ∙ ap is_absent (sym after.left ∙ is) in cc both);
+  plain = λ none. after.opened ∙ own.follows.plain none;
+}
+  where
+    e : Entry
+    e = entry_of b (number_of s) (events.Scan scan count)
+
+    new : List Entry
+    new = history ++ e ∷ []
+
+    after : IsAfter s later
+    after = let a = noted.after in record { left = a.left; refused = a.refused; opened = a.opened; found = a.found; sought = a.sought; finished = a.finished }
+
+    there : is_absent s.left ≡ false
+    there = scan_there (facts_of history b) s scan s.left refl own.plays.1
+
+    by_scan : (name : List ℕ) (read : Bool) (t : Bool) → same_scan scan (scans.RelName name) ≡ t → (read ≡ true → IsFirstSeen history b (rows_read history b (scans.RelName name))) → (t || read) ≡ true → IsFirstSeen new b (rows_read new b (scans.RelName name))
+    by_scan name read true is seen made = subst (IsFirstSeen new b) (sym (rows_read-own history e b (scans.RelName name) (eq-eqb b b refl) ∙ ap (λ u. elim u [ true ↦ answer_of history b (scans.RelName name) | false ↦ rows_read history b (scans.RelName name) ]) is))
+        (first_seen-more history e b (answer_of history b (scans.RelName name)) own.may (λ mine. tt) (first_seen history b (scans.RelName name) (answer_of history b (scans.RelName name)) own.may.sound refl))
+    by_scan name read false is seen made = subst (IsFirstSeen new b) (sym (rows_read-unscanned history e b (scans.RelName name) is)) (first_seen-more history e b (rows_read history b (scans.RelName name)) own.may (λ mine. tt) (seen made))
+
+    by_read : (name : List ℕ) (mode : Mode) (rest : List Row → Plan) (read now : Bool) → now ≡ (same_scan scan (scans.RelName name) || read) → NamedFits history b (Do (Lookup name mode) rest) read → NamedFits new b (Do (Lookup name mode) rest) now
+    by_read name mode rest read false is fits = tt
+    by_read name mode rest read true is fits = by_scan name read (same_scan scan (scans.RelName name)) refl (λ was. subst (NamedFits history b (Do (Lookup name mode) rest)) was fits) (sym is)
+
+    by_plan : (p : Plan) → is_absent p ≡ false → NamedFits history b p s.read → NamedFits new b p (is_wanted scan p || s.read)
+    by_plan (Do (Lookup name mode) rest) here fits = by_read name mode rest s.read (same_scan scan (scans.RelName name) || s.read) refl fits
+    by_plan (Do act rest) here fits = tt
+    by_plan (Absent name) here fits = absurd (cc here)
+    by_plan p here fits = tt
+
+-- where a scan of a name gave none, no relation is said to be seen
+none_first : (seen : List Entry) (b : ℕ) (given : List Row) → class_oid given ≡ None → IsFirstSeen seen b given
+none_first seen b (rows.Class rel own kind fill ∷ more) none = absurd (cc none)
+none_first seen b given none = tt
+
+-- a fetch brings a command that failed to find a relation back to its lookup
+brought_back : (history : List Entry) (b : ℕ) (s later : Session) (command : Command) (name : List ℕ) (event : Event) → OwnEntry history b s command event → is_write event ≡ false → ((own : List ℕ) → is_scan_of (scans.RelName own) event ≡ false) → s.left ≡ Absent name
+    → IsNoted (record s { left = s.sought; read = true; found = take (length s.found - 1) s.found }) later → FollowsPlan (with_own history b s event) b later command
+brought_back history b s later command name event own unwritten unread at noted = record {
+  refused = λ error is. absurd (let both : Absent name ≡ Fails error = sym at ∙ own.follows.refused error (sym after.refused ∙ is) in cc both);
+  way = λ none. Begun (record {
+    gave = [];
+    plan = after.left ∙ was.first;
+    found = after.found ∙ ap (λ n. take (n - 1) s.found) was.found;
+    opened = after.opened ∙ was.opened;
+    runs = was.runs;
+    holds = record { locked = tt; still = tt };
+    unwritten = ap (λ l. has_written new b (length l + 1)) after.finished ∙ has_written-quiet history e b (number_of s) unwritten ∙ was.unwritten;
+  });
+  named = subst (λ p. NamedFits new b p later.read) (sym (after.left ∙ was.looks)) (subst (NamedFits new b (Do (Lookup name was.mode) was.rest)) (sym noted.read)
+      (none_first new b (rows_read new b (scans.RelName name)) (ap class_oid (rows_read-unscanned history e b (scans.RelName name) (unread name)) ∙ subst (λ p. NamedFits history b p s.read) at own.follows.named)));
+  sought = λ other is. absurd (let both : Do (Lookup name was.mode) was.rest ≡ Absent other = sym (after.left ∙ was.looks) ∙ is in cc both);
+  plain = λ none. after.opened ∙ was.opened;
+}
+  where
+    e : Entry
+    e = entry_of b (number_of s) event
+
+    new : List Entry
+    new = history ++ e ∷ []
+
+    after : IsAfter (record s { left = s.sought; read = true; found = take (length s.found - 1) s.found }) later
+    after = noted.after
+
+    was : WasSought history b s command name
+    was = own.follows.sought name at
+
+-- a fetch
+fetch_follows : (history : List Entry) (b : ℕ) (s later : Session) (command : Command) (event : Event) → OwnEntry history b s command event → IsQuiet event → is_write event ≡ false → ((name : List ℕ) → is_scan_of (scans.RelName name) event ≡ false) → IsNoted (resumed s.left s) later
+    → FollowsPlan (with_own history b s event) b later command
+fetch_follows history b s later command event own quiet unwritten unread noted = by_plan s.left refl noted
+  where
+    by_plan : (p : Plan) → s.left ≡ p → IsNoted (resumed p s) later → FollowsPlan (with_own history b s event) b later command
+    by_plan (Absent name) at is = brought_back history b s later command name event own unwritten unread at is
+    by_plan p at is = quiet_follows history b s later command event own quiet unwritten unread is
+
+-- the backend has written in the command, after its write
+written_now : (history : List Entry) (b c : ℕ) (xid : Xid) (items : List Item) → has_written (history ++ entry_of b c (events.Write xid items) ∷ []) b c ≡ true
+written_now history b c xid items = has_written-more history (entry_of b c (events.Write xid items)) b c
+    ∙ (λ i. has_written history b c || (eq-eqb b b refl i && eq-eqb c c refl i && true)) ∙ or-true (has_written history b c)
+
+-- a write
+write_follows : (history : List Entry) (b : ℕ) (s later : Session) (command : Command) (xid : Xid) (items : List Item) → OwnEntry history b s command (events.Write xid items) → IsNoted (written s.left s) later → FollowsPlan (with_own history b s (events.Write xid items)) b later command
+write_follows history b s later command xid items own noted = by_plan s.left refl own.plays.1 noted
+  where
+    new : List Entry
+    new = with_own history b s (events.Write xid items)
+
+    by_plan : (p : Plan) → s.left ≡ p → IsWrite (next_oid history) p items → IsNoted (written p s) later → FollowsPlan new b later command
+    by_plan (Do (Write draft) rest) at writes is = record {
+      refused = λ error shown. absurd (let both : None ≡ Some error = sym (unrefused history b s command (Write draft) rest own.follows at) ∙ sym is.after.refused ∙ shown in cc both);
+      way = λ none. Wrote (record {
+        gave = way.gave;
+        draft = draft;
+        further = rest;
+        came = sym way.plan ∙ at;
+        plan = done;
+        written = ap (λ l. has_written new b (length l + 1)) is.after.finished ∙ written_now history b (number_of s) xid items;
+      });
+      named = subst (λ p. NamedFits new b p later.read) (sym done) tt;
+      sought = λ name absent. absurd (let both : Done ≡ Absent name = sym done ∙ absent in cc both);
+      plain = λ none. is.after.opened;
+    }
+      where
+        way : OnItsWay history b s command
+        way = on_its_way history b s command (Write draft) rest own.follows at
+
+        done : later.left ≡ Done
+        done = is.after.left ∙ (at_write _ _ draft rest (its_place history b s command (Write draft) rest way at)).0 []
+    by_plan (Do (Lookup name mode) rest) at writes is = absurd writes
+    by_plan (Do (Open rel kind) rest) at writes is = absurd writes
+    by_plan (Do (Column rel name) rest) at writes is = absurd writes
+    by_plan (Do (Read scan) rest) at writes is = absurd writes
+    by_plan (Do (Lock rel mode) rest) at writes is = absurd writes
+    by_plan Done at writes is = absurd writes
+    by_plan (Fails error) at writes is = absurd writes
+    by_plan (Absent name) at writes is = absurd writes
+    by_plan NotBuilt at writes is = absurd writes
+
+-- a command that is at its end has come out
+pub ends_out : (facts : Facts) (command : Command) (s : Session) (event : Event) → end_left facts command s ≡ Some event → is_settled (outcome_of s.left) ≡ true
+ends_out facts command s event is = by_outcome (outcome_of s.left) (by_ended s.ended is)
+  where
+    by_ended : (t : Bool) → elim t as (λ x. Option Event) [ true ↦ None | false ↦ next_of_end facts (end_of facts command s) ] ≡ Some event → next_of_end facts (end_of facts command s) ≡ Some event
+    by_ended true left = absurd (cc left)
+    by_ended false left = left
+
+    by_outcome : (o : Outcome) → next_of_end facts (elim o as (λ x. End) [ Well ↦ end_well facts command s | Badly ↦ end_badly s | Unsettled ↦ Ends ]) ≡ Some event → is_settled o ≡ true
+    by_outcome Unsettled left = absurd (cc left)
+    by_outcome Well left = refl
+    by_outcome Badly left = refl
+
+-- a taking back, or a release
+over_follows : (history : List Entry) (b : ℕ) (s later : Session) (command : Command) (event : Event) → OwnEntry history b s command event → is_settled (outcome_of s.left) ≡ true → is_write event ≡ false → ((name : List ℕ) → is_scan_of (scans.RelName name) event ≡ false) → is_over (Some event) later ≡ true → IsAfter s later
+    → FollowsPlan (with_own history b s event) b later command
+over_follows history b s later command event own out unwritten unread over after = record {
+  refused = λ error is. after.left ∙ own.follows.refused error (sym after.refused ∙ is);
+  way = λ none. Over (record { out = ap (λ p. is_settled (outcome_of p)) after.left ∙ out; over = ap (λ last. is_over last later) (last_event_of-own history e b (eq-eqb b b refl)) ∙ over });
+  named = subst (λ p. NamedFits new b p later.read) (sym after.left) (named_out history e b s.left s.read later.read out (λ name. rows_read-unscanned history e b (scans.RelName name) (unread name)) own.follows.named);
+  sought = λ name is. sought-more history e b s later command name (λ c. has_written-quiet history e b c unwritten) after (own.follows.sought name (sym after.left ∙ is));
+  plain = λ none. after.opened ∙ own.follows.plain none;
+}
+  where
+    e : Entry
+    e = entry_of b (number_of s) event
+
+    new : List Entry
+    new = history ++ e ∷ []
+
+-- whichever entry it is
+pub own_follows : (history : List Entry) (b : ℕ) (s later : Session) (command : Command) (event : Event) → OwnEntry history b s command event → IsNoted (noted event s) later → FollowsPlan (with_own history b s event) b later command
+own_follows history b s later command (events.Look some_wait) own noted = quiet_follows history b s later command (events.Look some_wait) own tt refl (λ name. refl) noted
+own_follows history b s later command (events.Fetch count) own noted = fetch_follows history b s later command (events.Fetch count) own tt refl (λ name. refl) noted
+own_follows history b s later command events.FetchReset own noted = fetch_follows history b s later command events.FetchReset own tt refl (λ name. refl) noted
+own_follows history b s later command (events.Scan scan count) own noted = scan_follows history b s later command scan count own noted
+own_follows history b s later command (events.LockOk rel mode) own noted = quiet_follows history b s later command (events.LockOk rel mode) own tt refl (λ name. refl) noted
+own_follows history b s later command (events.LockHeld rel mode holder held) own noted = error_follows (with_own history b s (events.LockHeld rel mode holder held)) b s later command (errors.Locked rel holder held) own.follows.plain noted
+own_follows history b s later command (events.Write xid items) own noted = write_follows history b s later command xid items own noted
+own_follows history b s later command (events.ClashRow name rel) own noted = error_follows (with_own history b s (events.ClashRow name rel)) b s later command (errors.RelationExists name) own.follows.plain noted
+own_follows history b s later command (events.ClashRunning name xid) own noted = error_follows (with_own history b s (events.ClashRunning name xid)) b s later command (errors.NameInUse name xid) own.follows.plain noted
+own_follows history b s later command (events.Visible xid) own noted = quiet_follows history b s later command (events.Visible xid) own tt refl (λ name. refl) noted
+own_follows history b s later command (events.Publish count) own noted = quiet_follows history b s later command (events.Publish count) own tt refl (λ name. refl) noted
+own_follows history b s later command (events.Gone from) own noted =
+    over_follows history b s later command (events.Gone from) own (ends_out (facts_of history b) command s (events.Gone from) own.plays.1) refl (λ name. refl) refl noted.after
+own_follows history b s later command (events.Release from) own noted =
+    over_follows history b s later command (events.Release from) own (ends_out (facts_of history b) command s (events.Release from) own.plays.1) refl (λ name. refl) noted.ended
+    (let a = noted.after in record { left = a.left; refused = a.refused; opened = a.opened; found = a.found; sought = a.sought; finished = a.finished })
+own_follows history b s later command event own noted = absurd own.plays

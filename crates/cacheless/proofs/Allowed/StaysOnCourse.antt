@@ -1,0 +1,165 @@
+-- A command that does what its plan says still does after one more entry of another backend, or of its own that is no write, release or taking back.
+use Rattle.std.proofs.Common.{◌≡◌, ◌+◌, ◌<◌, ◌∙◌, ℕ, Bool, true, false, Option, Some, List, [], ◌∷◌, ◌++◌, ◌==◌, ◌&&◌, ◌||◌, refl, sym, ap, subst, length, arith}
+use Rattle.std.proofs.Math.Bool.{and-false, or-false}
+use Rattle.std.proofs.lemmas.Bool.{ne_eqb}
+use Rattle.base_types.specs.declared.row.Row.TheVariants as rows
+use Rattle.base_types.specs.declared.scan.Purpose.TheVariants as scans
+use Rattle.event_kinds.specs.declared.entry.Event.TheVariants as events
+use Rattle.ddl_effect.specs.Plans.{Plan, Absent, Do, Lookup}
+use Rattle.ddl_effect.specs.Commands.{plan_of}
+use Rattle.history_model.specs.Legal.{FollowsGone}
+use Rattle.history_model.specs.Lives.{last_event_of}
+use Rattle.history_model.specs.Orderly.{MayComeNext, IsSound}
+use Rattle.history_model.specs.Prefixes.{EachEntry}
+use Rattle.history_model.specs.Read.{is_scan_of, rows_read}
+use Rattle.history_model.specs.Versions.{answer_of}
+use Rattle.history_model.specs.Writes.{has_written, is_write}
+use Rattle.history_model.proofs.Locked.{IsQuiet, IsIdle}
+use Rattle.history_model.proofs.Reading.{has_written-more, rows_read-own, rows_read-other}
+use Rattle.cacheless.specs.Types.{Row, Purpose, Command, Entry, Event}
+use Rattle.cacheless.specs.OnCourse.{OnItsWay, is_over, Way, Begun, Wrote, Unbuilt, Over, IsFirstSeen, NamedFits, WasSought, FollowsPlan}
+use Rattle.cacheless.specs.Session.{Session, none_open, number_of, outcome_of, is_settled}
+use Rattle.cacheless.specs.Settled.{class_oid}
+use Rattle.cacheless.specs.TableWrites.{WritesTables}
+use Rattle.cacheless.proofs.Plans.ActOrder.{follows_order}
+use Rattle.cacheless.proofs.Plans.StillLocked.{way_stays}
+use Rattle.cacheless.proofs.StillSeen.{IsNoGone, TakesNoneBack, relation_stays}
+
+-- the commands in which a backend has written, after an entry that is no write
+pub has_written-quiet : (history : List Entry) (e : Entry) (b c : ℕ) → is_write e.event ≡ false → has_written (history ++ e ∷ []) b c ≡ has_written history b c
+has_written-quiet history e b c quiet = has_written-more history e b c ∙ ap (λ t. has_written history b c || ((e.backend == b) && (e.command == c) && t)) quiet ∙ ap (λ t. has_written history b c || t) (and-false ((e.backend == b) && (e.command == c))) ∙ or-false (has_written history b c)
+
+-- and after another's
+pub has_written-other : (history : List Entry) (e : Entry) (b c : ℕ) → (e.backend == b) ≡ false → has_written (history ++ e ∷ []) b c ≡ has_written history b c
+has_written-other history e b c other = has_written-more history e b c ∙ ap (λ t. has_written history b c || (t && (e.command == c) && is_write e.event)) other ∙ or-false (has_written history b c)
+
+-- no later command has written, after any entry of an earlier one
+pub has_written-earlier : (history : List Entry) (e : Entry) (b c : ℕ) → e.command < c → has_written history b c ≡ false → has_written (history ++ e ∷ []) b c ≡ false
+has_written-earlier history e b c earlier none = has_written-more history e b c
+    ∙ (λ i. none i || ((e.backend == b) && ne_eqb e.command c (λ same. absurd (omega (arith, same, earlier))) i && is_write e.event)) ∙ ap (λ t. t && is_write e.event) (and-false (e.backend == b))
+
+-- what the last scan for a purpose gave, after an entry that isn't this scan
+pub rows_read-unscanned : (history : List Entry) (e : Entry) (b : ℕ) (scan : Purpose) → is_scan_of scan e.event ≡ false → rows_read (history ++ e ∷ []) b scan ≡ rows_read history b scan
+rows_read-unscanned history e b scan others = by_owner (e.backend == b) refl
+  where
+    by_owner : (t : Bool) → (e.backend == b) ≡ t → rows_read (history ++ e ∷ []) b scan ≡ rows_read history b scan
+    by_owner true own = rows_read-own history e b scan own ∙ ap (λ t. elim t [ true ↦ answer_of history b scan | false ↦ rows_read history b scan ]) others
+    by_owner false other = rows_read-other history e b scan other
+
+-- a session that is as far in its command
+pub record IsAfter (s later : Session) : Type 0 where
+  pub left : later.left ≡ s.left
+  pub refused : later.refused ≡ s.refused
+  pub opened : later.opened ≡ s.opened
+  pub found : later.found ≡ s.found
+  pub sought : later.sought ≡ s.sought
+  pub finished : later.finished ≡ s.finished
+
+-- an entry that may come next, after a sound history of which each write keeps tables, as it does itself
+pub record MayCome (history : List Entry) (e : Entry) : Type 0 where
+  pub sound : IsSound history
+  pub tables : EachEntry WritesTables history
+  pub comes : MayComeNext history e
+  pub keeps : WritesTables history e
+
+-- it isn't a write of the backend
+abbrev pub LeavesWrites : List Entry → Entry → ℕ → Type 0
+LeavesWrites history e b = (c : ℕ) → has_written (history ++ e ∷ []) b c ≡ has_written history b c
+
+-- it isn't a scan of a name by the backend
+abbrev pub LeavesNames : List Entry → Entry → ℕ → Type 0
+LeavesNames history e b = (name : List ℕ) → rows_read (history ++ e ∷ []) b (scans.RelName name) ≡ rows_read history b (scans.RelName name)
+
+number_same : (s later : Session) → IsAfter s later → number_of later ≡ number_of s
+number_same s later after = ap (λ l. length l + 1) after.finished
+
+-- a command that has taken no writes back and released nothing
+begun-more : (history : List Entry) (e : Entry) (b : ℕ) (s later : Session) (command : Command) → MayCome history e → IsIdle b history e → LeavesWrites history e b → IsAfter s later → OnItsWay history b s command → OnItsWay (history ++ e ∷ []) b later command
+begun-more history e b s later command may idle writes after way = record {
+  gave = way.gave;
+  plan = after.left ∙ way.plan;
+  found = after.found ∙ way.found;
+  opened = after.opened ∙ way.opened;
+  runs = way.runs;
+  holds = way_stays history e b way.gave (plan_of none_open command) may.sound may.comes idle (follows_order none_open command way.runs) way.holds;
+  unwritten = ap (has_written (history ++ e ∷ []) b) (number_same s later after) ∙ writes (number_of s) ∙ way.unwritten;
+}
+
+-- how far it is
+pub way-more : (history : List Entry) (e : Entry) (b : ℕ) (s later : Session) (command : Command) → MayCome history e → IsIdle b history e → LeavesWrites history e b → (is_over (last_event_of history b) s ≡ true → is_over (last_event_of (history ++ e ∷ []) b) later ≡ true) → IsAfter s later
+    → Way history b s command → Way (history ++ e ∷ []) b later command
+way-more history e b s later command may idle writes over after (Begun way) = Begun (begun-more history e b s later command may idle writes after way)
+way-more history e b s later command may idle writes over after (Wrote w) = Wrote (record {
+  gave = w.gave;
+  draft = w.draft;
+  further = w.further;
+  came = w.came;
+  plan = after.left ∙ w.plan;
+  written = ap (has_written (history ++ e ∷ []) b) (number_same s later after) ∙ writes (number_of s) ∙ w.written;
+})
+way-more history e b s later command may idle writes over after (Unbuilt w) = Unbuilt (record { plan = after.left ∙ w.plan })
+way-more history e b s later command may idle writes over after (Over w) = Over (record { out = ap (λ p. is_settled (outcome_of p)) after.left ∙ w.out; over = over w.over })
+
+-- the relation that the first row names
+pub first_seen-more : (history : List Entry) (e : Entry) (b : ℕ) (given : List Row) → MayCome history e → TakesNoneBack b history e → IsFirstSeen history b given → IsFirstSeen (history ++ e ∷ []) b given
+first_seen-more history e b (rows.Class rel own kind fill ∷ more) may none seen =
+    let still = relation_stays history e b rel seen.name kind may.sound may.tables may.comes may.keeps none (seen.fill, seen.row) in record { name = seen.name; fill = still.0; row = still.1 }
+first_seen-more history e b given may none seen = tt
+
+-- what the scan of a name gave
+pub named-more : (history : List Entry) (e : Entry) (b : ℕ) (plan : Plan) (read : Bool) → MayCome history e → TakesNoneBack b history e → LeavesNames history e b → NamedFits history b plan read → NamedFits (history ++ e ∷ []) b plan read
+named-more history e b (Do (Lookup name mode) rest) true may none names fits =
+    subst (IsFirstSeen (history ++ e ∷ []) b) (sym (names name)) (first_seen-more history e b (rows_read history b (scans.RelName name)) may none fits)
+named-more history e b (Do (Lookup name mode) rest) false may none names fits = tt
+named-more history e b (Do act rest) read may none names fits = tt
+named-more history e b (Absent name) read may none names fits = ap class_oid (names name) ∙ fits
+named-more history e b plan read may none names fits = tt
+
+-- the same of a command that has come out, after any entry that is no scan of a name
+pub named_out : (history : List Entry) (e : Entry) (b : ℕ) (plan : Plan) (read now : Bool) → is_settled (outcome_of plan) ≡ true → LeavesNames history e b → NamedFits history b plan read → NamedFits (history ++ e ∷ []) b plan now
+named_out history e b (Do act rest) read now out names fits = absurd (cc)
+named_out history e b (Absent name) read now out names fits = ap class_oid (names name) ∙ fits
+named_out history e b plan read now out names fits = tt
+
+-- a command that failed to find a relation
+pub sought-more : (history : List Entry) (e : Entry) (b : ℕ) (s later : Session) (command : Command) (name : List ℕ) → LeavesWrites history e b → IsAfter s later → WasSought history b s command name → WasSought (history ++ e ∷ []) b later command name
+sought-more history e b s later command name writes after was = record {
+  mode = was.mode;
+  rest = was.rest;
+  looks = after.sought ∙ was.looks;
+  first = after.sought ∙ was.first;
+  runs = was.runs;
+  found = ap length after.found ∙ was.found;
+  opened = after.opened ∙ was.opened;
+  unwritten = ap (has_written (history ++ e ∷ []) b) (number_same s later after) ∙ writes (number_of s) ∙ was.unwritten;
+}
+
+quiet_back : (event : Event) → IsQuiet event → IsNoGone event
+quiet_back (events.Gone from) quiet = quiet
+quiet_back event quiet = tt
+
+-- the running command as a whole
+pub follows-more : (history : List Entry) (e : Entry) (b : ℕ) (s later : Session) (command : Command) → MayCome history e → IsIdle b history e → LeavesWrites history e b → LeavesNames history e b
+    → (is_over (last_event_of history b) s ≡ true → is_over (last_event_of (history ++ e ∷ []) b) later ≡ true) → IsAfter s later → later.read ≡ s.read → FollowsPlan history b s command → FollowsPlan (history ++ e ∷ []) b later command
+follows-more history e b s later command may idle writes names over after read follows = record {
+  refused = λ error is. after.left ∙ follows.refused error (sym after.refused ∙ is);
+  way = λ none. way-more history e b s later command may idle writes over after (follows.way (sym after.refused ∙ none));
+  named = subst (λ p. NamedFits (history ++ e ∷ []) b p later.read) (sym after.left) (subst (NamedFits (history ++ e ∷ []) b s.left) (sym read)
+      (named-more history e b s.left s.read may (λ own. quiet_back e.event (idle own)) names follows.named));
+  sought = λ name is. sought-more history e b s later command name writes after (follows.sought name (sym after.left ∙ is));
+  plain = λ none. after.opened ∙ follows.plain none;
+}
+
+-- after a taking back only the release comes
+over_before : (last : Option Event) (event : Event) (s : Session) → FollowsGone last event → IsQuiet event → is_over last s ≡ true → s.ended ≡ true
+over_before (Some (events.Gone from)) (events.Release to) s gone quiet over = absurd quiet
+over_before (Some (events.Gone from)) event s gone quiet over = absurd gone
+over_before last event s gone quiet over = over
+
+over_after : (event : Event) (later : Session) → IsQuiet event → later.ended ≡ true → is_over (Some event) later ≡ true
+over_after (events.Gone from) later quiet ended = absurd quiet
+over_after event later quiet ended = ended
+
+-- so a command that is over stays so with each further entry
+pub over_stays : (last : Option Event) (event : Event) (s later : Session) → FollowsGone last event → IsQuiet event → later.ended ≡ s.ended → is_over last s ≡ true → is_over (Some event) later ≡ true
+over_stays last event s later gone quiet same over = over_after event later quiet (same ∙ over_before last event s gone quiet over)

@@ -1,0 +1,9 @@
+-- What a command answers.
+pub mod ReadPlaces
+pub mod OpenedOne
+pub mod ToldFields
+pub mod ToldAnswers
+pub mod JudgedLines
+pub mod OpenedReads
+pub mod ToldAlike
+pub mod KeptTells

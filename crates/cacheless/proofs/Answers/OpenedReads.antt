@@ -1,0 +1,82 @@
+-- What a command reads is of a descriptor that it has opened before.
+use Rattle.std.proofs.Common.{◌≡◌, ◌-◌, ◌∙◌, ℕ, true, false, ◌||◌, Option, Some, None, List, [], ◌∷◌, ◌++◌, refl, sym, ap, subst, Contains}
+use Rattle.std.proofs.lemmas.List.{append-nil}
+use Rattle.std.proofs.lemmas.List.Folds.{list_any_at}
+use Rattle.base_types.specs.Scans.{same_scan, build_scans}
+use Rattle.base_types.specs.declared.row.Row.TheVariants as rows
+use Rattle.base_types.proofs.SameScan.{same_scan-itself}
+use Rattle.ddl_effect.specs.Plans.{Plan, Act, Do, Lookup, Open, Column, Read, Lock, Write}
+use Rattle.ddl_effect.specs.Commands.{plan_of, found}
+use Rattle.cacheless.specs.Runs.{runs}
+use Rattle.txn_blocks.specs.Blocks.{Blocks, refused_by}
+use Rattle.cacheless.specs.Session.{none_open, outcome_of, is_settled, plan_admitted, plan_first}
+use Rattle.cacheless.specs.Settled.{opened_by}
+use Rattle.cacheless.proofs.Plans.ActOrder.{FollowsOpen, FollowsFound, FollowsOrder, follows_order}
+use Rattle.cacheless.proofs.Plans.EffectAlong.{plain_row}
+use Rattle.cacheless.specs.Types.{Oid, Mode, Kind, Row, Purpose, Command, CommandError, Opening}
+use Rattle.cacheless.specs.OpenedReads.{is_of_opened, ReadsOpened}
+
+-- a plan that has come out reads nothing
+pub reads_out : (opened : List Opening) (plan : Plan) → is_settled (outcome_of plan) ≡ true → ReadsOpened opened plan
+reads_out opened (Do act rest) out = absurd (cc)
+reads_out opened plan out = tt
+
+-- a scan of the one descriptor that is open
+of_one : (rel : Oid) (kind : Kind) (scan : Purpose) → Contains (build_scans kind rel) scan → is_of_opened scan (record { rel = rel; kind = kind } ∷ []) ≡ true
+of_one rel kind scan has = ap (λ t. t || false) (list_any_at (same_scan scan) (build_scans kind rel) has.0 scan has.1 (ap (same_scan scan) has.2 ∙ same_scan-itself scan))
+
+-- a plan that keeps the order of acts reads so
+reads_open : (most : ℕ) (rel : Oid) (kind : Kind) (plan : Plan) → FollowsOpen most rel kind plan → ReadsOpened (record { rel = rel; kind = kind } ∷ []) plan
+reads_open most rel kind (Do (Lookup name mode) rest) follows = absurd follows
+reads_open most rel kind (Do (Open of as_kind) rest) follows = absurd follows
+reads_open most rel kind (Do (Column of name) rest) follows = λ given. reads_open (most - 1) rel kind (rest given) (follows.3 given)
+reads_open most rel kind (Do (Read scan) rest) follows = (of_one rel kind scan follows.1, λ given. reads_open (most - 1) rel kind (rest given) (follows.2 given))
+reads_open most rel kind (Do (Lock of mode) rest) follows = absurd follows
+reads_open most rel kind (Do (Write draft) rest) follows = λ given. subst (ReadsOpened (record { rel = rel; kind = kind } ∷ [])) (sym (follows.3 given)) tt
+reads_open most rel kind plan follows = tt
+
+reads_found : (mode : Mode) (rel : Oid) (kind : Kind) (plan : Plan) → FollowsFound mode rel kind plan → ReadsOpened [] plan
+reads_found mode rel kind (Do (Open of as_kind) rest) follows = λ given.
+    subst (λ o. ReadsOpened (record { rel = o; kind = as_kind } ∷ []) (rest given)) (sym follows.0) (subst (λ k. ReadsOpened (record { rel = rel; kind = k } ∷ []) (rest given)) (sym follows.1)
+    (subst (ReadsOpened (record { rel = rel; kind = kind } ∷ [])) (sym (follows.2 given)) (reads_open 3 rel kind (rest []) follows.3)))
+reads_found mode rel kind (Do (Lookup name as_mode) rest) follows = absurd follows
+reads_found mode rel kind (Do (Column of name) rest) follows = absurd follows
+reads_found mode rel kind (Do (Read scan) rest) follows = absurd follows
+reads_found mode rel kind (Do (Lock of as_mode) rest) follows = absurd follows
+reads_found mode rel kind (Do (Write draft) rest) follows = absurd follows
+reads_found mode rel kind plan follows = tt
+
+reads_order : (plan : Plan) → FollowsOrder plan → ReadsOpened [] plan
+reads_order (Do (Lookup name mode) rest) follows = λ given. by_rows given (follows.0 given)
+  where
+    by_rows : (given : List Row) → rest given ≡ found name (λ rel kind. rest (plain_row rel kind)) given → ReadsOpened [] (rest given)
+    by_rows [] is = subst (ReadsOpened []) (sym is) tt
+    by_rows (rows.Class rel own kind fill ∷ more) is = subst (ReadsOpened []) (sym is) (reads_found mode rel kind (rest (plain_row rel kind)) (follows.1 rel kind))
+    by_rows (row ∷ more) is = subst (ReadsOpened []) (sym is) tt
+reads_order (Do (Open of as_kind) rest) follows = absurd follows
+reads_order (Do (Column of name) rest) follows = absurd follows
+reads_order (Do (Read scan) rest) follows = absurd follows
+reads_order (Do (Lock of as_mode) rest) follows = absurd follows
+reads_order (Do (Write draft) rest) follows = λ given. subst (ReadsOpened []) (sym (follows.1 given)) tt
+reads_order plan follows = tt
+
+reads_admitted : (refused : Option CommandError) (command : Command) → runs command ≡ true → ReadsOpened [] (plan_admitted refused command)
+reads_admitted (Some error) command built = tt
+reads_admitted None command built = reads_order (plan_of none_open command) (follows_order none_open command built)
+
+-- so each command does from its beginning
+pub reads_first : (blocks : Blocks) (o : Option Command) → ((command : Command) → o ≡ Some command → runs command ≡ true) → ReadsOpened [] (plan_first blocks o)
+reads_first blocks None built = tt
+reads_first blocks (Some command) built = reads_admitted (refused_by blocks command) command (built command refl)
+
+-- one act more
+pub reads_after : (opened : List Opening) (act : Act) (rest : List Row → Plan) (given : List Row) (now : List Opening) (plan : Plan) → ReadsOpened opened (Do act rest) → now ≡ opened ++ opened_by act → plan ≡ rest given → ReadsOpened now plan
+reads_after opened act rest given now plan reads pushed on = subst (λ o. ReadsOpened o plan) (sym pushed) (subst (ReadsOpened (opened ++ opened_by act)) (sym on) (by_act act reads))
+  where
+    by_act : (a : Act) → ReadsOpened opened (Do a rest) → ReadsOpened (opened ++ opened_by a) (rest given)
+    by_act (Read scan) all = subst (λ o. ReadsOpened o (rest given)) (sym (append-nil opened)) (all.1 given)
+    by_act (Lookup name mode) all = all given
+    by_act (Open rel kind) all = all given
+    by_act (Column rel name) all = all given
+    by_act (Lock rel mode) all = all given
+    by_act (Write draft) all = all given

@@ -1,0 +1,96 @@
+-- A field as it is told by the last scan for it is what the definition shows.
+use Rattle.std.proofs.Common.{◌≡◌, ◌∙◌, ℕ, Bool, true, false, not, Some, None, List, [], ◌∷◌, cond, if◌then◌else◌, refl, ap, map}
+use Rattle.std.specs.List.{AllByRecursion}
+use Rattle.std.specs.Option.{option_map_or}
+use Rattle.base_types.specs.Fields.{field_text, fields_of, has_field, read_by}
+use Rattle.base_types.specs.Scans.{build_scans}
+use Rattle.base_types.specs.declared.field.Field.TheVariants as fields
+use Rattle.base_types.specs.declared.kind.Kind.TheVariants.{Table, Index}
+use Rattle.command_answers.specs.declared.answer.Answer.TheVariants as answers
+use Rattle.lock_modes.specs.Own.{clear_modes}
+use Rattle.history_model.specs.Read.{place_read, rows_read, is_usable}
+use Rattle.history_model.specs.Versions.{fresh_text}
+use Rattle.cacheless.specs.Types.{Oid, Kind, Field, Purpose, Shown, Opening, OwnLock, Scenario, Entry}
+use Rattle.cacheless.specs.Facts.{Facts, facts_of}
+use Rattle.cacheless.specs.Lines.{read_field, shown_field, shown_fields}
+use Rattle.cacheless.specs.Owed.{unusable, builds_owed}
+use Rattle.cacheless.specs.Protected.{protects, is_protected}
+use Rattle.cacheless.specs.Session.{Session}
+use Rattle.cacheless.specs.Told.{told_field, told_fields}
+use Rattle.cacheless.proofs.ProtectedFields.{protected_fresh}
+use Rattle.cacheless.proofs.Answers.ReadPlaces.{read_at_place}
+use Rattle.cacheless.proofs.Plans.SilentActs.{both_empty}
+use Rattle.cacheless.proofs.Allowed.SettledCourse.{HasSession}
+
+-- the scan of a field is one of those that build the descriptor
+pub field_among : (P : Purpose → Type 0) (kind : Kind) (rel : Oid) (field : Field) → has_field kind field ≡ true → AllByRecursion P (build_scans kind rel) → P (read_by field rel)
+field_among P Table rel fields.Name has all = all.0
+field_among P Table rel fields.Columns has all = all.1.0
+field_among P Table rel fields.Defaults has all = all.1.1.0
+field_among P Table rel fields.Statistics has all = all.1.0
+field_among P Table rel fields.Fillfactor has all = all.0
+field_among P Table rel fields.Constraints has all = all.1.1.1.0
+field_among P Table rel fields.Referenced has all = all.1.1.1.0
+field_among P Table rel fields.Indexes has all = all.1.1.1.1.0
+field_among P Table rel fields.Triggers has all = all.1.1.1.1.1.0
+field_among P Table rel field has all = absurd (cc)
+field_among P Index rel fields.Name has all = all.0
+field_among P Index rel fields.Of has all = all.1.0
+field_among P Index rel fields.Valid has all = all.1.0
+field_among P Index rel field has all = absurd (cc)
+
+-- where none is owed, each is usable
+pub none_unusable : (facts : Facts) (wanted : List Purpose) → unusable facts wanted ≡ [] → AllByRecursion (λ scan. facts.usable scan ≡ true) wanted
+none_unusable facts [] none = tt
+none_unusable facts (scan ∷ wanted) none = by_first (facts.usable scan) refl none (none_unusable facts wanted)
+  where
+    by_first : (t : Bool) → facts.usable scan ≡ t → cond (not t) (scan ∷ unusable facts wanted) (unusable facts wanted) ≡ [] → (unusable facts wanted ≡ [] → AllByRecursion (λ s. facts.usable s ≡ true) wanted)
+        → (facts.usable scan ≡ true) × AllByRecursion (λ s. facts.usable s ≡ true) wanted
+    by_first true is nothing rest = (is, rest nothing)
+    by_first false is nothing rest = absurd (cc nothing)
+
+-- a backend in a played history, which has these locks and may rely on all scans for the descriptor of a relation
+pub record CanTell (scenario : Scenario) (seen : List Entry) (b : ℕ) (locks : List OwnLock) (o : Opening) : Type 0 where
+  pub has : HasSession scenario seen b locks
+  pub builds : builds_owed (facts_of seen b) (o ∷ []) ≡ []
+
+-- a field of the relation: as it was read, and where it is protected, as it is now
+pub field_told : (scenario : Scenario) (seen : List Entry) (b : ℕ) (locks : List OwnLock) (o : Opening) (field : Field) → CanTell scenario seen b locks o → has_field o.kind field ≡ true
+    → shown_field scenario seen b o.rel o.kind field ≡ told_field (rows_read seen b) (place_read seen b) locks o field
+field_told scenario seen b locks o field can has =
+    ap (λ t. elim t [ true ↦ record { field = field; value = fresh_text seen b o.rel field; at = None } | false ↦ read_field seen b o.rel field ]) guarded ∙ by_guard (protects (clear_modes locks o.rel) o.kind field) guarded
+  where
+    scan : Purpose
+    scan = read_by field o.rel
+
+    guarded : is_protected scenario seen b o.rel o.kind field ≡ protects (clear_modes locks o.rel) o.kind field
+    guarded = ap (λ s. protects (option_map_or (λ (x : Session). clear_modes x.locks o.rel) s []) o.kind field) can.has.is ∙ ap (λ l. protects (clear_modes l o.rel) o.kind field) can.has.holds
+
+    usable : is_usable seen b scan ≡ true
+    usable = field_among (λ d. is_usable seen b d ≡ true) o.kind o.rel field has (none_unusable (facts_of seen b) (build_scans o.kind o.rel) (both_empty (unusable (facts_of seen b) (build_scans o.kind o.rel)) [] can.builds).0)
+
+    now : is_protected scenario seen b o.rel o.kind field ≡ true → fresh_text seen b o.rel field ≡ field_text field o.rel (rows_read seen b scan)
+    now protected = protected_fresh scenario seen b o.rel o.kind field can.has.played.sound can.has.played.plays has protected usable
+
+    by_guard : (t : Bool) → is_protected scenario seen b o.rel o.kind field ≡ t → ◌≡◌ {A = Shown} (elim t [ true ↦ record { field = field; value = fresh_text seen b o.rel field; at = None } | false ↦ read_field seen b o.rel field ])
+        (record { field = field; value = field_text field o.rel (rows_read seen b scan); at = if t then None else Some (place_read seen b scan) })
+    by_guard true is = λ i. record { field = field; value = now is i; at = None }
+    by_guard false is = λ i. record { field = field; value = field_text field o.rel (read_at_place seen b scan i); at = Some (place_read seen b scan) }
+
+pub each_has : (kind : Kind) → AllByRecursion (λ field. has_field kind field ≡ true) (fields_of kind)
+each_has Table = (refl, (refl, (refl, (refl, (refl, (refl, (refl, (refl, (refl, tt)))))))))
+each_has Index = (refl, (refl, (refl, tt)))
+
+pub map_same : {X Y : Type 0} (P : X → Type 0) (f g : X → Y) → ((x : X) → P x → f x ≡ g x) → (xs : List X) → AllByRecursion P xs → map f xs ≡ map g xs
+map_same P f g same [] all = refl
+map_same P f g same (x ∷ xs) all = ap (λ y. y ∷ map f xs) (same x all.0) ∙ ap (λ ys. g x ∷ ys) (map_same P f g same xs all.1)
+
+-- all its fields
+pub fields_told : (scenario : Scenario) (seen : List Entry) (b : ℕ) (locks : List OwnLock) (o : Opening) → CanTell scenario seen b locks o → shown_fields scenario seen b o.rel o.kind None ≡ told_fields (rows_read seen b) (place_read seen b) locks None o
+fields_told scenario seen b locks o can =
+    ap (answers.Shown o.kind o.rel) (map_same (λ field. has_field o.kind field ≡ true) (shown_field scenario seen b o.rel o.kind) (told_field (rows_read seen b) (place_read seen b) locks o) (λ field own. field_told scenario seen b locks o field can own) (fields_of o.kind) (each_has o.kind))
+
+-- or one that it has
+pub one_told : (scenario : Scenario) (seen : List Entry) (b : ℕ) (locks : List OwnLock) (o : Opening) (field : Field) → CanTell scenario seen b locks o → has_field o.kind field ≡ true
+    → shown_fields scenario seen b o.rel o.kind (Some field) ≡ told_fields (rows_read seen b) (place_read seen b) locks (Some field) o
+one_told scenario seen b locks o field can has = ap answers.One (field_told scenario seen b locks o field can has)

@@ -1,0 +1,301 @@
+-- What a fetch of messages and a reset make of what the code holds.
+use Rattle.std.proofs.Common.{◌≡◌, ◌≤◌, ◌+◌, ◌∙◌, ◌==◌, ◌&&◌, ◌||◌, ℕ, Bool, true, false, Option, Some, List, [], ◌∷◌, refl, sym, ap, subst, length, slice_get, arith, All, cond, take, ◌-◌}
+use Rattle.std.proofs.Math.Bool.{and-false, or-false, or-true}
+use Rattle.std.proofs.lemmas.List.Elements.{All-filter}
+use Rattle.base_types.specs.Scans.{same_scan}
+use Rattle.base_types.specs.declared.scan.Purpose.TheVariants as scans
+use Rattle.base_types.proofs.SameScan.{same_scan-true}
+use Rattle.event_kinds.specs.declared.entry.Event.TheVariants as events
+use Rattle.inval_messages.specs.Messages.{is_spared}
+use Rattle.lock_modes.specs.Rooms.{Roomy}
+use Rattle.ddl_effect.specs.Plans.{Plan, Done, Fails, Absent, Do, NotBuilt, Lookup, Column}
+use Rattle.ddl_effect.specs.Stages.{plan_at, plan_again, altering_at, altering_again}
+use Rattle.ddl_effect.specs.declared.altering.Altering.{Altering}
+use Rattle.ddl_effect.specs.declared.altering.Altering.TheVariants as alters
+use Rattle.ddl_effect.specs.declared.exec.Exec.TheVariants as stages
+use Rattle.ddl_effect.proofs.Driven.{Seeks, seeks_again}
+use Rattle.history_model.specs.Log.{fetched_by}
+use Rattle.history_model.specs.Transactions.{begun}
+use Rattle.cacheless.specs.Types.{Oid, Message, Row, Purpose, Scenario, Entry, Event, OwnLock, Exec}
+use Rattle.cacheless.specs.declared.kept_scan.KeptScan.{KeptScan}
+use Rattle.cacheless.specs.declared.progress.Due.{Due}
+use Rattle.cacheless.specs.declared.progress.Due.TheVariants as dues
+use Rattle.cacheless.specs.declared.progress.Progress.{Progress}
+use Rattle.cacheless.specs.Facts.{Facts, facts_of}
+use Rattle.cacheless.specs.Session.{Session, Tally}
+use Rattle.cacheless.specs.Owed.{Owes, OwesLook, owed_after}
+use Rattle.cacheless.specs.Sessions.{resumed, placed_at, counted}
+use Rattle.cacheless.specs.Puts.{PutsOpened}
+use Rattle.txn_blocks.specs.Transactions.{begun_own}
+use Rattle.cacheless.specs.State.{owed_at, due_fetched, one_if, is_kept, kept_spared, named_spared, is_absent, is_full, is_in_accept, locks_accepted, Rest, rest_of, tally_at, session_at}
+use Rattle.cacheless.specs.Holds.{ReadRight, NamedFit, FactsFit, Holds, Rests, with_own, HasEntered}
+use Rattle.cacheless.proofs.Tests.{not_both}
+use Rattle.cacheless.proofs.Same.{full_same}
+use Rattle.cacheless.proofs.Written.Putting.{puts_again}
+use Rattle.cacheless.proofs.Entries.Entering.{facts_after, noted_after, rest_after, with_locks, own_entered, runs_begun}
+
+-- a scan is kept still where it was kept and no message covers it
+pub is_kept-spared : (messages : List Message) (kept : List KeptScan) (scan : Purpose) → is_kept (kept_spared messages kept) scan ≡ (is_spared scan messages && is_kept kept scan)
+is_kept-spared messages [] scan = sym (and-false (is_spared scan messages))
+is_kept-spared messages (k ∷ kept) scan = by_spared (is_spared k.scan messages) refl (is_kept-spared messages kept scan)
+  where
+    spared : List KeptScan
+    spared = kept_spared messages kept
+
+    gone : (t : Bool) → same_scan k.scan scan ≡ t → is_spared k.scan messages ≡ false → is_kept spared scan ≡ (is_spared scan messages && is_kept kept scan) → is_kept spared scan ≡ (is_spared scan messages && (t || is_kept kept scan))
+    gone true same covered rest = rest ∙ ap (λ u. u && is_kept kept scan) none ∙ sym (ap (λ u. u && (true || is_kept kept scan)) none)
+      where
+        none : is_spared scan messages ≡ false
+        none = ap (λ p. is_spared p messages) (sym (same_scan-true k.scan scan same)) ∙ covered
+    gone false other covered rest = rest
+
+    stays : (t : Bool) → same_scan k.scan scan ≡ t → is_spared k.scan messages ≡ true → is_kept spared scan ≡ (is_spared scan messages && is_kept kept scan) → (t || is_kept spared scan) ≡ (is_spared scan messages && (t || is_kept kept scan))
+    stays true same free rest = sym (ap (λ u. u && (true || is_kept kept scan)) (ap (λ p. is_spared p messages) (sym (same_scan-true k.scan scan same)) ∙ free))
+    stays false other free rest = rest
+
+    by_spared : (t : Bool) → is_spared k.scan messages ≡ t → is_kept spared scan ≡ (is_spared scan messages && is_kept kept scan)
+        → is_kept (cond t (k ∷ spared) spared) scan ≡ (is_spared scan messages && (same_scan k.scan scan || is_kept kept scan))
+    by_spared true free rest = stays (same_scan k.scan scan) refl free rest
+    by_spared false covered rest = gone (same_scan k.scan scan) refl covered rest
+
+-- what holds of each scan that was kept holds of each that is kept still
+pub all-spared : (P : KeptScan → Type 0) (messages : List Message) (kept : List KeptScan) → All P kept → All P (kept_spared messages kept)
+all-spared P messages kept holds = All-filter (λ k. is_spared k.scan messages) P kept holds
+
+-- a search that is made anew has found nothing yet
+alters_seek : (altering : Altering) → is_absent (altering_again altering) ≡ false
+alters_seek alters.Done = refl
+alters_seek stage = refl
+
+pub never_absent : (exec : Exec) → is_absent (plan_again exec) ≡ false
+never_absent (stages.Altering altering) = alters_seek altering
+never_absent stage = refl
+
+-- any other command stays as it is
+alters_same : (altering : Altering) → is_absent (altering_at altering) ≡ false → altering_again altering ≡ altering_at altering
+alters_same (alters.Missing name alteration) found = absurd (cc)
+alters_same stage found = refl
+
+pub again_same : (exec : Exec) → is_absent (plan_at exec) ≡ false → plan_again exec ≡ plan_at exec
+again_same (stages.Missing search) found = absurd (cc)
+again_same (stages.Altering altering) found = alters_same altering found
+again_same stage found = refl
+
+-- what is left once a search is made anew, and the relations that were found then
+abbrev pub left_again : Plan → Session → Plan
+left_again (Absent name) s = s.sought
+left_again p s = s.left
+
+abbrev pub found_again : Plan → Session → List (Option Oid)
+found_again (Absent name) s = take (length s.found - 1) s.found
+found_again p s = s.found
+
+resumed_is : (p : Plan) (s : Session) → resumed p s ≡ record s { left = left_again p s; read = s.read || is_absent p; found = found_again p s }
+resumed_is (Absent name) s = λ i. record s { left = s.sought; read = sym (or-true s.read) i; found = take (length s.found - 1) s.found }
+resumed_is Done s = λ i. record s { read = sym (or-false s.read) i }
+resumed_is (Fails error) s = λ i. record s { read = sym (or-false s.read) i }
+resumed_is (Do act rest) s = λ i. record s { read = sym (or-false s.read) i }
+resumed_is NotBuilt s = λ i. record s { read = sym (or-false s.read) i }
+
+left_is : (was : Progress) (rest : Rest) → (is_absent (plan_at was.exec) ≡ true → rest.sought ≡ plan_again was.exec) → (p : Plan) → plan_at was.exec ≡ p → left_again p (session_at was rest) ≡ plan_again was.exec
+left_is was rest sought (Absent name) at = sought (ap is_absent at)
+left_is was rest sought Done at = sym (again_same was.exec (ap is_absent at))
+left_is was rest sought (Fails error) at = sym (again_same was.exec (ap is_absent at))
+left_is was rest sought (Do act plan) at = sym (again_same was.exec (ap is_absent at))
+left_is was rest sought NotBuilt at = sym (again_same was.exec (ap is_absent at))
+
+-- the session once a search is made anew
+pub resumed_same : (was : Progress) (exec : Exec) (rest : Rest) → (is_absent (plan_at was.exec) ≡ true → rest.sought ≡ plan_again was.exec) → plan_at exec ≡ plan_again was.exec
+    → resumed (plan_at was.exec) (session_at was rest) ≡ record (session_at was rest) { left = plan_at exec; read = was.read || is_absent (plan_at was.exec); found = found_again (plan_at was.exec) (session_at was rest) }
+resumed_same was exec rest sought again = resumed_is (plan_at was.exec) (session_at was rest)
+    ∙ (λ i. record (session_at was rest) { left = (left_is was rest sought (plan_at was.exec) refl ∙ sym again) i; read = was.read || is_absent (plan_at was.exec); found = found_again (plan_at was.exec) (session_at was rest) })
+
+-- what a search by name gave, where it is made anew
+named_again : (facts : Facts) (given : List Row) (named : Bool) (name : List ℕ) (p : Plan) → Seeks name p → NamedFit facts (Absent name) given named → NamedFit facts p given named
+named_again facts given named name (Do (Lookup own mode) rest) is fit = subst (λ n. (facts.rows (scans.RelName n) ≡ given) × (facts.usable (scans.RelName n) ≡ named)) (sym is) fit
+named_again facts given named name p is fit = absurd is
+
+-- what the scan of a name gave, by what is known of it after messages
+pub given_again : (facts : Facts) (was : Progress) (exec : Exec) (named : Plan → Bool) → plan_at exec ≡ plan_again was.exec
+    → ((p : Plan) → plan_at was.exec ≡ p → (was.read || is_absent p) ≡ true → NamedFit facts p was.given.items (named p))
+    → (was.read || is_absent (plan_at was.exec) || is_absent (plan_at exec)) ≡ true → NamedFit facts (plan_at exec) was.given.items (named (plan_at was.exec))
+given_again facts was exec named again fits is = by_plan (plan_at was.exec) refl
+  where
+    read : (was.read || is_absent (plan_at was.exec)) ≡ true
+    read = sym (ap (λ t. was.read || is_absent (plan_at was.exec) || t) (ap is_absent again ∙ never_absent was.exec) ∙ or-false (was.read || is_absent (plan_at was.exec))) ∙ is
+
+    stays : (p : Plan) → plan_at was.exec ≡ p → is_absent p ≡ false → NamedFit facts (plan_at exec) was.given.items (named p)
+    stays p at found = subst (λ q. NamedFit facts q was.given.items (named p)) (sym at ∙ sym (again_same was.exec (ap is_absent at ∙ found)) ∙ sym again) (fits p at (ap (λ q. was.read || is_absent q) (sym at) ∙ read))
+
+    by_plan : (p : Plan) → plan_at was.exec ≡ p → NamedFit facts (plan_at exec) was.given.items (named p)
+    by_plan (Absent name) at = named_again facts was.given.items (named (Absent name)) name (plan_at exec) (subst (Seeks name) (sym again) (seeks_again was.exec name at)) (fits (Absent name) at (or-true was.read))
+    by_plan Done at = stays Done at refl
+    by_plan (Fails error) at = stays (Fails error) at refl
+    by_plan (Do act rest) at = stays (Do act rest) at refl
+    by_plan NotBuilt at = stays NotBuilt at refl
+
+-- the state after a fetch of these messages, but for its full fetches
+abbrev pub fetched_first : Progress → ℕ → List Message → Exec → Progress
+fetched_first was count messages exec = record was {
+  exec = exec;
+  read = was.read || is_absent (plan_at was.exec);
+  due = due_fetched count;
+  running = Some (begun_own (was.finished + 1) was.running);
+  named = named_spared messages (plan_at was.exec) was.named;
+  kept = kept_spared messages was.kept;
+  tally = record was.tally { fetches = was.tally.fetches + 1 };
+}
+
+-- the state after the fetch
+abbrev pub fetched : Progress → ℕ → List Message → Exec → Progress
+fetched was count messages exec = record (fetched_first was count messages exec) { tally = record was.tally { fetches = was.tally.fetches + 1; full = was.tally.full + one_if (is_full count (fetched_first was count messages exec)) } }
+
+owed_fetched : (count : ℕ) → owed_after (Some (events.Fetch count)) ≡ owed_at (due_fetched count)
+owed_fetched count = by_test (count == 32)
+  where
+    by_test : (t : Bool) → ◌≡◌ {A = List Owes} (elim t [ true ↦ OwesLook ∷ [] | false ↦ [] ]) (owed_at (elim t as (λ x. Due) [ true ↦ dues.Look | false ↦ dues.Nothing ]))
+    by_test true = refl
+    by_test false = refl
+
+full_more : (t : Bool) (tally : Tally) → elim t as (λ x. Tally) [ true ↦ record tally { full = tally.full + 1 } | false ↦ tally ] ≡ record tally { full = tally.full + one_if t }
+full_more true tally = refl
+full_more false tally = λ i. record tally { full = same i }
+  where
+    same : tally.full ≡ tally.full + 0
+    same = omega arith
+
+one_at_most : (t : Bool) → one_if t ≤ 1
+one_at_most true = omega arith
+one_at_most false = omega arith
+
+swapped : (a b : Bool) → (a && b) ≡ (b && a)
+swapped true true = refl
+swapped true false = refl
+swapped false true = refl
+swapped false false = refl
+
+spared_after : (old : List Entry) (was : Progress) (count : ℕ) (messages : List Message) (scan : Purpose) → messages ≡ fetched_by old was.id count → (facts_of old was.id).usable scan ≡ was.named
+    → (is_spared scan (fetched_by old was.id count) && (facts_of old was.id).usable scan) ≡ (was.named && is_spared scan messages)
+spared_after old was count messages scan are usable = ap (λ l. is_spared scan l && (facts_of old was.id).usable scan) (sym are) ∙ ap (λ t. is_spared scan messages && t) usable ∙ swapped (is_spared scan messages) was.named
+
+-- what the scan of a name gave, after messages
+named_after : (old : List Entry) (was : Progress) (count : ℕ) (messages : List Message) (p : Plan) → messages ≡ fetched_by old was.id count → NamedFit (facts_of old was.id) p was.given.items was.named
+    → NamedFit (facts_after old was (events.Fetch count)) p was.given.items (named_spared messages p was.named)
+named_after old was count messages (Do (Lookup name mode) rest) are fit = (fit.0, spared_after old was count messages (scans.RelName name) are fit.1)
+named_after old was count messages (Do (Column rel name) rest) are fit = (fit.0, spared_after old was count messages (scans.AttName rel name) are fit.1)
+named_after old was count messages (Absent name) are fit = (fit.0, spared_after old was count messages (scans.RelName name) are fit.1)
+named_after old was count messages p are fit = tt
+
+pub fetch_holds : (scenario : Scenario) (old : List Entry) (was : Progress) (count : ℕ) (messages : List Message) (exec : Exec) (locks : Roomy OwnLock) (rests : Rests scenario old was) → messages ≡ fetched_by old was.id count → plan_at exec ≡ plan_again was.exec
+    → locks.items ≡ locks_accepted (is_in_accept (fetched was count messages exec) (slice_get was.commands was.finished)) was.locks.items
+    → HasEntered scenario old was (events.Fetch count) rests (with_locks (fetched was count messages exec) locks)
+fetch_holds scenario old was count messages exec locks rests are again items = own_entered scenario old was now event locks rests (record { session = λ _ _ _ _ _ _. refl; finished = λ s. ends_same s.left s }) (record {
+  moves = record { id = refl; commands = refl; finished = refl };
+  session = whole ∙ sym (ap (λ t. session_at now (rest_of t)) whole);
+  facts = record { running = fits.running; lists = fits.lists; owed = fits.owed; usable = fits.usable; kept = fits.kept; given = fits.given };
+  counts = let c = rests.holds.counts in record { looks = omega (arith, c.looks); scans = omega (arith, c.scans); grants = omega (arith, c.grants); fetches = omega (arith, c.fetches); full = omega (arith, c.full, one_at_most (is_full count first)) };
+  order = rests.holds.order;
+  sought = λ is. absurd (not_both (is_absent (plan_at exec)) is (ap is_absent again ∙ never_absent was.exec));
+  puts = subst (PutsOpened was.opened) (sym again) (puts_again was.opened was.exec rests.holds.puts);
+}) items
+  where
+    ends_same : (p : Plan) (s : Session) → (resumed p s).finished ≡ s.finished
+    ends_same (Absent name) s = refl
+    ends_same p s = refl
+
+    event : Event
+    event = events.Fetch count
+
+    now : Progress
+    now = fetched was count messages exec
+
+    first : Progress
+    first = fetched_first was count messages exec
+
+    after : Facts
+    after = facts_after old was event
+
+    fits : FactsFit after first
+    fits = let f = rests.holds.facts in record {
+      running = ap (λ o. Some (begun (was.finished + 1) o)) f.running ∙ runs_begun (was.finished + 1) was.running;
+      lists = f.lists;
+      owed = owed_fetched count;
+      usable = λ scan build. ap (λ l. is_spared scan l && (facts_of old was.id).usable scan) (sym are) ∙ ap (λ t. is_spared scan messages && t) (f.usable scan build) ∙ sym (is_kept-spared messages was.kept scan);
+      kept = all-spared (ReadRight after.rows) messages was.kept (λ i d within. let k = f.kept i d within in record { build = k.build; rows_are = k.rows_are });
+      given = given_again after was exec (λ p. named_spared messages p was.named) again (λ p at read. named_after old was count messages p are (subst (λ q. NamedFit (facts_of old was.id) q was.given.items was.named) at (f.given (ap (λ q. was.read || is_absent q) at ∙ read))));
+    }
+
+    s : Session
+    s = session_at was rests.holds.rest
+
+    -- the session with the entry, but for its tally
+    noted_as : Tally → Session
+    noted_as tally = record s { left = plan_at exec; read = was.read || is_absent (plan_at was.exec); found = found_again (plan_at was.exec) s; tally = tally; judged = length old + 1; last = length old + 1 }
+
+    once : Tally
+    once = record s.tally { fetches = s.tally.fetches + 1 }
+
+    placed_is : placed_at (length old + 1) (was.finished + 1) event s ≡ noted_as once
+    placed_is = ap (λ (t : Session). record t { tally = once; locks = s.locks; judged = length old + 1; last = length old + 1 }) (resumed_same was exec rests.holds.rest rests.holds.sought again)
+
+    whole : noted_after old was event rests.holds.rest ≡ noted_as (tally_at now.tally)
+    whole = ap (counted after event) placed_is
+        ∙ ap (λ (t : Bool). noted_as (elim t as (λ x. Tally) [ true ↦ record once { full = once.full + 1 } | false ↦ once ])) (full_same after count first (rest_of (noted_as once)) fits)
+        ∙ ap noted_as (full_more (is_full count first) once)
+
+-- the state after a reset
+abbrev pub was_reset : Progress → Exec → List KeptScan → Progress
+was_reset was exec kept = record was {
+  exec = exec;
+  read = was.read || is_absent (plan_at was.exec);
+  due = dues.Nothing;
+  running = Some (begun_own (was.finished + 1) was.running);
+  named = false;
+  kept = kept;
+  tally = record was.tally { fetches = was.tally.fetches + 1 };
+}
+
+named_reset : (old : List Entry) (was : Progress) (p : Plan) → NamedFit (facts_of old was.id) p was.given.items was.named → NamedFit (facts_after old was events.FetchReset) p was.given.items false
+named_reset old was (Do (Lookup name mode) rest) fit = (fit.0, refl)
+named_reset old was (Do (Column rel name) rest) fit = (fit.0, refl)
+named_reset old was (Absent name) fit = (fit.0, refl)
+named_reset old was p fit = tt
+
+pub reset_holds : (scenario : Scenario) (old : List Entry) (was : Progress) (exec : Exec) (locks : Roomy OwnLock) (rests : Rests scenario old was) → plan_at exec ≡ plan_again was.exec
+    → locks.items ≡ locks_accepted (is_in_accept (was_reset was exec []) (slice_get was.commands was.finished)) was.locks.items
+    → HasEntered scenario old was events.FetchReset rests (with_locks (was_reset was exec []) locks)
+reset_holds scenario old was exec locks rests again items = own_entered scenario old was now event locks rests (record { session = λ _ _ _ _ _ _. refl; finished = λ s. ends_same s.left s }) (record {
+  moves = record { id = refl; commands = refl; finished = refl };
+  session = whole ∙ sym (ap (λ t. session_at now (rest_of t)) whole);
+  facts = let f = rests.holds.facts in record {
+    running = ap (λ o. Some (begun (was.finished + 1) o)) f.running ∙ runs_begun (was.finished + 1) was.running;
+    lists = f.lists;
+    owed = refl;
+    usable = λ scan build. refl;
+    kept = λ i d within. absurd (omega (arith, within));
+    given = given_again after was exec (λ p. false) again (λ p at read. named_reset old was p (subst (λ q. NamedFit (facts_of old was.id) q was.given.items was.named) at (f.given (ap (λ q. was.read || is_absent q) at ∙ read))));
+  };
+  counts = let c = rests.holds.counts in record { looks = omega (arith, c.looks); scans = omega (arith, c.scans); grants = omega (arith, c.grants); fetches = omega (arith, c.fetches); full = omega (arith, c.full) };
+  order = rests.holds.order;
+  sought = λ is. absurd (not_both (is_absent (plan_at exec)) is (ap is_absent again ∙ never_absent was.exec));
+  puts = subst (PutsOpened was.opened) (sym again) (puts_again was.opened was.exec rests.holds.puts);
+}) items
+  where
+    ends_same : (p : Plan) (s : Session) → (resumed p s).finished ≡ s.finished
+    ends_same (Absent name) s = refl
+    ends_same p s = refl
+
+    event : Event
+    event = events.FetchReset
+
+    now : Progress
+    now = was_reset was exec []
+
+    after : Facts
+    after = facts_after old was event
+
+    s : Session
+    s = session_at was rests.holds.rest
+
+    whole : noted_after old was event rests.holds.rest ≡ record s { left = plan_at exec; read = was.read || is_absent (plan_at was.exec); found = found_again (plan_at was.exec) s; tally = tally_at now.tally; judged = length old + 1; last = length old + 1 }
+    whole = ap (λ (t : Session). record t { tally = tally_at now.tally; locks = s.locks; judged = length old + 1; last = length old + 1 }) (resumed_same was exec rests.holds.rest rests.holds.sought again)

@@ -1,0 +1,97 @@
+-- What a granted lock, a refused one and a refused write make of what the code holds.
+use Rattle.std.proofs.Common.{◌≡◌, ◌+◌, ◌∙◌, ◌||◌, ℕ, Bool, true, false, not, Option, Some, None, List, [], ◌∷◌, ◌++◌, refl, sym, ap, map, slice_get, length, get_or, arith}
+use Rattle.std.proofs.Math.Bool.{and-false, or-true}
+use Rattle.event_kinds.specs.declared.entry.Event.TheVariants as events
+use Rattle.command_answers.specs.declared.error.CommandError.TheVariants as errors
+use Rattle.row_visibility.specs.declared.clash.Clash.TheVariants as clashes
+use Rattle.lock_modes.specs.Own.{cleared}
+use Rattle.lock_modes.specs.Rooms.{Roomy}
+use Rattle.inval_messages.specs.Lists.{Written}
+use Rattle.history_model.specs.Read.{usable_by, rows_by}
+use Rattle.history_model.specs.Sent.{lists_by}
+use Rattle.history_model.specs.Transactions.{Running, begun, running_by}
+use Rattle.history_model.specs.Writes.{is_empty}
+use Rattle.cacheless.specs.Types.{Oid, Mode, Row, Purpose, Command, CommandError, Clash, Scenario, Entry, Event, OwnLock}
+use Rattle.cacheless.specs.declared.progress.Due.TheVariants as dues
+use Rattle.cacheless.specs.declared.progress.Progress.{Progress}
+use Rattle.cacheless.specs.Facts.{facts_of}
+use Rattle.cacheless.specs.Owed.{Owes, OwesLook, owed_after}
+use Rattle.cacheless.specs.Sessions.{refused_with}
+use Rattle.txn_blocks.specs.Transactions.{begun_own}
+use Rattle.cacheless.specs.State.{begins_in, owed_first, lacks_builds, is_in_accept, locks_accepted, clash_event, error_of, failed_with, Rest, rest_of, session_at}
+use Rattle.cacheless.specs.Holds.{Holds, Rests, with_own, HasEntered}
+use Rattle.cacheless.proofs.Entries.Entering.{facts_after, noted_after, with_locks, GoesOn, own_entered, runs_begun, counts_stay}
+
+-- the state after a lock
+abbrev pub granted : Progress → Roomy OwnLock → Progress
+granted was locks = record was { due = dues.Look; running = Some (begun_own (was.finished + 1) was.running); tally = record was.tally { grants = was.tally.grants + 1 }; locks = locks }
+
+accepts_on : (s : Progress) (o : Option Command) → s.due ≡ dues.Look → is_in_accept s o ≡ true
+accepts_on s None due = ap (λ d. is_in_accept (record s { due = d }) None) due
+accepts_on s (Some command) due = ap (λ d. is_in_accept (record s { due = d }) (Some command)) due ∙ ap (λ t. t || lacks_builds s) (or-true (not (is_empty (owed_first s command))))
+
+-- a lock that is granted
+pub granted_holds : (scenario : Scenario) (old : List Entry) (was : Progress) (rel : Oid) (mode : Mode) (locks : Roomy OwnLock) (rests : Rests scenario old was)
+    → locks.items ≡ was.locks.items ++ record { rel = rel; mode = mode; command = was.finished + 1; clear = false } ∷ []
+    → HasEntered scenario old was (events.LockOk rel mode) rests (granted was locks)
+granted_holds scenario old was rel mode locks rests items = own_entered scenario old was (granted was locks) (events.LockOk rel mode) locks rests (record { session = λ _ _ _ _ _ _. refl; finished = λ _. refl }) (record {
+  moves = record { id = refl; commands = refl; finished = refl };
+  session = λ i. record (noted_after old was (events.LockOk rel mode) rests.holds.rest) { locks = sym items i };
+  facts = let f = rests.holds.facts in record {
+    running = ap (λ o. Some (begun (was.finished + 1) o)) f.running ∙ runs_begun (was.finished + 1) was.running;
+    lists = f.lists;
+    owed = refl;
+    usable = f.usable;
+    kept = f.kept;
+    given = f.given;
+  };
+  counts = let c = rests.holds.counts in record { looks = omega (arith, c.looks); scans = omega (arith, c.scans); grants = omega (arith, c.grants); fetches = omega (arith, c.fetches); full = c.full };
+  order = rests.holds.order;
+  sought = rests.holds.sought;
+  puts = rests.holds.puts;
+}) (ap (λ t. locks_accepted t locks.items) (sym (accepts_on (granted was locks) (slice_get was.commands was.finished) refl)))
+
+-- the event shows an error that ends the command, and does nothing else
+record Fails (event : Event) (error : CommandError) : Type 0 where
+  on : GoesOn event
+  noted : (old : List Entry) (was : Progress) (rest : Rest) → noted_after old was event rest ≡ record (refused_with error (session_at was rest)) { judged = length old + 1; last = length old + 1 }
+  running : (command : ℕ) (o : Option Running) → running_by command event o ≡ Some (begun command o)
+  lists : (before : List Entry) (b command : ℕ) (lists : List Written) → lists_by before b command event lists ≡ lists
+  owed : owed_after (Some event) ≡ []
+  usable : (before : List Entry) (b command : ℕ) (scan : Purpose) (t : Bool) → usable_by before b command scan event t ≡ t
+  rows : (before : List Entry) (b : ℕ) (scan : Purpose) (given : List Row) → rows_by before b scan event given ≡ given
+
+-- a command that has failed accepts nothing
+accepts_none : (error : CommandError) (was : Progress) (o : Option Command) → is_in_accept (failed_with error was) o ≡ false
+accepts_none error was None = refl
+accepts_none error was (Some command) = ap (λ t. not (is_empty (elim t as (λ x. List Owes) [ true ↦ OwesLook ∷ [] | false ↦ [] ])) || false || false) (and-false (begins_in was.blocks was.ended command))
+
+fails_holds : (event : Event) (error : CommandError) → Fails event error → (scenario : Scenario) (old : List Entry) (was : Progress) (locks : Roomy OwnLock) → (rests : Rests scenario old was) → locks.items ≡ map cleared was.locks.items
+    → HasEntered scenario old was event rests (with_locks (failed_with error was) locks)
+fails_holds event error fails scenario old was locks rests items = own_entered scenario old was (failed_with error was) event locks rests fails.on (record {
+  moves = record { id = refl; commands = refl; finished = refl };
+  session = fails.noted old was rests.holds.rest ∙ sym (ap (λ t. session_at (failed_with error was) (rest_of t)) (fails.noted old was rests.holds.rest));
+  facts = let f = rests.holds.facts in record {
+    running = fails.running (was.finished + 1) (facts_of old was.id).running ∙ ap (λ o. Some (begun (was.finished + 1) o)) f.running ∙ runs_begun (was.finished + 1) was.running;
+    lists = fails.lists old was.id (was.finished + 1) (facts_of old was.id).lists ∙ f.lists;
+    owed = fails.owed;
+    usable = λ scan build. fails.usable old was.id (was.finished + 1) scan ((facts_of old was.id).usable scan) ∙ f.usable scan build;
+    kept = λ i d within. let k = f.kept i d within in record { build = k.build; rows_are = k.rows_are ∙ sym (fails.rows old was.id (get_or was.kept i d).scan ((facts_of old was.id).rows (get_or was.kept i d).scan)) };
+    given = λ is. tt;
+  };
+  counts = counts_stay rests.holds.counts;
+  order = rests.holds.order;
+  sought = λ is. absurd (cc);
+  puts = tt;
+}) (items ∙ ap (λ t. locks_accepted t was.locks.items) (sym (accepts_none error was (slice_get was.commands was.finished))))
+
+-- a lock that is refused
+pub refused_holds : (scenario : Scenario) (old : List Entry) (was : Progress) (rel : Oid) (mode : Mode) (holder : ℕ) (held : Mode) (locks : Roomy OwnLock) → (rests : Rests scenario old was) → locks.items ≡ map cleared was.locks.items
+    → HasEntered scenario old was (events.LockHeld rel mode holder held) rests (with_locks (failed_with (errors.Locked rel holder held) was) locks)
+refused_holds scenario old was rel mode holder held = fails_holds (events.LockHeld rel mode holder held) (errors.Locked rel holder held) (record { on = record { session = λ _ _ _ _ _ _. refl; finished = λ _. refl }; noted = λ _ _ _. refl; running = λ _ _. refl; lists = λ _ _ _ _. refl; owed = refl; usable = λ _ _ _ _ _. refl; rows = λ _ _ _ _. refl }) scenario old was
+
+-- a write that is refused
+pub clash_holds : (scenario : Scenario) (old : List Entry) (was : Progress) (name : List ℕ) (clash : Clash) (locks : Roomy OwnLock) → (rests : Rests scenario old was) → locks.items ≡ map cleared was.locks.items
+    → HasEntered scenario old was (clash_event name clash) rests (with_locks (failed_with (error_of name clash) was) locks)
+clash_holds scenario old was name (clashes.Row rel) = fails_holds (events.ClashRow name rel) (errors.RelationExists name) (record { on = record { session = λ _ _ _ _ _ _. refl; finished = λ _. refl }; noted = λ _ _ _. refl; running = λ _ _. refl; lists = λ _ _ _ _. refl; owed = refl; usable = λ _ _ _ _ _. refl; rows = λ _ _ _ _. refl }) scenario old was
+clash_holds scenario old was name (clashes.Running xid) = fails_holds (events.ClashRunning name xid) (errors.NameInUse name xid) (record { on = record { session = λ _ _ _ _ _ _. refl; finished = λ _. refl }; noted = λ _ _ _. refl; running = λ _ _. refl; lists = λ _ _ _ _. refl; owed = refl; usable = λ _ _ _ _ _. refl; rows = λ _ _ _ _. refl }) scenario old was

@@ -1,0 +1,204 @@
+-- What a scan makes of what the code holds.
+use Rattle.std.proofs.Common.{◌≡◌, ◌<◌, ◌+◌, ◌∙◌, ◌||◌, ℕ, Bool, true, false, not, Some, List, [], ◌∷◌, ◌++◌, refl, sym, ap, subst, length, slice_get, arith, All, get_or, cond, Vec, Global}
+use Rattle.std.specs.List.{find, list_any, AllByRecursion}
+use Rattle.std.specs.Option.{option_map_or}
+use Rattle.std.proofs.lemmas.List.Folds.{list_any-append, list_any_at}
+use Rattle.std.proofs.lemmas.List.Elements.{All-push}
+use Rattle.base_types.specs.Scans.{same_scan, build_scans, is_build_scan}
+use Rattle.base_types.specs.declared.scan.Purpose.TheVariants as scans
+use Rattle.base_types.proofs.SameScan.{same_scan-true, same_scan-itself}
+use Rattle.event_kinds.specs.declared.entry.Event.TheVariants as events
+use Rattle.lock_modes.specs.Rooms.{Roomy}
+use Rattle.ddl_effect.specs.Plans.{Plan, Absent, Do, Lookup, Open, Column}
+use Rattle.ddl_effect.specs.Stages.{plan_at}
+use Rattle.history_model.specs.Read.{rows_by}
+use Rattle.history_model.specs.Transactions.{begun}
+use Rattle.history_model.specs.Versions.{answer_of}
+use Rattle.cacheless.specs.Types.{Kind, Oid, Row, Purpose, Scenario, Entry, Event, Opening, OwnLock}
+use Rattle.cacheless.specs.declared.kept_scan.KeptScan.{KeptScan}
+use Rattle.cacheless.specs.declared.progress.Due.TheVariants as dues
+use Rattle.cacheless.specs.declared.progress.Progress.{Progress}
+use Rattle.cacheless.specs.Facts.{Facts, facts_of}
+use Rattle.cacheless.specs.Sessions.{is_wanted}
+use Rattle.txn_blocks.specs.Transactions.{begun_own}
+use Rattle.cacheless.specs.State.{is_kept, is_in_accept, locks_accepted}
+use Rattle.cacheless.specs.May.{is_first_missing, is_next_of_act, is_next_at, has_failed}
+use Rattle.cacheless.specs.Holds.{ReadRight, NamedFit, FactsFit, Holds, Rests, with_own, HasEntered}
+use Rattle.cacheless.proofs.Tests.{and_true, or_either, not_true}
+use Rattle.cacheless.proofs.Same.{builds_of}
+use Rattle.cacheless.proofs.Entries.Entering.{facts_after, noted_after, with_locks, own_entered, runs_begun}
+
+-- a scan for a descriptor that isn't kept
+abbrev pub IsLacking : List KeptScan → Purpose → Type 0
+IsLacking kept scan = (not (is_kept kept scan) ≡ true) × (is_build_scan scan ≡ true)
+
+found_first : (p : Purpose → Bool) (P : Purpose → Type 0) (l : List Purpose) (scan : Purpose) → AllByRecursion P l → option_map_or (same_scan scan) (find p l) false ≡ true → (p scan ≡ true) × P scan
+found_first p P [] scan holds is = absurd (cc)
+found_first p P (x ∷ l) scan holds is = by_test (p x) refl is (found_first p P l scan holds.1)
+  where
+    by_test : (t : Bool) → p x ≡ t → option_map_or (same_scan scan) (cond t (Some x) (find p l)) false ≡ true → (option_map_or (same_scan scan) (find p l) false ≡ true → (p scan ≡ true) × P scan) → (p scan ≡ true) × P scan
+    by_test true at here rest = let same : x ≡ scan = sym (same_scan-true scan x here) in (subst (λ y. p y ≡ true) same at, subst P same holds.0)
+    by_test false at here rest = rest here
+
+first_lacks : (kept : List KeptScan) (scan : Purpose) (kind : Kind) (rel : Oid) → is_first_missing scan kept kind rel ≡ true → IsLacking kept scan
+first_lacks kept scan kind rel is = found_first (λ d. not (is_kept kept d)) (λ d. is_build_scan d ≡ true) (build_scans kind rel) scan (builds_of kind rel) is
+
+opened_lacks : (kept : List KeptScan) (scan : Purpose) (opened : List Opening) → list_any (λ o. is_first_missing scan kept o.kind o.rel) opened ≡ true → IsLacking kept scan
+opened_lacks kept scan [] is = absurd (cc)
+opened_lacks kept scan (o ∷ opened) is = or_either (is_first_missing scan kept o.kind o.rel) (list_any (λ q. is_first_missing scan kept q.kind q.rel) opened) is (first_lacks kept scan o.kind o.rel) (opened_lacks kept scan opened)
+
+-- a scan that the next act lacks and that isn't of its name is one for a descriptor
+act_lacking : (s : Progress) (scan : Purpose) (p : Plan) → is_wanted scan p ≡ false → is_next_of_act scan s p ≡ true → IsLacking s.kept scan
+act_lacking s scan (Do (Lookup name mode) rest) other is = absurd (let both : true ≡ false = sym (and_true _ (same_scan scan (scans.RelName name)) is).1 ∙ other in cc)
+act_lacking s scan (Do (Column rel name) rest) other is = absurd (let both : true ≡ false = sym (and_true _ (same_scan scan (scans.AttName rel name)) is).1 ∙ other in cc)
+act_lacking s scan (Do (Open rel kind) rest) other is = first_lacks s.kept scan kind rel is
+act_lacking s scan p other is = absurd (cc)
+
+pub next_lacks : (s : Progress) (scan : Purpose) → is_wanted scan (plan_at s.exec) ≡ false → is_next_at scan s ≡ true → IsLacking s.kept scan
+next_lacks s scan other is = or_either _ _ (and_true (not (has_failed s)) _ is).1 (opened_lacks s.kept scan s.opened) (act_lacking s scan (plan_at s.exec) other)
+
+-- the scan of a name is none of a descriptor's
+wanted_named : (scan : Purpose) (p : Plan) → is_wanted scan p ≡ true → is_build_scan scan ≡ false
+wanted_named scan (Do (Lookup name mode) rest) is = ap is_build_scan (same_scan-true scan (scans.RelName name) is)
+wanted_named scan (Do (Column rel name) rest) is = ap is_build_scan (same_scan-true scan (scans.AttName rel name) is)
+wanted_named scan p is = absurd (cc)
+
+no_build : (named build : Purpose) → is_build_scan named ≡ false → is_build_scan build ≡ true → same_scan named build ≡ false
+no_build named build other is = by_test (same_scan named build) refl
+  where
+    by_test : (t : Bool) → same_scan named build ≡ t → same_scan named build ≡ false
+    by_test true same = absurd (let both : true ≡ false = sym is ∙ ap is_build_scan (sym (same_scan-true named build same)) ∙ other in cc)
+    by_test false same = same
+
+no_named : (build named : Purpose) → is_build_scan build ≡ true → is_build_scan named ≡ false → same_scan build named ≡ false
+no_named build named is other = by_test (same_scan build named) refl
+  where
+    by_test : (t : Bool) → same_scan build named ≡ t → same_scan build named ≡ false
+    by_test true same = absurd (let both : true ≡ false = sym is ∙ ap is_build_scan (same_scan-true build named same) ∙ other in cc)
+    by_test false same = same
+
+rows_by-others : (old : List Entry) (b : ℕ) (made scan : Purpose) (count : ℕ) (given : List Row) → same_scan made scan ≡ false → rows_by old b scan (events.Scan made count) given ≡ given
+rows_by-others old b made scan count given other = ap (λ t. elim t [ true ↦ answer_of old b scan | false ↦ given ]) other
+
+rows_by-own : (old : List Entry) (b : ℕ) (made scan : Purpose) (count : ℕ) (given : List Row) → same_scan made scan ≡ true → rows_by old b scan (events.Scan made count) given ≡ answer_of old b made
+rows_by-own old b made scan count given is = ap (λ t. elim t [ true ↦ answer_of old b scan | false ↦ given ]) is ∙ ap (answer_of old b) (sym (same_scan-true made scan is))
+
+-- the state after the scan of a name or a column
+abbrev pub named_scan : Progress → Vec Row Global → ℕ → Progress
+named_scan was given at = record was { due = dues.Nothing; running = Some (begun_own (was.finished + 1) was.running); tally = record was.tally { scans = was.tally.scans + 1 }; read = true; named = true; given = given; given_at = at }
+
+-- its rows are those that the act asks for
+wanted_fit : (old : List Entry) (was : Progress) (scan : Purpose) (count : ℕ) (given : List Row) (p : Plan) → is_wanted scan p ≡ true → given ≡ answer_of old was.id scan → NamedFit (facts_after old was (events.Scan scan count)) p given true
+wanted_fit old was scan count given (Do (Lookup name mode) rest) is are =
+    (rows_by-own old was.id scan (scans.RelName name) count ((facts_of old was.id).rows (scans.RelName name)) is ∙ sym are, ap (λ t. t || (facts_of old was.id).usable (scans.RelName name)) is)
+wanted_fit old was scan count given (Do (Column rel name) rest) is are =
+    (rows_by-own old was.id scan (scans.AttName rel name) count ((facts_of old was.id).rows (scans.AttName rel name)) is ∙ sym are, ap (λ t. t || (facts_of old was.id).usable (scans.AttName rel name)) is)
+wanted_fit old was scan count given p is are = absurd (cc)
+
+pub named_holds : (scenario : Scenario) (old : List Entry) (was : Progress) (scan : Purpose) (count : ℕ) (given : Vec Row Global) (at : ℕ) (locks : Roomy OwnLock) (rests : Rests scenario old was)
+    → is_wanted scan (plan_at was.exec) ≡ true → given.items ≡ answer_of old was.id scan
+    → locks.items ≡ locks_accepted (is_in_accept (named_scan was given at) (slice_get was.commands was.finished)) was.locks.items
+    → HasEntered scenario old was (events.Scan scan count) rests (with_locks (named_scan was given at) locks)
+named_holds scenario old was scan count given at locks rests wanted are items = own_entered scenario old was (named_scan was given at) event locks rests (record { session = λ _ _ _ _ _ _. refl; finished = λ _. refl }) (record {
+  moves = record { id = refl; commands = refl; finished = refl };
+  session = λ i. record (noted_after old was event rests.holds.rest) { read = ap (λ t. t || was.read) wanted i };
+  facts = let f = rests.holds.facts in record {
+    running = ap (λ o. Some (begun (was.finished + 1) o)) f.running ∙ runs_begun (was.finished + 1) was.running;
+    lists = f.lists;
+    owed = refl;
+    usable = λ other build. ap (λ t. t || (facts_of old was.id).usable other) (no_build scan other named build) ∙ f.usable other build;
+    kept = λ i d within. let k = f.kept i d within in record { build = k.build; rows_are = k.rows_are ∙ sym (rows_by-others old was.id scan (get_or was.kept i d).scan count ((facts_of old was.id).rows (get_or was.kept i d).scan) (no_build scan (get_or was.kept i d).scan named k.build)) };
+    given = λ read. wanted_fit old was scan count given.items (plan_at was.exec) wanted are;
+  };
+  counts = let c = rests.holds.counts in record { looks = omega (arith, c.looks); scans = omega (arith, c.scans); grants = omega (arith, c.grants); fetches = omega (arith, c.fetches); full = c.full };
+  order = rests.holds.order;
+  sought = rests.holds.sought;
+  puts = rests.holds.puts;
+}) items
+  where
+    event : Event
+    event = events.Scan scan count
+
+    named : is_build_scan scan ≡ false
+    named = wanted_named scan (plan_at was.exec) wanted
+
+-- the state after a scan for a descriptor
+abbrev pub built_scan : Progress → List KeptScan → Progress
+built_scan was kept = record was { due = dues.Nothing; running = Some (begun_own (was.finished + 1) was.running); tally = record was.tally { scans = was.tally.scans + 1 }; kept = kept }
+
+name_as_before : (old : List Entry) (was : Progress) (scan named : Purpose) (count : ℕ) → is_build_scan scan ≡ true → is_build_scan named ≡ false → ((facts_of old was.id).rows named ≡ was.given.items) × ((facts_of old was.id).usable named ≡ was.named)
+    → ((facts_after old was (events.Scan scan count)).rows named ≡ was.given.items) × ((facts_after old was (events.Scan scan count)).usable named ≡ was.named)
+name_as_before old was scan named count build is fit =
+    let other : same_scan scan named ≡ false = no_named scan named build is in
+    (rows_by-others old was.id scan named count ((facts_of old was.id).rows named) other ∙ fit.0, ap (λ t. t || (facts_of old was.id).usable named) other ∙ fit.1)
+
+-- what the scan of a name gave serves as before
+named_as_before : (old : List Entry) (was : Progress) (scan : Purpose) (count : ℕ) (p : Plan) → is_build_scan scan ≡ true → NamedFit (facts_of old was.id) p was.given.items was.named → NamedFit (facts_after old was (events.Scan scan count)) p was.given.items was.named
+named_as_before old was scan count (Do (Lookup name mode) rest) build fit = name_as_before old was scan (scans.RelName name) count build refl fit
+named_as_before old was scan count (Do (Column rel name) rest) build fit = name_as_before old was scan (scans.AttName rel name) count build refl fit
+named_as_before old was scan count (Absent name) build fit = name_as_before old was scan (scans.RelName name) count build refl fit
+named_as_before old was scan count p build fit = fit
+
+unwanted : (scan : Purpose) (p : Plan) → is_build_scan scan ≡ true → is_wanted scan p ≡ false
+unwanted scan (Do (Lookup name mode) rest) build = no_named scan (scans.RelName name) build refl
+unwanted scan (Do (Column rel name) rest) build = no_named scan (scans.AttName rel name) build refl
+unwanted scan p build = refl
+
+none_at : {X : Type 0} (p : X → Bool) (xs : List X) (i : ℕ) (d : X) → i < length xs → list_any p xs ≡ false → p (get_or xs i d) ≡ false
+none_at p xs i d within none = by_test (p (get_or xs i d)) refl
+  where
+    by_test : (t : Bool) → p (get_or xs i d) ≡ t → p (get_or xs i d) ≡ false
+    by_test true is = absurd (cc (list_any_at p xs i d within is, none))
+    by_test false is = is
+
+swapped : (a b : Bool) → (a || b) ≡ (b || (a || false))
+swapped true true = refl
+swapped true false = refl
+swapped false true = refl
+swapped false false = refl
+
+other_scan : (a b : Purpose) → same_scan a b ≡ false → same_scan b a ≡ false
+other_scan a b other = by_test (same_scan b a) refl
+  where
+    by_test : (t : Bool) → same_scan b a ≡ t → same_scan b a ≡ false
+    by_test true is = absurd (cc (subst (λ c. same_scan c b ≡ true) (same_scan-true b a is) (same_scan-itself b), other))
+    by_test false is = is
+
+pub built_holds : (scenario : Scenario) (old : List Entry) (was : Progress) (scan : Purpose) (count : ℕ) (given : List Row) (at : ℕ) (kept : List KeptScan) (locks : Roomy OwnLock) (rests : Rests scenario old was)
+    → IsLacking was.kept scan → given ≡ answer_of old was.id scan → kept ≡ was.kept ++ record { scan = scan; rows = given; at = at } ∷ []
+    → locks.items ≡ locks_accepted (is_in_accept (built_scan was kept) (slice_get was.commands was.finished)) was.locks.items
+    → HasEntered scenario old was (events.Scan scan count) rests (with_locks (built_scan was kept) locks)
+built_holds scenario old was scan count given at kept locks rests lacking are pushed items = own_entered scenario old was (built_scan was kept) event locks rests (record { session = λ _ _ _ _ _ _. refl; finished = λ _. refl }) (record {
+  moves = record { id = refl; commands = refl; finished = refl };
+  session = λ i. record (noted_after old was event rests.holds.rest) { read = ap (λ t. t || was.read) (unwanted scan (plan_at was.exec) lacking.1) i };
+  facts = let f = rests.holds.facts in record {
+    running = ap (λ o. Some (begun (was.finished + 1) o)) f.running ∙ runs_begun (was.finished + 1) was.running;
+    lists = f.lists;
+    owed = refl;
+    usable = λ other build. ap (λ t. same_scan scan other || t) (f.usable other build) ∙ swapped (same_scan scan other) (is_kept was.kept other) ∙ sym (list_any-append (λ k. same_scan k.scan other) was.kept (made ∷ [])) ∙ ap (λ l. is_kept l other) (sym pushed);
+    kept = subst (All (ReadRight after.rows)) (sym pushed) (All-push (ReadRight after.rows) was.kept made
+        (λ i d within. let k = f.kept i d within in record {
+          build = k.build;
+          rows_are = k.rows_are ∙ sym (rows_by-others old was.id scan (get_or was.kept i d).scan count ((facts_of old was.id).rows (get_or was.kept i d).scan)
+              (other_scan (get_or was.kept i d).scan scan (none_at (λ k. same_scan k.scan scan) was.kept i d within unkept)));
+        })
+        (record { build = lacking.1; rows_are = are ∙ sym (rows_by-own old was.id scan scan count ((facts_of old was.id).rows scan) (same_scan-itself scan)) }));
+    given = λ read. named_as_before old was scan count (plan_at was.exec) lacking.1 (f.given read);
+  };
+  counts = let c = rests.holds.counts in record { looks = omega (arith, c.looks); scans = omega (arith, c.scans); grants = omega (arith, c.grants); fetches = omega (arith, c.fetches); full = c.full };
+  order = rests.holds.order;
+  sought = rests.holds.sought;
+  puts = rests.holds.puts;
+}) items
+  where
+    event : Event
+    event = events.Scan scan count
+
+    after : Facts
+    after = facts_after old was event
+
+    unkept : is_kept was.kept scan ≡ false
+    unkept = not_true (is_kept was.kept scan) lacking.0
+
+    made : KeptScan
+    made = record { scan = scan; rows = given; at = at }

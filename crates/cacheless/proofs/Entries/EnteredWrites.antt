@@ -1,0 +1,161 @@
+-- What a write makes of what the code holds.
+use Rattle.std.proofs.Common.{◌≡◌, ◌≤◌, ◌+◌, ◌∙◌, ◌&&◌, ◌||◌, ℕ, Bool, true, false, not, Option, Some, None, List, [], ◌∷◌, ◌++◌, refl, sym, ap, subst, length, slice_get, fold, arith}
+use Rattle.std.specs.List.{AllByRecursion, flat_map, list_any}
+use Rattle.std.proofs.lemmas.List.Folds.{list_any-append}
+use Rattle.event_kinds.specs.declared.entry.Event.TheVariants as events
+use Rattle.event_kinds.specs.declared.entry.Item.TheVariants as forms
+use Rattle.lock_modes.specs.Rooms.{Roomy}
+use Rattle.inval_messages.specs.Messages.{covers, is_spared}
+use Rattle.inval_messages.specs.Lists.{Written, once_more}
+use Rattle.inval_messages.proofs.Parts.{ForCaches, ForDescriptors, cats_of-caches, rels_of-descriptors}
+use Rattle.command_lists.specs.Lists.{Held, all_lists, new_list, with_messages}
+use Rattle.command_lists.proofs.Writes.{with-changes}
+use Rattle.ddl_effect.specs.Plans.{Plan, Done, Fails, Absent, Do, NotBuilt, Lookup, Open, Column, Read, Lock, Write, after_act}
+use Rattle.ddl_effect.specs.Stages.{plan_at, altering_at, want_of}
+use Rattle.ddl_effect.specs.declared.altering.Altering.{Altering}
+use Rattle.ddl_effect.specs.declared.altering.Altering.TheVariants as alters
+use Rattle.ddl_effect.specs.declared.exec.Exec.TheVariants as stages
+use Rattle.ddl_effect.specs.declared.want.Want.TheVariants as wants
+use Rattle.history_model.specs.Sent.{cats_by, rels_by, written_by, messages_written}
+use Rattle.history_model.specs.Transactions.{begun}
+use Rattle.history_model.specs.Versions.{old_row, added_row}
+use Rattle.history_model.proofs.Every.{every-append}
+use Rattle.cacheless.specs.Types.{Oid, Xid, Message, Row, Purpose, Scenario, Entry, Event, Item, OwnLock, Exec}
+use Rattle.cacheless.specs.declared.kept_scan.KeptScan.{KeptScan}
+use Rattle.cacheless.specs.declared.progress.Due.TheVariants as dues
+use Rattle.txn_blocks.specs.declared.transaction.RunningTransaction.{RunningTransaction}
+use Rattle.cacheless.specs.declared.progress.Progress.{Progress}
+use Rattle.cacheless.specs.Facts.{Facts, facts_of}
+use Rattle.cacheless.specs.Locks.{locked_by}
+use Rattle.cacheless.specs.Session.{Session}
+use Rattle.cacheless.specs.Sessions.{written}
+use Rattle.cacheless.specs.Puts.{PutsOpened}
+use Rattle.txn_blocks.specs.Transactions.{begun_own}
+use Rattle.cacheless.specs.State.{running_of, lists_at, is_kept, kept_spared, is_absent, is_in_accept, locks_accepted, locks_made, messages_in, Rest, rest_of, session_at}
+use Rattle.cacheless.specs.Holds.{ReadRight, FactsFit, Holds, Rests, with_own, HasEntered}
+use Rattle.cacheless.proofs.Tests.{not_both}
+use Rattle.cacheless.proofs.Written.WrittenMessages.{any_once}
+use Rattle.cacheless.proofs.Entries.EnteredFetches.{is_kept-spared, all-spared}
+use Rattle.cacheless.proofs.Entries.Entering.{facts_after, noted_after, with_locks, own_entered, counts_stay}
+
+cats_for_caches : (before : List Entry) (b : ℕ) (item : Item) → ForCaches (cats_by before b item)
+cats_for_caches before b item = cats_of-caches (old_row before b item) (added_row item)
+
+rels_for_descriptors : (before : List Entry) (b : ℕ) (item : Item) → ForDescriptors (rels_by before b item)
+rels_for_descriptors before b (forms.Force rel) = (refl, tt)
+rels_for_descriptors before b (forms.Add row) = rels_of-descriptors (old_row before b (forms.Add row)) (added_row (forms.Add row))
+rels_for_descriptors before b (forms.Put row) = rels_of-descriptors (old_row before b (forms.Put row)) (added_row (forms.Put row))
+rels_for_descriptors before b (forms.Remove key) = rels_of-descriptors (old_row before b (forms.Remove key)) (added_row (forms.Remove key))
+
+-- what is registered of a write's messages is the list of the write
+pub registered_is : (before : List Entry) (b c : ℕ) (items : List Item) → with_messages (messages_in before b items) (new_list c) ≡ written_by before b c items
+registered_is before b c items = with-changes (cats_by before b) (rels_by before b) (cats_for_caches before b) (rels_for_descriptors before b) items (new_list c)
+
+or_sorted : (a b c d : Bool) → ((a || b) || (c || d)) ≡ ((a || c) || (b || d))
+or_sorted true b c d = refl
+or_sorted false true true d = refl
+or_sorted false true false d = refl
+or_sorted false false c d = refl
+
+any_in_parts : {X : Type 0} (p : Message → Bool) (f g : X → List Message) (xs : List X) → list_any p (flat_map (λ x. f x ++ g x) xs) ≡ (list_any p (flat_map f xs) || list_any p (flat_map g xs))
+any_in_parts p f g [] = refl
+any_in_parts p f g (x ∷ xs) =
+    list_any-append p (f x ++ g x) (flat_map (λ y. f y ++ g y) xs)
+    ∙ (λ i. list_any-append p (f x) (g x) i || any_in_parts p f g xs i)
+    ∙ or_sorted (list_any p (f x)) (list_any p (g x)) (list_any p (flat_map f xs)) (list_any p (flat_map g xs))
+    ∙ (λ i. sym (list_any-append p (f x) (flat_map f xs)) i || sym (list_any-append p (g x) (flat_map g xs)) i)
+
+-- and they cover what that list covers
+pub spared_alike : (before : List Entry) (b : ℕ) (items : List Item) (scan : Purpose) → is_spared scan (messages_in before b items) ≡ is_spared scan (messages_written before b items)
+spared_alike before b items scan = ap not (any_in_parts (covers scan) (cats_by before b) (rels_by before b) items
+    ∙ sym (list_any-append (covers scan) (flat_map (cats_by before b) items) (fold once_more [] (flat_map (rels_by before b) items)) ∙ ap (λ t. list_any (covers scan) (flat_map (cats_by before b) items) || t) (any_once (covers scan) [] (flat_map (rels_by before b) items))))
+
+-- a write is the last act of a command
+alters_done : (altering : Altering) (given : List Row) → want_of (altering_at altering) ≡ wants.Write → after_act given (altering_at altering) ≡ Done
+alters_done (alters.Inserting row) given is = refl
+alters_done (alters.Replacing deleted row) given is = refl
+alters_done stage given is = absurd (cc)
+
+pub done_written : (exec : Exec) (given : List Row) → want_of (plan_at exec) ≡ wants.Write → after_act given (plan_at exec) ≡ Done
+done_written (stages.Writing draft) given is = refl
+done_written (stages.Altering altering) given is = alters_done altering given is
+done_written stage given is = absurd (cc)
+
+-- the session once the write of its command is made
+written_is : (p : Plan) (s : Session) → want_of p ≡ wants.Write → written p s ≡ record s { left = after_act [] p; opened = []; read = false }
+written_is (Do (Write draft) rest) s is = refl
+written_is (Do (Lookup name mode) rest) s is = absurd (cc)
+written_is (Do (Open rel kind) rest) s is = absurd (cc)
+written_is (Do (Column rel name) rest) s is = absurd (cc)
+written_is (Do (Read scan) rest) s is = absurd (cc)
+written_is (Do (Lock rel mode) rest) s is = absurd (cc)
+written_is Done s is = absurd (cc)
+written_is (Fails error) s is = absurd (cc)
+written_is (Absent name) s is = absurd (cc)
+written_is NotBuilt s is = absurd (cc)
+
+-- the state after a write
+abbrev pub wrote : Progress → Xid → List KeptScan → Held → Exec → Roomy OwnLock → Progress
+wrote was xid kept lists exec locks = record was {
+  exec = exec;
+  opened = [];
+  read = false;
+  due = dues.Nothing;
+  running = Some (record (begun_own (was.finished + 1) was.running) { xid = Some xid });
+  lists = lists;
+  kept = kept;
+  locks = locks;
+}
+
+runs_written : (number : ℕ) (xid : Xid) (own : Option RunningTransaction) → Some (record (begun number (running_of own)) { xid = Some xid.0 }) ≡ running_of (Some (record (begun_own number own) { xid = Some xid }))
+runs_written number xid None = refl
+runs_written number xid (Some t) = refl
+
+pub write_holds : (scenario : Scenario) (old : List Entry) (was : Progress) (xid : Xid) (items : List Item) (messages : List Message) (new_oids : ℕ) (first : Oid) (lists : Held) (exec : Exec) (locked locks : Roomy OwnLock) (rests : Rests scenario old was)
+    → want_of (plan_at was.exec) ≡ wants.Write → messages ≡ messages_in old was.id items → flat_map (locked_by (was.finished + 1)) items ≡ locks_made new_oids first (was.finished + 1)
+    → all_lists lists.lists ≡ lists_at was ++ with_messages messages (new_list (was.finished + 1)) ∷ [] → plan_at exec ≡ after_act [] (plan_at was.exec) → locked.items ≡ was.locks.items ++ locks_made new_oids first (was.finished + 1)
+    → locks.items ≡ locks_accepted (is_in_accept (wrote was xid (kept_spared messages was.kept) lists exec locked) (slice_get was.commands was.finished)) locked.items
+    → HasEntered scenario old was (events.Write xid items) rests (with_locks (wrote was xid (kept_spared messages was.kept) lists exec locked) locks)
+write_holds scenario old was xid items messages new_oids first lists exec locked locks rests wants_it are makes pushed goes held accepts = own_entered scenario old was now event locks rests (record { session = λ _ _ _ _ _ _. refl; finished = λ s. ends_same s.left s }) (record {
+  moves = record { id = refl; commands = refl; finished = refl };
+  session = whole ∙ sym (ap (λ t. session_at now (rest_of t)) whole);
+  facts = let f = rests.holds.facts in record {
+    running = ap (λ o. Some (record (begun (was.finished + 1) o) { xid = Some xid.0 })) f.running ∙ runs_written (was.finished + 1) xid was.running;
+    lists = ap (λ l. l ++ written_by old was.id (was.finished + 1) items ∷ []) f.lists ∙ sym listed;
+    owed = refl;
+    usable = λ scan build. ap (λ t. t && (facts_of old was.id).usable scan) (sym (spared_alike old was.id items scan)) ∙ ap (λ l. is_spared scan l && (facts_of old was.id).usable scan) (sym are) ∙ ap (λ t. is_spared scan messages && t) (f.usable scan build) ∙ sym (is_kept-spared messages was.kept scan);
+    kept = all-spared (ReadRight after.rows) messages was.kept (λ i d within. let k = f.kept i d within in record { build = k.build; rows_are = k.rows_are });
+    given = λ is. absurd (not_both (is_absent (plan_at exec)) is (ap is_absent done));
+  };
+  counts = counts_stay rests.holds.counts;
+  order = subst (AllByRecursion (λ (list : Written). list.command ≤ was.finished + 1)) (sym listed)
+      (every-append (λ (list : Written). list.command ≤ was.finished + 1) (lists_at was) (written_by old was.id (was.finished + 1) items ∷ []) rests.holds.order (omega arith, tt));
+  sought = λ is. absurd (not_both (is_absent (plan_at exec)) is (ap is_absent done));
+  puts = subst (PutsOpened []) (sym done) tt;
+}) accepts
+  where
+    ends_same : (p : Plan) (s : Session) → (written p s).finished ≡ s.finished
+    ends_same (Do (Write draft) rest) s = refl
+    ends_same p s = refl
+
+    event : Event
+    event = events.Write xid items
+
+    now : Progress
+    now = wrote was xid (kept_spared messages was.kept) lists exec locked
+
+    after : Facts
+    after = facts_after old was event
+
+    done : plan_at exec ≡ Done
+    done = goes ∙ done_written was.exec [] wants_it
+
+    listed : lists_at now ≡ lists_at was ++ written_by old was.id (was.finished + 1) items ∷ []
+    listed = pushed ∙ ap (λ l. lists_at was ++ l ∷ []) (ap (λ m. with_messages m (new_list (was.finished + 1))) are ∙ registered_is old was.id (was.finished + 1) items)
+
+    s : Session
+    s = session_at was rests.holds.rest
+
+    whole : noted_after old was event rests.holds.rest ≡ record s { left = plan_at exec; opened = []; read = false; locks = locked.items; judged = length old + 1; last = length old + 1 }
+    whole = ap (λ (t : Session). record t { tally = s.tally; locks = was.locks.items ++ flat_map (locked_by (was.finished + 1)) items; judged = length old + 1; last = length old + 1 }) (written_is (plan_at was.exec) s wants_it)
+        ∙ (λ i. record s { left = sym goes i; opened = []; read = false; locks = (ap (λ l. was.locks.items ++ l) makes ∙ sym held) i; judged = length old + 1; last = length old + 1 })

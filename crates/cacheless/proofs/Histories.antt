@@ -1,0 +1,21 @@
+-- Worked histories, and entries that are refused.
+pub mod TwoCreators
+pub mod NewOids
+pub mod CreateThenShow
+pub mod AnothersTable
+pub mod FullFetch
+pub mod FullFetchInBuild
+pub mod LappedReader
+pub mod ResetInsideBuild
+pub mod FailedBlock
+pub mod RefusedLock
+pub mod ThreeHolders
+pub mod RefusedCommands
+pub mod NoField
+pub mod WeakTargets
+pub mod LockedColumns
+pub mod AlteredTable
+pub mod ProtectedColumns
+pub mod WrongEntries
+pub mod WrongPlays
+pub mod WrongResets

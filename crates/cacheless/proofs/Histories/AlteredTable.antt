@@ -1,0 +1,48 @@
+-- A worked example: a backend has found a table, and holds no lock on it, while another sets the table's fillfactor. By the laws it still sees the table, and for the other, under its lock, no column has number 3.
+use Rattle.std.proofs.Common.{◌≡◌, ◌++◌, false, Some, None, List, [], ◌∷◌, codes, true, refl, arith}
+use Rattle.base_types.specs.declared.kind.Kind.TheVariants.{Table}
+use Rattle.base_types.specs.declared.mode.Mode.TheVariants.{ShareUpdateExclusive}
+use Rattle.base_types.specs.declared.row.Row.TheVariants.{Class}
+use Rattle.base_types.specs.declared.row_key.RowKey.TheVariants.{Att}
+use Rattle.base_types.specs.declared.scan.Purpose.TheVariants as scans
+use Rattle.event_kinds.specs.declared.entry.Entry.{Entry}
+use Rattle.event_kinds.specs.declared.entry.Event.TheVariants.{Start, Look, Fetch, LockOk, Scan, Write, Visible, Publish, Release}
+use Rattle.event_kinds.specs.declared.entry.Item.TheVariants.{Put}
+use Rattle.history_model.specs.Prefixes.{EachEntry, EachFrom}
+use Rattle.history_model.specs.Orderly.{has_key, MayComeNext, IsSound}
+use Rattle.history_model.proofs.Prefixes.{EachEntry-prefix}
+use Rattle.history_model.proofs.Locked.{IsSeenAs}
+use Rattle.cacheless.specs.TableWrites.{WritesTables}
+use Rattle.cacheless.proofs.Plans.Given.{oid, xid, entry, wide_table}
+use Rattle.cacheless.proofs.StillSeen.{TakesNoneBack, relation_between}
+use Rattle.cacheless.proofs.NumberedColumns.{numbered_columns}
+
+-- the second backend finds the table that the first has made
+abbrev pub found : List Entry
+found = entry 1 0 Start ∷ entry 2 0 Start ∷ entry 1 1 (Write (xid 1) (wide_table 16384 (codes "t") 2)) ∷ entry 1 1 (Visible (xid 1)) ∷ entry 1 1 (Publish 4) ∷ entry 1 1 (Publish 1) ∷ entry 1 1 (Release 1)
+    ∷ entry 2 1 (Look true) ∷ entry 2 1 (Fetch 5) ∷ entry 2 1 (Scan (scans.RelName (codes "t")) 1) ∷ []
+
+-- the first locks it
+abbrev pub locked : List Entry
+locked = entry 1 2 (LockOk (oid 16384) ShareUpdateExclusive) ∷ []
+
+-- and sets its fillfactor
+abbrev pub altered : List Entry
+altered = entry 1 2 (Write (xid 2) (Put (Class (oid 16384) (codes "t") Table (Some 70)) ∷ [])) ∷ entry 1 2 (Visible (xid 2)) ∷ []
+
+sound : IsSound (found ++ (locked ++ altered))
+sound = search arith
+
+tables : EachEntry WritesTables (found ++ (locked ++ altered))
+tables = (tt, (tt, (record { stay = refl; names = (tt, (tt, (tt, tt))); columns = refl }, (tt, (tt, (tt, (tt, (tt, (tt, (tt, (tt, (record { stay = refl; names = ((refl, refl), tt); columns = refl }, (tt, tt)))))))))))))
+
+none_back : EachFrom (TakesNoneBack 2) found (locked ++ altered)
+none_back = ((λ own. tt), ((λ own. tt), ((λ own. tt), tt)))
+
+-- the second backend still sees the table
+pub table_stays : IsSeenAs (found ++ (locked ++ altered)) 2 (oid 16384) (codes "t") Table
+table_stays = relation_between found (locked ++ altered) 2 (oid 16384) (codes "t") Table sound tables none_back (None, refl)
+
+-- and the first may add a column of number 3
+pub third_free : has_key (found ++ locked) (Att (oid 16384) 3) ≡ false
+third_free = (numbered_columns (found ++ locked) 1 (oid 16384) (EachEntry-prefix MayComeNext (found ++ locked) altered sound) (EachEntry-prefix WritesTables (found ++ locked) altered tables) (refl, (refl, (refl, tt)))).free

@@ -1,0 +1,168 @@
+-- A worked example: a field is asked for that a table hasn't.
+use Rattle.std.specs.Fmt.{digits}
+use Rattle.std.proofs.Common.{◌≡◌, ◌≤◌, ◌++◌, ℕ, true, false, Some, List, [], ◌∷◌, codes, refl, sym, arith}
+use Rattle.base_types.specs.Scenario.{Scenario}
+use Rattle.base_types.specs.declared.mode.Mode.TheVariants.{AccessShare}
+use Rattle.base_types.specs.declared.scan.Purpose.TheVariants as scans
+use Rattle.base_types.specs.declared.command.Command.TheVariants as commands
+use Rattle.base_types.specs.declared.field.Field.TheVariants as fields
+use Rattle.event_kinds.specs.declared.entry.Entry.{Entry}
+use Rattle.event_kinds.specs.declared.entry.Event.TheVariants.{Start, Look, Fetch, LockOk, Scan, Write, Visible, Publish, Release, Stop}
+use Rattle.event_kinds.specs.Texts.{text_of}
+use Rattle.history_model.specs.Lapped.{FollowsQueue}
+use Rattle.history_model.specs.Orderly.{MayComeNext, IsSound}
+use Rattle.history_model.specs.Read.{IsEconomical}
+use Rattle.history_model.proofs.Sound.{sound_is_legal}
+use Rattle.cacheless.specs.Plays.{IsNext, Plays}
+use Rattle.cacheless.specs.Schedule.{FollowsSchedule, AreLooksTrue, IsComplete}
+use Rattle.cacheless.specs.Lines.{lines_of}
+use Rattle.cacheless.specs.Output.{IsOutput}
+use Rattle.cacheless.proofs.Plans.Given.{oid, xid, entry, placed, script, creating, new_table}
+
+at_least_1 : 1 ≤ 1
+at_least_1 = omega arith
+
+at_most_1 : 1 ≤ 1
+at_most_1 = omega arith
+
+abbrev pub no_field : Scenario
+no_field = script 1 (placed 1 (creating (codes "t") (codes "a")) ∷ placed 1 (commands.Show (codes "t") (Some fields.Valid)) ∷ []) []
+
+abbrev pub looked : List Entry
+looked = entry 1 0 Start ∷ entry 1 1 (Look false) ∷ []
+
+looked_plays_1 : IsNext no_field [] (entry 1 0 Start)
+looked_plays_1 = ((at_least_1, at_most_1), tt)
+
+looked_comes_1 : MayComeNext [] (entry 1 0 Start)
+looked_comes_1 = record { follows = record { life = refl; visible = tt; gone = tt; event = tt }; orderly = tt }
+
+looked_plays_2 : IsNext no_field (entry 1 0 Start ∷ []) (entry 1 1 (Look false))
+looked_plays_2 = ((at_least_1, at_most_1), (refl, refl))
+
+looked_comes_2 : MayComeNext (entry 1 0 Start ∷ []) (entry 1 1 (Look false))
+looked_comes_2 = record { follows = record { life = omega arith; visible = tt; gone = tt; event = refl }; orderly = tt }
+
+abbrev pub created : List Entry
+created = looked ++ entry 1 1 (Write (xid 1) (new_table 16384 (codes "t") (codes "a"))) ∷ entry 1 1 (Visible (xid 1)) ∷ entry 1 1 (Publish 3) ∷ entry 1 1 (Publish 1) ∷ entry 1 1 (Release 1) ∷ []
+
+created_plays_1 : IsNext no_field looked (entry 1 1 (Write (xid 1) (new_table 16384 (codes "t") (codes "a"))))
+created_plays_1 = ((at_least_1, at_most_1), (refl, (refl, refl)))
+
+created_comes_1 : MayComeNext looked (entry 1 1 (Write (xid 1) (new_table 16384 (codes "t") (codes "a"))))
+created_comes_1 = record { follows = record { life = omega arith; visible = tt; gone = tt; event = record { xid_is = refl; oids = refl; keys = refl; there = refl; kinds = refl; only = refl; free = refl; guarded = refl; covered = refl } }; orderly = record { fresh = refl; keeps = refl; named = refl } }
+
+created_plays_2 : IsNext no_field (looked ++ entry 1 1 (Write (xid 1) (new_table 16384 (codes "t") (codes "a"))) ∷ []) (entry 1 1 (Visible (xid 1)))
+created_plays_2 = ((at_least_1, at_most_1), (refl, (refl, refl)))
+
+created_comes_2 : MayComeNext (looked ++ entry 1 1 (Write (xid 1) (new_table 16384 (codes "t") (codes "a"))) ∷ []) (entry 1 1 (Visible (xid 1)))
+created_comes_2 = record { follows = record { life = omega arith; visible = tt; gone = tt; event = (refl, refl) }; orderly = tt }
+
+created_plays_3 : IsNext no_field (looked ++ entry 1 1 (Write (xid 1) (new_table 16384 (codes "t") (codes "a"))) ∷ entry 1 1 (Visible (xid 1)) ∷ []) (entry 1 1 (Publish 3))
+created_plays_3 = ((at_least_1, at_most_1), (refl, (refl, refl)))
+
+created_comes_3 : MayComeNext (looked ++ entry 1 1 (Write (xid 1) (new_table 16384 (codes "t") (codes "a"))) ∷ entry 1 1 (Visible (xid 1)) ∷ []) (entry 1 1 (Publish 3))
+created_comes_3 = record { follows = record { life = omega arith; visible = tt; gone = tt; event = (refl, omega arith, refl) }; orderly = tt }
+
+created_plays_4 : IsNext no_field (looked ++ entry 1 1 (Write (xid 1) (new_table 16384 (codes "t") (codes "a"))) ∷ entry 1 1 (Visible (xid 1)) ∷ entry 1 1 (Publish 3) ∷ []) (entry 1 1 (Publish 1))
+created_plays_4 = ((at_least_1, at_most_1), (refl, (refl, refl)))
+
+created_comes_4 : MayComeNext (looked ++ entry 1 1 (Write (xid 1) (new_table 16384 (codes "t") (codes "a"))) ∷ entry 1 1 (Visible (xid 1)) ∷ entry 1 1 (Publish 3) ∷ []) (entry 1 1 (Publish 1))
+created_comes_4 = record { follows = record { life = omega arith; visible = tt; gone = tt; event = (refl, omega arith, refl) }; orderly = tt }
+
+created_plays_5 : IsNext no_field (looked ++ entry 1 1 (Write (xid 1) (new_table 16384 (codes "t") (codes "a"))) ∷ entry 1 1 (Visible (xid 1)) ∷ entry 1 1 (Publish 3) ∷ entry 1 1 (Publish 1) ∷ []) (entry 1 1 (Release 1))
+created_plays_5 = ((at_least_1, at_most_1), (refl, (refl, refl)))
+
+created_comes_5 : MayComeNext (looked ++ entry 1 1 (Write (xid 1) (new_table 16384 (codes "t") (codes "a"))) ∷ entry 1 1 (Visible (xid 1)) ∷ entry 1 1 (Publish 3) ∷ entry 1 1 (Publish 1) ∷ []) (entry 1 1 (Release 1))
+created_comes_5 = record { follows = record { life = omega arith; visible = tt; gone = tt; event = (omega arith, (refl, refl)) }; orderly = tt }
+
+abbrev pub scanned : List Entry
+scanned = created ++ entry 1 2 (Look true) ∷ entry 1 2 (Fetch 4) ∷ entry 1 2 (Look false) ∷ entry 1 2 (Scan (scans.RelName (codes "t")) 1) ∷ []
+
+scanned_plays_1 : IsNext no_field created (entry 1 2 (Look true))
+scanned_plays_1 = ((at_least_1, at_most_1), (refl, refl))
+
+scanned_comes_1 : MayComeNext created (entry 1 2 (Look true))
+scanned_comes_1 = record { follows = record { life = omega arith; visible = tt; gone = tt; event = refl }; orderly = tt }
+
+scanned_plays_2 : IsNext no_field (created ++ entry 1 2 (Look true) ∷ []) (entry 1 2 (Fetch 4))
+scanned_plays_2 = ((at_least_1, at_most_1), (refl, tt))
+
+scanned_comes_2 : MayComeNext (created ++ entry 1 2 (Look true) ∷ []) (entry 1 2 (Fetch 4))
+scanned_comes_2 = record { follows = record { life = omega arith; visible = tt; gone = tt; event = (refl, refl) }; orderly = tt }
+
+scanned_plays_3 : IsNext no_field (created ++ entry 1 2 (Look true) ∷ entry 1 2 (Fetch 4) ∷ []) (entry 1 2 (Look false))
+scanned_plays_3 = ((at_least_1, at_most_1), (refl, refl))
+
+scanned_comes_3 : MayComeNext (created ++ entry 1 2 (Look true) ∷ entry 1 2 (Fetch 4) ∷ []) (entry 1 2 (Look false))
+scanned_comes_3 = record { follows = record { life = omega arith; visible = tt; gone = tt; event = refl }; orderly = tt }
+
+scanned_plays_4 : IsNext no_field (created ++ entry 1 2 (Look true) ∷ entry 1 2 (Fetch 4) ∷ entry 1 2 (Look false) ∷ []) (entry 1 2 (Scan (scans.RelName (codes "t")) 1))
+scanned_plays_4 = ((at_least_1, at_most_1), (refl, (refl, refl, refl)))
+
+scanned_comes_4 : MayComeNext (created ++ entry 1 2 (Look true) ∷ entry 1 2 (Fetch 4) ∷ entry 1 2 (Look false) ∷ []) (entry 1 2 (Scan (scans.RelName (codes "t")) 1))
+scanned_comes_4 = record { follows = record { life = omega arith; visible = tt; gone = tt; event = refl }; orderly = tt }
+
+abbrev pub locked : List Entry
+locked = scanned ++ entry 1 2 (LockOk (oid 16384) AccessShare) ∷ entry 1 2 (Look false) ∷ []
+
+locked_plays_1 : IsNext no_field scanned (entry 1 2 (LockOk (oid 16384) AccessShare))
+locked_plays_1 = ((at_least_1, at_most_1), (refl, (refl, (refl, refl))))
+
+locked_comes_1 : MayComeNext scanned (entry 1 2 (LockOk (oid 16384) AccessShare))
+locked_comes_1 = record { follows = record { life = omega arith; visible = tt; gone = tt; event = (refl, refl) }; orderly = omega arith }
+
+locked_plays_2 : IsNext no_field (scanned ++ entry 1 2 (LockOk (oid 16384) AccessShare) ∷ []) (entry 1 2 (Look false))
+locked_plays_2 = ((at_least_1, at_most_1), (refl, refl))
+
+locked_comes_2 : MayComeNext (scanned ++ entry 1 2 (LockOk (oid 16384) AccessShare) ∷ []) (entry 1 2 (Look false))
+locked_comes_2 = record { follows = record { life = omega arith; visible = tt; gone = tt; event = refl }; orderly = tt }
+
+abbrev pub field_refused : List Entry
+field_refused = locked ++ entry 1 2 (Release 2) ∷ []
+
+field_refused_plays : IsNext no_field locked (entry 1 2 (Release 2))
+field_refused_plays = ((at_least_1, at_most_1), (refl, (refl, refl)))
+
+field_refused_comes : MayComeNext locked (entry 1 2 (Release 2))
+field_refused_comes = record { follows = record { life = omega arith; visible = tt; gone = tt; event = (omega arith, refl) }; orderly = tt }
+
+abbrev pub stopped : List Entry
+stopped = field_refused ++ entry 1 3 Stop ∷ []
+
+stopped_plays : IsNext no_field field_refused (entry 1 3 Stop)
+stopped_plays = ((at_least_1, at_most_1), (refl, refl))
+
+stopped_comes : MayComeNext field_refused (entry 1 3 Stop)
+stopped_comes = record { follows = record { life = omega arith; visible = tt; gone = tt; event = refl }; orderly = tt }
+
+pub no_field_plays : Plays no_field stopped
+no_field_plays = (looked_plays_1, (looked_plays_2, (created_plays_1, (created_plays_2, (created_plays_3, (created_plays_4, (created_plays_5, (scanned_plays_1, (scanned_plays_2, (scanned_plays_3, (scanned_plays_4, (locked_plays_1, (locked_plays_2, (field_refused_plays, (stopped_plays, tt)))))))))))))))
+
+pub no_field_sound : IsSound stopped
+no_field_sound = (looked_comes_1, (looked_comes_2, (created_comes_1, (created_comes_2, (created_comes_3, (created_comes_4, (created_comes_5, (scanned_comes_1, (scanned_comes_2, (scanned_comes_3, (scanned_comes_4, (locked_comes_1, (locked_comes_2, (field_refused_comes, (stopped_comes, tt)))))))))))))))
+
+pub no_field_queue : FollowsQueue 4096 stopped
+no_field_queue = (tt, (tt, (tt, (tt, (tt, (tt, (tt, (tt, (refl, (tt, (tt, (tt, (tt, (tt, (tt, tt)))))))))))))))
+
+pub no_field_economical : IsEconomical stopped
+no_field_economical = (tt, (tt, (tt, (tt, (tt, (tt, (tt, (tt, (tt, (tt, (λ build. absurd (cc), (tt, (tt, (tt, (tt, tt)))))))))))))))
+
+pub no_field_follows : FollowsSchedule no_field stopped
+no_field_follows = (refl, (refl, (refl, (refl, (refl, (refl, (refl, (refl, (refl, (refl, (refl, (refl, (refl, (refl, (refl, tt)))))))))))))))
+
+pub no_field_looks : AreLooksTrue stopped
+no_field_looks = (tt, (refl, (tt, (tt, (tt, (tt, (tt, (tt, (tt, (refl, (tt, (tt, (refl, (tt, (tt, tt)))))))))))))))
+
+pub no_field_complete : IsComplete no_field stopped
+no_field_complete = refl
+
+abbrev pub no_field_text : List ℕ
+no_field_text = codes "h 1 0 start\nh 1 1 look no\nh 1 1 write 1 +class(16384,t,r,-) +att(16384,1,a,int4,-1,l)\nh 1 1 visible 1\nh 1 1 publish 3\nh 1 1 publish 1\nh 1 1 release 1\nh 1 2 look yes\nh 1 2 fetch 4\nh 1 2 look no\nh 1 2 scan relname t rows 1\nh 1 2 lock 16384 as ok\nh 1 2 look no\nh 1 2 release 2\nh 1 3 stop\nl 1 1 ok\nl 1 2 error 42809 t has no field valid\nend\n"
+
+pub no_field_spelled : text_of stopped (lines_of no_field stopped) ≡ no_field_text
+unfolding digits
+no_field_spelled = refl
+
+pub no_field_output : IsOutput no_field no_field_text
+no_field_output = record { history = stopped; allowed = record { legal = sound_is_legal stopped no_field_sound; queue = no_field_queue; plays = no_field_plays; economical = no_field_economical }; follows = no_field_follows; looks = no_field_looks; complete = no_field_complete; text_is = sym no_field_spelled }

@@ -1,0 +1,182 @@
+-- A worked example: a table is shown whose writer hasn't released its lock.
+use Rattle.std.specs.Fmt.{digits}
+use Rattle.std.proofs.Common.{◌≡◌, ◌≤◌, ◌++◌, ℕ, false, None, List, [], ◌∷◌, codes, refl, sym, arith}
+use Rattle.base_types.specs.Scenario.{Scenario}
+use Rattle.base_types.specs.declared.mode.Mode.TheVariants.{AccessShare, AccessExclusive}
+use Rattle.base_types.specs.declared.scan.Purpose.TheVariants as scans
+use Rattle.base_types.specs.declared.command.Command.TheVariants as commands
+use Rattle.event_kinds.specs.declared.entry.Entry.{Entry}
+use Rattle.event_kinds.specs.declared.entry.Event.TheVariants.{Start, Look, LockHeld, Scan, Write, Visible, Publish, Release, Stop}
+use Rattle.event_kinds.specs.Texts.{text_of}
+use Rattle.history_model.specs.Lapped.{FollowsQueue}
+use Rattle.history_model.specs.Orderly.{MayComeNext, IsSound}
+use Rattle.history_model.specs.Read.{IsEconomical}
+use Rattle.history_model.proofs.Sound.{sound_is_legal}
+use Rattle.cacheless.specs.Plays.{IsNext, Plays}
+use Rattle.cacheless.specs.Schedule.{FollowsSchedule, AreLooksTrue, IsComplete}
+use Rattle.cacheless.specs.Lines.{lines_of}
+use Rattle.cacheless.specs.Output.{IsOutput}
+use Rattle.cacheless.proofs.Plans.Given.{oid, xid, entry, placed, turns, script, creating, new_table}
+
+at_least_1 : 1 ≤ 1
+at_least_1 = omega arith
+
+at_most_1 : 1 ≤ 2
+at_most_1 = omega arith
+
+at_least_2 : 1 ≤ 2
+at_least_2 = omega arith
+
+at_most_2 : 2 ≤ 2
+at_most_2 = omega arith
+
+abbrev pub refused_lock : Scenario
+refused_lock = script 2 (placed 1 (creating (codes "t") (codes "a")) ∷ placed 2 (commands.Show (codes "t") None) ∷ []) ((turns 1 4 ∷ turns 2 6 ∷ turns 1 4 ∷ turns 2 1 ∷ []) ∷ [])
+
+abbrev pub visible : List Entry
+visible = entry 1 0 Start ∷ entry 1 1 (Look false) ∷ entry 1 1 (Write (xid 1) (new_table 16384 (codes "t") (codes "a"))) ∷ entry 1 1 (Visible (xid 1)) ∷ []
+
+visible_plays_1 : IsNext refused_lock [] (entry 1 0 Start)
+visible_plays_1 = ((at_least_1, at_most_1), tt)
+
+visible_comes_1 : MayComeNext [] (entry 1 0 Start)
+visible_comes_1 = record { follows = record { life = refl; visible = tt; gone = tt; event = tt }; orderly = tt }
+
+visible_plays_2 : IsNext refused_lock (entry 1 0 Start ∷ []) (entry 1 1 (Look false))
+visible_plays_2 = ((at_least_1, at_most_1), (refl, refl))
+
+visible_comes_2 : MayComeNext (entry 1 0 Start ∷ []) (entry 1 1 (Look false))
+visible_comes_2 = record { follows = record { life = omega arith; visible = tt; gone = tt; event = refl }; orderly = tt }
+
+visible_plays_3 : IsNext refused_lock (entry 1 0 Start ∷ entry 1 1 (Look false) ∷ []) (entry 1 1 (Write (xid 1) (new_table 16384 (codes "t") (codes "a"))))
+visible_plays_3 = ((at_least_1, at_most_1), (refl, (refl, refl)))
+
+visible_comes_3 : MayComeNext (entry 1 0 Start ∷ entry 1 1 (Look false) ∷ []) (entry 1 1 (Write (xid 1) (new_table 16384 (codes "t") (codes "a"))))
+visible_comes_3 = record { follows = record { life = omega arith; visible = tt; gone = tt; event = record { xid_is = refl; oids = refl; keys = refl; there = refl; kinds = refl; only = refl; free = refl; guarded = refl; covered = refl } }; orderly = record { fresh = refl; keeps = refl; named = refl } }
+
+visible_plays_4 : IsNext refused_lock (entry 1 0 Start ∷ entry 1 1 (Look false) ∷ entry 1 1 (Write (xid 1) (new_table 16384 (codes "t") (codes "a"))) ∷ []) (entry 1 1 (Visible (xid 1)))
+visible_plays_4 = ((at_least_1, at_most_1), (refl, (refl, refl)))
+
+visible_comes_4 : MayComeNext (entry 1 0 Start ∷ entry 1 1 (Look false) ∷ entry 1 1 (Write (xid 1) (new_table 16384 (codes "t") (codes "a"))) ∷ []) (entry 1 1 (Visible (xid 1)))
+visible_comes_4 = record { follows = record { life = omega arith; visible = tt; gone = tt; event = (refl, refl) }; orderly = tt }
+
+abbrev pub started : List Entry
+started = visible ++ entry 2 0 Start ∷ entry 2 1 (Look false) ∷ []
+
+started_plays_1 : IsNext refused_lock visible (entry 2 0 Start)
+started_plays_1 = ((at_least_2, at_most_2), tt)
+
+started_comes_1 : MayComeNext visible (entry 2 0 Start)
+started_comes_1 = record { follows = record { life = refl; visible = tt; gone = tt; event = tt }; orderly = tt }
+
+started_plays_2 : IsNext refused_lock (visible ++ entry 2 0 Start ∷ []) (entry 2 1 (Look false))
+started_plays_2 = ((at_least_2, at_most_2), (refl, refl))
+
+started_comes_2 : MayComeNext (visible ++ entry 2 0 Start ∷ []) (entry 2 1 (Look false))
+started_comes_2 = record { follows = record { life = omega arith; visible = tt; gone = tt; event = refl }; orderly = tt }
+
+abbrev pub scanned : List Entry
+scanned = started ++ entry 2 1 (Look false) ∷ entry 2 1 (Scan (scans.RelName (codes "t")) 1) ∷ []
+
+scanned_plays_1 : IsNext refused_lock started (entry 2 1 (Look false))
+scanned_plays_1 = ((at_least_2, at_most_2), (refl, refl))
+
+scanned_comes_1 : MayComeNext started (entry 2 1 (Look false))
+scanned_comes_1 = record { follows = record { life = omega arith; visible = tt; gone = tt; event = refl }; orderly = tt }
+
+scanned_plays_2 : IsNext refused_lock (started ++ entry 2 1 (Look false) ∷ []) (entry 2 1 (Scan (scans.RelName (codes "t")) 1))
+scanned_plays_2 = ((at_least_2, at_most_2), (refl, (refl, refl, refl)))
+
+scanned_comes_2 : MayComeNext (started ++ entry 2 1 (Look false) ∷ []) (entry 2 1 (Scan (scans.RelName (codes "t")) 1))
+scanned_comes_2 = record { follows = record { life = omega arith; visible = tt; gone = tt; event = refl }; orderly = tt }
+
+abbrev pub refused : List Entry
+refused = scanned ++ entry 2 1 (LockHeld (oid 16384) AccessShare 1 AccessExclusive) ∷ []
+
+refused_plays : IsNext refused_lock scanned (entry 2 1 (LockHeld (oid 16384) AccessShare 1 AccessExclusive))
+refused_plays = ((at_least_2, at_most_2), (refl, (refl, (refl, refl))))
+
+refused_comes : MayComeNext scanned (entry 2 1 (LockHeld (oid 16384) AccessShare 1 AccessExclusive))
+refused_comes = record { follows = record { life = omega arith; visible = tt; gone = tt; event = (refl, refl) }; orderly = omega arith }
+
+abbrev pub ended : List Entry
+ended = refused ++ entry 2 1 (Release 1) ∷ []
+
+ended_plays : IsNext refused_lock refused (entry 2 1 (Release 1))
+ended_plays = ((at_least_2, at_most_2), (refl, (refl, refl)))
+
+ended_comes : MayComeNext refused (entry 2 1 (Release 1))
+ended_comes = record { follows = record { life = omega arith; visible = tt; gone = tt; event = (omega arith, refl) }; orderly = tt }
+
+abbrev pub published : List Entry
+published = ended ++ entry 1 1 (Publish 3) ∷ entry 1 1 (Publish 1) ∷ []
+
+published_plays_1 : IsNext refused_lock ended (entry 1 1 (Publish 3))
+published_plays_1 = ((at_least_1, at_most_1), (refl, (refl, refl)))
+
+published_comes_1 : MayComeNext ended (entry 1 1 (Publish 3))
+published_comes_1 = record { follows = record { life = omega arith; visible = tt; gone = tt; event = (refl, omega arith, refl) }; orderly = tt }
+
+published_plays_2 : IsNext refused_lock (ended ++ entry 1 1 (Publish 3) ∷ []) (entry 1 1 (Publish 1))
+published_plays_2 = ((at_least_1, at_most_1), (refl, (refl, refl)))
+
+published_comes_2 : MayComeNext (ended ++ entry 1 1 (Publish 3) ∷ []) (entry 1 1 (Publish 1))
+published_comes_2 = record { follows = record { life = omega arith; visible = tt; gone = tt; event = (refl, omega arith, refl) }; orderly = tt }
+
+abbrev pub released : List Entry
+released = published ++ entry 1 1 (Release 1) ∷ []
+
+released_plays : IsNext refused_lock published (entry 1 1 (Release 1))
+released_plays = ((at_least_1, at_most_1), (refl, (refl, refl)))
+
+released_comes : MayComeNext published (entry 1 1 (Release 1))
+released_comes = record { follows = record { life = omega arith; visible = tt; gone = tt; event = (omega arith, (refl, refl)) }; orderly = tt }
+
+abbrev pub writer_stopped : List Entry
+writer_stopped = released ++ entry 1 2 Stop ∷ []
+
+writer_stopped_plays : IsNext refused_lock released (entry 1 2 Stop)
+writer_stopped_plays = ((at_least_1, at_most_1), (refl, refl))
+
+writer_stopped_comes : MayComeNext released (entry 1 2 Stop)
+writer_stopped_comes = record { follows = record { life = omega arith; visible = tt; gone = tt; event = refl }; orderly = tt }
+
+abbrev pub stopped : List Entry
+stopped = writer_stopped ++ entry 2 2 Stop ∷ []
+
+stopped_plays : IsNext refused_lock writer_stopped (entry 2 2 Stop)
+stopped_plays = ((at_least_2, at_most_2), (refl, refl))
+
+stopped_comes : MayComeNext writer_stopped (entry 2 2 Stop)
+stopped_comes = record { follows = record { life = omega arith; visible = tt; gone = tt; event = refl }; orderly = tt }
+
+pub refused_lock_plays : Plays refused_lock stopped
+refused_lock_plays = (visible_plays_1, (visible_plays_2, (visible_plays_3, (visible_plays_4, (started_plays_1, (started_plays_2, (scanned_plays_1, (scanned_plays_2, (refused_plays, (ended_plays, (published_plays_1, (published_plays_2, (released_plays, (writer_stopped_plays, (stopped_plays, tt)))))))))))))))
+
+pub refused_lock_sound : IsSound stopped
+refused_lock_sound = (visible_comes_1, (visible_comes_2, (visible_comes_3, (visible_comes_4, (started_comes_1, (started_comes_2, (scanned_comes_1, (scanned_comes_2, (refused_comes, (ended_comes, (published_comes_1, (published_comes_2, (released_comes, (writer_stopped_comes, (stopped_comes, tt)))))))))))))))
+
+pub refused_lock_queue : FollowsQueue 4096 stopped
+refused_lock_queue = (tt, (tt, (tt, (tt, (tt, (tt, (tt, (tt, (tt, (tt, (tt, (tt, (tt, (tt, (tt, tt)))))))))))))))
+
+pub refused_lock_economical : IsEconomical stopped
+refused_lock_economical = (tt, (tt, (tt, (tt, (tt, (tt, (tt, (λ build. absurd (cc), (tt, (tt, (tt, (tt, (tt, (tt, (tt, tt)))))))))))))))
+
+pub refused_lock_follows : FollowsSchedule refused_lock stopped
+refused_lock_follows = (refl, (refl, (refl, (refl, (refl, (refl, (refl, (refl, (refl, (refl, (refl, (refl, (refl, (refl, (refl, tt)))))))))))))))
+
+pub refused_lock_looks : AreLooksTrue stopped
+refused_lock_looks = (tt, (refl, (tt, (tt, (tt, (refl, (refl, (tt, (tt, (tt, (tt, (tt, (tt, (tt, (tt, tt)))))))))))))))
+
+pub refused_lock_complete : IsComplete refused_lock stopped
+refused_lock_complete = refl
+
+abbrev pub refused_lock_text : List ℕ
+refused_lock_text = codes "h 1 0 start\nh 1 1 look no\nh 1 1 write 1 +class(16384,t,r,-) +att(16384,1,a,int4,-1,l)\nh 1 1 visible 1\nh 2 0 start\nh 2 1 look no\nh 2 1 look no\nh 2 1 scan relname t rows 1\nh 2 1 lock 16384 as held 1 ax\nh 2 1 release 1\nh 1 1 publish 3\nh 1 1 publish 1\nh 1 1 release 1\nh 1 2 stop\nh 2 2 stop\nl 1 1 ok\nl 2 1 error 55P03 relation 16384 is locked by backend 1 in ax\nend\n"
+
+pub refused_lock_spelled : text_of stopped (lines_of refused_lock stopped) ≡ refused_lock_text
+unfolding digits
+refused_lock_spelled = refl
+
+pub refused_lock_output : IsOutput refused_lock refused_lock_text
+refused_lock_output = record { history = stopped; allowed = record { legal = sound_is_legal stopped refused_lock_sound; queue = refused_lock_queue; plays = refused_lock_plays; economical = refused_lock_economical }; follows = refused_lock_follows; looks = refused_lock_looks; complete = refused_lock_complete; text_is = sym refused_lock_spelled }

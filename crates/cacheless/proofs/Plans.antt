@@ -1,0 +1,11 @@
+-- How far a command is, by what its acts gave.
+pub mod Ways
+pub mod EffectAlong
+pub mod ActOrder
+pub mod StillAfter
+pub mod StillLocked
+pub mod LateActs
+pub mod AloneLocks
+pub mod Given
+pub mod AfterActs
+pub mod SilentActs

@@ -1,0 +1,98 @@
+-- By a clear lock that no two backends may hold a backend keeps out all who change the relation's rows, and so what it has read of them by a usable scan is the scan's answer.
+use Rattle.std.proofs.Common.{◌≡◌, ◌∙◌, ℕ, Bool, true, false, Some, List, [], ◌∷◌, ◌==◌, ◌||◌, ◌&&◌, refl, sym, ap, map, filter, cond}
+use Rattle.std.specs.List.{AllByRecursion, list_any, list_all}
+use Rattle.std.specs.Option.{option_map_or}
+use Rattle.std.proofs.Math.Bool.{or-true}
+use Rattle.std.proofs.lemmas.Bool.{eqb-true, and_parts, and_from}
+use Rattle.base_types.specs.Modes.{mode_number, conflicting_modes, conflicts, same_mode}
+use Rattle.base_types.specs.Scans.{same_oid}
+use Rattle.base_types.specs.Scenario.{Scenario}
+use Rattle.lock_modes.specs.Grants.{holds}
+use Rattle.lock_modes.specs.Own.{is_own, has_lock, cleared, clear_modes}
+use Rattle.ddl_effect.specs.Plans.{Plan, Act, Do}
+use Rattle.history_model.specs.Held.{held_of}
+use Rattle.history_model.specs.Orderly.{MayComeNext, IsSound}
+use Rattle.history_model.specs.Read.{rows_read, is_usable}
+use Rattle.history_model.specs.Versions.{answer_of}
+use Rattle.history_model.proofs.Locked.{changing_modes}
+use Rattle.history_model.proofs.Prefixes.{EachEntry-weaker}
+use Rattle.cacheless.specs.Types.{Oid, Mode, Kind, Row, Purpose, OwnLock, Entry, Opening}
+use Rattle.cacheless.specs.ActsDone.{LockedRelation, locked_relation_by, reached, made_in, relation_by, IsHeld, WayHolds}
+use Rattle.cacheless.specs.Plays.{Plays}
+use Rattle.cacheless.specs.Session.{Session}
+use Rattle.cacheless.specs.Sessions.{session_of}
+use Rattle.cacheless.proofs.Plans.ActOrder.{FollowsOrder}
+use Rattle.cacheless.proofs.HeldLocks.{Follows, grant_of, locks_of, locks_are_held, lock_is_held}
+use Rattle.cacheless.proofs.Plans.LateActs.{comes_late, relation_only, locked_are_found, IsAlone, late_alone}
+use Rattle.cacheless.proofs.ProtectedFields.{AreKeptOut, kept_out_answers}
+use Rattle.cacheless.proofs.Plans.StillAfter.{IsOf}
+use Rattle.cacheless.proofs.Plans.StillLocked.{excludes_changing, scans_ask}
+
+same_conflicts : (writer mode other : Mode) → same_mode other mode ≡ true → conflicts writer mode ≡ true → conflicts writer other ≡ true
+same_conflicts writer mode other same clash = ap (λ n. list_any (λ m. n == mode_number m) (conflicting_modes writer)) (eqb-true (mode_number other) (mode_number mode) same) ∙ clash
+
+-- where all locks are clear, a mode that conflicts with one that is held conflicts with a clear one
+pub clear_conflict : (writer : Mode) (rel : Oid) (mode : Mode) (locks : List OwnLock) → conflicts writer mode ≡ true → map cleared locks ≡ locks → has_lock locks rel mode ≡ true → list_any (conflicts writer) (clear_modes locks rel) ≡ true
+clear_conflict writer rel mode [] clash clear has = absurd (cc has)
+clear_conflict writer rel mode (lock ∷ locks) clash clear has = by_own (is_own rel mode lock) refl has (clear_conflict writer rel mode locks clash others)
+  where
+    others : map cleared locks ≡ locks
+    others = cc
+
+    is_clear : lock.clear ≡ true
+    is_clear = let same : cleared lock ≡ lock = cc in sym (ap (λ l. l.clear) same)
+
+    with_lock : Bool → List Mode
+    with_lock t = map (λ l. l.mode) (cond t (lock ∷ filter (λ l. l.clear && same_oid l.rel rel) locks) (filter (λ l. l.clear && same_oid l.rel rel) locks))
+
+    more : list_any (conflicts writer) (clear_modes locks rel) ≡ true → (t : Bool) → list_any (conflicts writer) (with_lock t) ≡ true
+    more later true = ap (λ u. conflicts writer lock.mode || u) later ∙ or-true (conflicts writer lock.mode)
+    more later false = later
+
+    by_own : (t : Bool) → is_own rel mode lock ≡ t → (t || has_lock locks rel mode) ≡ true → (has_lock locks rel mode ≡ true → list_any (conflicts writer) (clear_modes locks rel) ≡ true)
+        → list_any (conflicts writer) (with_lock (lock.clear && same_oid lock.rel rel)) ≡ true
+    by_own true own is later =
+        let parts = and_parts (same_oid lock.rel rel) (same_mode lock.mode mode) own in
+        ap (λ t. list_any (conflicts writer) (with_lock t)) (and_from lock.clear (same_oid lock.rel rel) is_clear parts.0)
+        ∙ ap (λ t. t || list_any (conflicts writer) (clear_modes locks rel)) (same_conflicts writer mode lock.mode parts.1 clash)
+    by_own false own is later = more (later is) (lock.clear && same_oid lock.rel rel)
+
+all-weaker : {X : Type 0} (p q : X → Bool) → ((x : X) → p x ≡ true → q x ≡ true) → (xs : List X) → list_all p xs ≡ true → list_all q xs ≡ true
+all-weaker p q more [] all = refl
+all-weaker p q more (x ∷ xs) all = let parts = and_parts (p x) (list_all p xs) all in and_from (q x) (list_all q xs) (more x parts.0) (all-weaker p q more xs parts.1)
+
+-- so all who change rows are kept out by such a lock
+pub alone_keeps_out : (scenario : Scenario) (history : List Entry) (b : ℕ) (s : Session) (rel : Oid) (mode : Mode) → session_of scenario history b ≡ Some s → map cleared s.locks ≡ s.locks → has_lock s.locks rel mode ≡ true → conflicts mode mode ≡ true
+    → AreKeptOut scenario history b rel changing_modes
+alone_keeps_out scenario history b s rel mode is clear has alone =
+    all-weaker (λ writer. conflicts writer mode) (λ writer. list_any (conflicts writer) (option_map_or (λ x. clear_modes x.locks rel) (session_of scenario history b) []))
+    (λ writer clash. ap (λ o. list_any (conflicts writer) (option_map_or (λ x. clear_modes x.locks rel) o [])) is ∙ clear_conflict writer rel mode s.locks clash clear has) changing_modes (excludes_changing mode alone)
+
+-- and what was read of the relation by a usable scan is the scan's answer
+pub alone_answers : (scenario : Scenario) (history : List Entry) (b : ℕ) (s : Session) (rel : Oid) (kind : Kind) (mode : Mode) (scan : Purpose) → IsSound history → Plays scenario history → session_of scenario history b ≡ Some s → map cleared s.locks ≡ s.locks
+    → has_lock s.locks rel mode ≡ true → conflicts mode mode ≡ true → IsOf rel kind scan → is_usable history b scan ≡ true → answer_of history b scan ≡ rows_read history b scan
+alone_answers scenario history b s rel kind mode scan sound plays is clear has alone of usable =
+    kept_out_answers scenario history b rel scan (scans_ask rel kind scan of) sound plays (alone_keeps_out scenario history b s rel mode is clear has alone) usable
+
+-- what a session holds the history says too
+pub session_holds : (scenario : Scenario) (history : List Entry) (b : ℕ) (s : Session) → IsSound history → session_of scenario history b ≡ Some s → (rel : Oid) (mode : Mode) → holds (held_of history) b rel mode ≡ has_lock s.locks rel mode
+session_holds scenario history b s sound is rel mode = lock_is_held b rel mode (held_of history) s.locks
+    (locks_are_held scenario history b (EachEntry-weaker MayComeNext Follows (λ before e comes. comes.follows.life) history sound) ∙ ap (λ o. map (grant_of b) (locks_of o)) is)
+
+-- the lock of the one relation that a command found, which nobody else may hold
+record TheLock (history : List Entry) (b : ℕ) (rel : Oid) : Type 0 where
+  mode : Mode
+  held : holds (held_of history) b rel mode ≡ true
+  alone : conflicts mode mode ≡ true
+
+the_lock : (history : List Entry) (b : ℕ) (one : Opening) (locked : List LockedRelation) → map relation_only locked ≡ one ∷ [] → AllByRecursion (IsHeld history b) locked → AllByRecursion IsAlone locked → TheLock history b one.rel
+the_lock history b one [] is held alone = absurd (cc is)
+the_lock history b one (o ∷ others) is held alone =
+    let same : relation_only o ≡ one = cc is in record { mode = o.mode; held = ap (λ (r : Opening). holds (held_of history) b r.rel o.mode) (sym same) ∙ held.0; alone = alone.0 }
+
+-- so what it read by a usable scan of that relation is the scan's answer, once it goes on with its descriptor open and its locks clear
+pub late_answers : (scenario : Scenario) (history : List Entry) (b : ℕ) (s : Session) (gave : List (List Row)) (plan : Plan) (act : Act) (rest : List Row → Plan) (one : Opening) (scan : Purpose) → IsSound history → Plays scenario history → session_of scenario history b ≡ Some s → map cleared s.locks ≡ s.locks
+    → FollowsOrder plan → WayHolds history b gave plan → reached gave plan ≡ Do act rest → comes_late act ≡ true → made_in relation_by gave plan ≡ one ∷ [] → IsOf one.rel one.kind scan → is_usable history b scan ≡ true → answer_of history b scan ≡ rows_read history b scan
+late_answers scenario history b s gave plan act rest one scan sound plays is clear follows way on late found of usable =
+    let lock = the_lock history b one (made_in locked_relation_by gave plan) (locked_are_found gave plan ∙ found) way.locked (late_alone gave plan act rest follows on late) in
+    alone_answers scenario history b s one.rel one.kind lock.mode scan sound plays is clear (sym (session_holds scenario history b s sound is one.rel lock.mode) ∙ lock.held) lock.alone of usable
