@@ -1,0 +1,6 @@
+pub mod Types
+pub mod Keys
+pub mod Chains
+pub mod Entries
+pub mod Caches
+pub mod Standing
