@@ -4,11 +4,6 @@ use Rattle.std.specs.Option.{option_map_or}
 use Rattle.indexmap.specs.IndexMap.{get}
 use Rattle.cat_cache.specs.Types.{Ref, Held, Link, Chains}
 
--- the items of a list in order, and for how many more there is room
-pub record Roomy (X : Type 0) : Type 0 where
-  pub items : List X
-  pub room : ℕ
-
 -- the links of a hash
 abbrev pub links_at : Chains → ℕ → List Link
 links_at chains hash = option_map_or (λ chain. chain.items) (get nat_eq chains.chains hash) []

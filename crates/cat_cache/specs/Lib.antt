@@ -1,3 +1,4 @@
+pub mod Rooms
 pub mod Types
 pub mod Keys
 pub mod Chains

@@ -97,14 +97,12 @@ impl CatCache {
     {
         let hash = key_hash(self.id, key);
         self.keys.reserve(hash)?;
-        match self.pool.add(Cached::Row { row, at }) {
-            Ok(r) => {
-                let known = Known::Held(r);
-                self.keys.push(hash, Link { key: *key, known });
-                Ok(r)
-            }
-            Err(_) => Err(NoMemory),
-        }
+        let Ok(r) = self.pool.add(Cached::Row { row, at }) else {
+            return Err(NoMemory);
+        };
+        let known = Known::Held(r);
+        self.keys.push(hash, Link { key: *key, known });
+        Ok(r)
     }
 
     /// Keeps that a key was found to have no row, a negative entry (`SearchCatCacheMiss` in
@@ -136,15 +134,13 @@ impl CatCache {
     {
         let hash = key_hash(self.id, prefix);
         self.prefixes.reserve(hash)?;
-        match self.pool.add(Cached::List { rows, at }) {
-            Ok(r) => {
-                let known = Known::Held(r);
-                let link = Link { key: *prefix, known };
-                self.prefixes.push(hash, link);
-                Ok(r)
-            }
-            Err(_) => Err(NoMemory),
-        }
+        let Ok(r) = self.pool.add(Cached::List { rows, at }) else {
+            return Err(NoMemory);
+        };
+        let known = Known::Held(r);
+        let link = Link { key: *prefix, known };
+        self.prefixes.push(hash, link);
+        Ok(r)
     }
 
     /// The row under a reference, also after it was taken out. Condition: the reference shows one.
@@ -195,7 +191,7 @@ impl CatCache {
     /// whose keys have the hash go, positive and negative, and all lists. What is in use is dead, and goes
     /// with its last pin.
     pub fn invalidate(&mut self, hash: u32)
-        ensures entries { (key : _) → entry_of self.new key ≡ cond (hash_of (cache_id self.old) key == hash) None (entry_of self.old key) }
+        ensures entries { (key : _) → entry_of self.new key ≡ cond (hash == hash_of (cache_id self.old) key) None (entry_of self.old key) }
         ensures lists { (prefix : _) → list_of self.new prefix ≡ None }
         ensures shown { LetsGo self.old self.new }
     {

@@ -14,7 +14,7 @@ pub(crate) struct Chain {
 impl Model for Chain {
     ghost use Rattle.std.specs.Prelude.{◌-◌, vec_len, vec_capacity};
     ghost use Rattle.cat_cache.specs.declared.link.Link.{Link};
-    ghost use Rattle.cat_cache.specs.Chains.{Roomy};
+    ghost use Rattle.cat_cache.specs.Rooms.{Roomy};
 
     ghost Value = { Roomy Link };
 
