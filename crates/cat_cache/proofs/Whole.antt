@@ -1,9 +1,9 @@
 -- What a cache has of its keys and prefixes after a call, and what its references show.
-use Rattle.std.proofs.Common.{◌≡◌, ◌≢◌, ◌∙◌, ◌⊎◌, inl, inr, ◌<◌, ◌+◌, ◌==◌, ℕ, Bool, true, false, Option, Some, None, List, [], ◌∷◌, cond, IsSome, IsSomeAnd, slice_get, sym, ap, subst, refl}
+use Rattle.std.proofs.Common.{◌≡◌, ◌≢◌, ◌∙◌, ◌⊎◌, inl, inr, ◌<◌, ◌+◌, ◌==◌, ℕ, Bool, true, false, Option, Some, None, List, [], ◌∷◌, cond, IsSome, MatchOption, slice_get, sym, ap, subst, refl}
 use Rattle.std.specs.Option.{option_map, option_and_then}
 use Rattle.base_types.specs.CacheKeys.{key_hash}
-use Rattle.pin_pool.specs.Entries.{marked}
-use Rattle.pin_pool.specs.Pools.{entry_of as pooled}
+use Rattle.pin_pool.specs.Entries.{pinned}
+use Rattle.pin_pool.specs.Pools.{entry_of as pooled, Changes}
 use Rattle.cat_cache.specs.declared.cached.Cached.TheVariants as cached
 use Rattle.cat_cache.specs.declared.cat_cache.CatCache.{CatCache}
 use Rattle.cat_cache.specs.Types.{CacheId, KeyPart, Row, Pool, Ref, Entry, Cached, Known, Held, Absent, Link, Chains}
@@ -11,7 +11,7 @@ use Rattle.cat_cache.specs.Keys.{known_in}
 use Rattle.cat_cache.specs.Chains.{links_at, IsIn}
 use Rattle.cat_cache.specs.Entries.{CatEntry, Positive, Negative, CatList, under, live_of, entry_in, list_in, entry_by, list_by}
 use Rattle.cat_cache.specs.Standing.{is_row, Stands, AreAllNamed, TakesOut}
-use Rattle.cat_cache.specs.Caches.{entry_of, list_of, shown, HasSame, ChangesEntry, ChangesList, IsTakenOut, LetsGo}
+use Rattle.cat_cache.specs.Caches.{entry_of, list_of, shown, HasSame, ShowsSame, ChangesShown, ChangesEntry, ChangesList}
 use Rattle.cat_cache.proofs.Keys.{known_at}
 use Rattle.cat_cache.proofs.Live.{entry_by-same, list_by-same}
 use Rattle.cat_cache.proofs.Standing.{Adds, known_now, known_still, stands_named, stands_more}
@@ -120,6 +120,31 @@ module _ (cache : CatCache) (key : List KeyPart) where
       by None is = is
       by (Some (Held r)) is = let l = list_here r is in let never : Some (record { under = r; rows = l.0; at = l.1 }) ≡ None = sym l.2 ∙ none in absurd (cc)
       by (Some (Absent at)) is = absurd (none_absent cache.id cache.pool cache.prefixes (key_hash cache.id key) key at cache.lists is)
+
+module _ (cache : CatCache) (key : List KeyPart) (hash : ℕ) (own : hash ≡ key_hash cache.id key) (r : Ref) where
+  -- the entry of a key of which a row is known by its hash
+  pub row_found : known_in key (links_at cache.keys hash) ≡ Some (Held r) → (row : Row) × (at : ℕ) × (entry_of cache key ≡ Some (Positive r row at))
+  row_found held = entry_here cache key r (ap (λ h. known_in key (links_at cache.keys h)) (sym own) ∙ held)
+
+  -- the list of a prefix of which one is known by its hash
+  pub list_found : known_in key (links_at cache.prefixes hash) ≡ Some (Held r) → (rows : List Row) × (at : ℕ) × (list_of cache key ≡ Some (record { under = r; rows = rows; at = at }))
+  list_found held = list_here cache key r (ap (λ h. known_in key (links_at cache.prefixes h)) (sym own) ∙ held)
+
+module _ (old new : CatCache) (r : Ref) (changes : Changes old.pool new.pool r (option_map pinned (pooled old.pool r))) where
+  -- a reference that is pinned shows one pin more
+  shown_pinned : ChangesShown old new r (option_map pinned (shown old r))
+  unfolding shown
+  shown_pinned = record { at = changes.at; others = changes.others }
+
+  -- a row that is found is pinned
+  pub row_pinned : (key : List KeyPart) (row : Row) (at : ℕ) → entry_of old key ≡ Some (Positive r row at)
+      → MatchOption (option_and_then under (entry_of old key)) (ShowsSame old new) (λ s. ChangesShown old new s (option_map pinned (shown old s)))
+  row_pinned key row at is = subst (λ o. MatchOption (option_and_then under o) (ShowsSame old new) (λ s. ChangesShown old new s (option_map pinned (shown old s)))) (sym is) shown_pinned
+
+  -- a list that is found is pinned
+  pub list_pinned : (prefix : List KeyPart) (rows : List Row) (at : ℕ) → list_of old prefix ≡ Some (record { under = r; rows = rows; at = at })
+      → MatchOption (list_of old prefix) (ShowsSame old new) (λ list. ChangesShown old new list.under (option_map pinned (shown old list.under)))
+  list_pinned prefix rows at is = subst (λ o. MatchOption o (ShowsSame old new) (λ (list : CatList). ChangesShown old new list.under (option_map pinned (shown old list.under)))) (sym is) shown_pinned
 
 module _ (old new : CatCache) (same_id : new.id ≡ old.id) where
   -- the entries are the same where the links are, and the live among what they hold
