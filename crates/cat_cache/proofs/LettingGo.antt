@@ -13,7 +13,7 @@ use Rattle.cat_cache.specs.Standing.{is_row, Stands, AreAllNamed, TakesOut}
 use Rattle.cat_cache.specs.Caches.{entry_of, list_of, shown, IsTakenOut, LetsGo}
 use Rattle.cat_cache.proofs.Live.{live_in, entry_by-same}
 use Rattle.cat_cache.proofs.Standing.{stands_named}
-use Rattle.cat_cache.proofs.TakingOut.{was_in, named_still, both_ways, none_there}
+use Rattle.cat_cache.proofs.TakingOut.{was_in, named_still, none_there}
 use Rattle.cat_cache.proofs.Whole.{known_is_in, told_same, entry_here, absent_here, unknown_here, list_here, no_list_here, none_absent}
 
 module _ (id : CacheId) (old middle : Pool Cached) (keys left prefixes : Chains) (out : ℕ → Bool) (rows : Stands id true old keys) (lists : Stands id false old prefixes) (first : TakesOut old middle keys left out) where

@@ -48,7 +48,7 @@ no_links true = refl
 no_links false = refl
 
 -- no place of a list without items has one
-none_there : (links : List Link) (place : ℕ) (link : Link) → links ≡ [] → slice_get links place ≡ Some link → ⊥
+pub none_there : (links : List Link) (place : ℕ) (link : Link) → links ≡ [] → slice_get links place ≡ Some link → ⊥
 none_there links place link none at = let never : None ≡ Some link = sym (ap (λ ls. slice_get ls place) none) ∙ at in absurd (cc)
 
 -- the links of one hash are named where those of all are

@@ -17,6 +17,10 @@ use Rattle.cat_cache.proofs.Live.{entry_by-same, list_by-same}
 use Rattle.cat_cache.proofs.Standing.{Adds, known_now, known_still, stands_named, stands_more}
 use Rattle.cat_cache.proofs.TakingOut.{was_in, named_still}
 
+-- something is not nothing
+some_none : {X : Type 0} (x : X) → Some x ≡ None → ⊥
+some_none x is = absurd (cc)
+
 -- what is known of a key is in its chain
 pub known_is_in : (chains : Chains) (hash : ℕ) (key : List KeyPart) (r : Ref) → known_in key (links_at chains hash) ≡ Some (Held r) → (a : IsIn chains r) × (a.hash ≡ hash)
 known_is_in chains hash key r is =
@@ -97,8 +101,8 @@ module _ (cache : CatCache) (key : List KeyPart) where
     where
       by : (o : Option Known) → known_in key (links_at cache.keys (key_hash cache.id key)) ≡ o → known_in key (links_at cache.keys (key_hash cache.id key)) ≡ None
       by None is = is
-      by (Some (Held r)) is = let e = entry_here r is in let never : Some (Positive r e.0 e.1) ≡ None = sym e.2 ∙ none in absurd (cc)
-      by (Some (Absent at)) is = let never : Some (Negative at) ≡ None = sym (absent_here at is) ∙ none in absurd (cc)
+      by (Some (Held r)) is = let e = entry_here r is in absurd (some_none _ (sym e.2 ∙ none))
+      by (Some (Absent at)) is = absurd (some_none _ (sym (absent_here at is) ∙ none))
 
   -- the list of a prefix of which one is known
   pub list_here : (r : Ref) → known_in key (links_at cache.prefixes (key_hash cache.id key)) ≡ Some (Held r) → (rows : List Row) × (at : ℕ) × (list_of cache key ≡ Some (record { under = r; rows = rows; at = at }))
@@ -118,7 +122,7 @@ module _ (cache : CatCache) (key : List KeyPart) where
     where
       by : (o : Option Known) → known_in key (links_at cache.prefixes (key_hash cache.id key)) ≡ o → known_in key (links_at cache.prefixes (key_hash cache.id key)) ≡ None
       by None is = is
-      by (Some (Held r)) is = let l = list_here r is in let never : Some (record { under = r; rows = l.0; at = l.1 }) ≡ None = sym l.2 ∙ none in absurd (cc)
+      by (Some (Held r)) is = let l = list_here r is in absurd (some_none _ (sym l.2 ∙ none))
       by (Some (Absent at)) is = absurd (none_absent cache.id cache.pool cache.prefixes (key_hash cache.id key) key at cache.lists is)
 
 module _ (cache : CatCache) (key : List KeyPart) (hash : ℕ) (own : hash ≡ key_hash cache.id key) (r : Ref) where
