@@ -1,10 +1,10 @@
 -- A link more: of something new in the pool, or of an absence.
-use Rattle.std.proofs.Common.{◌≡◌, ◌∙◌, ◌==◌, ◌++◌, ℕ, Bool, true, Option, Some, None, List, [], ◌∷◌, cond, sym, ap, refl}
+use Rattle.std.proofs.Common.{◌≡◌, ◌∙◌, ◌==◌, ◌++◌, ℕ, Bool, true, Some, None, [], ◌∷◌, cond, sym, ap}
 use Rattle.std.specs.Option.{option_map, option_and_then}
 use Rattle.base_types.specs.CacheKeys.{key_hash}
 use Rattle.pin_pool.specs.Entries.{new_entry}
 use Rattle.pin_pool.specs.Pools.{entry_of as pooled, Changes, IsSame}
-use Rattle.cat_cache.specs.Types.{CacheId, Pool, Ref, Cached, Known, Held, Absent, Link, Chains}
+use Rattle.cat_cache.specs.Types.{CacheId, Pool, Ref, Cached, Held, Absent, Link, Chains}
 use Rattle.cat_cache.specs.Keys.{known_in}
 use Rattle.cat_cache.specs.Chains.{links_at}
 use Rattle.cat_cache.specs.Entries.{live_of}

@@ -1,5 +1,5 @@
 -- A cache after some of its keys and all of its prefixes are taken out.
-use Rattle.std.proofs.Common.{◌≡◌, ◌∙◌, ◌⊎◌, inl, inr, ℕ, Bool, true, false, Option, Some, None, List, [], cond, IsSome, slice_get, sym, ap, subst, refl}
+use Rattle.std.proofs.Common.{◌≡◌, ◌∙◌, inl, inr, ℕ, Bool, true, false, Option, Some, None, List, [], cond, IsSome, slice_get, sym, ap, subst, refl}
 use Rattle.std.specs.Option.{option_map, option_and_then}
 use Rattle.base_types.specs.CacheKeys.{key_hash}
 use Rattle.pin_pool.specs.Entries.{marked}
@@ -8,7 +8,7 @@ use Rattle.cat_cache.specs.declared.cat_cache.CatCache.{CatCache}
 use Rattle.cat_cache.specs.Types.{CacheId, KeyPart, Pool, Ref, Cached, Known, Held, Absent, Link, Chains}
 use Rattle.cat_cache.specs.Keys.{known_in}
 use Rattle.cat_cache.specs.Chains.{links_at, IsIn}
-use Rattle.cat_cache.specs.Entries.{CatList, under, live_of, entry_by, list_by}
+use Rattle.cat_cache.specs.Entries.{CatList, under, entry_by, list_by}
 use Rattle.cat_cache.specs.Standing.{is_row, Stands, AreAllNamed, TakesOut}
 use Rattle.cat_cache.specs.Caches.{entry_of, list_of, shown, IsTakenOut, LetsGo}
 use Rattle.cat_cache.proofs.Live.{live_in, entry_by-same}

@@ -1,16 +1,15 @@
 -- How chains and pool still agree after a call, and what a cache has of its keys then.
-use Rattle.std.proofs.Common.{◌≡◌, ◌≢◌, ◌∙◌, ◌⊎◌, inl, inr, ◌<◌, ◌+◌, ◌==◌, ◌++◌, ℕ, zero, suc, Bool, true, false, Option, Some, None, List, [], ◌∷◌, cond, IsSome, length, slice_get, is_some, sym, ap, subst, refl, arith}
+use Rattle.std.proofs.Common.{◌≡◌, ◌≢◌, ◌∙◌, ◌⊎◌, inl, inr, ◌==◌, ◌++◌, ℕ, zero, suc, Bool, true, false, Option, Some, None, List, [], ◌∷◌, cond, IsSome, length, slice_get, sym, ap, subst, refl}
 use Rattle.std.proofs.lemmas.Bool.{eqb-true, eq-eqb}
 use Rattle.std.proofs.lemmas.List.{append-nil}
 use Rattle.std.specs.Option.{option_map, option_and_then}
 use Rattle.base_types.specs.CacheKeys.{key_hash}
-use Rattle.pin_pool.specs.Entries.{marked}
 use Rattle.pin_pool.specs.Pools.{entry_of as pooled}
 use Rattle.cat_cache.specs.Types.{CacheId, KeyPart, Pool, Ref, Entry, Cached, Known, Held, Absent, Link, Chains}
 use Rattle.cat_cache.specs.Keys.{known_in}
 use Rattle.cat_cache.specs.Chains.{links_at, IsIn}
 use Rattle.cat_cache.specs.Entries.{live_of}
-use Rattle.cat_cache.specs.Standing.{is_row, Stands, AreAllNamed, TakesOut}
+use Rattle.cat_cache.specs.Standing.{is_row, Stands, AreAllNamed}
 use Rattle.cat_cache.proofs.Keys.{known_before, known_after, known_one, known_other}
 
 -- what is live is an entry

@@ -1,11 +1,11 @@
 -- What becomes of the pool's entries as links are taken out.
-use Rattle.std.proofs.Common.{◌≡◌, ◌≢◌, ◌∙◌, ◌⊎◌, inl, inr, ◌<◌, ◌+◌, ◌==◌, ◌||◌, ℕ, Bool, true, false, Option, Some, None, List, [], cond, IsSome, length, slice_get, sym, ap, subst, refl, arith}
-use Rattle.std.proofs.lemmas.Bool.{eqb-true, cases_eq, eq-eqb, ne_eqb}
+use Rattle.std.proofs.Common.{◌≡◌, ◌≢◌, ◌∙◌, ◌⊎◌, inl, inr, ◌<◌, ◌+◌, ◌==◌, ◌||◌, ℕ, Bool, true, false, Some, None, List, [], cond, IsSome, length, slice_get, sym, ap, subst, refl, arith}
+use Rattle.std.proofs.lemmas.Bool.{eqb-true, cases_eq, eq-eqb}
 use Rattle.std.proofs.lemmas.Option.{slice_get_within}
-use Rattle.std.specs.Option.{option_map, option_and_then, option_map_or}
+use Rattle.std.specs.Option.{option_and_then}
 use Rattle.pin_pool.specs.Entries.{marked}
 use Rattle.pin_pool.specs.Pools.{entry_of as pooled}
-use Rattle.cat_cache.specs.Types.{Pool, Ref, Entry, Cached, Known, Held, Absent, Link, Chains}
+use Rattle.cat_cache.specs.Types.{Pool, Ref, Cached, Held, Link, Chains}
 use Rattle.cat_cache.specs.Chains.{links_at, IsIn}
 use Rattle.cat_cache.specs.Standing.{AreNamed, AreAllNamed, LetsGoFirst, TakesOut}
 
@@ -68,8 +68,8 @@ takes_one old new before after hash links are go rest = record {
       go.gone a.place a.link r (slice_get_within links a.place a.link at) at a.holds;
   others = λ r none.
       go.others r (λ place link within at holds.
-          let a : IsIn before r = record { hash = hash; place = place; link = link; at = ap (λ ls. slice_get ls place) (sym are) ∙ at; holds = holds } in
-          both_ways (hash == hash) (none a) (eq-eqb hash hash refl));
+      let a : IsIn before r = record { hash = hash; place = place; link = link; at = ap (λ ls. slice_get ls place) (sym are) ∙ at; holds = holds } in
+      both_ways (hash == hash) (none a) (eq-eqb hash hash refl));
 }
 
 module _ (old now : Pool Cached) (before middle : Chains) (out : ℕ → Bool) where

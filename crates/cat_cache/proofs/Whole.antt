@@ -1,5 +1,5 @@
 -- What a cache has of its keys and prefixes after a call, and what its references show.
-use Rattle.std.proofs.Common.{◌≡◌, ◌≢◌, ◌∙◌, ◌⊎◌, inl, inr, ◌<◌, ◌+◌, ◌==◌, ℕ, Bool, true, false, Option, Some, None, List, [], ◌∷◌, cond, IsSome, MatchOption, slice_get, sym, ap, subst, refl}
+use Rattle.std.proofs.Common.{◌≡◌, ◌∙◌, ℕ, Bool, true, false, Option, Some, None, List, IfSome, IsSomeAnd, MatchOption, if◌then◌else◌, sym, ap, subst, refl}
 use Rattle.std.specs.Option.{option_map, option_and_then}
 use Rattle.base_types.specs.CacheKeys.{key_hash}
 use Rattle.pin_pool.specs.Entries.{pinned}
@@ -10,12 +10,11 @@ use Rattle.cat_cache.specs.Types.{CacheId, KeyPart, Row, Pool, Ref, Entry, Cache
 use Rattle.cat_cache.specs.Keys.{known_in}
 use Rattle.cat_cache.specs.Chains.{links_at, IsIn}
 use Rattle.cat_cache.specs.Entries.{CatEntry, Positive, Negative, CatList, under, live_of, entry_in, list_in, entry_by, list_by}
-use Rattle.cat_cache.specs.Standing.{is_row, Stands, AreAllNamed, TakesOut}
-use Rattle.cat_cache.specs.Caches.{entry_of, list_of, shown, HasSame, ShowsSame, ChangesShown, ChangesEntry, ChangesList}
+use Rattle.cat_cache.specs.Standing.{is_row, Stands}
+use Rattle.cat_cache.specs.Caches.{entry_of, list_of, shown, ShowsEntry, ShowsList, HasSame, ShowsSame, ChangesShown, ChangesEntry, ChangesList}
 use Rattle.cat_cache.proofs.Keys.{known_at}
-use Rattle.cat_cache.proofs.Live.{entry_by-same, list_by-same}
-use Rattle.cat_cache.proofs.Standing.{Adds, known_now, known_still, stands_named, stands_more}
-use Rattle.cat_cache.proofs.TakingOut.{was_in, named_still}
+use Rattle.cat_cache.proofs.Live.{live_in, entry_by-same, list_by-same}
+use Rattle.cat_cache.proofs.Standing.{Adds, known_now, known_still}
 
 -- something is not nothing
 some_none : {X : Type 0} (x : X) → Some x ≡ None → ⊥
@@ -124,6 +123,42 @@ module _ (cache : CatCache) (key : List KeyPart) where
       by None is = is
       by (Some (Held r)) is = let l = list_here r is in absurd (some_none _ (sym l.2 ∙ none))
       by (Some (Absent at)) is = absurd (none_absent cache.id cache.pool cache.prefixes (key_hash cache.id key) key at cache.lists is)
+
+-- what is live is an entry that isn't dead
+live_is : (o : Option (Entry Cached)) (v : Cached) → option_and_then live_in o ≡ Some v → IsSomeAnd o (λ e. (e.value ≡ v) × (e.dead ≡ false))
+live_is None v is = absurd (cc)
+live_is (Some e) v is = by e.dead refl
+  where
+    by : (dead : Bool) → e.dead ≡ dead → (e.value ≡ v) × (e.dead ≡ false)
+    by true dead = let never : None ≡ Some v = sym (ap (λ d. if d then None else Some e.value) dead) ∙ is in absurd (cc)
+    by false live = let same : Some e.value ≡ Some v = sym (ap (λ d. if d then None else Some e.value) live) ∙ is in (cc, live)
+
+module _ (cache : CatCache) (key : List KeyPart) where
+  -- a positive entry's reference shows its row, and isn't dead
+  pub entry_shows : IfSome (entry_of cache key) (ShowsEntry cache)
+  unfolding entry_of shown
+  entry_shows = by (known_in key (links_at cache.keys (key_hash cache.id key))) refl
+    where
+      by : (o : Option Known) → known_in key (links_at cache.keys (key_hash cache.id key)) ≡ o → IfSome (option_and_then (entry_by cache.pool) (known_in key (links_at cache.keys (key_hash cache.id key)))) (ShowsEntry cache)
+      by None is = subst (λ o. IfSome (option_and_then (entry_by cache.pool) o) (ShowsEntry cache)) (sym is) tt
+      by (Some (Absent at)) is = subst (λ o. IfSome (option_and_then (entry_by cache.pool) o) (ShowsEntry cache)) (sym is) tt
+      by (Some (Held r)) is =
+          let v = row_known cache.id cache.pool cache.keys (key_hash cache.id key) key r cache.rows is in
+          let e : option_and_then (entry_by cache.pool) (known_in key (links_at cache.keys (key_hash cache.id key))) ≡ Some (Positive r v.0 v.1) = ap (option_and_then (entry_by cache.pool)) is ∙ ap (option_and_then (entry_in r)) v.2 in
+          subst (λ o. IfSome o (ShowsEntry cache)) (sym e) (live_is (pooled cache.pool r) (cached.Row v.0 v.1) v.2)
+
+  -- a list's reference shows its rows, and isn't dead
+  pub list_shows : IfSome (list_of cache key) (ShowsList cache)
+  unfolding list_of shown
+  list_shows = by (known_in key (links_at cache.prefixes (key_hash cache.id key))) refl
+    where
+      by : (o : Option Known) → known_in key (links_at cache.prefixes (key_hash cache.id key)) ≡ o → IfSome (option_and_then (list_by cache.pool) (known_in key (links_at cache.prefixes (key_hash cache.id key)))) (ShowsList cache)
+      by None is = subst (λ o. IfSome (option_and_then (list_by cache.pool) o) (ShowsList cache)) (sym is) tt
+      by (Some (Absent at)) is = subst (λ o. IfSome (option_and_then (list_by cache.pool) o) (ShowsList cache)) (sym is) tt
+      by (Some (Held r)) is =
+          let v = list_known cache.id cache.pool cache.prefixes (key_hash cache.id key) key r cache.lists is in
+          let l : option_and_then (list_by cache.pool) (known_in key (links_at cache.prefixes (key_hash cache.id key))) ≡ Some (record { under = r; rows = v.0; at = v.1 }) = ap (option_and_then (list_by cache.pool)) is ∙ ap (option_and_then (list_in r)) v.2 in
+          subst (λ o. IfSome o (ShowsList cache)) (sym l) (live_is (pooled cache.pool r) (cached.List v.0 v.1) v.2)
 
 module _ (cache : CatCache) (key : List KeyPart) (hash : ℕ) (own : hash ≡ key_hash cache.id key) (r : Ref) where
   -- the entry of a key of which a row is known by its hash

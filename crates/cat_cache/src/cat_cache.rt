@@ -1,4 +1,4 @@
-ghost use Rattle.std.specs.Prelude.{◌≡◌, ◌<◌, ◌+◌, ◌==◌, true, false, cond, Some, None, IsSome, IfOk, OnOk, OnErr, IsSomeAnd, MatchOption};
+ghost use Rattle.std.specs.Prelude.{◌≡◌, ◌<◌, ◌+◌, ◌==◌, true, false, cond, Some, None, IsSome, IfSome, IfOk, OnOk, OnErr, IsSomeAnd, MatchOption};
 ghost use Rattle.std.specs.Option.{option_map, option_and_then, ForSome};
 ghost use Rattle.base_types.specs.CacheKeys.{key_hash as hash_of};
 ghost use Rattle.cat_cache.specs.Standing.{Stands};
@@ -30,7 +30,7 @@ impl CatCache {
     ghost use Rattle.pin_pool.specs.Entries.{new_entry, pinned, unpinned};
     ghost use Rattle.cat_cache.specs.declared.cached.Cached.TheVariants as cached;
     ghost use Rattle.cat_cache.specs.Entries.{Positive, Negative, under, found, found_list};
-    ghost use Rattle.cat_cache.specs.Caches.{cache_id, entry_of, list_of, shown, row_under, rows_under, place_under, HasSame, ShowsSame, ChangesShown, ChangesEntry, ChangesList, LetsGo};
+    ghost use Rattle.cat_cache.specs.Caches.{cache_id, entry_of, list_of, shown, row_under, rows_under, place_under, ShowsEntry, ShowsList, HasSame, ShowsSame, ChangesShown, ChangesEntry, ChangesList, LetsGo};
 
     /// An empty cache, which takes no memory (`InitCatCache` in `src/backend/utils/cache/catcache.c`).
     pub fn new(alloc: Global, id: CacheId) -> CatCache
@@ -53,6 +53,7 @@ impl CatCache {
     pub fn find(&mut self, key: &Key) -> Found
         requires { ForSome (option_and_then under (entry_of self.old key.now)) (λ r. IsSomeAnd (shown self.old r) (λ e. e.pins < 4294967295)) }
         ensures result { result ≡ found (entry_of self.old key.now) }
+        ensures shows { IfSome (entry_of self.new key.now) (ShowsEntry self.new) }
         ensures same { HasSame self.old self.new }
         ensures shown { MatchOption (option_and_then under (entry_of self.old key.now)) (ShowsSame self.old self.new) (λ r. ChangesShown self.old self.new r (option_map pinned (shown self.old r))) }
     {
@@ -72,6 +73,7 @@ impl CatCache {
     pub fn find_list(&mut self, prefix: &Key) -> FoundList
         requires { ForSome (option_map (λ list. list.under) (list_of self.old prefix.now)) (λ r. IsSomeAnd (shown self.old r) (λ e. e.pins < 4294967295)) }
         ensures result { result ≡ found_list (list_of self.old prefix.now) }
+        ensures shows { IfSome (list_of self.new prefix.now) (ShowsList self.new) }
         ensures same { HasSame self.old self.new }
         ensures shown { MatchOption (list_of self.old prefix.now) (ShowsSame self.old self.new) (λ list. ChangesShown self.old self.new list.under (option_map pinned (shown self.old list.under))) }
     {
@@ -138,7 +140,10 @@ impl CatCache {
             return Err(NoMemory);
         };
         let known = Known::Held(r);
-        let link = Link { key: *prefix, known };
+        let link = Link {
+            key: *prefix,
+            known,
+        };
         self.prefixes.push(hash, link);
         Ok(r)
     }

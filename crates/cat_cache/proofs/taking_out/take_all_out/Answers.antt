@@ -1,4 +1,4 @@
-use Rattle.std.proofs.Common.{Bool, ◌==◌, ◌||◌, false}
+use Rattle.std.proofs.Common.{◌==◌, ◌||◌, false}
 use Rattle.cat_cache.proofs.TakingOut.{takes_none, takes_next, takes_all, all_named_still}
 use Rattle.cat_cache.proofs.taking_out.take_all_out.Goals as goal
 
@@ -11,8 +11,7 @@ take_out-requires c =
 
 pub loop-hash-preserved : goal.loop-hash-preserved
 loop-hash-preserved c =
-    let out = c.loop-hash.invariant.0 in
-    (
+    let out = c.loop-hash.invariant.0 in (
       λ hash. out hash || (c.in-Some.hash == hash),
       takes_next c.args.pool.now c.loop-hash.pool c.args.chains.now c.loop-hash.chains out c.take_out.new.pool c.take_out.new.chains (λ other. c.in-Some.hash == other) c.requires c.loop-hash.invariant.1 c.take_out.ensures.out,
     )

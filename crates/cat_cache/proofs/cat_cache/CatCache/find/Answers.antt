@@ -1,8 +1,7 @@
-use Rattle.std.proofs.Common.{◌≡◌, ◌∙◌, ℕ, Some, sym, ap, refl}
+use Rattle.std.proofs.Common.{◌∙◌, Some, sym, ap, refl}
 use Rattle.std.specs.Option.{option_and_then}
-use Rattle.cat_cache.specs.Types.{Row}
-use Rattle.cat_cache.specs.Entries.{Positive, under, found}
-use Rattle.cat_cache.specs.Caches.{entry_of, shown}
+use Rattle.cat_cache.specs.Entries.{under, found}
+use Rattle.cat_cache.specs.Caches.{shown}
 use Rattle.cat_cache.proofs.Live.{live_pinned}
 use Rattle.cat_cache.proofs.Standing.{stands_still}
 use Rattle.cat_cache.proofs.Whole.{row_found, row_pinned, has_same}

@@ -1,7 +1,7 @@
-use Rattle.std.proofs.Common.{◌≡◌, ◌∙◌, ℕ, Some, sym, ap, refl}
+use Rattle.std.proofs.Common.{◌∙◌, Some, sym, ap, refl}
 use Rattle.std.specs.Option.{option_map}
 use Rattle.cat_cache.specs.Entries.{CatList, found_list}
-use Rattle.cat_cache.specs.Caches.{list_of, shown}
+use Rattle.cat_cache.specs.Caches.{shown}
 use Rattle.cat_cache.proofs.Live.{live_pinned}
 use Rattle.cat_cache.proofs.Standing.{stands_still}
 use Rattle.cat_cache.proofs.Whole.{list_found, list_pinned, has_same}

@@ -1,4 +1,4 @@
-use Rattle.std.proofs.Common.{◌≡◌, ◌∙◌, true, false, ap, refl}
+use Rattle.std.proofs.Common.{true, false, ap, refl}
 use Rattle.std.specs.Option.{option_and_then}
 use Rattle.cat_cache.specs.declared.cached.Cached.TheVariants as cached
 use Rattle.cat_cache.specs.Types.{Held, Link}
