@@ -29,7 +29,7 @@ impl Chains {
     }
 
     // The links of a hash, the oldest first.
-    fn get(&self, hash: u32) -> &[Link]
+    pub(crate) fn get(&self, hash: u32) -> &[Link]
         ensures { result.now ≡ links_at self.now hash }
     {
         match self.chains.get(&hash) {
