@@ -1,0 +1,9 @@
+use Rattle.std.proofs.Common.{refl}
+use Rattle.std.proofs.lemmas.Option.{slice_get_read}
+use Rattle.cat_cache.proofs.TakingOut.{lets_next_go}
+use Rattle.cat_cache.proofs.taking_out.let_go.Goals as goal
+
+pub loop-link-preserved : goal.loop-link-preserved
+loop-link-preserved c =
+    lets_next_go c.args.pool.now c.loop-link.pool c.let_go_one.new.pool c.args.links.now c.loop-link.link-index c.link-item.result c.requires c.loop-link.invariant
+    (slice_get_read c.args.links.now _ c.loop-link.link-index c.link-item.result refl c.loop-link-test.true c.link-item.is) c.let_go_one.ensures.gone c.let_go_one.ensures.others
