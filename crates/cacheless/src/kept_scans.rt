@@ -17,9 +17,9 @@ use std::collections::HashMap;
 use std::marker::Model;
 
 /// The scans for descriptors that a backend relies on, in the order of their entries. Of each relation
-/// it knows a place before which none of its scans is, so that a message, and a question whether a scan
-/// is kept, don't pass over the scans of all others (`RelationIdCache` in
-/// `src/backend/utils/cache/relcache.c`).
+/// it knows a place before which none of its scans is: a message for a relation of which nothing is kept
+/// passes over none, and a question whether a scan is kept over those from that place on
+/// (`RelationIdCache` in `src/backend/utils/cache/relcache.c`).
 #[derive(Drop)]
 pub struct KeptScans {
     scans: Vec<KeptScan>,

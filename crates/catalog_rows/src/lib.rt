@@ -22,9 +22,10 @@
 //! belong to a relation. There are two (`src/indexes.rt`). The first has exactly the versions that no undo
 //! took back, and [`RowStore::under`] shows its list for a scan. Out of the second a commit takes those
 //! that committed transactions wrote and ended, since nobody sees them any more. So a scan, a look-up, a
-//! test of a name and a change pass over the versions of one place that somebody may see yet, as the
-//! server's do by its indexes once dead rows are pruned, and an undo over those that its transaction wrote or
-//! ended. A write first adds all its versions, takes them off again where memory is out, and only then
+//! test of a name and a change pass over the versions of one place that somebody may see yet or that a
+//! running transaction has replaced, as the server's do by its indexes once dead rows are pruned; a scan
+//! puts each row among those before it, and an undo passes over what its transaction wrote or ended.
+//! A write first adds all its versions, takes them off again where memory is out, and only then
 //! ends others.
 //!
 //! Different from the server: there are no pages; a commit prunes at once, and what it prunes keeps its

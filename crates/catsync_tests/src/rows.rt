@@ -354,6 +354,33 @@ fn an_index_without_rows_is_scanned(rt: HostRuntime) {
     assert!(rt; scanned(&RowStore::new(rt.alloc()), 16384) == ("rows", 0));
 }
 
+// A transaction replaces a table's row and commits, and the row is found.
+fn replaced(store: &mut RowStore, xid: u32) -> bool {
+    let row = Row::Class {
+        oid: Oid(16384),
+        name: name(b"t"),
+        kind: Kind::Table,
+        fill: None,
+    };
+    applied(store, (xid, 1), &[Change::Replace(row)]) == DONE
+        && committed(store, Xid(xid)) == DONE
+        && found(store, 16384) == ("found", 16384)
+}
+
+// As many transactions one after another, which takes seconds where each passes over all versions.
+fn replaced_often(store: &mut RowStore) -> bool {
+    let mut all = true;
+    for xid in 1..20_000 {
+        all = all && replaced(store, xid);
+    }
+    all
+}
+
+#[test]
+fn a_row_is_replaced_often(rt: HostRuntime) {
+    assert!(rt; replaced_often(&mut RowStore::new(rt.alloc())));
+}
+
 #[test]
 fn many_versions_and_many_keys(rt: HostRuntime) {
     assert!(rt; many_of_one(&mut RowStore::new(rt.alloc())));
