@@ -1,5 +1,5 @@
 -- A cache after some of its keys and all of its prefixes are taken out.
-use Rattle.std.proofs.Common.{◌≡◌, ◌∙◌, inl, inr, ℕ, Bool, true, false, Option, Some, None, List, [], cond, IsSome, slice_get, sym, ap, subst, refl}
+use Rattle.std.proofs.Common.{◌≡◌, ◌∙◌, inl, inr, ℕ, Bool, true, false, Option, Some, None, List, [], cond, slice_get, sym, ap, refl}
 use Rattle.std.specs.Option.{option_map, option_and_then}
 use Rattle.base_types.specs.CacheKeys.{key_hash}
 use Rattle.pin_pool.specs.Entries.{marked}
@@ -9,7 +9,7 @@ use Rattle.cat_cache.specs.Types.{CacheId, KeyPart, Pool, Ref, Cached, Known, He
 use Rattle.cat_cache.specs.Keys.{known_in}
 use Rattle.cat_cache.specs.Chains.{links_at, IsIn}
 use Rattle.cat_cache.specs.Entries.{CatList, under, entry_by, list_by}
-use Rattle.cat_cache.specs.Standing.{is_row, Stands, AreAllNamed, TakesOut}
+use Rattle.cat_cache.specs.Standing.{is_row, Stands, TakesOut}
 use Rattle.cat_cache.specs.Caches.{entry_of, list_of, shown, IsTakenOut, LetsGo}
 use Rattle.cat_cache.proofs.Live.{live_in, entry_by-same}
 use Rattle.cat_cache.proofs.Standing.{stands_named}
@@ -24,9 +24,6 @@ module _ (id : CacheId) (old middle : Pool Cached) (keys left prefixes : Chains)
   -- the lists are named as they were
   pub list_named : (r : Ref) → IsIn prefixes r → pooled middle r ≡ pooled old r
   list_named r b = first.others r (λ a. absurd (apart r a b))
-
-  pub lists_all_named : AreAllNamed middle prefixes
-  lists_all_named = record { named = λ r b. subst IsSome (sym (list_named r b)) ((stands_named id false old prefixes lists).named r b); one = lists.one }
 
   -- the links of a hash that isn't taken out
   links_left : (hash place : ℕ) (link : Link) → slice_get (links_at left hash) place ≡ Some link → links_at left hash ≡ links_at keys hash
