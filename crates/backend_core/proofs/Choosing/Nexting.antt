@@ -179,7 +179,7 @@ build_none kept (o ∷ opened) is = by_first (find (λ d. not (is_kept kept d)) 
 
 -- where none is lacked none is found
 pub none_built : (kept : List KeptScan) (opened : List Opening) (scan other : Purpose) → lacks_opened kept opened ≡ false → build_first kept opened ≡ Some other → scan ≡ other
-none_built kept opened scan other whole is = absurd (both_ways _ (build_some kept opened other is).lacks whole)
+none_built kept opened scan other whole is = absurd (both_ways _ whole (build_some kept opened other is).lacks)
 
 -- it comes next in a command that hasn't failed
 pub build_next : (p : Progress) (command : Command) (scan : Purpose) → IsFree p command → has_failed p ≡ false → build_first p.kept p.opened ≡ Some scan → IsScanNext p scan true
