@@ -10,7 +10,7 @@ use std::alloc::Global;
 use std::test::Fail;
 
 // The text of each error, by the numbers of `error`.
-const ERROR_TEXTS: [&str; 24] = [
+const ERROR_TEXTS: &[&str] = &[
     "25P02 the transaction block has failed",
     "25P01 no transaction block",
     "3B001 savepoint x does not exist",
@@ -95,7 +95,7 @@ fn refusal(number: usize, name: Name) -> CommandError {
 }
 
 // The text of each kind of answer, by the numbers of `answer`.
-const ANSWER_TEXTS: [&str; 10] = [
+const ANSWER_TEXTS: &[&str] = &[
     "ok",
     "rolled back",
     "table 16384; name -; statistics - as of 17",
@@ -166,7 +166,14 @@ fn answer(alloc: Global, number: usize) -> Result<Answer, NoMemory> {
 fn has_text(alloc: Global, answer: &Answer, want: &str) -> Result<bool, NoMemory> {
     let mut out = b"> ".to_vec(alloc)?;
     answer_text(answer, &mut out)?;
-    Ok(out.strip_prefix(b"> ") == Some(want.as_bytes()))
+    Ok(follows_mark(&out, want.as_bytes()))
+}
+
+fn follows_mark(text: &[u8], want: &[u8]) -> bool {
+    match text {
+        [b'>', b' ', rest @ ..] => rest == want,
+        _ => false,
+    }
 }
 
 fn error_has_text(alloc: Global, number: usize, want: &str) -> Result<bool, NoMemory> {
@@ -284,6 +291,14 @@ fn a_sink_fails_within_a_history(rt: HostRuntime) -> Result<(), Fail> {
 
 // Whether a text begins with the line of a grant again and again.
 fn are_lock_lines(text: &[u8]) -> bool {
-    let mut bytes = text.iter().enumerate();
-    bytes.all(|(i, byte)| *byte == LOCK_LINE[i % LOCK_LINE.len()])
+    for (i, byte) in text.iter().enumerate() {
+        if !is_lock_byte(i, *byte) {
+            return false;
+        }
+    }
+    true
+}
+
+fn is_lock_byte(i: usize, byte: u8) -> bool {
+    byte == LOCK_LINE[i % LOCK_LINE.len()]
 }

@@ -22,7 +22,7 @@ fn script_of_command(alloc: Global, command: &str) -> Result<Script, NoMemory> {
 }
 
 // Commands, and what the blocks say of each outside a block, inside one, and in a failed one.
-const ADMITTED: [(&str, [&str; 3]); 10] = [
+const ADMITTED: &[(&str, [&str; 3])] = &[
     ("begin", ["ok", "ok", "25P02"]),
     ("commit", ["ok", "ok", "ok"]),
     ("rollback", ["ok", "ok", "ok"]),
@@ -70,7 +70,7 @@ fn is_one_admitted(commands: &[Placed], wanted: [&'static str; 3]) -> bool {
 
 #[test]
 fn blocks_admit_commands(rt: HostRuntime) -> Result<(), Fail> {
-    for (command, wanted) in ADMITTED {
+    for &(command, wanted) in ADMITTED {
         assert!(rt; is_admitted(rt.alloc(), command, wanted)?, "{command}");
     }
     Ok(())
@@ -81,6 +81,23 @@ fn state(blocks: &TxnBlocks) -> (bool, bool, u32) {
     (blocks.is_open(), blocks.is_failed(), blocks.level_from(9))
 }
 
+const BEGUN_FAILED_ENDED: [(bool, bool, u32); 3] = [
+    (true, false, 4),
+    (true, true, 4),
+    (false, false, 9),
+];
+
+// The states of a block that is begun, where it has failed, and after it has ended so.
+fn states(blocks: &mut TxnBlocks, ending: &Command) -> [(bool, bool, u32); 3] {
+    blocks.ended_well(4, &Command::Begin);
+    blocks.ended_well(5, &Command::Begin);
+    let begun = state(blocks);
+    blocks.fail();
+    let failed = state(blocks);
+    blocks.ended_well(6, ending);
+    [begun, failed, state(blocks)]
+}
+
 #[test]
 fn blocks_open_fail_and_end(rt: HostRuntime) {
     let mut blocks = TxnBlocks::new();
@@ -88,22 +105,15 @@ fn blocks_open_fail_and_end(rt: HostRuntime) {
     blocks.begin(2, false);
     blocks.ended_well(3, &Command::Commit);
     assert!(rt; state(&blocks) == (false, false, 9));
-    for ending in [Command::Commit, Command::Rollback] {
-        blocks.ended_well(4, &Command::Begin);
-        blocks.ended_well(5, &Command::Begin);
-        assert!(rt; state(&blocks) == (true, false, 4));
-        blocks.fail();
-        assert!(rt; state(&blocks) == (true, true, 4));
-        blocks.ended_well(6, &ending);
-        assert!(rt; state(&blocks) == (false, false, 9));
-    }
+    assert!(rt; states(&mut blocks, &Command::Commit) == BEGUN_FAILED_ENDED);
+    assert!(rt; states(&mut blocks, &Command::Rollback) == BEGUN_FAILED_ENDED);
     blocks.begin(7, true);
     blocks.end();
     assert!(rt; state(&blocks) == (false, false, 9));
 }
 
 // Commands, whether a lookup finds a table, and what each wants in turn.
-const PLANS: [(&str, bool, [&str; 3]); 10] = [
+const PLANS: &[(&str, bool, [&str; 3])] = &[
     (
         "create table x (a int4, b text)",
         false,
@@ -201,7 +211,7 @@ fn follows_plan(
 
 #[test]
 fn commands_follow_their_plans(rt: HostRuntime) -> Result<(), Fail> {
-    for (command, finds, turns) in PLANS {
+    for &(command, finds, turns) in PLANS {
         assert!(rt;
             follows_plan(rt.alloc(), command, finds, turns)?,
             "{command}"
@@ -217,7 +227,7 @@ fn catalog() -> &'static [u8] {
 
 // Commands, and what each changes of this catalog, as a write with the number of its new oids in place of the Xid;
 // or why it changes nothing. A greater statistics target than 10,000 is written as 10,000.
-const EFFECTS: [(&str, &[u8]); 39] = [
+const EFFECTS: &[(&str, &[u8])] = &[
     (
         "create table x (a int4, b text)",
         b"h 1 1 write 1 +class(1,x,r,-) +att(1,1,a,int4,-1,l) +att(1,2,b,text,-1,l)",
@@ -475,7 +485,7 @@ fn has_draft(alloc: Global, command: &str, wanted: &[u8]) -> Result<bool, NoMemo
     Ok(drafted(alloc, script.commands())?.as_slice() == wanted)
 }
 
-const DRAFTS: [(&str, &[u8]); 2] = [
+const DRAFTS: &[(&str, &[u8])] = &[
     (
         "create table x (a int4, b text)",
         b"h 1 1 write 1 +class(1,x,r,-) +att(1,1,a,int4,-1,l) +att(1,2,b,text,-1,l)",
@@ -485,7 +495,7 @@ const DRAFTS: [(&str, &[u8]); 2] = [
 
 #[test]
 fn new_tables_are_drafted(rt: HostRuntime) -> Result<(), Fail> {
-    for (command, wanted) in DRAFTS {
+    for &(command, wanted) in DRAFTS {
         assert!(rt; has_draft(rt.alloc(), command, wanted)?, "{command}");
     }
     Ok(())
@@ -493,7 +503,7 @@ fn new_tables_are_drafted(rt: HostRuntime) -> Result<(), Fail> {
 
 #[test]
 fn commands_have_their_effects(rt: HostRuntime) -> Result<(), Fail> {
-    for (command, wanted) in EFFECTS {
+    for &(command, wanted) in EFFECTS {
         assert!(rt;
             has_effect(rt.alloc(), catalog(), command, wanted)?,
             "{command}"
@@ -503,7 +513,7 @@ fn commands_have_their_effects(rt: HostRuntime) -> Result<(), Fail> {
 }
 
 // Columns of a table, and what a command changes of it.
-const WIDE: [(u32, &str, &[u8]); 3] = [
+const WIDE: &[(u32, &str, &[u8])] = &[
     (
         1599,
         "alter table t add column z int4",
@@ -524,11 +534,16 @@ const WIDE: [(u32, &str, &[u8]); 3] = [
 // The rows of a table of so many columns.
 fn wide_table(alloc: Global, columns: u32) -> Result<String, NoMemory> {
     let mut rows = String::from_str(alloc, "+class(16384,t,r,-)")?;
+    push_columns(&mut rows, columns)?;
+    Ok(rows)
+}
+
+fn push_columns(rows: &mut String, columns: u32) -> Result<(), NoMemory> {
     for i in 0..columns {
         let num = i.saturating_add(1);
         write!(rows, " +att(16384,{num},c{num},int4,-1,l)")?;
     }
-    Ok(rows)
+    Ok(())
 }
 
 fn has_wide_effect(
@@ -543,7 +558,7 @@ fn has_wide_effect(
 
 #[test]
 fn a_table_has_at_most_1600_columns(rt: HostRuntime) -> Result<(), Fail> {
-    for (columns, command, wanted) in WIDE {
+    for &(columns, command, wanted) in WIDE {
         let is_so = has_wide_effect(rt.alloc(), columns, command, wanted)?;
         assert!(rt; is_so, "{command} of {columns}");
     }

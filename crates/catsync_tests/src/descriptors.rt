@@ -10,7 +10,7 @@ use std::alloc::Global;
 use std::test::Fail;
 
 // What each scan of a table in turn gives, and its entry: also a foreign key of another table that refers to it.
-const TABLE: [(&[u8], u64); 6] = [
+const TABLE: &[(&[u8], u64)] = &[
     (b"+class(16384,t,r,70)", 5),
     (
         b"+att(16384,1,a,int4,100,l) +att(16384,2,b,text,-1,l) +att(16384,3,........pg.dropped.3........,int4,-1,d)",
@@ -39,12 +39,12 @@ const TABLE_FIELDS: &[(Field, &str, u64)] = &[
 ];
 
 // What it gave before a message marked the build.
-const TABLE_AT_FIRST: [(&[u8], u64); 2] = [
+const TABLE_AT_FIRST: &[(&[u8], u64)] = &[
     (b"+class(16384,t,r,-)", 1),
     (b"+att(16384,1,a,int4,-1,l)", 2),
 ];
 
-const INDEX: [(&[u8], u64); 2] = [(b"+class(16392,i,i,-)", 3), (b"+ind(16392,16384,n,1+2)", 4)];
+const INDEX: &[(&[u8], u64)] = &[(b"+class(16392,i,i,-)", 3), (b"+ind(16392,16384,n,1+2)", 4)];
 
 const INDEX_FIELDS: &[(Field, &str, u64)] = &[
     (Field::Name, "i", 3),
@@ -134,15 +134,15 @@ fn is_built(build: DescBuild, fields: &[(Field, &str, u64)], lacking: Field, row
 
 fn table_is_built(alloc: Global) -> Result<bool, NoMemory> {
     let mut build = DescBuild::new(alloc, Oid(16384));
-    let is_taken = takes_all(alloc, &mut build, &TABLE_AT_FIRST)?;
+    let is_taken = takes_all(alloc, &mut build, TABLE_AT_FIRST)?;
     build.restart();
-    let is_whole = takes_all(alloc, &mut build, &TABLE)?;
+    let is_whole = takes_all(alloc, &mut build, TABLE)?;
     Ok(is_taken && is_whole && is_built(build, TABLE_FIELDS, Field::Of, 10))
 }
 
 fn index_is_built(alloc: Global) -> Result<bool, NoMemory> {
     let mut build = DescBuild::new(alloc, Oid(16392));
-    let is_whole = takes_all(alloc, &mut build, &INDEX)?;
+    let is_whole = takes_all(alloc, &mut build, INDEX)?;
     Ok(is_whole && is_built(build, INDEX_FIELDS, Field::Columns, 2))
 }
 

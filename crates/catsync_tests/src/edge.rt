@@ -12,12 +12,7 @@ use std::test::Fail;
 const TEXT: &[u8] = b"abcdefg";
 
 // The call that fails, how much a call takes at most, and what was taken.
-const SENT: [(u64, usize, &str); 4] = [
-    (1, 1, ""),
-    (3, 1, "ab"),
-    (2, 5, "abcde"),
-    (3, 5, "abcdefg"),
-];
+const SENT: &[(u64, usize, &str)] = &[(1, 1, ""), (3, 1, "ab"), (2, 5, "abcde"), (3, 5, "abcdefg")];
 
 // Whether this is read of a source.
 fn reads<S: Source>(alloc: Global, source: &mut S, limit: usize, want: &[u8]) -> bool {
@@ -53,8 +48,8 @@ fn is_read_steadily(alloc: Global) -> Result<bool, NoMemory> {
 
 #[test]
 fn a_source_is_read_to_its_end(rt: HostRuntime) -> Result<(), Fail> {
-    for per_call in [1, 3, 5000] {
-        assert!(rt; is_read(rt.alloc(), per_call)?, "at {per_call}");
+    for per_call in [1, 3, 5000].iter() {
+        assert!(rt; is_read(rt.alloc(), *per_call)?, "at {per_call}");
     }
     assert!(rt; is_read_steadily(rt.alloc())?);
     Ok(())
@@ -86,7 +81,7 @@ fn is_taken(alloc: Global, calls: Calls, want: &str) -> Result<bool, NoMemory> {
 
 #[test]
 fn a_sink_keeps_what_it_took_before_a_call_that_fails(rt: HostRuntime) -> Result<(), Fail> {
-    for (failing, per_call, want) in SENT {
+    for &(failing, per_call, want) in SENT {
         let calls = Calls { per_call, failing };
         assert!(rt; is_taken(rt.alloc(), calls, want)?, "{want}");
     }
@@ -194,9 +189,9 @@ fn sent_badly(failing: u32, kind: Option<ErrorKind>) -> (bool, u32) {
 #[test]
 fn a_writer_of_std_fails_at_each_call_in_turn(rt: HostRuntime) {
     for failing in 1..8 {
-        for kind in [None, Some(ErrorKind::Other)] {
+        for kind in [None, Some(ErrorKind::Other)].iter() {
             assert!(rt;
-                sent_badly(failing, kind) == (false, failing - 1),
+                sent_badly(failing, *kind) == (false, failing - 1),
                 "at {failing}"
             );
         }
@@ -208,8 +203,8 @@ fn a_writer_of_std_fails_at_each_call_in_turn(rt: HostRuntime) {
 #[test]
 fn a_gate_stops_at_its_pass(rt: HostRuntime) {
     let mut gate = StopGate::new(2);
-    for stops in [false, true, false] {
-        assert!(rt; matches!(gate.pass(&rt, 1, 1), Go::Stop) == stops);
+    for stops in [false, true, false].iter() {
+        assert!(rt; matches!(gate.pass(&rt, 1, 1), Go::Stop) == *stops);
     }
     assert!(rt; matches!(OpenGate.pass(&rt, 1, 1), Go::On));
 }

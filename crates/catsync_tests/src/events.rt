@@ -5,7 +5,7 @@ use std::alloc::Global;
 const TABLE: &[u8] = b"h 1 1 write 1 +class(16384,t,r,-) +att(16384,1,a,int4,-1,l)";
 
 // The text of each event, with the name of its variant; of writes each row, key and change.
-const EVENTS: [(&[u8], &str); 35] = [
+const EVENTS: &[(&[u8], &str)] = &[
     (b"h 1 0 start", "Start"),
     (b"h 1 1 look yes", "Look"),
     (b"h 1 1 look no", "Look"),
@@ -62,7 +62,7 @@ const EVENTS: [(&[u8], &str); 35] = [
 ];
 
 // Texts of no entry.
-const OTHERS: [&[u8]; 24] = [
+const OTHERS: &[&[u8]] = &[
     b"",
     b"h 1 0 start ",
     b"h 1 0 start\n",
@@ -156,14 +156,14 @@ fn is_bad(alloc: Global, line: &[u8]) -> bool {
 
 #[test]
 fn each_event_is_read_and_written_again(rt: HostRuntime) {
-    for (line, want) in EVENTS {
+    for &(line, want) in EVENTS {
         assert!(rt; is_read(rt.alloc(), line, want), "{want}");
     }
 }
 
 #[test]
 fn other_lines_are_bad(rt: HostRuntime) {
-    for line in OTHERS {
+    for &line in OTHERS {
         assert!(rt; is_bad(rt.alloc(), line));
     }
 }

@@ -8,7 +8,7 @@ use std::alloc::Global;
 use std::test::Fail;
 
 // Faulty lines between others, and what is said of them; nothing of a line whose cause says all.
-const HINTS: [(&[u8], u32, ScriptCause, &str); 4] = [
+const HINTS: &[(&[u8], u32, ScriptCause, &str)] = &[
     (
         b"backends 1\n1: Show 1t;\nend\n",
         2,
@@ -55,7 +55,7 @@ fn is_hint(
 
 #[test]
 fn faulty_lines_have_hints(rt: HostRuntime) -> Result<(), Fail> {
-    for (script, line, cause, text) in HINTS {
+    for &(script, line, cause, text) in HINTS {
         assert!(rt; is_hint(rt.alloc(), script, line, cause, text)?, "{text}");
     }
     Ok(())
@@ -70,14 +70,14 @@ fn has_no_hint(alloc: Global, command: &str) -> Result<bool, NoMemory> {
 // The hints know each form of a command.
 #[test]
 fn commands_of_each_form_have_no_hint(rt: HostRuntime) -> Result<(), Fail> {
-    for (command, _) in COMMANDS {
+    for &(command, _) in COMMANDS {
         assert!(rt; has_no_hint(rt.alloc(), command)?, "{command}");
     }
     Ok(())
 }
 
 // Scripts, and their first command that isn't built yet.
-const UNBUILT: [(&[u8], &str); 3] = [
+const UNBUILT: &[(&[u8], &str)] = &[
     (
         b"ring 64\nbackends 2\n1: begin\n\n2: Drop Table t ;\n1: savepoint s\nsteps 1\nend\n",
         "line 5: \"Drop Table t ;\"",
@@ -92,7 +92,7 @@ fn is_unbuilt(alloc: Global, script: &[u8], text: &str) -> Result<bool, NoMemory
 
 #[test]
 fn the_first_command_that_is_not_built_is_named(rt: HostRuntime) -> Result<(), Fail> {
-    for (script, text) in UNBUILT {
+    for &(script, text) in UNBUILT {
         assert!(rt; is_unbuilt(rt.alloc(), script, text)?, "{text}");
     }
     Ok(())

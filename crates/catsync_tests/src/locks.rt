@@ -75,7 +75,7 @@ fn unlocked(table: &mut LockTable, backend: u32, rel: Oid, mode: Mode) -> Answer
 }
 
 // Calls on an empty table, and what each is answered.
-const CALLS: [(&str, &[(Call, Answer)]); 4] = [
+const CALLS: &[(&str, &[(Call, Answer)])] = &[
     ("the first holder is named", FIRST_HOLDER),
     ("the first holder is named in the other order", OTHER_ORDER),
     ("own modes are never in the way", OWN_MODES),
@@ -148,7 +148,7 @@ const GRANTED: &[(Call, Answer)] = &[
 
 #[test]
 fn a_table_answers_its_calls(rt: HostRuntime) {
-    for (name, calls) in CALLS {
+    for &(name, calls) in CALLS {
         let mut table = LockTable::new(rt.alloc());
         for (call, wanted) in calls {
             let is_so = answer(&mut table, *call) == *wanted;
@@ -278,7 +278,7 @@ fn kept_out(own: &OwnLocks, rel: Oid, mode: Mode) -> &'static str {
 }
 
 // Calls on the locks of a backend that has none, and what each is answered.
-const OWN_CALLS: [(OwnCall, &str); 22] = [
+const OWN_CALLS: &[(OwnCall, &str)] = &[
     (OwnCall::Add(REL, Mode::Share, 1), "done"),
     (OwnCall::Add(REL, Mode::AccessShare, 2), "done"),
     (OwnCall::Add(OTHER, Mode::Share, 3), "done"),
@@ -306,7 +306,7 @@ const OWN_CALLS: [(OwnCall, &str); 22] = [
 #[test]
 fn own_locks_are_marked(rt: HostRuntime) {
     let mut own = OwnLocks::new(rt.alloc());
-    for (call, wanted) in OWN_CALLS {
+    for &(call, wanted) in OWN_CALLS {
         assert!(rt; own_answer(&mut own, call) == wanted);
     }
 }

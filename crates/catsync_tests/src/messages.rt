@@ -41,7 +41,7 @@ const OF_COLUMN: &[(u32, u32)] = &[(3, 85949054), (0, 16384)];
 
 // The rows before and after a change, and its messages. The hashes of the names `t`, `u`, `an` and `c0`, of the
 // oid 16384 and of its columns `a` and `b` were computed by hand.
-const CHANGES: [(&[u8], &[u8], &[(u32, u32)]); 13] = [
+const CHANGES: &[(&[u8], &[u8], &[(u32, u32)])] = &[
     (b"", T, OF_TABLE),
     (T, b"", OF_TABLE),
     (T, T, OF_TABLE),
@@ -67,7 +67,7 @@ const CHANGES: [(&[u8], &[u8], &[(u32, u32)]); 13] = [
 
 #[test]
 fn changes_have_their_messages(rt: HostRuntime) -> Result<(), Fail> {
-    for (old, new, wanted) in CHANGES {
+    for &(old, new, wanted) in CHANGES {
         assert!(rt; told(rt.alloc(), old, new)?.as_slice() == wanted);
     }
     Ok(())

@@ -336,7 +336,7 @@ const READERS_APART: &[(Call, Answer)] = &[
 
 // The size of the queue and the number of its first message, the last of which is the highest that there may be, and
 // the calls. What each is answered was worked out by hand from the rules of the server.
-const TABLES: [(u32, u64, &[(Call, Answer)]); 12] = [
+const TABLES: &[(u32, u64, &[(Call, Answer)])] = &[
     (128, 0, FILLED_BY_TWO_QUANTA),
     (128, 0, LAPPED_BY_ONE_MESSAGE_MORE),
     (64, 0, EXACTLY_THE_FREE_ROOM),
@@ -353,7 +353,7 @@ const TABLES: [(u32, u64, &[(Call, Answer)]); 12] = [
 
 #[test]
 fn calls_on_a_queue_are_answered_as_by_the_server(rt: HostRuntime) -> Result<(), Fail> {
-    for (size, number, table) in TABLES {
+    for &(size, number, table) in TABLES {
         assert!(rt; right(rt.alloc(), size, number, table)? == table.len());
     }
     Ok(())

@@ -7,7 +7,7 @@ use std::alloc::Global;
 
 // A stamp, the state of its transaction, a reader, whether the stamp is of the reader's own transaction, and
 // whether the reader sees what was done. A stamp and a reader are given by Xid and command, and by 0 without Xid.
-const STAMPS: [((u32, u32), StampState, (u32, u32), (bool, bool)); 7] = [
+const STAMPS: &[((u32, u32), StampState, (u32, u32), (bool, bool))] = &[
     ((1, 1), StampState::Committed, (0, 1), (false, true)),
     ((1, 9), StampState::Committed, (2, 1), (false, true)),
     ((1, 1), StampState::Running, (0, 9), (false, false)),
@@ -29,7 +29,7 @@ fn seen_as(did: (u32, u32), state: StampState, reads: (u32, u32)) -> (bool, bool
 
 #[test]
 fn stamps_are_seen(rt: HostRuntime) {
-    for (did, state, reads, wanted) in STAMPS {
+    for &(did, state, reads, wanted) in STAMPS {
         assert!(rt; seen_as(did, state, reads) == wanted);
     }
     assert!(rt; visible(true, false) && !visible(true, true) && !visible(false, false));
@@ -152,7 +152,7 @@ fn numbers(store: &RowStore, purpose: &Purpose, wanted: &[u64]) -> Answer {
 }
 
 // Calls on a store without rows, and what each is answered.
-const CALLS: [(&str, &[(Call, Answer)]); 8] = [
+const CALLS: &[(&str, &[(Call, Answer)])] = &[
     ("two creators", TWO_CREATORS),
     ("two creators, the second first", OTHER_CREATORS),
     ("a rollback and the name again", NAME_AGAIN),
@@ -294,7 +294,7 @@ const OPENED_AGAIN: &[(Call, Answer)] = &[
 
 #[test]
 fn a_store_answers_its_calls(rt: HostRuntime) {
-    for (name, calls) in CALLS {
+    for &(name, calls) in CALLS {
         let mut store = RowStore::new(rt.alloc());
         for (call, wanted) in calls {
             let is_so = answer(rt.alloc(), &mut store, *call) == *wanted;

@@ -30,11 +30,11 @@ end
 }
 
 // The same script, and another spelling of it.
-const SPELLINGS: [&[u8]; 2] = [ABSENT, b"-- x\n\nBACKENDS 1\r\n\t1 : Show T ;\nEND"];
+const SPELLINGS: &[&[u8]] = &[ABSENT, b"-- x\n\nBACKENDS 1\r\n\t1 : Show T ;\nEND"];
 
 #[test]
 fn an_absent_table_is_shown(rt: HostRuntime) -> Result<(), Fail> {
-    for script in SPELLINGS {
+    for &script in SPELLINGS {
         assert!(rt; gives(rt.alloc(), script, absent_output())?);
     }
     Ok(())
@@ -108,7 +108,7 @@ fn a_sink_fails_at_each_call_in_turn(rt: HostRuntime) -> Result<(), Fail> {
 }
 
 // Arguments and scripts that are refused, and the exit status and the first word that is said.
-const REFUSED: [(&[&str], &[u8], u8, &str); 12] = [
+const REFUSED: &[(&[&str], &[u8], u8, &str)] = &[
     (&[], ABSENT, 1, "usage"),
     (&[""], ABSENT, 1, "usage"),
     (&["Walk"], ABSENT, 1, "usage"),
@@ -163,13 +163,20 @@ fn is_refused(
     said: &str,
 ) -> Result<bool, NoMemory> {
     let outcome = called(alloc, words, script, STEADY, STEADY)?;
-    let is_so = outcome.status.exit_code() == code && outcome.sent().is_empty();
-    Ok(is_so && begins(alloc, outcome.status, said)?)
+    if !has_ended(&outcome, code) {
+        return Ok(false);
+    }
+    begins(alloc, outcome.status, said)
+}
+
+// Whether a call ended with this exit status and wrote nothing.
+fn has_ended(outcome: &Outcome, code: u8) -> bool {
+    outcome.status.exit_code() == code && outcome.sent().is_empty()
 }
 
 #[test]
 fn other_arguments_and_other_scripts_write_nothing(rt: HostRuntime) -> Result<(), Fail> {
-    for (words, script, code, said) in REFUSED {
+    for &(words, script, code, said) in REFUSED {
         assert!(rt;
             is_refused(rt.alloc(), words, script, code, said)?,
             "{said}"
@@ -215,7 +222,7 @@ fn is_answered(alloc: Global, columns: u32, then: &str, end: &[u8]) -> Result<bo
     Ok(matches!(outcome.status, Status::Done) && outcome.sent().ends_with(end))
 }
 
-const WIDE: [(u32, &str, &[u8]); 4] = [
+const WIDE: &[(u32, &str, &[u8])] = &[
     (1600, "", b"\nl 1 1 ok\nend\n"),
     (1601, "", b"\nl 1 1 error 54011 too many columns\nend\n"),
     (
@@ -232,7 +239,7 @@ const WIDE: [(u32, &str, &[u8]); 4] = [
 
 #[test]
 fn the_most_columns_and_one_more(rt: HostRuntime) -> Result<(), Fail> {
-    for (columns, then, end) in WIDE {
+    for &(columns, then, end) in WIDE {
         assert!(rt; is_answered(rt.alloc(), columns, then, end)?, "{columns}");
     }
     Ok(())
@@ -241,13 +248,23 @@ fn the_most_columns_and_one_more(rt: HostRuntime) -> Result<(), Fail> {
 // A script that makes a table of so many columns, and then does this.
 fn wide_script(alloc: Global, columns: u32, then: &str) -> Result<Vec<u8>, NoMemory> {
     let mut script = String::from_str(alloc, "backends 1\n1: create table t (c0 int4")?;
+    push_columns(&mut script, columns)?;
+    push_end(&mut script, then)?;
+    Ok(script.into_bytes())
+}
+
+fn push_columns(script: &mut String, columns: u32) -> Result<(), NoMemory> {
     for column in 1..columns {
         write!(script, ", c{column} int4")?;
     }
+    Ok(())
+}
+
+fn push_end(script: &mut String, then: &str) -> Result<(), NoMemory> {
     script.push_str(")\n")?;
     script.push_str(then)?;
     script.push_str("end\n")?;
-    Ok(script.into_bytes())
+    Ok(())
 }
 
 // A script of 1,048,576 bytes with 64 backends, 20,000 commands and 1,000,000 steps: one table is
@@ -286,7 +303,13 @@ fn lines_of(alloc: Global, script: &[u8]) -> Result<usize, NoMemory> {
 }
 
 fn lines_in(text: &[u8]) -> usize {
-    text.iter().filter(|byte| **byte == b'\n').count()
+    let mut count: usize = 0;
+    for byte in text {
+        if *byte == b'\n' {
+            count = count.saturating_add(1);
+        }
+    }
+    count
 }
 
 fn lines_of_largest(alloc: Global) -> Result<usize, NoMemory> {
@@ -304,7 +327,7 @@ fn the_largest_script_is_walked(rt: HostRuntime) -> Result<(), Fail> {
 }
 
 // What is said of a line that breaks a rule.
-const CAUSES: [(ScriptCause, &str); 12] = [
+const CAUSES: &[(ScriptCause, &str)] = &[
     (
         ScriptCause::BadByte,
         "BadByte: the line holds a byte that is neither printable ASCII nor a tab",
@@ -356,7 +379,7 @@ const CAUSES: [(ScriptCause, &str); 12] = [
 ];
 
 // What is said of the other ends of a call.
-const STATUSES: [(Status, &str); 7] = [
+const STATUSES: &[(Status, &str)] = &[
     (Status::Done, "done"),
     (Status::Usage, "usage: catsync walk < SCRIPT > OUTPUT"),
     (Status::TooLong, "the script has more than 1048576 bytes"),
@@ -381,7 +404,7 @@ fn is_said_of_line(alloc: Global, cause: ScriptCause, text: &str) -> Result<bool
 
 #[test]
 fn each_cause_has_its_text(rt: HostRuntime) -> Result<(), Fail> {
-    for (cause, text) in CAUSES {
+    for &(cause, text) in CAUSES {
         assert!(rt; is_said_of_line(rt.alloc(), cause, text)?, "{text}");
     }
     Ok(())
@@ -389,7 +412,7 @@ fn each_cause_has_its_text(rt: HostRuntime) -> Result<(), Fail> {
 
 #[test]
 fn each_status_has_its_text(rt: HostRuntime) -> Result<(), Fail> {
-    for (status, text) in STATUSES {
+    for &(status, text) in STATUSES {
         assert!(rt; is_said(rt.alloc(), status, text)?, "{text}");
     }
     Ok(())

@@ -54,7 +54,7 @@ fn rule(cause: ScriptCause) -> &'static str {
 }
 
 // Commands as they may be given, and as they are written.
-pub(crate) const COMMANDS: [(&str, &str); 36] = [
+pub(crate) const COMMANDS: &[(&str, &str)] = &[
     ("begin", "begin"),
     ("COMMIT ;", "commit"),
     ("rollback;", "rollback"),
@@ -150,14 +150,14 @@ fn is_command_written(alloc: Global, given: &str, want: &str) -> Result<bool, No
 
 #[test]
 fn each_command_is_read_and_written(rt: HostRuntime) -> Result<(), Fail> {
-    for (given, want) in COMMANDS {
+    for &(given, want) in COMMANDS {
         assert!(rt; is_command_written(rt.alloc(), given, want)?, "{given}");
     }
     Ok(())
 }
 
 // Whole scripts as they may be given, and as they are written.
-const SCRIPTS: [(&str, &str); 4] = [
+const SCRIPTS: &[(&str, &str)] = &[
     (
         "BACKENDS 1\r\n1: CREATE TABLE t (a INT);\nend",
         "backends 1\n1: create table t (a int4)\nend\n",
@@ -178,14 +178,14 @@ const SCRIPTS: [(&str, &str); 4] = [
 
 #[test]
 fn whole_scripts_are_read_and_written(rt: HostRuntime) -> Result<(), Fail> {
-    for (given, want) in SCRIPTS {
+    for &(given, want) in SCRIPTS {
         assert!(rt; is_written(rt.alloc(), given, want)?, "{given}");
     }
     Ok(())
 }
 
 // Texts that break a rule, with the line and the cause.
-const FAULTS: [(&str, u32, &str); 22] = [
+const FAULTS: &[(&str, u32, &str)] = &[
     ("", 1, "NoBackends"),
     ("-- a\n\n \t\n", 4, "NoBackends"),
     ("backends 1\n1: begin\n", 3, "NoEnd"),
@@ -220,7 +220,7 @@ const FAULTS: [(&str, u32, &str); 22] = [
 
 #[test]
 fn the_first_fault_is_named(rt: HostRuntime) {
-    for (text, line, rule) in FAULTS {
+    for &(text, line, rule) in FAULTS {
         assert!(rt;
             fault(rt.alloc(), text.as_bytes()) == (line, rule),
             "{text}"
@@ -231,7 +231,7 @@ fn the_first_fault_is_named(rt: HostRuntime) {
 const BYTES_63: &str = "a23456789_123456789_123456789_123456789_123456789_123456789_123";
 
 // What is around a name, a word and a text.
-const LONG_ONES: [(&str, &str); 3] = [
+const LONG_ONES: &[(&str, &str)] = &[
     ("create table t (", " int4)"),
     ("alter table t alter column c set default ", ""),
     ("alter table t add constraint k check (", ")"),
@@ -255,13 +255,16 @@ fn fault_of_64(alloc: Global, before: &str, after: &str) -> Result<(u32, &'stati
     Ok(fault(alloc, text.as_bytes()))
 }
 
+fn may_not_be_longer(alloc: Global, before: &str, after: &str) -> Result<bool, NoMemory> {
+    Ok(fault_of_64(alloc, before, after)? == (2, "BadCommand"))
+}
+
 // A name, a word and a text of 63 bytes are read, and of 64 they are not.
 #[test]
 fn names_have_63_bytes_at_most(rt: HostRuntime) -> Result<(), Fail> {
-    for (before, after) in LONG_ONES {
+    for &(before, after) in LONG_ONES {
         assert!(rt; may_be_long(rt.alloc(), before, after)?, "{before}");
-        let fault = fault_of_64(rt.alloc(), before, after)?;
-        assert!(rt; fault == (2, "BadCommand"), "{before}");
+        assert!(rt; may_not_be_longer(rt.alloc(), before, after)?, "{before}");
     }
     Ok(())
 }
@@ -269,11 +272,16 @@ fn names_have_63_bytes_at_most(rt: HostRuntime) -> Result<(), Fail> {
 // The text of a script of so many commands.
 fn many_commands(alloc: Global, count: u32) -> Result<Vec<u8>, NoMemory> {
     let mut text = b"backends 64\n".to_vec(alloc)?;
+    push_many(&mut text, count)?;
+    Ok(text)
+}
+
+fn push_many(text: &mut Vec<u8>, count: u32) -> Result<(), NoMemory> {
     for _ in 0..count {
         text.extend_from_slice(b"64: begin\n")?;
     }
     text.extend_from_slice(b"steps 1*999999 64\nend\n")?;
-    Ok(text)
+    Ok(())
 }
 
 fn fault_of_many(alloc: Global, count: u32) -> Result<(u32, &'static str), NoMemory> {
@@ -288,7 +296,7 @@ fn a_script_has_at_most_20000_commands(rt: HostRuntime) -> Result<(), Fail> {
 }
 
 // Texts with a rest, the place after the `end` line, and the script as it is written.
-const RESTS: [(&[u8], usize, &[u8]); 2] = [
+const RESTS: &[(&[u8], usize, &[u8])] = &[
     (b"backends 1\nend\n-- x\n", 15, b"backends 1\nend\n"),
     (
         b"RING 64\nBACKENDS 1\r\n1: CREATE TABLE t (a INT);\nSTEPS 1 * 5 1\nEND\r\nh 1 0 start\n",
@@ -315,7 +323,7 @@ fn written_before(alloc: Global, text: &[u8]) -> Result<Vec<u8>, NoMemory> {
 
 #[test]
 fn a_rest_begins_after_the_end(rt: HostRuntime) -> Result<(), Fail> {
-    for (text, rest_at, wanted) in RESTS {
+    for &(text, rest_at, wanted) in RESTS {
         assert!(rt; rest(rt.alloc(), text, Rest::Given) == rest_at);
         assert!(rt; written_before(rt.alloc(), text)?.as_slice() == wanted);
     }

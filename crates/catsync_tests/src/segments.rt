@@ -124,7 +124,7 @@ fn a_segment_has_its_history(rt: HostRuntime) -> Result<(), Fail> {
 
 // Schedules that end in the middle of a commit, or after it, and for whom messages wait then. Nothing waits for a
 // backend that hasn't started or that has stopped.
-const WAITING: [(&[u8], [bool; 3]); 4] = [
+const WAITING: &[(&[u8], [bool; 3])] = &[
     (
         b"backends 3\n1: create table t (a int4)\n2: show t\nsteps 2 1*4\nend\n",
         [false, false, false],
@@ -161,7 +161,7 @@ fn waits_after(alloc: Global, script: &Script) -> Result<[bool; 3], NoMemory>
 
 #[test]
 fn messages_wait_until_they_are_fetched(rt: HostRuntime) -> Result<(), Fail> {
-    for (text, waiting) in WAITING {
+    for &(text, waiting) in WAITING {
         assert!(rt; waits(rt.alloc(), text)? == waiting);
     }
     Ok(())

@@ -16,7 +16,7 @@ use walk_run::{is_built, walk};
 type Sessions = &'static [(&'static [&'static [u8]], bool)];
 
 // Scripts and their sessions.
-const SESSIONS: [(&[u8], Sessions); 2] = [
+const SESSIONS: &[(&[u8], Sessions)] = &[
     (
         b"backends 2\n2: show u\n1: create table t (a int4)\n1: begin\nend\n",
         &[
@@ -138,7 +138,7 @@ fn top_call_gives(alloc: Global, text: &[u8], wanted: Sessions) -> Result<bool, 
 
 #[test]
 fn each_call_gives_the_sessions(rt: HostRuntime) -> Result<(), Fail> {
-    for (text, wanted) in SESSIONS {
+    for &(text, wanted) in SESSIONS {
         assert!(rt; walk_gives(rt.alloc(), text, wanted)?);
         assert!(rt; segment_gives(rt.alloc(), text, wanted)?);
         assert!(rt; top_call_gives(rt.alloc(), text, wanted)?);
@@ -148,8 +148,11 @@ fn each_call_gives_the_sessions(rt: HostRuntime) -> Result<(), Fail> {
 
 // Whether a new backend has its number and hasn't answered.
 fn is_new(alloc: Global) -> Result<bool, NoMemory> {
-    let backend = Backend::new(alloc, 7, Listed::new(alloc))?;
-    Ok(backend.id() == 7 && !backend.is_stopped() && backend.transcript().is_empty())
+    Ok(has_not_answered(&Backend::new(alloc, 7, Listed::new(alloc))?, 7))
+}
+
+fn has_not_answered(backend: &Backend, number: u32) -> bool {
+    backend.id() == number && !backend.is_stopped() && backend.transcript().is_empty()
 }
 
 #[test]

@@ -8,7 +8,7 @@ use std::alloc::Global;
 use std::test::Fail;
 
 // The table of the PostgreSQL manual, "Explicit Locking".
-const CONFLICTS: [&[u8; 8]; 8] = [
+const CONFLICTS: &[&[u8; 8]] = &[
     b".......x",
     b"......xx",
     b"....xxxx",
@@ -20,7 +20,7 @@ const CONFLICTS: [&[u8; 8]; 8] = [
 ];
 
 // The modes of the writers of each field, as they are written, of tables and then of indexes.
-const WRITERS: [(Kind, Field, &[u8]); 14] = [
+const WRITERS: &[(Kind, Field, &[u8])] = &[
     (Kind::Table, Field::Name, b"name: ax"),
     (Kind::Table, Field::Columns, b"columns: ax"),
     (Kind::Table, Field::Defaults, b"defaults: ax"),
@@ -42,7 +42,7 @@ const BYTES_63: &[u8] = b"a23456789_123456789_123456789_123456789_123456789_1234
 const BYTES_64: &[u8] = b"a23456789_123456789_123456789_123456789_123456789_123456789_1234";
 
 // Bytes, and whether they are a name, a word and a text.
-const SHORT_TEXTS: [(&[u8], [bool; 3]); 12] = [
+const SHORT_TEXTS: &[(&[u8], [bool; 3])] = &[
     (b"t_1", [true, true, true]),
     (BYTES_63, [true, true, true]),
     (BYTES_64, [false, false, false]),
@@ -88,7 +88,7 @@ fn is_text(text: &[u8]) -> bool {
 
 #[test]
 fn names_words_and_texts(rt: HostRuntime) {
-    for (text, wanted) in SHORT_TEXTS {
+    for &(text, wanted) in SHORT_TEXTS {
         assert!(rt; [is_name(text), is_word(text), is_text(text)] == wanted);
     }
 }
@@ -104,7 +104,7 @@ fn fault(text: &[u8]) -> (&'static str, u32) {
 }
 
 // What is first wrong with some names. The name of a dropped column is none that may be given.
-const NAME_FAULTS: [(&[u8], &str, u32); 4] = [
+const NAME_FAULTS: &[(&[u8], &str, u32)] = &[
     (b"", "empty", 0),
     (BYTES_64, "too long", 0),
     (b"aB C", "bad byte", 1),
@@ -113,7 +113,7 @@ const NAME_FAULTS: [(&[u8], &str, u32); 4] = [
 
 #[test]
 fn the_first_fault_of_a_name(rt: HostRuntime) {
-    for (text, fault_name, at) in NAME_FAULTS {
+    for &(text, fault_name, at) in NAME_FAULTS {
         assert!(rt; fault(text) == (fault_name, at));
     }
     assert!(rt; Name::dropped(12).as_bytes() == b"........pg.dropped.12........".as_slice());
@@ -121,18 +121,33 @@ fn the_first_fault_of_a_name(rt: HostRuntime) {
 
 // Whether a mode conflicts with those that are marked in its row.
 fn conflicts_so(mode: Mode, row: &[u8; 8]) -> bool {
-    for (other, mark) in Mode::ALL.iter().zip(row.iter()) {
-        if conflicts(mode, *other) != (*mark == b'x') {
+    for (i, other) in Mode::ALL.iter().enumerate() {
+        if conflicts(mode, *other) != is_marked(row, i) {
             return false;
         }
     }
     true
 }
 
+fn is_marked(row: &[u8; 8], i: usize) -> bool {
+    match row.get(i) {
+        Some(mark) => *mark == b'x',
+        None => false,
+    }
+}
+
+// The same of the row of this number, from 0.
+fn has_row(mode: Mode, number: usize) -> bool {
+    match CONFLICTS.get(number) {
+        Some(row) => conflicts_so(mode, row),
+        None => false,
+    }
+}
+
 #[test]
 fn conflict_table(rt: HostRuntime) {
-    for (mode, row) in Mode::ALL.iter().zip(CONFLICTS.iter()) {
-        assert!(rt; conflicts_so(*mode, row));
+    for (number, mode) in Mode::ALL.iter().enumerate() {
+        assert!(rt; has_row(*mode, number));
     }
 }
 
@@ -161,7 +176,7 @@ fn is_locked_field(kind: Kind, field: Field) -> bool {
 
 #[test]
 fn writers_table(rt: HostRuntime) {
-    for (kind, field, text) in WRITERS {
+    for &(kind, field, text) in WRITERS {
         assert!(rt; has_writers(kind, field, text) && is_locked_field(kind, field));
     }
 }
@@ -200,7 +215,7 @@ const KEY: &[u8] = b"+con(16390,16385,k,f,n,2,16384,1)";
 const INDEX: &[u8] = b"+ind(16400,16384,v,1+3+12)";
 
 // Rows, a field of a relation, and its text where there are these rows alone.
-const FIELDS: [(&[u8], Field, u32, &str); 9] = [
+const FIELDS: &[(&[u8], Field, u32, &str)] = &[
     (COLUMNS, Field::Columns, 16384, "b:int4"),
     (COLUMNS, Field::Statistics, 16384, "1:-1"),
     (COLUMNS, Field::Defaults, 16384, "-"),
@@ -219,7 +234,7 @@ fn shown(alloc: Global, rows: &[u8], field: Field, rel: u32) -> Result<Vec<u8>, 
 
 #[test]
 fn fields_have_their_texts(rt: HostRuntime) -> Result<(), Fail> {
-    for (rows, field, rel, want) in FIELDS {
+    for &(rows, field, rel, want) in FIELDS {
         let text = shown(rt.alloc(), rows, field, rel)?;
         assert!(rt; text.as_slice() == want.as_bytes(), "{want}");
     }
@@ -238,7 +253,7 @@ fn catalog_name(row: &Row) -> &'static str {
 }
 
 // A row of each catalog.
-const CATALOGS: [(&[u8], &str); 6] = [
+const CATALOGS: &[(&[u8], &str)] = &[
     (b"+class(16384,t,r,-)", "pg_class"),
     (b"+att(16384,1,a,int4,-1,l)", "pg_attribute"),
     (b"+def(16386,16384,1,0)", "pg_attrdef"),
@@ -256,7 +271,7 @@ fn is_in_catalog(alloc: Global, row: &[u8], wanted: &str) -> Result<bool, NoMemo
 
 #[test]
 fn rows_have_their_catalogs(rt: HostRuntime) -> Result<(), Fail> {
-    for (row, wanted) in CATALOGS {
+    for &(row, wanted) in CATALOGS {
         assert!(rt; is_in_catalog(rt.alloc(), row, wanted)?, "{wanted}");
     }
     Ok(())
@@ -264,8 +279,8 @@ fn rows_have_their_catalogs(rt: HostRuntime) -> Result<(), Fail> {
 
 #[test]
 fn hashes(rt: HostRuntime) {
-    for text in [b"an", b"c0"] {
-        let by_name = Key::new(&[KeyPart::Name(name(text))]);
+    for text in [b"an", b"c0"].iter() {
+        let by_name = Key::new(&[KeyPart::Name(name(*text))]);
         assert!(rt; key_hash(CacheId::RelName, &by_name) == 4078);
     }
     let by_column = Key::new(&[KeyPart::Oid(Oid(16384)), KeyPart::Name(name(b"a"))]);
