@@ -1,12 +1,9 @@
 use Rattle.std.proofs.Common.{◌≡◌, ◌<◌, ◌+◌, List, get_or, refl, subst, sym, arith}
 use Rattle.base_types.specs.declared.command.Command.{Command}
 use Rattle.ddl_effect.specs.Commands.{commands_of}
-use Rattle.walk_run.proofs.NewBackends.{Begins, begins_none, begins_more, built_copies}
-use Rattle.walk_run.proofs.OwnCommands.{all_left, left_next, left_fewer}
+use Rattle.walk_run.proofs.NewBackends.{Begins, begins_more, built_copies}
+use Rattle.walk_run.proofs.OwnCommands.{left_next, left_fewer}
 use Rattle.walk_run.proofs.walking.Walker.new.Goals as goal
-
-pub loop-number-init : goal.loop-number-init
-loop-number-init c = record { begins = subst (λ bs. Begins c.args.script.now bs 0) (sym c.new-backends.ensures.items) (begins_none c.args.script.now); left = all_left c.args.script.now c.in_ok-lists.lists.items c.in_ok-lists.ensures }
 
 pub new-requires-in-loop-number : goal.new-requires-in-loop-number
 new-requires-in-loop-number c =
