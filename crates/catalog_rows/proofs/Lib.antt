@@ -7,6 +7,7 @@ mod Found
 mod Given
 mod Grown
 mod Listing
+mod Retained
 mod Serving
 mod SlotLists
 mod TakenBack

@@ -2,13 +2,14 @@ ghost use Rattle.std.specs.Prelude.{◌≡◌, ◌≢◌, ◌++◌, ◌∷◌, �
 ghost use Rattle.catalog_rows.specs.Numbers.{IsAscending, removed};
 
 use base_types::NoMemory;
+use smallvec::SmallVec;
 use std::alloc::Global;
 use std::marker::Model;
 
-// Numbers of versions, ascending.
+// Numbers of versions, ascending. At most places there are one or two, which take no memory of their own.
 #[derive(Drop)]
 pub(crate) struct Numbers {
-    items: Vec<u64>,
+    items: SmallVec<u64, 2>,
 }
 
 impl Model for Numbers {
@@ -25,7 +26,7 @@ impl Numbers {
         ensures { result ≡ [] }
     {
         Numbers {
-            items: Vec::new(alloc),
+            items: SmallVec::new(alloc),
         }
     }
 
@@ -61,7 +62,7 @@ impl Numbers {
         ensures yes { result ≡ true → slice_get self.now (length self.now - 1) ≡ Some number }
         ensures no { result ≡ false → slice_get self.now (length self.now - 1) ≢ Some number }
     {
-        match self.items.last() {
+        match self.items.as_slice().last() {
             Some(last) => *last == number,
             None => false,
         }
