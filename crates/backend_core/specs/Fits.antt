@@ -1,9 +1,9 @@
 -- What the program's choice keeps of a session, by the facts of the backend's entries, the running command and the looks for the next scans.
-use Rattle.std.specs.Prelude.{◌≡◌, ◌≤◌, ◌+◌, ◌*◌, ◌⊎◌, ℕ, Bool, true, false, Option, Some, None, List, [], ◌∷◌, is_some, not, length}
+use Rattle.std.specs.Prelude.{◌≡◌, ◌≤◌, ◌+◌, ◌*◌, ◌⊎◌, ℕ, Bool, true, false, Option, Some, None, List, [], ◌∷◌, is_some, not}
 use Rattle.std.specs.Option.{option_map_or}
 use Rattle.event_kinds.specs.declared.entry.Event.TheVariants as events
 use Rattle.inval_messages.specs.Lists.{has_write_from}
-use Rattle.txn_blocks.specs.Blocks.{Block, Level, Outside, Inside, Failed, is_open, innermost}
+use Rattle.txn_blocks.specs.Blocks.{Block, Level, Blocks, Outside, Inside, Failed, is_open}
 use Rattle.history_model.specs.Transactions.{is_visible}
 use Rattle.history_model.specs.Writes.{is_empty}
 use Rattle.cacheless.specs.Facts.{Facts}
@@ -45,6 +45,11 @@ abbrev pub outermost : ℕ → List Level → ℕ
 outermost number [] = number
 outermost number (level ∷ levels) = level.first
 
+-- the levels began one after another, none before the command of the first number, and all before that of the second
+abbrev pub LevelsRise : ℕ → ℕ → List Level → Type 0
+LevelsRise from number [] = from ≤ number
+LevelsRise from number (level ∷ levels) = (from ≤ level.first) × LevelsRise (level.first + 1) number levels
+
 -- the transaction of a block, whichever command runs: its outermost level began it
 pub record RunsBlock (facts : Facts) (levels : List Level) : Type 0 where
   pub runs : is_some facts.running ≡ true
@@ -55,21 +60,25 @@ abbrev pub RunsFailed : Facts → List Level → Type 0
 RunsFailed facts (level ∷ inner ∷ levels) = RunsBlock facts (level ∷ inner ∷ levels)
 RunsFailed facts levels = facts.running ≡ None
 
--- the transaction of a backend between two commands, by its blocks
-abbrev pub RunsIn : Facts → List Level → Block → Type 0
-RunsIn facts levels Outside = facts.running ≡ None
-RunsIn facts levels Inside = RunsBlock facts levels
-RunsIn facts levels Failed = RunsFailed facts levels
+-- the transaction of a backend between two commands, by its levels and its block
+abbrev pub RunsAt : Facts → List Level → Block → Type 0
+RunsAt facts levels Outside = facts.running ≡ None
+RunsAt facts levels Inside = RunsBlock facts levels
+RunsAt facts levels Failed = RunsFailed facts levels
+
+-- the same by its blocks
+abbrev pub RunsIn : Facts → Blocks → Type 0
+RunsIn facts blocks = RunsAt facts blocks.levels blocks.block
 
 -- the transaction of a backend in a command, by the blocks before it: outside blocks that of the command
 abbrev pub RunsBy : Facts → Option Command → Session → Block → Type 0
 RunsBy facts o s Outside = (facts.running ≡ None) ⊎ RunsAlone facts o s
-RunsBy facts o s block = RunsIn facts s.blocks.levels block
+RunsBy facts o s block = RunsAt facts s.blocks.levels block
 
 -- the transaction once the release is made, by the blocks after the command: none after the last one
 abbrev pub RunsAfter : Facts → Option Command → Session → Type 0
 RunsAfter facts None s = facts.running ≡ None
-RunsAfter facts (Some command) s = RunsIn facts (blocks_after command s).levels (blocks_after command s).block
+RunsAfter facts (Some command) s = RunsIn facts (blocks_after command s)
 
 -- the transaction of a backend, before the release and after it
 abbrev pub TransactionFits : Facts → Option Command → Session → Bool → Type 0
@@ -106,9 +115,7 @@ pub record Fits (facts : Facts) (o : Option Command) (s : Session) (looked to_bu
   pub transaction : TransactionFits facts o s s.ended
   pub first : first_at facts ≤ number_of s
   pub opens : is_open s.blocks ≡ not (is_empty s.blocks.levels)
-  pub levels : innermost (number_of s) s.blocks.levels ≤ number_of s
-  -- a block has one level today: savepoints, which begin more, replace this fact
-  pub one_level : length s.blocks.levels ≤ 1
+  pub levels : LevelsRise 0 (number_of s) s.blocks.levels
   pub blocked : s.blocked ≡ is_some (refused_first s.blocks o)
   pub settled : is_settled (outcome_of (plan_first s.blocks o)) ≡ true → s.left ≡ plan_first s.blocks o
   pub written : has_write_from 0 facts.lists ≡ true → option_map_or (λ t. is_some t.xid) facts.running false ≡ true

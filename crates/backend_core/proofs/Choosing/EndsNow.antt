@@ -6,7 +6,7 @@ use Rattle.std.proofs.lemmas.Bool.{leb-true, leb-false}
 use Rattle.base_types.specs.declared.command.Command.TheVariants as commands
 use Rattle.event_kinds.specs.declared.entry.Event.TheVariants as events
 use Rattle.inval_messages.specs.Lists.{has_write_from}
-use Rattle.txn_blocks.specs.Blocks.{Block, Level, Blocks, Outside, Inside, Failed, refused_in, refused_by, innermost, blocks_well, blocks_badly}
+use Rattle.txn_blocks.specs.Blocks.{Block, Level, Blocks, Outside, Inside, Failed, refused_in, refused_by, innermost, blocks_well}
 use Rattle.ddl_effect.specs.Commands.{plan_of}
 use Rattle.ddl_effect.specs.Plans.{Done}
 use Rattle.history_model.specs.Sent.{unsent_in}
@@ -23,8 +23,8 @@ use Rattle.cacheless.specs.Types.{CommandError}
 use Rattle.cacheless.proofs.Allowed.OwnEntries.{ends_out}
 use Rattle.cacheless.proofs.Plans.SilentActs.{both_empty}
 use Rattle.backend_core.specs.Types.{Xid, Command, Event}
-use Rattle.backend_core.specs.Fits.{outermost, first_at, RunsFailed, RunsIn, RunsBy, RunsAfter, TransactionFits, Fits}
-use Rattle.backend_core.proofs.Fitting.NextTransaction.{some_first}
+use Rattle.backend_core.specs.Fits.{LevelsRise, first_at, RunsBlock, RunsFailed, RunsAt, RunsIn, RunsBy, RunsAfter, TransactionFits, Fits}
+use Rattle.backend_core.proofs.Fitting.NextTransaction.{some_first, rise_within, rise_above, blocks_out}
 
 -- the end of the running command, or after the last one that of what still runs
 abbrev pub end_by : Facts → Option Command → Session → End
@@ -187,12 +187,6 @@ from_well facts o s commands.Commit from by is = from_block facts s.blocks.block
 from_well facts o s commands.Rollback from by is = from_block facts s.blocks.block false (number_of s) from is
 from_well facts o s command from by is = from_alone facts o s s.blocks.block from by is
 
--- one level is the outermost and the innermost
-one_outermost : (n : ℕ) (levels : List Level) → length levels ≤ 1 → outermost n levels ≡ innermost n levels
-one_outermost n [] one = refl
-one_outermost n (level ∷ []) one = refl
-one_outermost n (level ∷ inner ∷ levels) one = absurd (omega (arith, one))
-
 -- outside blocks the innermost level is the command itself
 level_outside : (levels : List Level) (n : ℕ) → false ≡ not (is_empty levels) → innermost n levels ≡ n
 level_outside [] n is = refl
@@ -209,12 +203,50 @@ admitted_plan : (error : Option CommandError) (command : Command) → is_some er
 admitted_plan None command none = refl
 admitted_plan (Some error) command none = absurd (cc none)
 
-module _ (facts : Facts) (o : Option Command) (s : Session) (looked to_build : Bool) (command : Command) (at : o ≡ Some command) (built : runs command ≡ true) (fits : Fits facts o s looked to_build) (going : s.ended ≡ false) where
+-- an end releases its transaction as a whole, or an inner level alone, and the transaction goes on; what runs then fits the blocks after the command
+pub data Releases (facts : Facts) (o : Option Command) (s : Session) (from : ℕ) : Type 0 where
+  Whole : first_begun facts s ≡ from → ((later : Facts) → later.running ≡ None → RunsAfter later o s) → Releases facts o s from
+  Inner : is_some facts.running ≡ true → first_at facts + 1 ≤ from → from ≤ number_of s → ((later : Facts) → later.running ≡ facts.running → RunsAfter later o s) → Releases facts o s from
+
+-- after a command that came out well and ended its transaction none belongs to the blocks
+none_well : (facts later : Facts) (s : Session) (c : Command) (from : ℕ) → later.running ≡ None → end_from (end_well facts c s) ≡ Some from → RunsIn later (blocks_well (number_of s) c s.blocks)
+none_well facts later s commands.Begin from none end = absurd (cc end)
+none_well facts later s commands.Commit from none end = none
+none_well facts later s commands.Rollback from none end = none
+none_well facts later s c from none end = by_block s.blocks.block refl end
+  where
+    by_block : (block : Block) → s.blocks.block ≡ block → end_from (elim block as (λ x. End) [ Outside ↦ Commits (number_of s) | other ↦ Ends ]) ≡ Some from → RunsIn later s.blocks
+    by_block Outside at is = subst (RunsAt later s.blocks.levels) (sym at) none
+    by_block Inside at is = absurd (cc is)
+    by_block Failed at is = absurd (cc is)
+
+-- the transaction by the blocks after a command that failed
+abbrev RunsBadly : Facts → Session → Block → Type 0
+RunsBadly later s block = RunsIn later (elim block as (λ x. Blocks) [ Outside ↦ s.blocks | other ↦ record { block = Failed; levels = s.blocks.levels } ])
+
+-- a command that failed isn't committed
+badly_back : (s : Session) (first : ℕ) → end_badly s ≡ Commits first → ⊥
+badly_back s first is = by_blocked s.blocked is
+  where
+    by_blocked : (t : Bool) → elim t as (λ x. End) [ true ↦ Ends | false ↦ TakesBack (innermost (number_of s) s.blocks.levels) ] ≡ Commits first → ⊥
+    by_blocked true end = cc end
+    by_blocked false end = cc end
+
+module _ (facts : Facts) (o : Option Command) (s : Session) (looked to_build : Bool) (command : Command) (at : o ≡ Some command) (fits : Fits facts o s looked to_build) (going : s.ended ≡ false) where
   runs_by : RunsBy facts o s s.blocks.block
   runs_by = subst (TransactionFits facts o s) going fits.transaction
 
-  failed_done : s.blocks.block ≡ Failed → s.blocked ≡ false → s.left ≡ Done
-  failed_done failed admitted = fits.settled (ap (λ p. is_settled (outcome_of p)) first) ∙ first
+  -- a commit is that of the transaction as a whole
+  first_of_commit : (first : ℕ) → end_of facts command s ≡ Commits first → first_begun facts s ≡ first
+  first_of_commit first is = by_outcome (outcome_of s.left) is
+    where
+      by_outcome : (x : Outcome) → elim x as (λ y. End) [ Well ↦ end_well facts command s | Badly ↦ end_badly s | Unsettled ↦ Ends ] ≡ Commits first → first_begun facts s ≡ first
+      by_outcome Well end = from_well facts o s command first runs_by (ap end_from end)
+      by_outcome Badly end = absurd (badly_back s first end)
+      by_outcome Unsettled end = absurd (let no : Ends ≡ Commits first = end in cc no)
+
+  failed_done : runs command ≡ true → s.blocks.block ≡ Failed → s.blocked ≡ false → s.left ≡ Done
+  failed_done built failed admitted = fits.settled (ap (λ p. is_settled (outcome_of p)) first) ∙ first
     where
       free : is_some (refused_by s.blocks command) ≡ false
       free = ap (λ c. is_some (refused_first s.blocks c)) (sym at) ∙ sym fits.blocked ∙ admitted
@@ -222,64 +254,61 @@ module _ (facts : Facts) (o : Option Command) (s : Session) (looked to_build : B
       first : plan_first s.blocks o ≡ Done
       first = ap (plan_first s.blocks) at ∙ admitted_plan (refused_by s.blocks command) command free ∙ ends_failed command (ap (λ b. is_some (refused_in b command)) (sym failed) ∙ free) built
 
+  -- what fits the blocks after the command, by how it came out
+  after_well : (later : Facts) → outcome_of s.left ≡ Well → RunsIn later (blocks_well (number_of s) command s.blocks) → RunsAfter later o s
+  after_well later well is = subst (λ c. RunsAfter later c s) (sym at)
+      (subst (λ x. RunsIn later (blocks_out command s x)) (sym well) is)
+
+  after_badly : (later : Facts) (block : Block) → outcome_of s.left ≡ Badly → s.blocks.block ≡ block → RunsBadly later s block → RunsAfter later o s
+  after_badly later block badly here is = subst (λ c. RunsAfter later c s) (sym at)
+      (subst (λ x. RunsIn later (blocks_out command s x)) (sym badly)
+      (subst (RunsBadly later s) (sym here) is))
+
+  -- what a command that failed in a block takes back: the innermost level
+  from_inside : (from : ℕ) → outcome_of s.left ≡ Badly → s.blocks.block ≡ Inside → RunsBlock facts s.blocks.levels → innermost (number_of s) s.blocks.levels ≡ from → Releases facts o s from
+  from_inside from badly inside block is = by_levels s.blocks.levels refl fits.levels block is
+    where
+      after : (later : Facts) → RunsFailed later s.blocks.levels → RunsAfter later o s
+      after later failed = after_badly later Inside badly inside failed
+
+      by_levels : (levels : List Level) → s.blocks.levels ≡ levels → LevelsRise 0 (number_of s) levels → RunsBlock facts levels → innermost (number_of s) levels ≡ from → Releases facts o s from
+      by_levels [] here rise own to = Whole (first_some facts.running (number_of s) (number_of s) own.runs (own.first (number_of s)) ∙ to) (λ later none. after later (subst (RunsFailed later) (sym here) none))
+      by_levels (level ∷ []) here rise own to = Whole (first_some facts.running (number_of s) level.first own.runs (own.first (number_of s)) ∙ to) (λ later none. after later (subst (RunsFailed later) (sym here) none))
+      by_levels (level ∷ inner ∷ levels) here rise own to = Inner own.runs (omega (arith, own.first (number_of s), rise.1.0, rise_above inner.first (number_of s) levels rise.1.1, to)) (omega (arith, rise_within inner.first (number_of s) levels rise.1.1, to))
+          (λ later same. after later (subst (RunsFailed later) (sym here) (record { runs = ap (λ r. is_some r) same ∙ own.runs; first = λ c. ap (λ r. option_map_or (λ (t : Running). t.first) r 0) same ∙ own.first c })))
+
   -- what a command that failed takes back
-  from_badly : (from : ℕ) → outcome_of s.left ≡ Badly → end_from (end_badly s) ≡ Some from → first_begun facts s ≡ from
-  from_badly from badly is = by_blocked s.blocked refl is
+  from_badly : (from : ℕ) → runs command ≡ true → outcome_of s.left ≡ Badly → end_from (end_badly s) ≡ Some from → Releases facts o s from
+  from_badly from built badly is = by_blocked s.blocked refl is
     where
-      by_block : (block : Block) → s.blocks.block ≡ block → s.blocked ≡ false → RunsBy facts o s block → first_begun facts s ≡ innermost (number_of s) s.blocks.levels
-      by_block Outside outside admitted by = first_alone facts o s by ∙ sym (level_outside s.blocks.levels (number_of s) (ap (λ b. elim b as (λ x. Bool) [ Outside ↦ false | block ↦ true ]) (sym outside) ∙ fits.opens))
-      by_block Inside inside admitted by = first_some facts.running (number_of s) (innermost (number_of s) s.blocks.levels) by.runs (by.first (number_of s) ∙ one_outermost (number_of s) s.blocks.levels fits.one_level)
-      by_block Failed failed admitted by = absurd (let no : Well ≡ Badly = sym (ap outcome_of (failed_done failed admitted)) ∙ badly in cc no)
+      by_block : (block : Block) → s.blocks.block ≡ block → s.blocked ≡ false → RunsBy facts o s block → innermost (number_of s) s.blocks.levels ≡ from → Releases facts o s from
+      by_block Outside outside admitted by to = Whole (first_alone facts o s by ∙ sym (level_outside s.blocks.levels (number_of s) (ap (λ b. elim b as (λ x. Bool) [ Outside ↦ false | block ↦ true ]) (sym outside) ∙ fits.opens)) ∙ to)
+          (λ later none. after_badly later Outside badly outside (subst (RunsAt later s.blocks.levels) (sym outside) none))
+      by_block Inside inside admitted by to = from_inside from badly inside by to
+      by_block Failed failed admitted by to = absurd (let no : Well ≡ Badly = sym (ap outcome_of (failed_done built failed admitted)) ∙ badly in cc no)
 
-      by_blocked : (t : Bool) → s.blocked ≡ t → end_from (elim t as (λ x. End) [ true ↦ Ends | false ↦ TakesBack (innermost (number_of s) s.blocks.levels) ]) ≡ Some from → first_begun facts s ≡ from
+      by_blocked : (t : Bool) → s.blocked ≡ t → end_from (elim t as (λ x. End) [ true ↦ Ends | false ↦ TakesBack (innermost (number_of s) s.blocks.levels) ]) ≡ Some from → Releases facts o s from
       by_blocked true blocked end = absurd (cc end)
-      by_blocked false blocked end = by_block s.blocks.block refl blocked runs_by ∙ cc end
+      by_blocked false blocked end = by_block s.blocks.block refl blocked runs_by (cc end)
 
-  -- an end with an entry is the end of the transaction as a whole
-  first_of_end : (from : ℕ) → end_from (end_of facts command s) ≡ Some from → first_begun facts s ≡ from
-  first_of_end from is = by_outcome (outcome_of s.left) refl is
+  -- what an end with an entry releases
+  released_by : (from : ℕ) → runs command ≡ true → end_from (end_of facts command s) ≡ Some from → Releases facts o s from
+  released_by from built is = by_outcome (outcome_of s.left) refl is
     where
-      by_outcome : (x : Outcome) → outcome_of s.left ≡ x → end_from (elim x as (λ y. End) [ Well ↦ end_well facts command s | Badly ↦ end_badly s | Unsettled ↦ Ends ]) ≡ Some from → first_begun facts s ≡ from
-      by_outcome Well outcome end = from_well facts o s command from runs_by end
-      by_outcome Badly outcome end = from_badly from outcome end
+      by_outcome : (x : Outcome) → outcome_of s.left ≡ x → end_from (elim x as (λ y. End) [ Well ↦ end_well facts command s | Badly ↦ end_badly s | Unsettled ↦ Ends ]) ≡ Some from → Releases facts o s from
+      by_outcome Well outcome end = Whole (from_well facts o s command from runs_by end) (λ later none. after_well later outcome (none_well facts later s command from none end))
+      by_outcome Badly outcome end = from_badly from built outcome end
       by_outcome Unsettled outcome end = absurd (cc end)
 
--- so is that after the last command
-pub end_first : (facts : Facts) (o : Option Command) (s : Session) (looked to_build : Bool) (from : ℕ) → ((command : Command) → o ≡ Some command → runs command ≡ true) → Fits facts o s looked to_build → s.ended ≡ false → end_from (end_by facts o s) ≡ Some from → first_begun facts s ≡ from
-end_first facts None s looked to_build from built fits going is = from_all facts.running (number_of s) from is
-end_first facts (Some command) s looked to_build from built fits going is = first_of_end facts (Some command) s looked to_build command refl (built command refl) fits going from is
+-- a commit is that of the running transaction as a whole
+pub commit_first : (facts : Facts) (o : Option Command) (s : Session) (looked to_build : Bool) (first : ℕ) → Fits facts o s looked to_build → s.ended ≡ false → end_by facts o s ≡ Commits first → first_begun facts s ≡ first
+commit_first facts None s looked to_build first fits going is = from_all facts.running (number_of s) first (ap end_from is)
+commit_first facts (Some command) s looked to_build first fits going is = first_of_commit facts (Some command) s looked to_build command refl fits going first is
 
--- a block that failed and has one level runs none
-failed_none : (facts : Facts) (levels : List Level) → length levels ≤ 1 → facts.running ≡ None → RunsFailed facts levels
-failed_none facts [] one none = none
-failed_none facts (level ∷ []) one none = none
-failed_none facts (level ∷ inner ∷ levels) one none = absurd (omega (arith, one))
-
--- where an end left none, none belongs to the blocks after it
-pub none_after : (facts later : Facts) (command : Command) (s : Session) (from : ℕ) → length s.blocks.levels ≤ 1 → end_from (end_of facts command s) ≡ Some from → later.running ≡ None → RunsAfter later (Some command) s
-none_after facts later command s from one is none = by_outcome (outcome_of s.left) is
-  where
-    badly : (block : Block) → s.blocks.block ≡ block → RunsIn later (elim block as (λ x. Blocks) [ Outside ↦ s.blocks | other ↦ record { block = Failed; levels = s.blocks.levels } ]).levels (elim block as (λ x. Blocks) [ Outside ↦ s.blocks | other ↦ record { block = Failed; levels = s.blocks.levels } ]).block
-    badly Outside at = subst (RunsIn later s.blocks.levels) (sym at) none
-    badly Inside at = failed_none later s.blocks.levels one none
-    badly Failed at = failed_none later s.blocks.levels one none
-
-    stays : (block : Block) → s.blocks.block ≡ block → end_from (elim block as (λ x. End) [ Outside ↦ Commits (number_of s) | other ↦ Ends ]) ≡ Some from → RunsIn later s.blocks.levels s.blocks.block
-    stays Outside at end = subst (RunsIn later s.blocks.levels) (sym at) none
-    stays Inside at end = absurd (cc end)
-    stays Failed at end = absurd (cc end)
-
-    well : (c : Command) → end_from (end_well facts c s) ≡ Some from → RunsIn later (blocks_well (number_of s) c s.blocks).levels (blocks_well (number_of s) c s.blocks).block
-    well commands.Begin end = absurd (cc end)
-    well commands.Commit end = none
-    well commands.Rollback end = none
-    well c end = stays s.blocks.block refl end
-
-    by_outcome : (x : Outcome) → end_from (elim x as (λ y. End) [ Well ↦ end_well facts command s | Badly ↦ end_badly s | Unsettled ↦ Ends ]) ≡ Some from
-        → RunsIn later (elim x as (λ y. Blocks) [ Well ↦ blocks_well (number_of s) command s.blocks | outcome ↦ blocks_badly s.blocks ]).levels (elim x as (λ y. Blocks) [ Well ↦ blocks_well (number_of s) command s.blocks | outcome ↦ blocks_badly s.blocks ]).block
-    by_outcome Well end = well command end
-    by_outcome Badly end = badly s.blocks.block refl
-    by_outcome Unsettled end = absurd (cc end)
+-- what an end releases; after the last command all that runs
+pub end_releases : (facts : Facts) (o : Option Command) (s : Session) (looked to_build : Bool) (from : ℕ) → ((command : Command) → o ≡ Some command → runs command ≡ true) → Fits facts o s looked to_build → s.ended ≡ false → end_from (end_by facts o s) ≡ Some from → Releases facts o s from
+end_releases facts None s looked to_build from built fits going is = Whole (from_all facts.running (number_of s) from is) (λ later none. none)
+end_releases facts (Some command) s looked to_build from built fits going is = released_by facts (Some command) s looked to_build command refl fits going from (built command refl) is
 
 -- a visible transaction is on its commit
 pub commit_end : (facts : Facts) (o : Option Command) (s : Session) (looked to_build : Bool) → Fits facts o s looked to_build → is_visible facts.running ≡ true → end_by facts o s ≡ Commits (first_at facts)

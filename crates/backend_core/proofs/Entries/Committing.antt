@@ -25,7 +25,7 @@ use Rattle.backend_core.specs.Types.{Xid, Command, Scenario, Entry, Event, Messa
 use Rattle.backend_core.specs.Agrees.{IsPlayed, KeptAt, command_at, AwaitsEntry}
 use Rattle.backend_core.specs.Fits.{Fits}
 use Rattle.backend_core.specs.Steps.{EndsNext, Enters}
-use Rattle.backend_core.proofs.Entries.EndEntries.{end_plays, end_now, end_call, built_at, end_enters}
+use Rattle.backend_core.proofs.Entries.EndEntries.{end_plays, end_now, end_call, end_enters}
 use Rattle.backend_core.proofs.Choosing.EndsNow.{end_by, is_end, EndsBy, IsCommit, ShowsNow, PublishesNow, comes_now, back_end}
 use Rattle.backend_core.proofs.Fitting.FitsEnds.{later_at, GoesOn, fits_ending, commits_on, write_from_first, goes_first, begun_xid, written_runs}
 use Rattle.backend_core.proofs.Own.{waiting}
@@ -126,7 +126,7 @@ module _ (scenario : Scenario) (old : List Entry) (was : Backend) (event : Event
   commit_fits : (locks : List OwnLock) (at : ℕ) → owed_after (Some event) ≡ [] → ((from : ℕ) → Some event ≡ Some (events.Gone from) → ⊥) → Fits after_commit (command_at was) (later_at (waiting waits) locks at) was.looked was.looked_to_build
   commit_fits locks at free standing = fits_ending before after_commit (command_at was) (waiting waits) was.looked was.looked_to_build event locks at waits.fits now goes
       (λ is. begun_xid (was.progress.finished + 1) before.running (waits.fits.written is))
-      (λ is. commits_on before after_commit (command_at was) (waiting waits) was.looked was.looked_to_build event locks at waits.fits now goes commit (built_at scenario old was waits) refl
+      (λ is. commits_on before after_commit (command_at was) (waiting waits) was.looked was.looked_to_build event locks at waits.fits now goes commit refl
       (commit_built before (command_at was) (waiting waits) was.looked was.looked_to_build (next_oid old) event ends waits.fits (end_plays scenario old was waits event ends next) commit))
       (λ from is. absurd (standing from is))
     where

@@ -59,7 +59,6 @@ fits_first facts o at runs lists last = record {
   first = omega (arith, ap (λ r. option_map_or (λ (t : Running). t.first) r 0) runs);
   opens = refl;
   levels = omega arith;
-  one_level = omega arith;
   blocked = refl;
   settled = λ is. refl;
   written = λ is. absurd (both_ways _ (ap (has_write_from 0) lists) is);

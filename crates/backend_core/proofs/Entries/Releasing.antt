@@ -1,5 +1,5 @@
 -- The locks of a transaction are released.
-use Rattle.std.proofs.Common.{◌≡◌, ◌≤◌, ◌+◌, ◌∙◌, ◌∷◌, ◌⊎◌, inl, inr, ℕ, Bool, true, false, Option, Some, None, List, [], cond, refl, sym, ap, subst, length, drop, All, arith}
+use Rattle.std.proofs.Common.{◌≡◌, ◌≤◌, ◌+◌, ◌∙◌, ◌∷◌, ◌⊎◌, inl, inr, ℕ, Bool, true, false, Option, Some, None, List, [], cond, refl, sym, ap, subst, length, drop, is_some, All, arith}
 use Rattle.std.specs.Option.{option_map, option_map_or}
 use Rattle.std.specs.Prelude.{nat_lt}
 use Rattle.std.proofs.lemmas.Bool.{both_ways, ltb-true, false_from_ne_true}
@@ -14,14 +14,14 @@ use Rattle.cacheless.specs.Ends.{Commits, TakesBack}
 use Rattle.cacheless.specs.Facts.{Facts, facts_of, facts_by}
 use Rattle.cacheless.specs.Holds.{HasEntered}
 use Rattle.cacheless.specs.OnCourse.{AllOnCourse}
-use Rattle.cacheless.specs.Session.{Session}
+use Rattle.cacheless.specs.Session.{Session, number_of}
 use Rattle.backend_core.specs.Types.{Command, Scenario, Entry, Event, OwnLock, Message, Progress, Backend}
 use Rattle.backend_core.specs.Agrees.{IsPlayed, KeptAt, command_at, AwaitsEntry}
-use Rattle.backend_core.specs.Fits.{first_at, Fits}
+use Rattle.backend_core.specs.Fits.{first_at, RunsAfter, Fits}
 use Rattle.backend_core.specs.Steps.{EndsNext, Enters}
 use Rattle.backend_core.proofs.Entries.EndEntries.{end_now, end_call, built_at, end_enters}
-use Rattle.backend_core.proofs.Choosing.EndsNow.{end_by, EndsBy, LetsGo, AllSent, NoWrite, comes_now, from_of, end_first, commit_end, back_end}
-use Rattle.backend_core.proofs.Fitting.FitsEnds.{fits_released, ended_running, ended_lists}
+use Rattle.backend_core.proofs.Choosing.EndsNow.{end_by, EndsBy, LetsGo, AllSent, NoWrite, Releases, Whole, Inner, comes_now, from_of, first_begun, commit_first, end_releases, commit_end, back_end}
+use Rattle.backend_core.proofs.Fitting.FitsEnds.{fits_released, ended_running, ended_lists, kept_running, kept_lists}
 use Rattle.backend_core.proofs.Own.{waiting}
 
 -- where a publish would send nothing, all is published
@@ -43,6 +43,10 @@ all_left lists (Some t) none = left_none t.published lists none
 low_from : (own : Option Running) (n from : ℕ) → option_map_or (λ t. t.first) own n ≡ from → option_map_or (λ t. t.first) own 0 ≤ n → from ≤ n
 low_from None n from is low = omega (arith, is)
 low_from (Some t) n from is low = omega (arith, is, low)
+
+first_running : (own : Option Running) (n from : ℕ) → is_some own ≡ true → option_map_or (λ t. t.first) own n ≡ from → option_map_or (λ t. t.first) own 0 ≡ from
+first_running None n from some is = absurd (cc some)
+first_running (Some t) n from some is = is
 
 first_visible : (own : Option Running) (n from : ℕ) → is_visible own ≡ true → option_map_or (λ t. t.first) own n ≡ from → option_map (λ t. t.first) own ≡ Some from
 first_visible None n from visible is = absurd (cc visible)
@@ -87,22 +91,59 @@ module _ (scenario : Scenario) (old : List Entry) (was : Backend) (from : ℕ) (
   lets : LetsGo facts (end_by facts (command_at was) s) from
   lets = comes_now facts (end_by facts (command_at was) s) (events.Release from) now.comes
 
-  first_is : option_map_or (λ (t : Running). t.first) facts.running (was.progress.finished + 1) ≡ from
-  first_is = ap (λ n. option_map_or (λ (t : Running). t.first) facts.running (n + 1)) (sym waits.rests.holds.count)
-      ∙ end_first facts (command_at was) s was.looked was.looked_to_build from (built_at scenario old was waits) waits.fits now.going (from_of facts (end_by facts (command_at was) s) from lets)
+  -- what it releases
+  part : Releases facts (command_at was) s from
+  part = end_releases facts (command_at was) s was.looked was.looked_to_build from (built_at scenario old was waits) waits.fits now.going (from_of facts (end_by facts (command_at was) s) from lets)
+
+  -- where that is all of its transaction, it is released from its first command on
+  first_here : first_begun facts s ≡ from → option_map_or (λ (t : Running). t.first) facts.running (was.progress.finished + 1) ≡ from
+  first_here is = ap (λ n. option_map_or (λ (t : Running). t.first) facts.running (n + 1)) (sym waits.rests.holds.count) ∙ is
+
+  -- so is a commit
+  first_committed : end_by facts (command_at was) s ≡ Commits from → option_map_or (λ (t : Running). t.first) facts.running (was.progress.finished + 1) ≡ from
+  first_committed commits = first_here (commit_first facts (command_at was) s was.looked was.looked_to_build from waits.fits now.going commits)
+
+  -- no later command is released
+  from_low : Releases facts (command_at was) s from → from ≤ was.progress.finished + 1
+  from_low (Whole is none) = low_from facts.running (was.progress.finished + 1) from (first_here is) (subst (λ n. first_at facts ≤ n + 1) waits.rests.holds.count waits.fits.first)
+  from_low (Inner runs above low on) = subst (λ n. from ≤ n + 1) waits.rests.holds.count low
 
   may_release : LetsGo facts (end_by facts (command_at was) s) from → MayRelease (is_visible facts.running) old was.progress.id from
-  may_release (AllSent commits visible sent) = subst (λ v. MayRelease v old was.progress.id from) (sym visible) (first_visible facts.running (was.progress.finished + 1) from visible first_is, all_left facts.lists facts.running sent)
+  may_release (AllSent commits visible sent) = subst (λ v. MayRelease v old was.progress.id from) (sym visible) (first_visible facts.running (was.progress.finished + 1) from visible (first_committed commits), all_left facts.lists facts.running sent)
   may_release (NoWrite end bare) = subst (λ v. MayRelease v old was.progress.id from) (sym (bare_hidden facts (command_at was) s was.looked was.looked_to_build from waits.fits end bare)) bare
 
   -- it may be entered
   pub release_call : MayCall scenario old (entry_of was.progress.id (was.progress.finished + 1) (events.Release from))
   release_call = end_call scenario old was waits (events.Release from) refl next (released (is_visible facts.running) from) (release_gone facts (command_at was) s was.looked was.looked_to_build from waits.fits lets)
-      (low_from facts.running (was.progress.finished + 1) from first_is (subst (λ n. first_at facts ≤ n + 1) waits.rests.holds.count waits.fits.first), may_release lets)
+      (from_low part, may_release lets)
 
   release_fits : (locks : List OwnLock) (at : ℕ) → Fits (facts_by old was.progress.id (was.progress.finished + 1) (events.Release from) facts) (command_at was) (record s { ended = true; locks = locks; last = at }) was.looked was.looked_to_build
-  release_fits locks at = fits_released facts (facts_by old was.progress.id (was.progress.finished + 1) (events.Release from) facts) (command_at was) s was.looked was.looked_to_build (events.Release from) locks at waits.fits now from
-      (ended_running facts.running (was.progress.finished + 1) from first_is) refl (ended_lists facts.running facts.lists (was.progress.finished + 1) from first_is waits.fits.written) (from_of facts (end_by facts (command_at was) s) from lets)
+  release_fits locks at = by_part part
+    where
+      later : Facts
+      later = facts_by old was.progress.id (was.progress.finished + 1) (events.Release from) facts
+
+      fits_here : first_at later ≤ number_of s → (has_write_from 0 later.lists ≡ true → option_map_or (λ (t : Running). is_some t.xid) later.running false ≡ true) → is_visible later.running ≡ false → RunsAfter later (command_at was) s
+          → Fits later (command_at was) (record s { ended = true; locks = locks; last = at }) was.looked was.looked_to_build
+      fits_here low written hidden runs = fits_released facts later (command_at was) s was.looked was.looked_to_build (events.Release from) locks at waits.fits now from refl low written hidden runs
+
+      -- a level that is released alone isn't that of a commit
+      inner_hidden : first_at facts + 1 ≤ from → is_some facts.running ≡ true → LetsGo facts (end_by facts (command_at was) s) from → is_visible facts.running ≡ false
+      inner_hidden above runs (AllSent commits visible sent) = absurd (omega (arith, above, first_running facts.running (was.progress.finished + 1) from runs (first_committed commits)))
+      inner_hidden above runs (NoWrite end bare) = bare_hidden facts (command_at was) s was.looked was.looked_to_build from waits.fits end bare
+
+      by_part : Releases facts (command_at was) s from → Fits later (command_at was) (record s { ended = true; locks = locks; last = at }) was.looked was.looked_to_build
+      by_part (Whole is none) = fits_here (subst (λ n. n ≤ number_of s) (sym (ap (λ r. option_map_or (λ (t : Running). t.first) r 0) ended)) (omega arith))
+          (λ some. absurd (both_ways _ (ended_lists facts.running facts.lists (was.progress.finished + 1) from (first_here is) waits.fits.written) some)) (ap (λ r. is_visible r) ended) (none later ended)
+        where
+          ended : later.running ≡ None
+          ended = ended_running facts.running (was.progress.finished + 1) from (first_here is)
+      by_part (Inner runs above low on) = fits_here (subst (λ n. n ≤ number_of s) (sym (ap (λ r. option_map_or (λ (t : Running). t.first) r 0) same)) waits.fits.first)
+          (λ some. ap (λ r. option_map_or (λ (t : Running). is_some t.xid) r false) same ∙ waits.fits.written (ap (has_write_from 0) (sym (kept_lists facts.running facts.lists from runs above)) ∙ some))
+          (ap (λ r. is_visible r) same ∙ inner_hidden above runs lets) (on later same)
+        where
+          same : later.running ≡ facts.running
+          same = kept_running facts.running (was.progress.finished + 1) from runs above
 
 -- the state after it
 pub release_enters : (scenario : Scenario) (old new : List Entry) (had has : ℕ → ℕ) (was : Backend) (from : ℕ) (p : Progress) (waits : AwaitsEntry scenario old was) → IsPlayed scenario old → AllOnCourse scenario old → EndsNext was.progress (events.Release from)

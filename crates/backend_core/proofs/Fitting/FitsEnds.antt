@@ -3,11 +3,11 @@ use Rattle.std.proofs.Common.{◌≡◌, ◌≤◌, ◌+◌, ◌∙◌, ◌==◌
 use Rattle.std.specs.Option.{option_map, option_map_or}
 use Rattle.std.specs.Prelude.{nat_lt}
 use Rattle.std.proofs.Math.Bool.{and-false}
-use Rattle.std.proofs.lemmas.Bool.{both_ways, eq-eqb, le-leb, lt-leb, ltb-true, false_from_ne_true}
+use Rattle.std.proofs.lemmas.Bool.{both_ways, eq-eqb, ne_eqb, le-leb, lt-leb, ltb-true, false_from_ne_true}
 use Rattle.base_types.specs.declared.command.Command.TheVariants as commands
 use Rattle.event_kinds.specs.declared.entry.Event.TheVariants as events
 use Rattle.inval_messages.specs.Lists.{Written, has_write_from, lists_before}
-use Rattle.txn_blocks.specs.Blocks.{Block, Level, Outside, Inside, Failed}
+use Rattle.txn_blocks.specs.Blocks.{Block, Outside, Inside, Failed}
 use Rattle.ddl_effect.specs.Plans.{Plan, Done, Fails, Absent, NotBuilt, Do}
 use Rattle.history_model.specs.Sent.{ends_transaction}
 use Rattle.history_model.specs.Transactions.{Running, begun, after_release, is_visible}
@@ -16,11 +16,11 @@ use Rattle.cacheless.specs.Ends.{End, Ends, Commits, TakesBack, end_of_all, end_
 use Rattle.cacheless.specs.Facts.{Facts}
 use Rattle.cacheless.specs.Owed.{Owes, OwesLook, OwesScan, owed_at_start, owed_after, begins, builds_owed, act_owed, scans_owed, owed_of}
 use Rattle.cacheless.specs.Plays.{started_in}
-use Rattle.cacheless.specs.Runs.{runs}
 use Rattle.cacheless.specs.Session.{Session, Outcome, Well, Badly, Unsettled, number_of, outcome_of, is_settled}
 use Rattle.backend_core.specs.Types.{Purpose, Command, Event, OwnLock}
-use Rattle.backend_core.specs.Fits.{looks_due, first_at, RunsBlock, RunsFailed, RunsBy, RunsAfter, TransactionFits, OnCommit, OnTakingBack, Fits}
-use Rattle.backend_core.proofs.Choosing.EndsNow.{end_by, EndsBy, IsCommit, end_from, end_first, none_after}
+use Rattle.backend_core.specs.Fits.{looks_due, first_at, RunsBlock, RunsBy, RunsAfter, TransactionFits, OnCommit, OnTakingBack, Fits}
+use Rattle.backend_core.proofs.Choosing.EndsNow.{end_by, EndsBy, IsCommit, commit_first}
+use Rattle.backend_core.proofs.Fitting.NextTransaction.{failed_on}
 
 -- the session after an entry of an end, with its locks
 abbrev pub later_at : Session → List OwnLock → ℕ → Session
@@ -96,19 +96,14 @@ module _ (facts later : Facts) (o : Option Command) (s : Session) (looked to_bui
       none_runs : {X : Type 0} → facts.running ≡ None → X
       none_runs none = absurd (both_ways _ (ap (λ r. is_some r) none) goes.runs)
 
-      block_later : (levels : List Level) → RunsBlock facts levels → RunsBlock later levels
-      block_later levels block = record { runs = goes.some; first = λ c. first_same facts later goes ∙ block.first c }
-
-      by_levels : (levels : List Level) → RunsFailed facts levels → RunsFailed later levels
-      by_levels [] none = none_runs none
-      by_levels (level ∷ []) none = none_runs none
-      by_levels (level ∷ inner ∷ levels) block = block_later (level ∷ inner ∷ levels) block
+      block_later : RunsBlock facts s.blocks.levels → RunsBlock later s.blocks.levels
+      block_later block = record { runs = goes.some; first = λ c. first_same facts later goes ∙ block.first c }
 
       by_block : (block : Block) → RunsBy facts o s block → RunsBy later o (later_at s locks at) block
       by_block Outside (inl none) = none_runs none
       by_block Outside (inr alone) = inr (record { command = alone.command; at = alone.at; begins = alone.begins; first = first_same facts later goes ∙ alone.first })
-      by_block Inside block = block_later s.blocks.levels block
-      by_block Failed failed = by_levels s.blocks.levels failed
+      by_block Inside block = block_later block
+      by_block Failed failed = failed_on facts later s.blocks.levels block_later (λ none. none_runs none) failed
 
   -- where the transaction goes on
   pub fits_ending : GoesOn facts later → (has_write_from 0 later.lists ≡ true → option_map_or (λ t. is_some t.xid) later.running false ≡ true)
@@ -119,7 +114,6 @@ module _ (facts later : Facts) (o : Option Command) (s : Session) (looked to_bui
     first = subst (λ n. n ≤ number_of s) (sym (first_same facts later goes)) fits.first;
     opens = fits.opens;
     levels = fits.levels;
-    one_level = fits.one_level;
     blocked = fits.blocked;
     settled = fits.settled;
     written = written;
@@ -139,15 +133,15 @@ module _ (facts later : Facts) (o : Option Command) (s : Session) (looked to_bui
       due_now = ap looks_due goes.free
 
   -- a commit goes on
-  pub commits_on : GoesOn facts later → IsCommit facts (end_by facts o s) → ((command : Command) → o ≡ Some command → runs command ≡ true) → later.lists ≡ facts.lists → (outcome_of s.left ≡ Well → builds_owed later s.opened ≡ []) → OnCommit later o (later_at s locks at)
-  commits_on goes commit built lists none = by_command o refl
+  pub commits_on : GoesOn facts later → IsCommit facts (end_by facts o s) → later.lists ≡ facts.lists → (outcome_of s.left ≡ Well → builds_owed later s.opened ≡ []) → OnCommit later o (later_at s locks at)
+  commits_on goes commit lists none = by_command o refl
     where
       begun_is : (own : Option Running) (n : ℕ) → is_some own ≡ true → option_map_or (λ t. t.first) own 0 ≡ option_map_or (λ t. t.first) own n
       begun_is None n some = absurd (cc some)
       begun_is (Some t) n some = refl
 
       first_is : first_at later ≡ commit.first
-      first_is = first_same facts later goes ∙ begun_is facts.running (number_of s) goes.runs ∙ end_first facts o s looked to_build commit.first built fits ends.going (ap end_from commit.is)
+      first_is = first_same facts later goes ∙ begun_is facts.running (number_of s) goes.runs ∙ commit_first facts o s looked to_build commit.first fits ends.going commit.is
 
       all_back : (own : Option Running) → option_map_or (λ t. TakesBack t.first) own Ends ≡ Commits commit.first → ⊥
       all_back None is = cc is
@@ -173,27 +167,27 @@ module _ (facts later : Facts) (o : Option Command) (s : Session) (looked to_bui
       by_command (Some c) is = (end_same facts later c s locks at goes ∙ is, owed_later facts later c s locks at goes ends.out none)
       by_command None is = of_first TakesBack Ends later.running facts.running goes.same ∙ is
 
-  -- the release ends the transaction
-  pub fits_released : (from : ℕ) → later.running ≡ None → later.last ≡ Some (events.Release from) → has_write_from 0 later.lists ≡ false → end_from (end_by facts o s) ≡ Some from → Fits later o (record s { ended = true; locks = locks; last = at }) looked to_build
-  fits_released from none last bare ends_from = record {
+  -- the release is made: what runs then fits the blocks after the command, and isn't visible
+  pub fits_released : (from : ℕ) → later.last ≡ Some (events.Release from) → first_at later ≤ number_of s → (has_write_from 0 later.lists ≡ true → option_map_or (λ t. is_some t.xid) later.running false ≡ true) → is_visible later.running ≡ false → RunsAfter later o s
+      → Fits later o (record s { ended = true; locks = locks; last = at }) looked to_build
+  fits_released from last low written hidden runs_on = record {
     looks = λ going. absurd (cc going);
-    transaction = by_command o ends_from;
-    first = subst (λ n. n ≤ number_of s) (sym (ap (λ r. option_map_or (λ (t : Running). t.first) r 0) none)) (omega arith);
+    transaction = by_command o runs_on;
+    first = low;
     opens = fits.opens;
     levels = fits.levels;
-    one_level = fits.one_level;
     blocked = fits.blocked;
     settled = fits.settled;
-    written = λ is. absurd (both_ways _ bare is);
-    visible = λ is. absurd (both_ways _ (ap (λ r. is_visible r) none) is);
+    written = written;
+    visible = λ is. absurd (both_ways _ hidden is);
     taken = λ n is. absurd (let no : Some (events.Release from) ≡ Some (events.Gone n) = sym last ∙ is in cc no);
     accepts = λ owes. absurd (both_ways _ owes (ap (λ l. is_empty (owed_after l)) last));
     past = λ past. let p = fits.past past in record { out = p.out; opened = p.opened; free = ap owed_after last };
   }
     where
-      by_command : (x : Option Command) → end_from (end_by facts x s) ≡ Some from → RunsAfter later x (record s { ended = true; locks = locks; last = at })
-      by_command None end = none
-      by_command (Some command) end = none_after facts later command s from fits.one_level end none
+      by_command : (x : Option Command) → RunsAfter later x s → RunsAfter later x (record s { ended = true; locks = locks; last = at })
+      by_command None none = none
+      by_command (Some command) runs_it = runs_it
 
 -- a write of a later command is one
 pub write_from_first : (from : ℕ) (lists : List Written) → has_write_from from lists ≡ true → has_write_from 0 lists ≡ true
@@ -219,6 +213,16 @@ pub ended_lists : (own : Option Running) (lists : List Written) (n from : ℕ) �
     → has_write_from 0 (elim (ends_transaction from own) as (λ x. List Written) [ true ↦ [] | false ↦ lists ]) ≡ false
 ended_lists None lists n from is written = false_from_ne_true (has_write_from 0 lists) (λ some. let no : false ≡ true = written some in cc no)
 ended_lists (Some t) lists n from is written = ap (λ f. has_write_from 0 (elim f as (λ x. List Written) [ true ↦ [] | false ↦ lists ])) (eq-eqb t.first from is)
+
+-- the release of a later level leaves the transaction
+pub kept_running : (own : Option Running) (n from : ℕ) → is_some own ≡ true → option_map_or (λ t. t.first) own 0 + 1 ≤ from → after_release from (begun n own) ≡ own
+kept_running None n from some below = absurd (cc some)
+kept_running (Some t) n from some below = ap (λ f. if f then None else Some t) (ne_eqb t.first from (λ same. absurd (omega (arith, same, below))))
+
+-- and its writes
+pub kept_lists : (own : Option Running) (lists : List Written) (from : ℕ) → is_some own ≡ true → option_map_or (λ t. t.first) own 0 + 1 ≤ from → elim (ends_transaction from own) as (λ x. List Written) [ true ↦ [] | false ↦ lists ] ≡ lists
+kept_lists None lists from some below = absurd (cc some)
+kept_lists (Some t) lists from some below = ap (λ f. elim f as (λ x. List Written) [ true ↦ [] | false ↦ lists ]) (ne_eqb t.first from (λ same. absurd (omega (arith, same, below))))
 
 -- a transaction that runs goes on with its entries
 pub goes_first : (n : ℕ) (own : Option Running) → is_some own ≡ true → Some (begun n own).first ≡ option_map (λ t. t.first) own

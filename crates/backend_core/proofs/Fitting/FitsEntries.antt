@@ -1,10 +1,10 @@
 -- What the choice keeps with an entry of a command that runs: a look, a fetch, a scan, a lock, a write, or one that is refused.
-use Rattle.std.proofs.Common.{◌≡◌, ◌≤◌, ◌+◌, ◌∙◌, ◌&&◌, inl, inr, ℕ, Bool, true, false, not, Option, Some, None, List, [], ◌∷◌, refl, sym, ap, subst, length, is_none, is_some, arith}
+use Rattle.std.proofs.Common.{◌≡◌, ◌≤◌, ◌+◌, ◌∙◌, ◌&&◌, inl, inr, ℕ, Bool, true, false, not, Option, Some, None, refl, sym, ap, subst, length, is_none, is_some, arith}
 use Rattle.std.specs.Option.{option_map_or}
 use Rattle.std.proofs.lemmas.Bool.{both_ways}
 use Rattle.event_kinds.specs.declared.entry.Event.TheVariants as events
 use Rattle.inval_messages.specs.Lists.{has_write_from}
-use Rattle.txn_blocks.specs.Blocks.{Block, Level, Outside, Inside, Failed, no_block, is_open, innermost, ends_block, refused_by}
+use Rattle.txn_blocks.specs.Blocks.{Block, Outside, Inside, Failed, no_block, is_open, ends_block, refused_by}
 use Rattle.history_model.specs.Transactions.{Running, begun, is_visible}
 use Rattle.history_model.specs.Writes.{is_empty}
 use Rattle.cacheless.specs.Facts.{Facts}
@@ -13,8 +13,8 @@ use Rattle.cacheless.specs.Owed.{begins}
 use Rattle.cacheless.specs.State.{is_absent}
 use Rattle.cacheless.proofs.Entries.EnteredLooks.{not_absent}
 use Rattle.backend_core.specs.Types.{Command}
-use Rattle.backend_core.specs.Fits.{LooksFit, first_at, RunsBlock, RunsFailed, RunsBy, TransactionFits, Fits}
-use Rattle.backend_core.proofs.Fitting.NextTransaction.{some_first}
+use Rattle.backend_core.specs.Fits.{LooksFit, first_at, LevelsRise, RunsBlock, RunsFailed, RunsBy, TransactionFits, Fits}
+use Rattle.backend_core.proofs.Fitting.NextTransaction.{some_first, failed_on}
 
 -- what such an entry leaves of the facts: its transaction runs, with its first command, and isn't visible
 pub record StaysInside (facts later : Facts) (number : ℕ) : Type 0 where
@@ -68,8 +68,8 @@ module _ (facts later : Facts) (o : Option Command) (s now : Session) (command :
   begins_same : (c : Command) → begins c now ≡ begins c s
   begins_same c = λ i. elim (same.blocks i).block as (λ x. Bool) [ Outside ↦ not (ends_block c) && not (same.ended i) && is_none (refused_by no_block c) | block ↦ false ]
 
-  block_now : (levels : List Level) → RunsBlock facts levels → RunsBlock later levels
-  block_now levels block = record { runs = ap (λ r. is_some r) stays.runs; first = λ c. first_kept block.runs ∙ block.first c }
+  block_now : RunsBlock facts s.blocks.levels → RunsBlock later s.blocks.levels
+  block_now block = record { runs = ap (λ r. is_some r) stays.runs; first = λ c. first_kept block.runs ∙ block.first c }
 
   runs_now : (block : Block) → s.blocks.block ≡ block → RunsBy facts o s block → RunsBy later o now block
   runs_now Outside is (inl none) = by_goes goes
@@ -78,17 +78,12 @@ module _ (facts later : Facts) (o : Option Command) (s now : Session) (command :
       by_goes (Goes some) = absurd (both_ways _ (ap (λ r. is_some r) none) some)
       by_goes (Starts c here starts outside none') = inr (record { command = c; at = here; begins = begins_same c ∙ starts; first = first_now ∙ ap (λ r. option_map_or (λ (t : Running). t.first) r (number_of s)) none ∙ sym number_same })
   runs_now Outside is (inr alone) = inr (record { command = alone.command; at = alone.at; begins = begins_same alone.command ∙ alone.begins; first = first_kept (some_first facts.running _ alone.first) ∙ alone.first ∙ sym number_same })
-  runs_now Inside is block = subst (λ b. RunsBlock later b.levels) (sym same.blocks) (block_now s.blocks.levels block)
-  runs_now Failed is failed = subst (λ b. RunsFailed later b.levels) (sym same.blocks) (by_levels s.blocks.levels failed)
+  runs_now Inside is block = subst (λ b. RunsBlock later b.levels) (sym same.blocks) (block_now block)
+  runs_now Failed is failed = subst (λ b. RunsFailed later b.levels) (sym same.blocks) (failed_on facts later s.blocks.levels block_now (λ none. none_runs none goes) failed)
     where
       none_runs : {X : Type 0} → facts.running ≡ None → RunsHere facts o s → X
       none_runs none (Goes some) = absurd (both_ways _ (ap (λ r. is_some r) none) some)
       none_runs none (Starts c here starts outside none') = absurd (let both : Failed ≡ Outside = sym is ∙ outside in cc both)
-
-      by_levels : (levels : List Level) → RunsFailed facts levels → RunsFailed later levels
-      by_levels [] none = none_runs none goes
-      by_levels (level ∷ []) none = none_runs none goes
-      by_levels (level ∷ inner ∷ levels) block = block_now (level ∷ inner ∷ levels) block
 
 -- what the choice keeps
 pub fits_inside : (facts later : Facts) (o : Option Command) (s now : Session) (looked to_build looked_now to_build_now : Bool) (command : Command) → o ≡ Some command → Fits facts o s looked to_build → StaysInside facts later (number_of s) → StaysAt s now → RunsHere facts o s → is_visible facts.running ≡ false → s.ended ≡ false
@@ -98,8 +93,7 @@ fits_inside facts later o s now looked to_build looked_now to_build_now command 
   transaction = subst (TransactionFits later o now) (sym (same.ended ∙ going)) (subst (λ b. RunsBy later o now b.block) (sym same.blocks) (runs_now facts later o s now command at fits.first stays same goes s.blocks.block refl (subst (TransactionFits facts o s) going fits.transaction)));
   first = first_low facts later o s now command at fits.first stays same goes;
   opens = subst (λ b. is_open b ≡ not (is_empty b.levels)) (sym same.blocks) fits.opens;
-  levels = subst (λ b. innermost (number_of now) b.levels ≤ number_of now) (sym same.blocks) (subst (λ n. innermost n s.blocks.levels ≤ n) (sym (ap (λ n. n + 1) same.finished)) fits.levels);
-  one_level = subst (λ b. length b.levels ≤ 1) (sym same.blocks) fits.one_level;
+  levels = subst (λ b. LevelsRise 0 (number_of now) b.levels) (sym same.blocks) (subst (λ n. LevelsRise 0 n s.blocks.levels) (sym (ap (λ n. n + 1) same.finished)) fits.levels);
   blocked = same.blocked ∙ fits.blocked ∙ ap (λ b. is_some (refused_first b o)) (sym same.blocks);
   settled = λ is. let first = fits.settled (ap (λ b. is_settled (outcome_of (plan_first b o))) (sym same.blocks) ∙ is) in
       same.left (ap (λ p. is_settled (outcome_of p)) first ∙ ap (λ b. is_settled (outcome_of (plan_first b o))) (sym same.blocks) ∙ is) (ap is_absent first ∙ not_absent s.blocks o) ∙ first ∙ ap (λ b. plan_first b o) (sym same.blocks);

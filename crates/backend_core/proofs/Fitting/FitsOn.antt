@@ -3,7 +3,7 @@ use Rattle.std.proofs.Common.{◌≡◌, ◌≤◌, ◌+◌, ◌∙◌, ◌==◌
 use Rattle.std.specs.Option.{option_map_or}
 use Rattle.std.proofs.lemmas.Bool.{both_ways, ne_eqb, and_parts}
 use Rattle.std.proofs.lemmas.List.{length_push}
-use Rattle.txn_blocks.specs.Blocks.{Block, Outside, Inside, Failed, innermost}
+use Rattle.txn_blocks.specs.Blocks.{Block, Outside, Inside, Failed}
 use Rattle.ddl_effect.specs.Plans.{Act, Plan, Do}
 use Rattle.event_kinds.specs.declared.entry.Event.TheVariants as events
 use Rattle.history_model.specs.Transactions.{Running}
@@ -16,7 +16,7 @@ use Rattle.cacheless.specs.Settled.{act_done, is_finished, blocks_after, finishe
 use Rattle.cacheless.specs.Plays.{started_in}
 use Rattle.cacheless.proofs.Plans.SilentActs.{both_empty, empty_list}
 use Rattle.backend_core.specs.Types.{Row, Command, Event}
-use Rattle.backend_core.specs.Fits.{looks_due, first_at, RunsIn, RunsBy, RunsAfter, TransactionFits, IsPast, Fits}
+use Rattle.backend_core.specs.Fits.{looks_due, first_at, LevelsRise, RunsAt, RunsIn, RunsBy, RunsAfter, TransactionFits, IsPast, Fits}
 use Rattle.backend_core.proofs.Fitting.NextTransaction.{LevelsFit, levels_next, next_silent}
 
 -- an act that is done without an entry
@@ -27,7 +27,6 @@ fits_act facts o s looked to_build command act further given at left going fits 
   first = fits.first;
   opens = fits.opens;
   levels = fits.levels;
-  one_level = fits.one_level;
   blocked = fits.blocked;
   settled = λ is. absurd (unsettled (ap (λ p. is_settled (outcome_of p)) (fits.settled is) ∙ is));
   written = fits.written;
@@ -72,15 +71,15 @@ none_ends facts (Commits first) is = absurd (cc)
 none_ends facts (TakesBack from) is = absurd (cc)
 
 -- the transaction before the next command
-passes_to : (facts : Facts) (o : Option Command) (s : Session) (looked to_build : Bool) (command : Command) → o ≡ Some command → IsFinished facts command s → Fits facts o s looked to_build → RunsIn facts (blocks_after command s).levels (blocks_after command s).block
+passes_to : (facts : Facts) (o : Option Command) (s : Session) (looked to_build : Bool) (command : Command) → o ≡ Some command → IsFinished facts command s → Fits facts o s looked to_build → RunsIn facts (blocks_after command s)
 passes_to facts o s looked to_build command at done fits = by_ended s.ended refl fits.transaction done.none
   where
-    by_ended : (t : Bool) → s.ended ≡ t → TransactionFits facts o s t → is_none (elim t as (λ x. Option Event) [ true ↦ None | false ↦ next_of_end facts (end_of facts command s) ]) ≡ true → RunsIn facts (blocks_after command s).levels (blocks_after command s).block
+    by_ended : (t : Bool) → s.ended ≡ t → TransactionFits facts o s t → is_none (elim t as (λ x. Option Event) [ true ↦ None | false ↦ next_of_end facts (end_of facts command s) ]) ≡ true → RunsIn facts (blocks_after command s)
     by_ended true is runs over = subst (λ x. RunsAfter facts x s) at runs
     by_ended false is runs over = next_silent facts o s command at fits.blocked is done.out done.first runs (none_ends facts (end_of facts command s) over)
 
 -- by which it runs then
-runs_next : (facts : Facts) (o : Option Command) (s : Session) (block : Block) → RunsIn facts s.blocks.levels block → RunsBy facts o s block
+runs_next : (facts : Facts) (o : Option Command) (s : Session) (block : Block) → RunsAt facts s.blocks.levels block → RunsBy facts o s block
 runs_next facts o s Outside none = inl none
 runs_next facts o s Inside runs = runs
 runs_next facts o s Failed runs = runs
@@ -108,8 +107,7 @@ fits_pass facts o s looked to_build command next at finished fits = record {
   transaction = runs_next facts next now now.blocks.block (passes_to facts o s looked to_build command at done fits);
   first = subst (λ n. first_at facts ≤ n) (sym counts) (omega (arith, fits.first));
   opens = levels.opens;
-  levels = subst (λ n. innermost n now.blocks.levels ≤ n) (sym counts) levels.low;
-  one_level = levels.one;
+  levels = subst (λ n. LevelsRise 0 n now.blocks.levels) (sym counts) levels.rise;
   blocked = refl;
   settled = λ is. refl;
   written = fits.written;
@@ -133,7 +131,7 @@ fits_pass facts o s looked to_build command next at finished fits = record {
     started = ap (λ n. started_in n facts) counts ∙ not_started (number_of s) facts.running fits.first
 
     levels : LevelsFit (number_of s + 1) (blocks_after command s)
-    levels = levels_next s command (record { opens = fits.opens; low = fits.levels; one = fits.one_level })
+    levels = levels_next s command (record { opens = fits.opens; rise = fits.levels })
 
     one : (c : Command) → o ≡ Some c → c ≡ command
     one c is = let both : Some c ≡ Some command = sym is ∙ at in cc both
