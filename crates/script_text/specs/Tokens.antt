@@ -1,5 +1,5 @@
 -- The tokens of a line, and how they are taken one after the other.
-use Rattle.std.specs.Prelude.{◌≡◌, ⊤, ℕ, Bool, true, false, Option, Some, None, List, [], ◌∷◌, ◌==◌, ◌||◌, not, option_map, option_and_then, if◌then◌else◌}
+use Rattle.std.specs.Prelude.{◌≡◌, ◌≢◌, ⊤, ℕ, Bool, true, false, Option, Some, None, List, [], ◌∷◌, ◌==◌, ◌||◌, not, option_map, option_and_then, if◌then◌else◌}
 use Rattle.std.specs.Str.{bytes_eq}
 use Rattle.script_text.specs.TextLines.{is_blank, with_byte}
 
@@ -68,3 +68,9 @@ done text ts x = if ends text ts then Some x else None
 abbrev pub StartsToken : List ℕ → Type 0
 StartsToken [] = ⊤
 StartsToken (byte ∷ bytes) = is_blank byte ≡ false
+
+-- two bytes differ, and neither is a blank
+pub record IsApart (a b : ℕ) : Type 0 where
+  pub other : a ≢ b
+  pub first : is_blank a ≡ false
+  pub second : is_blank b ≡ false

@@ -5,7 +5,7 @@ ghost use Rattle.script_text.specs.LineForms.{is_size as may_be_size, size_of, f
 
 use crate::limits::{MOST_BACKENDS, QUEUE_ROUNDS};
 use crate::operands;
-use crate::tokens::Tokens;
+use crate::tokens::{Tokens, without_blanks};
 use base_types::{Listed, NoMemory, Turns};
 use std::alloc::Global;
 
@@ -35,7 +35,7 @@ pub(crate) fn backends(line: &[u8]) -> Option<u32>
     tokens.is_empty().then_some(backends)
 }
 
-// A backend of so many, and the text after a colon, where a line has that form.
+// A backend of so many, and the text after a colon and blanks, where a line has that form.
 #[tactic(auto, unfolding(crate::specs::LineForms::addressed))]
 pub(crate) fn addressed(line: &[u8], backends: u32) -> Option<(u32, &[u8])>
     ensures value { MatchOption result (addressed_to backends (tokens line.now) ≡ None) (λ x. addressed_to backends (tokens line.now) ≡ Some (x.0, tokens x.1.now)) }
@@ -44,7 +44,7 @@ pub(crate) fn addressed(line: &[u8], backends: u32) -> Option<(u32, &[u8])>
     let mut tokens = Tokens::of(line);
     let backend = operands::number_within(tokens.next()?, 1, backends)?;
     tokens.words(":")?;
-    Some((backend, tokens.text()))
+    Some((backend, without_blanks(tokens.text())))
 }
 
 // A size of the queue.

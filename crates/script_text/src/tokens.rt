@@ -1,8 +1,8 @@
-ghost use Rattle.std.specs.Prelude.{◌≡◌, ◌≤◌, ◌<◌, IsTrue, MatchOption, List, [], ◌∷◌, ℕ, None, Some, length, take, drop, codes};
+ghost use Rattle.std.specs.Prelude.{◌≡◌, ◌≤◌, ◌<◌, true, IsTrue, MatchOption, List, [], ◌∷◌, ℕ, None, Some, length, take, drop, codes};
 ghost use Rattle.std.specs.List.{prefix_len};
 ghost use Rattle.script_text.specs.TextLines.{is_blank as blank, counts as line_counts};
 ghost use Rattle.script_text.specs.LineForms.{none_left, begins as first_is};
-ghost use Rattle.script_text.specs.Tokens.{tokens, said, ends, is_mark as mark, in_word as inside, goes_on, StartsToken};
+ghost use Rattle.script_text.specs.Tokens.{tokens, after_words, said, ends, is_mark as mark, in_word as inside, goes_on, StartsToken, IsApart};
 
 use std::marker::Model;
 
@@ -72,6 +72,9 @@ impl<'a> Tokens<'a> {
     pub(crate) fn words(&mut self, words: &str) -> Option<()>
         ensures { MatchOption result (said words.now self.old ≡ None) (λ _. said words.now self.old ≡ Some self.new) }
     {
+        if begin_apart(self.rest, words.as_bytes()) {
+            return None;
+        }
         let mut wanted = Tokens::of(words.as_bytes());
         'words: while let Some(word) = wanted.next() {
             let token = self.next()?;
@@ -81,6 +84,25 @@ impl<'a> Tokens<'a> {
         }
         Some(())
     }
+}
+
+// Two lines begin with other bytes, neither of them a blank, and so with other tokens. Most of the words that
+// a command is tried for are ruled out by this, without a look for the ends of tokens.
+#[tactic(auto, using(crate::proofs::FirstBytes::other_words))]
+fn begin_apart(line: &[u8], words: &[u8]) -> bool
+    ensures { result ≡ true → after_words (tokens words.now) (tokens line.now) ≡ None }
+{
+    if line.is_empty() || words.is_empty() {
+        return false;
+    }
+    are_apart(line[0], words[0])
+}
+
+// Two bytes differ, and neither is a blank.
+fn are_apart(byte: u8, wanted: u8) -> bool
+    ensures { result ≡ true → IsApart byte wanted }
+{
+    byte != wanted && !is_blank(byte) && !is_blank(wanted)
 }
 
 // A line without the blanks that it begins with.
