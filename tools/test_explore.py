@@ -13,6 +13,7 @@ import signal
 import subprocess
 import sys
 import tempfile
+import threading
 import time
 import unittest
 import unittest.mock
@@ -39,6 +40,15 @@ from catsync_tools.walks import KnownWalks, Walks
 
 
 # The search for orders, without the program.
+
+def read_all(terminal):
+    """Reads what is written to a terminal until nobody has it open any more."""
+    try:
+        while os.read(terminal, 4096):
+            pass
+    except OSError:
+        pass
+
 
 def interleavings(counts):
     """All orders in which backends can make so many steps each."""
@@ -891,17 +901,21 @@ class Explorer(unittest.TestCase):
         on a terminal shows this."""
         terminal, other_end = pty.openpty()
         with open(os.path.join(TOP, "examples", "three_at_once.script"), "rb") as script:
-            # what runs in a shell's background has Ctrl-C ignored, and so would the explorer
+            # what runs in a shell's background has Ctrl-C ignored, what runs under nohup SIGHUP, and so would the explorer
             explorer = subprocess.Popen([sys.executable, os.path.join(TOOLS, "explore"), "--program", PROGRAM] + list(words),
                                         stdin=script, stdout=subprocess.PIPE, stderr=other_end,
-                                        preexec_fn=lambda: signal.signal(signal.SIGINT, signal.SIG_DFL))
+                                        preexec_fn=lambda: signal.signal(number, signal.SIG_DFL))
         with explorer:
             os.close(other_end)
             bar = b""
             while not re.search(shown, bar):
                 bar += os.read(terminal, 4096)
             explorer.send_signal(number)
+            # its bar may go on for a while, and a terminal that nobody reads is full after some lines
+            reader = threading.Thread(target=read_all, args=(terminal,), daemon=True)
+            reader.start()
             text = explorer.stdout.read()
+        reader.join()
         os.close(terminal)
         return explorer.returncode, text
 

@@ -320,20 +320,6 @@ const READERS_AT_BOTH_ENDS: &[(Call, Answer)] = &[
     (Call::Fetch(4), Answer::Messages(1, 96)),
 ];
 
-// Numbers go back while one reader is ahead of another, which then fetches what it lacks.
-const READERS_APART: &[(Call, Answer)] = &[
-    (Call::Start(1), Answer::Done),
-    (Call::Start(2), Answer::Done),
-    (Call::Insert(32), Answer::Idle),
-    (Call::Fetch(1), Answer::Messages(32, 0)),
-    (Call::Fetch(2), Answer::Messages(32, 0)),
-    (Call::Insert(20), Answer::Idle),
-    (Call::Fetch(1), Answer::Messages(20, 32)),
-    (Call::Clean(0), Answer::Cleaned(0, None)),
-    (Call::Number, Answer::Number(20)),
-    (Call::Fetch(2), Answer::Messages(20, 32)),
-];
-
 // The size of the queue and the number of its first message, the last of which is the highest that there may be, and
 // the calls. What each is answered was worked out by hand from the rules of the server.
 const TABLES: &[(u32, u64, &[(Call, Answer)])] = &[
@@ -348,7 +334,6 @@ const TABLES: &[(u32, u64, &[(Call, Answer)])] = &[
     (64, 16_777_213, STOPPED_WHILE_BEHIND),
     (64, 16_777_214, NUMBERS_GO_BACK),
     (64, 16_777_184, READERS_AT_BOTH_ENDS),
-    (64, 16_777_184, READERS_APART),
 ];
 
 #[test]
