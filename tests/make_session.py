@@ -149,8 +149,9 @@ class Case:
         return verdict
 
     def entered(self):
-        """The history is at its end."""
+        """The history is at its end: what the finished commands answer."""
         self.verdicts.append("%d entered" % len(self.checker.history))
+        self.verdicts += ["l %d %d %s" % (line.backend, line.command, line.text) for line in self.checker.lines()]
 
     def written(self):
         return self.text + "".join(line + "\n" for line in self.lines) + "end\n"

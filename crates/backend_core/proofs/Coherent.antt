@@ -52,5 +52,5 @@ stands_coherent scenario seen s sound stands = by_life s.life stands
   where
     by_life : (l : Life) → elim l as (λ x. Type 0) [ lives.Unstarted ↦ HasNotJoined scenario seen s | lives.Alive ↦ AwaitsEntry scenario seen s | lives.Stopped ↦ HasLeft scenario seen s ] → IsCoherent seen s
     by_life lives.Unstarted before = subst (λ (l : List KeptScan). All (IsCoherentScan seen s.progress.id) l) (sym before.new.progress.kept) (All-nil (IsCoherentScan seen s.progress.id))
-    by_life lives.Alive waits = all_coherent seen s.progress.id s.progress.kept sound waits.rests.holds.facts.usable waits.rests.holds.facts.kept waits.keeps.kept
+    by_life lives.Alive waits = all_coherent seen s.progress.id s.progress.kept sound waits.rests.holds.facts.usable waits.rests.holds.facts.kept waits.keeps.places.kept
     by_life lives.Stopped left = all_coherent seen s.progress.id s.progress.kept sound left.holds.facts.usable left.holds.facts.kept left.kept

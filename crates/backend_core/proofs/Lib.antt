@@ -5,9 +5,6 @@ pub mod Coherent
 pub mod Stepped
 pub mod Others
 pub mod Choosing
-pub mod LinesPush
-pub mod KeptReads
-pub mod Answered
 pub mod Silent
 pub mod Entries
 pub mod NewFacts

@@ -1,5 +1,5 @@
 -- The facts of a backend before its first entry.
-use Rattle.std.proofs.Common.{◌≡◌, ◌∙◌, ◌||◌, ℕ, List, [], sym, ap, subst, All, slice_get}
+use Rattle.std.proofs.Common.{◌∙◌, ◌||◌, ℕ, List, [], sym, ap, subst, All, slice_get}
 use Rattle.std.proofs.lemmas.Bool.{both_ways}
 use Rattle.std.proofs.lemmas.List.Elements.{All-nil}
 use Rattle.command_lists.specs.Lists.{all_lists}
@@ -8,8 +8,8 @@ use Rattle.ddl_effect.specs.Stages.{plan_at}
 use Rattle.history_model.specs.Read.{rows_read}
 use Rattle.cacheless.specs.Facts.{facts_of}
 use Rattle.cacheless.specs.Holds.{ReadRight, FactsFit}
-use Rattle.cacheless.specs.State.{owed_at, running_of, is_kept, is_absent, IsNew}
-use Rattle.cacheless.proofs.Entries.EnteredLooks.{not_absent}
+use Rattle.cacheless.specs.State.{owed_at, running_of, is_kept, ends_on_scan, IsNew}
+use Rattle.cacheless.proofs.Entries.EnteredLooks.{no_end}
 use Rattle.backend_core.specs.Types.{Command, Progress}
 
 -- what a new backend holds are the facts of one that has no entry
@@ -20,5 +20,5 @@ facts_none b commands p new = record {
   owed = sym (ap owed_at new.due);
   usable = λ scan is. sym (ap (λ k. is_kept k scan) new.kept);
   kept = subst (All (ReadRight (rows_read [] b))) (sym new.kept) (All-nil (ReadRight (rows_read [] b)));
-  given = λ is. absurd (both_ways _ (ap (λ t. t || is_absent (plan_at p.exec)) new.read ∙ ap is_absent new.plan ∙ not_absent no_block (slice_get commands 0)) is);
+  given = λ is. absurd (both_ways _ (ap (λ t. t || ends_on_scan (plan_at p.exec)) new.read ∙ ap ends_on_scan new.plan ∙ no_end no_block (slice_get commands 0)) is);
 }

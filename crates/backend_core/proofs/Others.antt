@@ -39,8 +39,10 @@ awaits-other scenario seen e s other waits = record {
     alive = k.alive;
     life = record { last = k.life.last; alive = life_of-other seen e s.progress.id other ∙ k.life.alive; most = k.life.most };
     built = k.built;
-    kept = kept-other seen e s.progress.id s.progress.kept other k.kept;
-    given_at = place-other seen e s.progress.id (plan_at s.progress.exec) s.progress.read s.progress.given_at other k.given_at;
+    places = record {
+      kept = kept-other seen e s.progress.id s.progress.kept other k.places.kept;
+      given_at = place-other seen e s.progress.id (plan_at s.progress.exec) s.progress.read s.progress.given_at other k.places.given_at;
+    };
   };
   rests = record {
     holds = let holds = waits.rests.holds in record (holds-other scenario seen e s.progress other holds) {
@@ -52,9 +54,9 @@ awaits-other scenario seen e s other waits = record {
     still = waits.rests.still;
   };
   fits = subst (λ f. Fits f (command_at s) (waiting waits) s.looked s.looked_to_build) (sym (facts_of-other seen e s.progress.id other)) waits.fits;
+  lines = waits.lines ∙ ap (lines_from scenario seen s.progress.id 1 (waiting waits).finished) waits.rests.holds.commands ∙ sym (finished_lines-more scenario seen e s.progress.id (waiting waits) (waiting_is scenario seen s waits))
+      ∙ ap (lines_from scenario (seen ++ e ∷ []) s.progress.id 1 (waiting waits).finished) (sym waits.rests.holds.commands);
   tells = record {
-    lines = waits.tells.lines ∙ ap (lines_from scenario seen s.progress.id 1 (waiting waits).finished) waits.rests.holds.commands ∙ sym (finished_lines-more scenario seen e s.progress.id (waiting waits) (waiting_is scenario seen s waits))
-        ∙ ap (lines_from scenario (seen ++ e ∷ []) s.progress.id 1 (waiting waits).finished) (sym waits.rests.holds.commands);
     answer = λ text command told at. waits.tells.answer text command told at
         ∙ sym (line_stays scenario seen e s.progress.id _ (waiting waits) (waiting waits) command (session_placed scenario seen s.progress.id (waiting waits) (waiting_is scenario seen s waits)).judged refl);
     out = waits.tells.out;

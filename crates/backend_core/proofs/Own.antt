@@ -21,6 +21,7 @@ use Rattle.cacheless.specs.Session.{Session, number_of, outcome_of, is_settled}
 use Rattle.cacheless.specs.Sessions.{noted, ends_command, placed_at, commands_left, entered, session_of}
 use Rattle.cacheless.specs.Settled.{finished_as}
 use Rattle.cacheless.specs.State.{session_at}
+use Rattle.cacheless.specs.Telling.{AnswerFits, IsJudgedHere}
 use Rattle.cacheless.proofs.Allowed.Economical.{plays_needed}
 use Rattle.cacheless.proofs.Answers.JudgedLines.{session_placed, finished_lines-more, judged_here, judged_still, line_stays}
 use Rattle.cacheless.proofs.Allowed.NextKeeps.{next_keeps}
@@ -28,10 +29,11 @@ use Rattle.cacheless.proofs.Allowed.NextOnCourse.{counted_tally, entered_noted, 
 use Rattle.cacheless.proofs.Allowed.OwnEntries.{IsNoted}
 use Rattle.cacheless.proofs.Resting.{settled_at_rest}
 use Rattle.cacheless.proofs.Allowed.StaysOnCourse.{MayCome}
-use Rattle.backend_core.specs.Types.{Command, Scenario, Entry, Event, Backend}
-use Rattle.backend_core.specs.Agrees.{IsPlayed, command_at, Keeps, AnswerFits, IsJudgedHere, AgreesNow, AwaitsEntry}
+use Rattle.backend_core.specs.Types.{Command, Scenario, Entry, Event, Progress, Backend}
+use Rattle.backend_core.specs.Agrees.{IsPlayed, command_at, Keeps, AgreesNow, AwaitsEntry}
 use Rattle.backend_core.specs.Fits.{Fits}
 use Rattle.backend_core.specs.Steps.{MakesEntry, Enters}
+use Rattle.backend_core.proofs.Fitting.FitsOn.{gone_on}
 use Rattle.backend_core.proofs.Played.{IsPlayed-more}
 
 -- the session of a backend that waits
@@ -101,7 +103,7 @@ appended_makes scenario old new had has e next suits appends = record {
 pub own_makes : (scenario : Scenario) (old new : List Entry) (had has : ℕ → ℕ) (was : Backend) (event : Event) (waits : AwaitsEntry scenario old was) → IsPlayed scenario old → AllOnCourse scenario old → OwnEntry scenario old was event waits
     → Appends old new had has (entry_of was.progress.id (was.progress.finished + 1) event) → MakesEntry scenario old new had has was.progress.id
 own_makes scenario old new had has was event waits played courses own appends = appended_makes scenario old new had has e next (record {
-  needed = plays_needed scenario old e next;
+  needed = plays_needed scenario old e courses next;
   truly = own.truly;
   tables = (next_keeps scenario old e played courses next).1;
   queue = own.queue;
@@ -114,8 +116,8 @@ own_makes scenario old new had has was event waits played courses own appends = 
     next = own_next scenario old was event waits own.plays
 
 -- what becomes of the answer: an entry of an end keeps that of the command, if one runs, any other is made where there is none
-pub data KeepsAnswer (was now : Backend) (event : Event) : Type 0 where
-  AtEnd : ends_command event ≡ true → ((command : Command) → command_at was ≡ Some command → is_some was.answer ≡ true) → now.answer ≡ was.answer → KeepsAnswer was now event
+pub data KeepsAnswer (was now : Progress) (event : Event) : Type 0 where
+  AtEnd : ends_command event ≡ true → ((command : Command) → slice_get was.commands was.finished ≡ Some command → is_some was.answer ≡ true) → now.answer ≡ was.answer → KeepsAnswer was now event
   Inside : ends_command event ≡ false → now.answer ≡ None → KeepsAnswer was now event
 
 -- an entry of an end leaves the plan
@@ -142,21 +144,25 @@ entered_last facts left at c event s = ap (λ x. x.last) (counted_tally facts ev
 pub own_enters : (scenario : Scenario) (old new : List Entry) (had has : ℕ → ℕ) (was now : Backend) (event : Event) (waits : AwaitsEntry scenario old was) → IsPlayed scenario old → AllOnCourse scenario old → OwnEntry scenario old was event waits
     → (goes : HasEntered scenario old was.progress event waits.rests now.progress) → Keeps (with_own old was.progress event) now
     → Fits (facts_of (with_own old was.progress event) now.progress.id) (command_at now) (session_at now.progress goes.holds.rest) now.looked now.looked_to_build
-    → now.lines ≡ was.lines → KeepsAnswer was now event → (ends_command event ≡ false → (noted event (waiting waits)).ended ≡ (waiting waits).ended)
+    → now.lines ≡ was.lines → KeepsAnswer was.progress now.progress event → (ends_command event ≡ false → (noted event (waiting waits)).ended ≡ (waiting waits).ended)
     → Appends old new had has (entry_of was.progress.id (was.progress.finished + 1) event) → Enters scenario old new had has was now
 unfolding own_makes
 own_enters scenario old new had has was now event waits played courses own goes keeps fits lines answer stays appends = record {
   makes = makes;
   id = goes.moves.id;
   agrees = subst (λ h. AgreesNow scenario h now) (sym appends.entries) (record {
-    played = IsPlayed-more scenario old e played makes.may;
     keeps = keeps;
     holds = goes.holds;
-    course = subst (λ b. EntersCourse scenario (old ++ e ∷ []) b later) (sym goes.moves.id) course;
     fits = fits;
-    tells = record { lines = lines_are; answer = answers answer; out = comes_out answer };
-    here = λ command at none. judged answer command at none;
-    last = omega (arith, length_push old e, ap (λ (x : Session). x.last) goes.session, entered_last facts left (length old + 1) (was.progress.finished + 1) event s);
+    tells = record {
+      played = IsPlayed-more scenario old e played makes.may;
+      course = subst (λ b. EntersCourse scenario (old ++ e ∷ []) b later) (sym goes.moves.id) course;
+      tells = record { answer = answers answer; out = comes_out answer };
+      here = λ command at none. judged answer command at none;
+      last = omega (arith, length_push old e, ap (λ (x : Session). x.last) goes.session, entered_last facts left (length old + 1) (was.progress.finished + 1) event s);
+      back = λ from command gone at. gone_on (facts_of (with_own old was.progress event) now.progress.id) (command_at now) later now.looked now.looked_to_build command from at fits gone;
+    };
+    lines = lines_are;
   });
 }
   where
@@ -212,11 +218,11 @@ own_enters scenario old new had has was now event waits played courses own goes 
     placed = session_placed scenario old b s (waiting_is scenario old was waits)
 
     lines_are : now.lines ≡ lines_from scenario (old ++ e ∷ []) now.progress.id 1 later.finished now.progress.commands
-    lines_are = lines ∙ waits.tells.lines ∙ ap (lines_from scenario old b 1 s.finished) waits.rests.holds.commands ∙ sym (finished_lines-more scenario old e b s (waiting_is scenario old was waits))
+    lines_are = lines ∙ waits.lines ∙ ap (lines_from scenario old b 1 s.finished) waits.rests.holds.commands ∙ sym (finished_lines-more scenario old e b s (waiting_is scenario old was waits))
         ∙ ap (lines_from scenario (old ++ e ∷ []) b 1 s.finished) (sym waits.rests.holds.commands)
         ∙ (λ i. lines_from scenario (old ++ e ∷ []) (sym goes.moves.id i) 1 (sym finished_same i) (sym goes.moves.commands i))
 
-    answers : KeepsAnswer was now event → AnswerFits scenario (old ++ e ∷ []) now later
+    answers : KeepsAnswer was.progress now.progress event → AnswerFits scenario (old ++ e ∷ []) now.progress later
     answers (Inside inside none) text command told at = absurd (let both : None ≡ Some text = sym none ∙ told in cc both)
     answers (AtEnd ends some same) text command told at =
         (λ i. record { backend = goes.moves.id i; command = number_same i; text = text })
@@ -224,11 +230,11 @@ own_enters scenario old new had has was now event waits played courses own goes 
         ∙ sym (line_stays scenario old e b (number_of s) s later command placed.judged (ap finished_as goes.session ∙ judged_still facts left (length old + 1) (was.progress.finished + 1) event s ends))
         ∙ (λ i. line_of scenario (old ++ e ∷ []) (sym goes.moves.id i) (sym number_same i) (finished_as later) command)
 
-    comes_out : KeepsAnswer was now event → is_some now.answer ≡ true → is_settled (outcome_of later.left) ≡ true
+    comes_out : KeepsAnswer was.progress now.progress event → is_some now.progress.answer ≡ true → is_settled (outcome_of later.left) ≡ true
     comes_out (Inside inside none) some = absurd (both_ways _ (ap (λ o. is_some o) none) some)
     comes_out (AtEnd ends has_one same) some = ap (λ p. is_settled (outcome_of p)) (ap (λ (x : Session). x.left) goes.session ∙ noted_is.after.left ∙ end_left event s ends) ∙ waits.tells.out (ap (λ o. is_some o) (sym same) ∙ some)
 
-    judged : KeepsAnswer was now event → (command : Command) → command_at now ≡ Some command → is_some now.answer ≡ false → IsJudgedHere (old ++ e ∷ []) now.progress.id later
+    judged : KeepsAnswer was.progress now.progress event → (command : Command) → command_at now ≡ Some command → is_some now.progress.answer ≡ false → IsJudgedHere (old ++ e ∷ []) now.progress.id later
     judged (AtEnd ends some same) command at none = absurd (both_ways _ none (ap (λ o. is_some o) same ∙ some command (sym same_command ∙ at)))
     judged (Inside inside none) command at _ = record {
       judged = omega (arith, length_push old e, ap (λ (x : Session). x.judged) goes.session, judged_here facts left (length old + 1) (was.progress.finished + 1) event s inside);

@@ -1,6 +1,5 @@
 pub mod Types
 pub mod Words
-pub mod Answering
 pub mod Fits
 pub mod Agrees
 pub mod Coherent

@@ -12,7 +12,7 @@ use Rattle.cacheless.specs.MayEnter.{MayEnter}
 use Rattle.cacheless.specs.State.{owed_first, unsent_at, is_out, end_of_running}
 use Rattle.backend_core.specs.Types.{Oid, Mode, Purpose, Command, Scenario, Entry, Event, Next, Progress, Backend}
 use Rattle.backend_core.specs.declared.next.Next.TheVariants as nexts
-use Rattle.backend_core.specs.Agrees.{IsPlayed, AgreesNow, Stands}
+use Rattle.backend_core.specs.Agrees.{AgreesNow, Stands}
 use Rattle.backend_core.specs.Coherent.{IsCoherent}
 use Rattle.backend_core.specs.Words.{build_first, is_looked_for}
 
@@ -56,7 +56,7 @@ pub record OwesLookNow (s : Progress) : Type 0 where
   pub at : slice_get s.commands s.finished ≡ Some command
   pub owes : (s.due ≡ dues.Look) ⊎ ((s.due ≡ dues.Nothing) × (owed_first s command ≢ []))
 
--- this scan comes next, one for a descriptor, or one of a name or a column: what the opened descriptors lack comes before what the act lacks, and of several the first
+-- this scan comes next, one for a descriptor, or one of a catalog cache: what the opened descriptors lack comes before what the act lacks, and of several the first
 pub record IsScanNext (s : Progress) (scan : Purpose) (builds : Bool) : Type 0 where
   pub command : Command
   pub free : IsFree s command

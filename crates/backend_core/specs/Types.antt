@@ -3,7 +3,6 @@ pub use Rattle.base_types.specs.declared.ids.Oid.{Oid}
 pub use Rattle.base_types.specs.declared.ids.Xid.{Xid}
 pub use Rattle.base_types.specs.declared.mode.Mode.{Mode}
 pub use Rattle.base_types.specs.declared.kind.Kind.{Kind}
-pub use Rattle.base_types.specs.declared.field.Field.{Field}
 pub use Rattle.base_types.specs.declared.row.Row.{Row}
 pub use Rattle.base_types.specs.declared.scan.Purpose.{Purpose}
 pub use Rattle.base_types.specs.declared.command.Command.{Command}
@@ -14,7 +13,6 @@ pub use Rattle.event_kinds.specs.declared.entry.Event.{Event}
 pub use Rattle.event_kinds.specs.declared.entry.Item.{Item}
 pub use Rattle.event_kinds.specs.declared.entry.Line.{Line}
 pub use Rattle.command_answers.specs.declared.error.CommandError.{CommandError}
-pub use Rattle.command_answers.specs.declared.answer.Answer.{Answer}
 pub use Rattle.inval_messages.specs.declared.message.Message.{Message}
 pub use Rattle.row_visibility.specs.declared.version.Version.{Version}
 pub use Rattle.lock_modes.specs.declared.own_lock.OwnLock.{OwnLock}

@@ -1,5 +1,5 @@
 -- What the program's choice says of a backend, beside how far it is.
-use Rattle.std.specs.Prelude.{ℕ, Bool, true, false, Option, Some, None, List, [], ◌∷◌, ◌&&◌, not, is_some}
+use Rattle.std.specs.Prelude.{Bool, true, false, Option, Some, None, List, ◌∷◌, ◌&&◌, not, is_some}
 use Rattle.std.specs.Option.{option_map_or}
 use Rattle.std.specs.List.{find, list_any}
 use Rattle.base_types.specs.Scans.{build_scans}
@@ -18,7 +18,7 @@ abbrev pub has_left : Life → Bool
 has_left lives.Stopped = true
 has_left life = false
 
--- a look was made for the next scan: for a descriptor, or of a name or a column
+-- a look was made for the next scan: for a descriptor, or of a catalog cache
 abbrev pub is_looked_for : Bool → Backend → Bool
 is_looked_for true s = s.looked_to_build
 is_looked_for false s = s.looked

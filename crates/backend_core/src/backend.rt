@@ -1,7 +1,7 @@
 use crate::Life;
 use base_types::{Command, Listed, NoMemory};
 use cacheless::Progress;
-use event_kinds::{Line, LineText};
+use event_kinds::Line;
 use seg_calls::Seg;
 use std::alloc::Global;
 
@@ -11,9 +11,7 @@ use std::alloc::Global;
 pub struct Backend {
     pub(crate) progress: Progress,
     pub(crate) life: Life,
-    // what the running command answers, once it has come out
-    pub(crate) answer: Option<LineText>,
-    // a look was made for the next scan of a name or a column, and one for the next for a descriptor:
+    // a look was made for the next scan of a catalog cache, and one for the next for a descriptor:
     // where a reset takes an opened descriptor away before a column is looked up, both may be
     pub(crate) looked: bool,
     pub(crate) looked_to_build: bool,
@@ -37,7 +35,6 @@ impl Backend {
         Ok(Backend {
             progress: Progress::new(alloc, id, commands)?,
             life: Life::Unstarted,
-            answer: None,
             looked: false,
             looked_to_build: false,
             lines: Listed::new(alloc),

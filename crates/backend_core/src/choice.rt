@@ -119,7 +119,7 @@ impl Backend {
     {
         match want {
             Want::Lookup { name, mode } => self.next_of_lookup(command, *name, *mode),
-            Want::Column { rel, name } => self.next_of_name(Purpose::AttName(*rel, *name)),
+            Want::Search(scan) => self.next_of_name(*scan),
             Want::Open { rel, kind } => match first_missing(&self.progress.kept, *kind, *rel) {
                 Some(scan) => self.next_of_build(scan),
                 None => unreachable!(),
@@ -129,7 +129,10 @@ impl Backend {
                 mode: *mode,
             },
             Want::Write => Next::Write,
-            Want::Done => self.next_of_end(command),
+            Want::Done(Some(scan)) if !self.progress.owes_nothing(command) => {
+                self.next_of_name(*scan)
+            }
+            Want::Done(_) => self.next_of_end(command),
             Want::Read(_) | Want::Fails(_) | Want::Absent(_) => unreachable!(),
         }
     }
@@ -146,7 +149,7 @@ impl Backend {
         }
     }
 
-    // A scan of a name or a column, which has a look of its own before it.
+    // A scan of a catalog cache, which has a look of its own before it.
     fn next_of_name(&self, scan: Purpose) -> Next
         requires next { IsScanNext self.now.progress scan false }
         ensures { IsNextOf self.now result }

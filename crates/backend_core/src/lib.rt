@@ -1,7 +1,7 @@
 //! One backend: how it does what its commands say, and which entries that leaves in the history.
 //!
 //! A command is a plan (`ddl_effect`): a lookup of a name with a lock, the opening of a descriptor,
-//! a lookup of a column, rows of the descriptor, a write. A [`Backend`] takes its commands' plans
+//! a search of a catalog cache, rows of the descriptor, a write. A [`Backend`] takes its commands' plans
 //! act by act. Before an act comes what it rests on: a look whether messages wait
 //! (`AcceptInvalidationMessages` in `src/backend/utils/cache/inval.c`) at a transaction's start,
 //! after each grant and before each scan, and the scans that the act needs and that aren't kept
@@ -21,8 +21,8 @@
 //! is, so no new body of these changes a proof here.
 //!
 //! How far a backend is, what its transaction holds and what it has read is its `Progress` (crate
-//! cacheless), which takes any entry that the definitions allow. Here is the choice among them (`choice.rt`),
-//! what the commands answer, and the calls of the segment.
+//! cacheless), which takes any entry that the definitions allow and works out what a command answers. Here
+//! is the choice among them (`choice.rt`), and the calls of the segment.
 //!
 //! The promise: a backend *stands* in the history of its segment (`specs/Agrees.antt`): its progress holds
 //! its session there, its transcript is its part of the lines. A step keeps that, and its entry is one that
@@ -43,7 +43,6 @@
 //! descriptor as a whole.
 #![tactic(auto)]
 
-mod answers;
 mod backend;
 mod choice;
 mod ends;

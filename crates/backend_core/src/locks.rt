@@ -19,7 +19,6 @@ impl Backend {
         ensures refused { OnErr result (IsRefused (L.script seg.old) (L.history seg.old) (L.history seg.new) (L.promised seg.old) (L.promised seg.new) self.old.progress.id) }
     {
         self.progress.reserve_lock()?;
-        self.answer = None;
         match seg.lock(self.progress.id, self.progress.finished + 1, rel, mode) {
             Ok(()) => {
                 self.progress.enter_lock(rel, mode);

@@ -39,7 +39,6 @@ impl Backend {
         let some_wait = seg.waits(self.progress.id);
         seg.looked(self.progress.id, self.progress.finished + 1, some_wait);
         self.progress.enter_look(some_wait);
-        self.answer = None;
     }
 
     // The look before a scan, for a descriptor or of a name.
@@ -55,7 +54,6 @@ impl Backend {
         self.progress.enter_look(some_wait);
         self.looked = looked_with(self.looked, !builds);
         self.looked_to_build = looked_with(self.looked_to_build, builds);
-        self.answer = None;
     }
 
     // The fetch of messages that wait. What they cover isn't relied on any more, and after a reset
@@ -79,14 +77,14 @@ impl Backend {
         requires few { self.old.progress.finished ≤ 20000 }
         requires room { HasRoom self.old.progress }
         ensures holds { (scenario : Scenario) (seen : List Entry) → (rests : Rests scenario seen self.old.progress) → messages.now ≡ fetched_by seen self.old.progress.id (length messages.now) → HasEntered scenario seen self.old.progress (events.Fetch (length messages.now)) rests self.new.progress }
-        ensures is { self.new ≡ record self.old { progress = self.new.progress; looked_to_build = self.old.looked_to_build && not (marks_build self.old.progress messages.now); answer = None } }
+        ensures is { self.new ≡ record self.old { progress = self.new.progress; looked_to_build = self.old.looked_to_build && not (marks_build self.old.progress messages.now) } }
         ensures kept { self.new.progress.kept ≡ kept_spared messages.now self.old.progress.kept }
         ensures given_at { self.new.progress.given_at ≡ self.old.progress.given_at }
+        ensures answer { self.new.progress.answer ≡ None }
     {
         let marked = self.is_marked(messages);
         self.progress.enter_fetch(messages);
         self.looked_to_build = still_looked(self.looked_to_build, marked);
-        self.answer = None;
     }
 
     // It takes a reset: all that it has read goes (`InvalidateSystemCaches` in
@@ -96,14 +94,14 @@ impl Backend {
         requires few { self.old.progress.finished ≤ 20000 }
         requires room { HasRoom self.old.progress }
         ensures holds { (scenario : Scenario) (seen : List Entry) → (rests : Rests scenario seen self.old.progress) → HasEntered scenario seen self.old.progress events.FetchReset rests self.new.progress }
-        ensures is { self.new ≡ record self.old { progress = self.new.progress; looked_to_build = self.old.looked_to_build && not (has_begun self.old.progress); answer = None } }
+        ensures is { self.new ≡ record self.old { progress = self.new.progress; looked_to_build = self.old.looked_to_build && not (has_begun self.old.progress) } }
         ensures kept { self.new.progress.kept ≡ [] }
         ensures given_at { self.new.progress.given_at ≡ self.old.progress.given_at }
+        ensures answer { self.new.progress.answer ≡ None }
     {
         let marked = self.has_begun_build();
         self.progress.enter_reset(alloc);
         self.looked_to_build = still_looked(self.looked_to_build, marked);
-        self.answer = None;
     }
 
     // Whether messages mark the descriptor that is being built, which then starts over

@@ -7,11 +7,11 @@ use base_types::{Mode, Oid, Purpose, Xid};
 pub enum Next {
     /// The look at its transaction's start, after a grant, or after a fetch of the most messages.
     Look,
-    /// The look before a scan: one for a descriptor, or one of a name or a column.
+    /// The look before a scan: one for a descriptor, or one of a catalog cache.
     LookBeforeScan { builds: bool },
     /// It fetches the messages that wait.
     Fetch,
-    /// A scan, for a descriptor, or of a name or a column.
+    /// A scan, for a descriptor, or of a catalog cache.
     Scan { scan: Purpose, builds: bool },
     /// It asks for a lock.
     Lock { rel: Oid, mode: Mode },

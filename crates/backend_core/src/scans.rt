@@ -11,7 +11,7 @@ impl Backend {
     ghost use Rattle.backend_core.specs.declared.next.Next.TheVariants as nexts;
     ghost use Rattle.backend_core.specs.Steps.{Enters, IsRefused, IsNextOf};
 
-    // A scan, for a descriptor, or of a name or a column. Out of memory, it may not be used any more.
+    // A scan, for a descriptor, or of a catalog cache. Out of memory, it may not be used any more.
     pub(crate) fn scan<L: Seg>(
         &mut self,
         seg: &mut L,
@@ -28,7 +28,6 @@ impl Backend {
         self.progress.enter_scan(scan, scanned.rows, scanned.at)?;
         self.looked = still_looked(self.looked, !builds);
         self.looked_to_build = still_looked(self.looked_to_build, builds);
-        self.answer = None;
         Ok(())
     }
 }

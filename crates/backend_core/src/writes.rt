@@ -1,6 +1,6 @@
 use crate::Backend;
 use base_types::NoMemory;
-use ddl_effect::Exec;
+use ddl_effect::{Exec, Told};
 use seg_calls::{Seg, WriteRefusal};
 use std::alloc::Global;
 use std::mem::replace;
@@ -21,8 +21,7 @@ impl Backend {
         ensures refused { OnErr result (IsRefused (L.script seg.old) (L.history seg.old) (L.history seg.new) (L.promised seg.old) (L.promised seg.new) self.old.progress.id) }
     {
         self.progress.reserve_lock()?;
-        self.answer = None;
-        let draft = replace(&mut self.progress.exec, Exec::Done).into_draft(alloc)?;
+        let draft = replace(&mut self.progress.exec, Exec::Done(Told::Ok)).into_draft(alloc)?;
         let new_oids = draft.new_oids;
         match seg.write(self.progress.id, self.progress.finished + 1, &draft) {
             Ok(written) => {

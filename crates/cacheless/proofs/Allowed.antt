@@ -6,5 +6,5 @@ pub mod OwnEntries
 pub mod Releases
 pub mod NextOnCourse
 pub mod NextKeeps
-pub mod AllowedHistories
 pub mod Economical
+pub mod AllowedHistories

@@ -1,9 +1,10 @@
 -- What a command answers.
 pub mod ReadPlaces
-pub mod OpenedOne
 pub mod ToldFields
 pub mod ToldAnswers
 pub mod JudgedLines
 pub mod OpenedReads
 pub mod ToldAlike
 pub mod KeptTells
+pub mod Telling
+pub mod KeptReads

@@ -162,7 +162,7 @@ own_held-own b c event gs locks same = same
 
 -- what is done without an entry leaves the locks
 acted_on-locks : (facts : Facts) (p : Plan) (s : Session) → (acted_on facts p s).locks ≡ s.locks
-acted_on-locks facts Done s = refl
+acted_on-locks facts (Done told) s = refl
 acted_on-locks facts (Fails error) s = refl
 acted_on-locks facts (Absent name) s = refl
 acted_on-locks facts NotBuilt s = refl

@@ -1,13 +1,16 @@
 -- What is kept, found by relation: what a look-up and what messages have to look at.
-use Rattle.std.proofs.Common.{◌≡◌, ◌≢◌, ◌≤◌, ◌<◌, ◌+◌, ◌-◌, ◌^◌, ◌∙◌, ◌==◌, ◌||◌, ◌&&◌, ◌⊎◌, inl, inr, ℕ, zero, suc, Bool, true, false, not, Option, Some, None, List, [], ◌∷◌, ◌++◌, length, filter, take, drop, min, cond, nat_eq, get_or, is_some, refl, sym, ap, subst, arith}
+use Rattle.std.proofs.Common.{◌≡◌, ◌≤◌, ◌<◌, ◌+◌, ◌-◌, ◌∙◌, ◌==◌, ◌||◌, ◌&&◌, ℕ, zero, suc, Bool, true, false, not, Option, Some, None, List, [], ◌∷◌, ◌++◌, length, take, drop, cond, nat_eq, nat_lt, nat_le, get_or, slice_get, leb-true, leb-false, le-leb, ltb-true, refl, sym, ap, subst, arith}
 use Rattle.std.specs.Str.{bytes_eq}
 use Rattle.std.specs.List.{AllByRecursion, list_any, find}
+use Rattle.std.specs.List.Sorted.{IsNonDecreasingBy, IsPartitionedBy, IsPartitionPoint}
+use Rattle.std.specs.Option.{option_map_or}
 use Rattle.std.specs.HashMap.{HashMap, get}
-use Rattle.std.proofs.Math.Bool.{and-false}
-use Rattle.std.proofs.lemmas.Bool.{eqb-true, cases_lt, or_parts}
-use Rattle.std.proofs.Math.Nat.{min-eq_left, min-eq_right, min-le_left, min-le_right, le_of_lt}
-use Rattle.std.proofs.lemmas.List.{take-append-drop, take_more, length_push}
-use Rattle.std.proofs.lemmas.List.Sums.{count_by-le-length, length-filter}
+use Rattle.std.proofs.Math.Bool.{and-false, or-true}
+use Rattle.std.proofs.lemmas.Bool.{eqb-true, and_parts, or_parts}
+use Rattle.std.proofs.lemmas.Option.{slice_get-get_or}
+use Rattle.std.proofs.lemmas.List.{take-append-drop, take_more}
+use Rattle.std.proofs.lemmas.List.Kept.{IsNonDecreasingBy-filter}
+use Rattle.std.proofs.lemmas.List.Sorted.{IsNonDecreasingBy-push, IsPartitionedBy-ltb}
 use Rattle.std.proofs.lemmas.List.Folds.{list_any-append}
 use Rattle.base_types.specs.Scans.{scan_key, same_scan, is_build_scan, build_scans}
 use Rattle.base_types.specs.declared.kind.Kind.{Kind}
@@ -19,7 +22,7 @@ use Rattle.inval_messages.specs.declared.message.Message.TheVariants.{Cat, Rel}
 use Rattle.inval_messages.specs.Messages.{covers, is_spared}
 use Rattle.cacheless.specs.Types.{Purpose}
 use Rattle.cacheless.specs.State.{is_kept, kept_spared}
-use Rattle.cacheless.specs.KeptByRelation.{relation_of, is_about, IsPartFor, is_about_one, IsFound, AreFound, IsIndex, MayStart, AreForgotten}
+use Rattle.cacheless.specs.KeptByRelation.{relation_of, is_about, IsPartFor, IsPartSince, is_by, starts_by, IsFound, IsIndex, IsFirstStart, StartsStay, AreForgotten}
 use Rattle.cacheless.specs.declared.kept_scan.KeptScan.{KeptScan}
 
 -- scans of two relations are two
@@ -80,178 +83,171 @@ covered_own : (scan : Purpose) → is_build_scan scan ≡ true → (ms : List Me
 covered_own scan builds [] = refl
 covered_own scan builds (m ∷ ms) = ap (λ t. t || list_any (covers scan) ms) (covers_own scan builds m) ∙ ap (λ t. is_about (relation_of scan) m || t) (covered_own scan builds ms)
 
--- what went is counted, or the count is at its most
-abbrev Fits : ℕ → ℕ → ℕ → ℕ → Type 0
-Fits old new had has = (old + had ≤ new + has) ⊎ (2 ^ 64 ≤ new + 1)
+-- where an entry isn't before the last one it is before none
+pub last_before : (kept : List KeptScan) (at : ℕ) → option_map_or (λ (k : KeptScan). nat_le k.at at) (slice_get kept (length kept - 1)) true ≡ true → (d : KeptScan) → 0 < length kept → (get_or kept (length kept - 1) d).at ≤ at
+last_before kept at is d some =
+    let there : slice_get kept (length kept - 1) ≡ Some (get_or kept (length kept - 1) d) = slice_get-get_or kept (length kept - 1) d (omega arith) in
+    leb-true _ at (sym (ap (λ (o : Option KeptScan). option_map_or (λ (k : KeptScan). nat_le k.at at) o true) there) ∙ is)
+
+-- the scans up to a place, where each is of an entry before this one
+front_earlier : (start : ℕ) (kept : List KeptScan) (place : ℕ) → place ≤ length kept → ((i : ℕ) (d : KeptScan) → i < place → (get_or kept i d).at < start) → AllByRecursion (λ k. k.at < start) (take place kept)
+front_earlier start kept zero within all = tt
+front_earlier start [] (suc place) within all = tt
+front_earlier start (k ∷ kept) (suc place) within all = (all zero k (omega arith), front_earlier start kept place (omega arith) (λ i d below. all (suc i) d (omega arith)))
+
+-- those from an entry on are found by halves
+pub since_halves : (start : ℕ) (kept : List KeptScan) (place : ℕ) → IsNonDecreasingBy (λ k. k.at) kept → place ≤ length kept
+    → (IsPartitionedBy (λ k. nat_lt k.at start) kept → IsPartitionPoint (λ k. nat_lt k.at start ≡ true) (λ k. nat_lt k.at start ≡ false) kept place)
+    → AllByRecursion (λ k. k.at < start) (take place kept)
+since_halves start kept place order within halves =
+    front_earlier start kept place within (λ i d below. ltb-true _ start ((halves (IsPartitionedBy-ltb (λ (k : KeptScan). k.at) kept start order)).0 i d (omega arith) below))
+
+-- those past a place
+pub since_place : (start : ℕ) (kept part : List KeptScan) (place : ℕ) → AllByRecursion (λ k. k.at < start) (take place kept) → part ≡ drop place kept → IsPartSince start kept part
+since_place start kept part place earlier is = record {
+  before = take place kept;
+  parts = sym (take-append-drop place kept) ∙ ap (λ l. take place kept ++ l) (sym is);
+  earlier = earlier;
+}
+
+not_by : (at start : ℕ) → at < start → nat_le start at ≡ false
+not_by at start before = by (nat_le start at) refl
+  where
+    by : (t : Bool) → nat_le start at ≡ t → nat_le start at ≡ false
+    by true is = absurd (omega (arith, leb-true start at is))
+    by false is = is
+
+all_none : (kept : List KeptScan) → AllByRecursion (λ k. is_by None k.at ≡ false) kept
+all_none [] = tt
+all_none (k ∷ kept) = (refl, all_none kept)
 
 module _ {S : Type 0} where
-  -- messages that are for none of the relations aren't for one of them
-  untold : (starts : HashMap ℕ ℕ S) (rel start : ℕ) → get nat_eq starts rel ≡ Some start → (ms : List Message) → list_any (is_about_one starts) ms ≡ false → list_any (is_about rel) ms ≡ false
-  untold starts rel start there [] none = refl
-  untold starts rel start there (m ∷ ms) none =
-      let parts = or_parts (is_about_one starts m) (list_any (is_about_one starts) ms) none in
-      ap (λ t. t || list_any (is_about rel) ms) (by m parts.0) ∙ untold starts rel start there ms parts.1
+  -- a scan before the first start isn't covered
+  uncovered : (starts : HashMap ℕ ℕ S) (first : Option ℕ) (ms : List Message) (k : KeptScan) → IsFirstStart ms starts first → IsFound starts k → is_by first k.at ≡ false → list_any (covers k.scan) ms ≡ false
+  uncovered starts first ms k least found none = covered_own k.scan found.builds ms ∙ by (list_any (is_about (relation_of k.scan)) ms) refl
     where
-      by_test : (told : Oid) → is_some (get nat_eq starts told.0) ≡ false → (t : Bool) → (told.0 == rel) ≡ t → (told.0 == rel) ≡ false
-      by_test told none true same = absurd (let both : false ≡ true = sym none ∙ ap (λ n. is_some (get nat_eq starts n)) (eqb-true told.0 rel same) ∙ ap is_some there in cc)
-      by_test told none false same = same
+      by : (t : Bool) → list_any (is_about (relation_of k.scan)) ms ≡ t → t ≡ false
+      by true told = absurd (let both : false ≡ true = sym none ∙ least.each (relation_of k.scan) k.at told found.started in cc)
+      by false untold = refl
 
-      by : (m : Message) → is_about_one starts m ≡ false → is_about rel m ≡ false
-      by (Cat cache hash) none = refl
-      by (Rel told) none = by_test told none (told.0 == rel) refl
+  -- the messages take nothing away of what is before it
+  spares_all : (starts : HashMap ℕ ℕ S) (first : Option ℕ) (kept : List KeptScan) (ms : List Message) → IsFirstStart ms starts first → AllByRecursion (IsFound starts) kept → AllByRecursion (λ k. is_by first k.at ≡ false) kept → kept_spared ms kept ≡ kept
+  spares_all starts first [] ms least found none = refl
+  spares_all starts first (k ∷ kept) ms least found none =
+      ap (λ t. cond (not t) (k ∷ kept_spared ms kept) (kept_spared ms kept)) (uncovered starts first ms k least found.0 none.0) ∙ ap (λ l. k ∷ l) (spares_all starts first kept ms least found.1 none.1)
 
-  -- they take nothing away
-  pub spares_all : (starts : HashMap ℕ ℕ S) (number : ℕ) (kept : List KeptScan) (ms : List Message) → AreFound starts number kept → list_any (is_about_one starts) ms ≡ false → kept_spared ms kept ≡ kept
-  spares_all starts number [] ms found none = refl
-  spares_all starts number (k ∷ kept) ms found none =
-      ap (λ t. cond (not t) (k ∷ kept_spared ms kept) (kept_spared ms kept)) (covered_own k.scan found.0.builds ms ∙ untold starts (relation_of k.scan) found.0.start found.0.there ms none)
-      ∙ ap (λ l. k ∷ l) (spares_all starts (suc number) kept ms found.1 none)
+  -- where there is none they take nothing away at all
+  pub spares_whole : (starts : HashMap ℕ ℕ S) (kept : List KeptScan) (ms : List Message) → IsFirstStart ms starts None → AllByRecursion (IsFound starts) kept → kept_spared ms kept ≡ kept
+  spares_whole starts kept ms least found = spares_all starts None kept ms least found (all_none kept)
+
+  -- else nothing up to a place
+  pub spares_front : (starts : HashMap ℕ ℕ S) (start : ℕ) (kept : List KeptScan) (place : ℕ) (ms : List Message) → IsFirstStart ms starts (Some start) → AllByRecursion (IsFound starts) kept → AllByRecursion (λ k. k.at < start) (take place kept)
+      → kept_spared ms (take place kept) ≡ take place kept
+  spares_front starts start kept place ms least found earlier = spares_all starts (Some start) (take place kept) ms least (front place kept found) (later (take place kept) earlier)
+    where
+      front : (place : ℕ) (kept : List KeptScan) → AllByRecursion (IsFound starts) kept → AllByRecursion (IsFound starts) (take place kept)
+      front zero kept found = tt
+      front (suc place) [] found = tt
+      front (suc place) (k ∷ kept) found = (found.0, front place kept found.1)
+
+      later : (kept : List KeptScan) → AllByRecursion (λ k. k.at < start) kept → AllByRecursion (λ k. is_by (Some start) k.at ≡ false) kept
+      later [] earlier = tt
+      later (k ∷ kept) earlier = (not_by k.at start earlier.0, later kept earlier.1)
+
+  -- the first start of one more message
+  pub first_more : (ms : List Message) (i : ℕ) (d : Message) (starts : HashMap ℕ ℕ S) (was one first : Option ℕ) → i < length ms → IsFirstStart (take i ms) starts was → IsFirstStart (get_or ms i d ∷ []) starts one
+      → ((at : ℕ) → is_by first at ≡ (is_by was at || is_by one at)) → IsFirstStart (take (i + 1) ms) starts first
+  first_more ms i d starts was one first within before last joined = record {
+    each = λ rel at told started. joined at ∙ by rel at (list_any (is_about rel) (take i ms)) refl
+        (sym (ap (list_any (is_about rel)) (take_more ms i d within) ∙ list_any-append (is_about rel) (take i ms) (get_or ms i d ∷ [])) ∙ told) started;
+  }
+    where
+      by : (rel at : ℕ) (t : Bool) → list_any (is_about rel) (take i ms) ≡ t → (list_any (is_about rel) (take i ms) || list_any (is_about rel) (get_or ms i d ∷ [])) ≡ true → starts_by starts rel at ≡ true → (is_by was at || is_by one at) ≡ true
+      by rel at true told either started = ap (λ t. t || is_by one at) (before.each rel at told started)
+      by rel at false untold either started =
+          ap (λ t. is_by was at || t) (last.each rel at (sym (ap (λ t. t || list_any (is_about rel) (get_or ms i d ∷ [])) untold) ∙ either) started) ∙ or-true (is_by was at)
+
+  -- a scan without a start by its entry isn't of the relation
+  other_relation : (starts : HashMap ℕ ℕ S) (rel : ℕ) (k : KeptScan) → IsFound starts k → starts_by starts rel k.at ≡ false → (relation_of k.scan == rel) ≡ false
+  other_relation starts rel k found none = by (relation_of k.scan == rel) refl
+    where
+      by : (t : Bool) → (relation_of k.scan == rel) ≡ t → (relation_of k.scan == rel) ≡ false
+      by true same = absurd (let both : false ≡ true = sym none ∙ ap (λ r. starts_by starts r k.at) (sym (eqb-true (relation_of k.scan) rel same)) ∙ found.started in cc)
+      by false other = other
 
   -- none is kept of a relation without a start
-  pub part_none : (starts : HashMap ℕ ℕ S) (number rel : ℕ) (kept : List KeptScan) → AreFound starts number kept → get nat_eq starts rel ≡ None → AllByRecursion (λ k. (relation_of k.scan == rel) ≡ false) kept
-  part_none starts number rel [] found none = tt
-  part_none starts number rel (k ∷ kept) found none = (by (relation_of k.scan == rel) refl, part_none starts (suc number) rel kept found.1 none)
-    where
-      by : (t : Bool) → (relation_of k.scan == rel) ≡ t → (relation_of k.scan == rel) ≡ false
-      by true same = absurd (let both : Some found.0.start ≡ None = sym found.0.there ∙ ap (get nat_eq starts) (eqb-true (relation_of k.scan) rel same) ∙ none in cc)
-      by false other = other
+  pub part_none : (starts : HashMap ℕ ℕ S) (rel : ℕ) (kept : List KeptScan) → AllByRecursion (IsFound starts) kept → get nat_eq starts rel ≡ None → AllByRecursion (λ k. (relation_of k.scan == rel) ≡ false) kept
+  part_none starts rel [] found none = tt
+  part_none starts rel (k ∷ kept) found none = (other_relation starts rel k found.0 (ap (λ (o : Option ℕ). option_map_or (λ start. nat_le start k.at) o false) none), part_none starts rel kept found.1 none)
 
-  before_start : (starts : HashMap ℕ ℕ S) (number rel start place : ℕ) (kept : List KeptScan) → AreFound starts number kept → get nat_eq starts rel ≡ Some start → place ≤ start - number → AllByRecursion (λ k. (relation_of k.scan == rel) ≡ false) (take place kept)
-  before_start starts number rel start zero kept found there below = tt
-  before_start starts number rel start (suc place) [] found there below = tt
-  before_start starts number rel start (suc place) (k ∷ kept) found there below = (by (relation_of k.scan == rel) refl, before_start starts (suc number) rel start place kept found.1 there (omega (arith, below)))
-    where
-      by : (t : Bool) → (relation_of k.scan == rel) ≡ t → (relation_of k.scan == rel) ≡ false
-      by true same =
-          let both : Some found.0.start ≡ Some start = sym found.0.there ∙ ap (get nat_eq starts) (eqb-true (relation_of k.scan) rel same) ∙ there in
-          let one : found.0.start ≡ start = cc in
-          absurd (omega (arith, below, one, found.0.after))
-      by false other = other
+  before_start : (starts : HashMap ℕ ℕ S) (rel start : ℕ) (before part : List KeptScan) → AllByRecursion (IsFound starts) (before ++ part) → AllByRecursion (λ k. k.at < start) before → get nat_eq starts rel ≡ Some start
+      → AllByRecursion (λ k. (relation_of k.scan == rel) ≡ false) before
+  before_start starts rel start [] part found earlier there = tt
+  before_start starts rel start (k ∷ before) part found earlier there =
+      (other_relation starts rel k found.0 (ap (λ (o : Option ℕ). option_map_or (λ start. nat_le start k.at) o false) there ∙ not_by k.at start earlier.0), before_start starts rel start before part found.1 earlier.1 there)
 
   -- the part from the start of the relation on
-  pub part_from : (starts : HashMap ℕ ℕ S) (gone rel start place : ℕ) (kept part : List KeptScan) → AreFound starts gone kept → get nat_eq starts rel ≡ Some start → place ≤ start - gone → part ≡ drop place kept → IsPartFor rel kept part
-  part_from starts gone rel start place kept part found there below is = record {
-    before = take place kept;
-    parts = sym (take-append-drop place kept) ∙ ap (λ l. take place kept ++ l) (sym is);
-    others = before_start starts gone rel start place kept found there below;
+  pub part_from : (starts : HashMap ℕ ℕ S) (rel start : ℕ) (kept part : List KeptScan) → AllByRecursion (IsFound starts) kept → get nat_eq starts rel ≡ Some start → IsPartSince start kept part → IsPartFor rel kept part
+  part_from starts rel start kept part found there own = record {
+    before = own.before;
+    parts = own.parts;
+    others = before_start starts rel start own.before part (subst (AllByRecursion (IsFound starts)) own.parts found) own.earlier there;
   }
 
-  -- one more
-  pub found_last : (starts : HashMap ℕ ℕ S) (number : ℕ) (kept : List KeptScan) (k : KeptScan) → AreFound starts number kept → IsFound starts (number + length kept) k → AreFound starts number (kept ++ k ∷ [])
-  found_last starts number [] k found last = (subst (λ n. IsFound starts n k) (omega arith) last, tt)
-  found_last starts number (x ∷ kept) k found last = (found.0, found_last starts (suc number) kept k found.1 (subst (λ n. IsFound starts n k) (omega arith) last))
+  -- a relation's start put at an earlier entry
+  pub started : (old new : HashMap ℕ ℕ S) (rel at : ℕ) → starts_by old rel at ≡ false → ((r : ℕ) → get nat_eq new r ≡ cond (nat_eq rel r) (Some at) (get nat_eq old r)) → StartsStay old new
+  started old new rel at none put = record { stay = λ r n is. by r n (nat_eq rel r) refl is }
+    where
+      past : (o : Option ℕ) (n : ℕ) → option_map_or (λ start. nat_le start at) o false ≡ false → option_map_or (λ start. nat_le start n) o false ≡ true → at ≤ n
+      past None n none is = absurd (cc)
+      past (Some start) n none is = omega (arith, leb-false start at none, leb-true start n is)
 
-  -- starts that are there stay
-  found_still : (old new : HashMap ℕ ℕ S) (number : ℕ) (kept : List KeptScan) → ((rel start : ℕ) → get nat_eq old rel ≡ Some start → get nat_eq new rel ≡ Some start) → AreFound old number kept → AreFound new number kept
-  found_still old new number [] stay found = tt
-  found_still old new number (k ∷ kept) stay found =
-      (record { builds = found.0.builds; start = found.0.start; there = stay (relation_of k.scan) found.0.start found.0.there; after = found.0.after }, found_still old new (suc number) kept stay found.1)
+      by : (r n : ℕ) (t : Bool) → nat_eq rel r ≡ t → starts_by old r n ≡ true → starts_by new r n ≡ true
+      by r n true same is =
+          ap (λ (o : Option ℕ). option_map_or (λ start. nat_le start n) o false) (put r ∙ ap (λ t. cond t (Some at) (get nat_eq old r)) same)
+          ∙ le-leb at n (past (get nat_eq old rel) n none (ap (λ r. starts_by old r n) (eqb-true rel r same) ∙ is))
+      by r n false other is = ap (λ (o : Option ℕ). option_map_or (λ start. nat_le start n) o false) (put r ∙ ap (λ t. cond t (Some at) (get nat_eq old r)) other) ∙ is
 
-  -- none is kept
-  pub index_none : (starts : HashMap ℕ ℕ S) → ((rel : ℕ) → get nat_eq starts rel ≡ None) → IsIndex starts 0 []
-  index_none starts none = record {
-    found = tt;
-    past = λ rel start there. absurd (let both : None ≡ Some start = sym (none rel) ∙ there in cc);
-    small = λ rel start there. absurd (let both : None ≡ Some start = sym (none rel) ∙ there in cc);
+  found_still : (old new : HashMap ℕ ℕ S) (kept : List KeptScan) → StartsStay old new → AllByRecursion (IsFound old) kept → AllByRecursion (IsFound new) kept
+  found_still old new [] still found = tt
+  found_still old new (k ∷ kept) still found = (record { builds = found.0.builds; started = still.stay (relation_of k.scan) k.at found.0.started }, found_still old new kept still found.1)
+
+  -- a start is noted
+  pub index_started : (old new : HashMap ℕ ℕ S) (sorted : Bool) (kept : List KeptScan) → StartsStay old new → IsIndex old sorted kept → IsIndex new sorted kept
+  index_started old new sorted kept still index = record { found = found_still old new kept still index.found; order = index.order }
+
+  found_last : (starts : HashMap ℕ ℕ S) (kept : List KeptScan) (k : KeptScan) → AllByRecursion (IsFound starts) kept → IsFound starts k → AllByRecursion (IsFound starts) (kept ++ k ∷ [])
+  found_last starts [] k found last = (last, tt)
+  found_last starts (x ∷ kept) k found last = (found.0, found_last starts kept k found.1 last)
+
+  -- and a scan is added, where it is told whether its entry is the last one
+  pub index_more : (starts : HashMap ℕ ℕ S) (sorted next : Bool) (kept : List KeptScan) (made : KeptScan) → IsIndex starts sorted kept → is_build_scan made.scan ≡ true → starts_by starts (relation_of made.scan) made.at ≡ true
+      → next ≡ option_map_or (λ (k : KeptScan). nat_le k.at made.at) (slice_get kept (length kept - 1)) true → IsIndex starts (sorted && next) (kept ++ made ∷ [])
+  index_more starts sorted next kept made index builds has told = record {
+    found = found_last starts kept made index.found (record { builds = builds; started = has });
+    order = λ is. let parts = and_parts sorted next is in IsNonDecreasingBy-push (λ (k : KeptScan). k.at) kept made (index.order parts.0) (last_before kept made.at (sym told ∙ parts.1));
   }
 
-  -- the starts with one more, before the scan is kept
-  index_started : (old new : HashMap ℕ ℕ S) (gone start : ℕ) (kept : List KeptScan) → IsIndex old gone kept → MayStart old new start → start ≤ gone + length kept → start < 2 ^ 64 → IsIndex new gone kept
-  index_started old new gone start kept index has here small = record {
-    found = found_still old new gone kept has.stay index.found;
-    past = λ other from there. past other from (has.only other from there);
-    small = λ other from there. low other from (has.only other from there);
-  }
+  found_left : (old new : HashMap ℕ ℕ S) (kept : List KeptScan) (ms : List Message) → AreForgotten ms old new → AllByRecursion (IsFound old) kept → AllByRecursion (IsFound new) (kept_spared ms kept)
+  found_left old new [] ms forgotten found = tt
+  found_left old new (k ∷ kept) ms forgotten found = by (list_any (covers k.scan) ms) refl (found_left old new kept ms forgotten found.1)
     where
-      past : (other from : ℕ) → (get nat_eq old other ≡ Some from) ⊎ (from ≡ start) → from ≤ gone + length kept
-      past other from (inl was) = index.past other from was
-      past other from (inr new) = omega (arith, new, here)
+      by : (t : Bool) → list_any (covers k.scan) ms ≡ t → AllByRecursion (IsFound new) (kept_spared ms kept) → AllByRecursion (IsFound new) (cond (not t) (k ∷ kept_spared ms kept) (kept_spared ms kept))
+      by true gone rest = rest
+      by false spared rest = (
+        record {
+          builds = found.0.builds;
+          started = ap (λ (o : Option ℕ). option_map_or (λ start. nat_le start k.at) o false) (forgotten.others (relation_of k.scan) (sym (covered_own k.scan found.0.builds ms) ∙ spared)) ∙ found.0.started;
+        },
+        rest,
+      )
 
-      low : (other from : ℕ) → (get nat_eq old other ≡ Some from) ⊎ (from ≡ start) → from < 2 ^ 64
-      low other from (inl was) = index.small other from was
-      low other from (inr new) = omega (arith, new, small)
-
-  -- a start that is put at the next number
-  pub started : (old new : HashMap ℕ ℕ S) (gone count start : ℕ) (kept : List KeptScan) → IsIndex old gone kept → MayStart old new start → count ≡ length kept → start ≡ min (gone + count) (2 ^ 64 - 1) → IsIndex new gone kept
-  started old new gone count start kept index may all is = index_started old new gone start kept index may (omega (arith, all, is, min-le_left (gone + count) (2 ^ 64 - 1))) (omega (arith, is, min-le_right (gone + count) (2 ^ 64 - 1)))
-
-  -- and the scan
-  pub index_more : (starts : HashMap ℕ ℕ S) (gone : ℕ) (kept more : List KeptScan) (made : KeptScan) → IsIndex starts gone kept → is_build_scan made.scan ≡ true → is_some (get nat_eq starts (relation_of made.scan)) ≡ true → more ≡ kept ++ made ∷ [] → IsIndex starts gone more
-  index_more starts gone kept more made index builds has is = subst (IsIndex starts gone) (sym is) (by (get nat_eq starts (relation_of made.scan)) refl has)
-    where
-      by : (o : Option ℕ) → get nat_eq starts (relation_of made.scan) ≡ o → is_some o ≡ true → IsIndex starts gone (kept ++ made ∷ [])
-      by None there has = absurd (cc)
-      by (Some own) there has = record {
-        found = found_last starts gone kept made index.found (record { builds = builds; start = own; there = there; after = index.past (relation_of made.scan) own there });
-        past = λ rel start at. let below : start ≤ gone + length kept = index.past rel start at in omega (arith, below, length_push kept made);
-        small = index.small;
-      }
-
-  found_left : (old new : HashMap ℕ ℕ S) (before after : ℕ) (kept : List KeptScan) (ms : List Message) → ((rel start : ℕ) → get nat_eq old rel ≡ Some start → start < 2 ^ 64) → AreForgotten ms old new → AreFound old before kept
-      → Fits before after (length kept) (length (kept_spared ms kept)) → AreFound new after (kept_spared ms kept)
-  found_left old new before after [] ms small forgotten found fits = tt
-  found_left old new before after (k ∷ kept) ms small forgotten found fits =
-      by (list_any (covers k.scan) ms) refl fits (λ more. found_left old new (suc before) after kept ms small forgotten found.1 more) (λ more. found_left old new (suc before) (suc after) kept ms small forgotten found.1 more)
-    where
-      low : found.0.start < 2 ^ 64
-      low = small (relation_of k.scan) found.0.start found.0.there
-
-      fewer : length (kept_spared ms kept) ≤ length kept
-      fewer = omega (arith, length-filter (λ k. is_spared k.scan ms) kept, count_by-le-length (λ k. is_spared k.scan ms) kept)
-
-      not_past : Fits before after (suc (length kept)) (suc (length (kept_spared ms kept))) → found.0.start ≤ after
-      not_past (inl counted) = omega (arith, counted, fewer, found.0.after)
-      not_past (inr most) = omega (arith, most, low)
-
-      head : list_any (covers k.scan) ms ≡ false → Fits before after (suc (length kept)) (suc (length (kept_spared ms kept))) → IsFound new after k
-      head spared fits = record {
-        builds = found.0.builds;
-        start = found.0.start;
-        there = forgotten.others (relation_of k.scan) (sym (covered_own k.scan found.0.builds ms) ∙ spared) ∙ found.0.there;
-        after = not_past fits;
-      }
-
-      later : Fits before after (suc (length kept)) (suc (length (kept_spared ms kept))) → Fits (suc before) (suc after) (length kept) (length (kept_spared ms kept))
-      later (inl counted) = inl (omega (arith, counted))
-      later (inr most) = inr (omega (arith, most))
-
-      past : Fits before after (suc (length kept)) (length (kept_spared ms kept)) → Fits (suc before) after (length kept) (length (kept_spared ms kept))
-      past (inl counted) = inl (omega (arith, counted))
-      past (inr most) = inr most
-
-      by : (t : Bool) → list_any (covers k.scan) ms ≡ t → Fits before after (suc (length kept)) (length (cond (not t) (k ∷ kept_spared ms kept) (kept_spared ms kept)))
-          → (Fits (suc before) after (length kept) (length (kept_spared ms kept)) → AreFound new after (kept_spared ms kept))
-          → (Fits (suc before) (suc after) (length kept) (length (kept_spared ms kept)) → AreFound new (suc after) (kept_spared ms kept))
-          → AreFound new after (cond (not t) (k ∷ kept_spared ms kept) (kept_spared ms kept))
-      by true gone fits rest next = rest (past fits)
-      by false spared fits rest next = (head spared fits, next (later fits))
-
-  -- after messages: what went is counted with the rest
-  pub index_spared : (old new : HashMap ℕ ℕ S) (gone after : ℕ) (kept left : List KeptScan) (ms : List Message) → AreForgotten ms old new → IsIndex old gone kept → left ≡ kept_spared ms kept
-      → after ≡ min (gone + (length kept - length left)) (2 ^ 64 - 1) → IsIndex new after left
-  index_spared old new gone after kept left ms forgotten index is counted = subst (IsIndex new after) (sym is) (record {
-    found = found_left old new gone after kept ms index.small forgotten index.found fits;
-    past = λ rel start there. below start fits (index.past rel start (forgotten.fewer rel start there)) (index.small rel start (forgotten.fewer rel start there));
-    small = λ rel start there. index.small rel start (forgotten.fewer rel start there);
+  -- after messages
+  pub index_spared : (old new : HashMap ℕ ℕ S) (sorted : Bool) (kept left : List KeptScan) (ms : List Message) → AreForgotten ms old new → IsIndex old sorted kept → left ≡ kept_spared ms kept → IsIndex new sorted left
+  index_spared old new sorted kept left ms forgotten index is = subst (IsIndex new sorted) (sym is) (record {
+    found = found_left old new kept ms forgotten index.found;
+    order = λ told. IsNonDecreasingBy-filter (λ (k : KeptScan). k.at) (λ k. is_spared k.scan ms) kept (index.order told);
   })
-    where
-      fewer : length (kept_spared ms kept) ≤ length kept
-      fewer = omega (arith, length-filter (λ k. is_spared k.scan ms) kept, count_by-le-length (λ k. is_spared k.scan ms) kept)
-
-      by : (2 ^ 64 - 1 < gone + (length kept - length left)) ⊎ (gone + (length kept - length left) ≤ 2 ^ 64 - 1) → Fits gone after (length kept) (length (kept_spared ms kept))
-      by (inl most) = inr (omega (arith, counted, min-eq_right (le_of_lt most)))
-      by (inr all) = inl (omega (arith, counted, min-eq_left all, ap length is, fewer))
-
-      fits : Fits gone after (length kept) (length (kept_spared ms kept))
-      fits = by (cases_lt (2 ^ 64 - 1) (gone + (length kept - length left)))
-
-      below : (start : ℕ) → Fits gone after (length kept) (length (kept_spared ms kept)) → start ≤ gone + length kept → start < 2 ^ 64 → start ≤ after + length (kept_spared ms kept)
-      below start (inl more) past small = omega (arith, more, past)
-      below start (inr most) past small = omega (arith, most, small)
-
-  -- no start is taken out yet
-  pub forgotten_none : (old : HashMap ℕ ℕ S) → AreForgotten [] old old
-  forgotten_none old = record { others = λ rel none. refl; fewer = λ rel start there. there }
 
   -- one more message
   pub forgotten_more : (ms : List Message) (i : ℕ) (d : Message) (old mid new : HashMap ℕ ℕ S) → i < length ms → AreForgotten (take i ms) old mid → AreForgotten (get_or ms i d ∷ []) mid new → AreForgotten (take (i + 1) ms) old new
@@ -259,5 +255,4 @@ module _ {S : Type 0} where
     others = λ rel none.
         let parts = or_parts (list_any (is_about rel) (take i ms)) (is_about rel (get_or ms i d) || false) (sym (ap (list_any (is_about rel)) (take_more ms i d within) ∙ list_any-append (is_about rel) (take i ms) (get_or ms i d ∷ [])) ∙ none) in
         out.others rel parts.1 ∙ was.others rel parts.0;
-    fewer = λ rel start there. was.fewer rel start (out.fewer rel start there);
   }

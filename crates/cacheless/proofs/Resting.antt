@@ -7,7 +7,7 @@ use Rattle.std.proofs.lemmas.Option.{slice_get_cases, slice_get_within, get_or_f
 use Rattle.base_types.specs.Scans.{same_scan}
 use Rattle.base_types.specs.declared.scan.Purpose.TheVariants as scans
 use Rattle.base_types.proofs.SameScan.{same_scan-true}
-use Rattle.ddl_effect.specs.Plans.{Plan, Act, Done, Fails, Absent, Do, NotBuilt, Lookup, Open, Column, Read, Lock, Write}
+use Rattle.ddl_effect.specs.Plans.{Plan, Act, Done, Fails, Absent, Do, NotBuilt, Lookup, Open, Search, Read, Lock, Write}
 use Rattle.ddl_effect.specs.Stages.{plan_at}
 use Rattle.history_model.specs.Writes.{is_empty}
 use Rattle.cacheless.specs.Types.{Row, Purpose, Command, Scenario, Entry, Event}
@@ -19,7 +19,7 @@ use Rattle.cacheless.specs.Session.{Session, Badly, outcome_of, is_settled, firs
 use Rattle.cacheless.specs.Owed.{owed_at_start, owed_after, builds_owed, act_owed, owed_of}
 use Rattle.cacheless.specs.Ends.{End, Ends, Commits, TakesBack, end_left, end_of, next_of_end}
 use Rattle.cacheless.specs.Settled.{gives, looked_up, act_done, done_here, acted_on, is_finished, settled}
-use Rattle.cacheless.specs.State.{owed_at, owed_first, running_of, rows_kept, is_kept, builds_missing, act_missing, scans_missing, is_absent, end_at, Rest, session_at}
+use Rattle.cacheless.specs.State.{owed_at, owed_first, running_of, rows_kept, is_kept, builds_missing, act_missing, scans_missing, ends_on_scan, end_at, Rest, session_at}
 use Rattle.cacheless.specs.May.{lacks_any, owes_nothing}
 use Rattle.cacheless.specs.Silently.{gives_at, gives_next, acts_on, is_ends, is_finished_at}
 use Rattle.cacheless.specs.Holds.{ReadRight, NamedFit, FactsFit, Holds, Rests}
@@ -59,13 +59,13 @@ read_made false served scan none = absurd (cc)
 
 -- so what it gave is what the code holds
 pub named_made : (facts : Facts) (s : Progress) (p : Plan) → FactsFit facts s → plan_at s.exec ≡ p → s.read ≡ true → NamedFit facts p s.given.items s.named
-named_made facts s p fits at read = subst (λ q. NamedFit facts q s.given.items s.named) at (fits.given (ap (λ t. t || is_absent (plan_at s.exec)) read))
+named_made facts s p fits at read = subst (λ q. NamedFit facts q s.given.items s.named) at (fits.given (ap (λ t. t || ends_on_scan (plan_at s.exec)) read))
 
 -- an act that lacks no scan gives what the code works out
 pub gives_same : (facts : Facts) (s : Progress) (act : Act) (rest : List Row → Plan) → FactsFit facts s → plan_at s.exec ≡ Do act rest → act_missing s (Do act rest) ≡ [] → gives facts s.locks.items act ≡ gives_at s act
 gives_same facts s (Lookup name mode) rest fits at none = ap (looked_up s.locks.items mode) (named_made facts s (Do (Lookup name mode) rest) fits at (read_made s.read (s.named || is_locked s.locks.items mode s.given.items) (scans.RelName name) none)).0
 gives_same facts s (Open rel kind) rest fits at none = refl
-gives_same facts s (Column rel name) rest fits at none = ap Some (named_made facts s (Do (Column rel name) rest) fits at (read_made s.read s.named (scans.AttName rel name) none)).0
+gives_same facts s (Search scan) rest fits at none = ap Some (named_made facts s (Do (Search scan) rest) fits at (read_made s.read s.named scan none)).0
 gives_same facts s (Read scan) rest fits at none = ap Some (kept_rows facts.rows s.kept scan fits.kept (cond_none (is_kept s.kept scan) scan none))
 gives_same facts s (Lock rel mode) rest fits at none = refl
 gives_same facts s (Write draft) rest fits at none = refl
@@ -125,7 +125,7 @@ none_of (Some x) is = absurd (cc)
 
 -- where the next act gives nothing yet, none is done
 stays_act : (facts : Facts) (command : Command) (s : Progress) (r : Rest) → FactsFit facts s → acts_on command s ≡ false → (p : Plan) → plan_at s.exec ≡ p → is_empty (owed_first s command) && is_empty (owed_at s.due) ≡ true → acted_on facts p (session_at s r) ≡ session_at s r
-stays_act facts command s r fits stays Done at free = refl
+stays_act facts command s r fits stays (Done told) at free = refl
 stays_act facts command s r fits stays (Fails error) at free = refl
 stays_act facts command s r fits stays (Absent name) at free = refl
 stays_act facts command s r fits stays NotBuilt at free = refl

@@ -3,12 +3,13 @@ use Rattle.std.proofs.Common.{◌≡◌, ◌+◌, ◌*◌, ◌∙◌, ◌==◌, 
 use Rattle.std.specs.Option.{option_map_or}
 use Rattle.std.specs.List.{find, list_any, flat_map, AllByRecursion}
 use Rattle.std.proofs.Common.{take}
-use Rattle.std.proofs.Math.Bool.{or-false}
+use Rattle.std.proofs.Math.Bool.{or-false, or-true}
 use Rattle.std.proofs.lemmas.List.Folds.{list_any-append}
 use Rattle.base_types.specs.Scans.{same_scan, build_scans, is_build_scan}
 use Rattle.base_types.specs.declared.kind.Kind.TheVariants.{Table, Index}
 use Rattle.base_types.specs.declared.scan.Purpose.TheVariants as scans
-use Rattle.ddl_effect.specs.Plans.{Plan, Do, Lookup, Open, Column, Read, Lock, Write}
+use Rattle.ddl_effect.specs.declared.told.Told.TheVariants as tells
+use Rattle.ddl_effect.specs.Plans.{Plan, Done, Do, Lookup, Open, Search, Read, Lock, Write}
 use Rattle.ddl_effect.specs.Stages.{plan_at}
 use Rattle.history_model.specs.Writes.{is_empty}
 use Rattle.cacheless.specs.Facts.{Facts}
@@ -20,7 +21,7 @@ use Rattle.cacheless.specs.Types.{Kind, Oid, Command, Purpose, Opening}
 use Rattle.cacheless.specs.declared.kept_scan.KeptScan.{KeptScan}
 use Rattle.txn_blocks.specs.declared.transaction.RunningTransaction.{RunningTransaction}
 use Rattle.cacheless.specs.declared.progress.Progress.{Progress}
-use Rattle.cacheless.specs.State.{owed_at, one_if, running_of, is_kept, missing, builds_missing, act_missing, scans_missing, is_absent, lacks_builds, is_full, is_in_accept, begins_in, owed_first, Rest, session_at}
+use Rattle.cacheless.specs.State.{ends_on_scan, owed_at, one_if, running_of, is_kept, missing, builds_missing, act_missing, scans_missing, lacks_builds, is_full, is_in_accept, begins_in, owed_first, Rest, session_at}
 use Rattle.cacheless.specs.May.{may_look_at, has_looked_at, is_first_missing, is_next_of_act, is_next_at, has_failed, lacks_opened, lacks_to_build, lacks_any, owes_nothing}
 use Rattle.cacheless.specs.Holds.{NamedFit, FactsFit}
 use Rattle.cacheless.proofs.ReadsBuilds.{ReadsBuilds, stage_reads}
@@ -47,24 +48,29 @@ builds-missing facts kept usable (o ∷ opened) = ap (λ l. l ++ builds_owed fac
 pub builds_same : (facts : Facts) (s : Progress) → FactsFit facts s → builds_owed facts s.opened ≡ builds_missing s.kept s.opened
 builds_same facts s fits = builds-missing facts s.kept fits.usable s.opened
 
--- whether the scan of a name or a column is to be made
+-- whether the scan of a catalog cache is to be made
 by_name : (read served serves : Bool) (scan : Purpose) → (read ≡ true → served ≡ serves) → (if read && served then [] else scan ∷ []) ≡ (if read && serves then [] else scan ∷ [])
 by_name true served serves scan same = ap (λ t. if t then [] else scan ∷ []) (same refl)
 by_name false served serves scan same = refl
 
--- the scans that the next act lacks
-act-missing : (facts : Facts) (s : Progress) (p : Plan) → FactsFit facts s → ReadsBuilds p → (s.read ≡ true → NamedFit facts p s.given.items s.named) → act_owed facts s.locks.items s.read p ≡ act_missing s p
+turned : (serves : Bool) (scan : Purpose) → cond (not serves) (scan ∷ []) [] ≡ (if serves then [] else scan ∷ [])
+turned true scan = refl
+turned false scan = refl
+
+-- the scans that the next act or the answer lacks
+act-missing : (facts : Facts) (s : Progress) (p : Plan) → FactsFit facts s → ReadsBuilds p → ((s.read || ends_on_scan p) ≡ true → NamedFit facts p s.given.items s.named) → act_owed facts s.locks.items s.read p ≡ act_missing s p
 act-missing facts s (Do (Lookup name mode) rest) fits reads named = by_name s.read (facts.usable (scans.RelName name) || is_locked s.locks.items mode (facts.rows (scans.RelName name))) (s.named || is_locked s.locks.items mode s.given.items) (scans.RelName name)
-    (λ read. ap (λ t. t || is_locked s.locks.items mode (facts.rows (scans.RelName name))) (named read).1 ∙ ap (λ l. s.named || is_locked s.locks.items mode l) (named read).0)
+    (λ read. let fit = named (ap (λ t. t || false) read) in ap (λ t. t || is_locked s.locks.items mode (facts.rows (scans.RelName name))) fit.1 ∙ ap (λ l. s.named || is_locked s.locks.items mode l) fit.0)
 act-missing facts s (Do (Open rel kind) rest) fits reads named = unusable-missing facts s.kept fits.usable kind rel
-act-missing facts s (Do (Column rel name) rest) fits reads named = by_name s.read (facts.usable (scans.AttName rel name)) s.named (scans.AttName rel name) (λ read. (named read).1)
+act-missing facts s (Do (Search scan) rest) fits reads named = by_name s.read (facts.usable scan) s.named scan (λ read. (named (ap (λ t. t || false) read)).1)
 act-missing facts s (Do (Read scan) rest) fits reads named = ap (λ t. cond (not t) (scan ∷ []) []) (fits.usable scan reads)
 act-missing facts s (Do (Lock rel mode) rest) fits reads named = refl
 act-missing facts s (Do (Write draft) rest) fits reads named = refl
+act-missing facts s (Done (tells.Regclass oid)) fits reads named = ap (λ t. cond (not t) (scans.RelOid oid ∷ []) []) (named (or-true s.read)).1 ∙ turned s.named (scans.RelOid oid)
 act-missing facts s p fits reads named = refl
 
 pub act_same : (facts : Facts) (s : Progress) → FactsFit facts s → act_owed facts s.locks.items s.read (plan_at s.exec) ≡ act_missing s (plan_at s.exec)
-act_same facts s fits = act-missing facts s (plan_at s.exec) fits (stage_reads s.exec) (λ read. fits.given (ap (λ t. t || is_absent (plan_at s.exec)) read))
+act_same facts s fits = act-missing facts s (plan_at s.exec) fits (stage_reads s.exec) fits.given
 
 pub scans_same : (facts : Facts) (s : Progress) (rest : Rest) → FactsFit facts s → scans_owed facts (session_at s rest) ≡ scans_missing s
 scans_same facts s rest fits = ap (λ l. elim (outcome_of (plan_at s.exec)) as (λ x. List Purpose) [ Badly ↦ [] | other ↦ l ])
@@ -119,11 +125,12 @@ one_taken scan x false = or-false (same_scan scan x)
 
 act_first : (facts : Facts) (s : Progress) (scan : Purpose) (p : Plan) → FactsFit facts s → act_owed facts s.locks.items s.read p ≡ act_missing s p → list_any (same_scan scan) (act_next facts s.locks.items s.read p) ≡ is_next_of_act scan s p
 act_first facts s scan (Do (Lookup name mode) rest) fits same = ap (λ l. list_any (same_scan scan) (take 1 l)) same ∙ one_taken scan (scans.RelName name) (s.read && (s.named || is_locked s.locks.items mode s.given.items))
-act_first facts s scan (Do (Column rel name) rest) fits same = ap (λ l. list_any (same_scan scan) (take 1 l)) same ∙ one_taken scan (scans.AttName rel name) (s.read && s.named)
+act_first facts s scan (Do (Search wanted) rest) fits same = ap (λ l. list_any (same_scan scan) (take 1 l)) same ∙ one_taken scan wanted (s.read && s.named)
 act_first facts s scan (Do (Open rel kind) rest) fits same = first_same facts s.kept scan fits.usable kind rel
 act_first facts s scan (Do (Read d) rest) fits same = refl
 act_first facts s scan (Do (Lock rel mode) rest) fits same = refl
 act_first facts s scan (Do (Write draft) rest) fits same = refl
+act_first facts s scan (Done (tells.Regclass oid)) fits same = ap (λ l. list_any (same_scan scan) (take 1 l)) same ∙ one_taken scan (scans.RelOid oid) s.named
 act_first facts s scan p fits same = refl
 
 -- the scan may be made now
@@ -273,7 +280,7 @@ no_build false scan other = ap (λ t. t || false) other
 
 act_any : (s : Progress) (p : Plan) → ReadsBuilds p → list_any is_build_scan (act_missing s p) ≡ lacks_to_build s p
 act_any s (Do (Lookup name mode) rest) reads = no_build (s.read && (s.named || is_locked s.locks.items mode s.given.items)) (scans.RelName name) refl
-act_any s (Do (Column rel name) rest) reads = no_build (s.read && s.named) (scans.AttName rel name) refl
+act_any s (Do (Search scan) rest) reads = no_build (s.read && s.named) scan reads
 act_any s (Do (Open rel kind) rest) reads = any_found (λ scan. not (is_kept s.kept scan)) (build_scans kind rel) (builds_of kind rel)
 act_any s (Do (Read scan) rest) reads = by_test (is_kept s.kept scan)
   where
@@ -282,6 +289,7 @@ act_any s (Do (Read scan) rest) reads = by_test (is_kept s.kept scan)
     by_test false = ap (λ t. t || false) reads
 act_any s (Do (Lock rel mode) rest) reads = refl
 act_any s (Do (Write draft) rest) reads = refl
+act_any s (Done (tells.Regclass oid)) reads = no_build s.named (scans.RelOid oid) refl
 act_any s p reads = refl
 
 -- the test whether a scan for a descriptor is missing

@@ -41,7 +41,7 @@ pub settled-waits : (facts : Facts) (command : Command) (rest : List Command) (s
 settled-waits facts command rest s stays finished = ap (λ now. elim (is_finished facts command now) [ true ↦ settled facts rest (next_session command (first_of rest) now) | false ↦ now ]) stays ∙ simp finished
 
 acted_on-out : (facts : Facts) (p : Plan) (s : Session) → is_settled (outcome_of p) ≡ true → acted_on facts p s ≡ s
-acted_on-out facts Done s out = refl
+acted_on-out facts (Done told) s out = refl
 acted_on-out facts (Fails error) s out = refl
 acted_on-out facts (Absent name) s out = refl
 acted_on-out facts NotBuilt s out = refl
@@ -94,7 +94,7 @@ is_empty-map f [] = refl
 is_empty-map f (x ∷ xs) = refl
 
 acted_on-owed : (facts : Facts) (p : Plan) (s : Session) → is_empty (elim (outcome_of p) [ Badly ↦ [] | other ↦ builds_owed facts s.opened ++ act_owed facts s.locks s.read p ]) ≡ false → acted_on facts p s ≡ s
-acted_on-owed facts Done s owed = refl
+acted_on-owed facts (Done told) s owed = refl
 acted_on-owed facts (Fails error) s owed = refl
 acted_on-owed facts (Absent name) s owed = refl
 acted_on-owed facts NotBuilt s owed = refl

@@ -1,4 +1,4 @@
--- What is left of a plan after acts, by the rows that they gave; what these acts made; and that what they gave is so still.
+-- What is left of a plan after acts, by the rows that they gave; what these acts made; and that the plan makes of what they gave what it makes of the rows of now.
 use Rattle.std.specs.Prelude.{◌≡◌, ⊤, ℕ, true, Option, List, [], ◌∷◌, ◌++◌}
 use Rattle.std.specs.List.{AllByRecursion}
 use Rattle.base_types.specs.declared.row.Row.TheVariants as rows
@@ -6,7 +6,8 @@ use Rattle.base_types.specs.declared.scan.Purpose.TheVariants as scans
 use Rattle.lock_modes.specs.Grants.{holds}
 use Rattle.history_model.specs.Held.{held_of}
 use Rattle.history_model.specs.Versions.{answer_of}
-use Rattle.ddl_effect.specs.Plans.{Act, Lookup, Column, Read, Write, Plan, Do, after_act}
+use Rattle.ddl_effect.specs.Effects.{effect_at}
+use Rattle.ddl_effect.specs.Plans.{Act, Lookup, Search, Read, Write, Plan, Do, after_act}
 use Rattle.cacheless.specs.Types.{Oid, Mode, Kind, Row, Purpose, Opening, Entry}
 use Rattle.cacheless.specs.Settled.{opened_by}
 
@@ -57,16 +58,20 @@ pub record BeginWith (rel : Oid) (kind : Kind) (given : List Row) : Type 0 where
   pub more : List Row
   pub are : given ≡ rows.Class rel name kind fill ∷ more
 
--- what an act gave is so still: of a lookup the relation and its kind, of a column and of a scan for a descriptor the rows
-abbrev pub IsStill : (Purpose → List Row) → Act → List Row → Type 0
-IsStill now (Lookup name mode) (rows.Class rel own kind fill ∷ more) = BeginWith rel kind (now (scans.Class rel))
-IsStill now (Column rel name) given = now (scans.AttName rel name) ≡ given
-IsStill now (Read scan) given = now scan ≡ given
-IsStill now act given = ⊤
+-- two plans come to the same, whatever the rows
+abbrev pub ComeAlike : Plan → Plan → Type 0
+ComeAlike plan other = (now : Purpose → List Row) (found : List (Option Oid)) → effect_at now found plan ≡ effect_at now found other
+
+-- what an act gave is so still: of a lookup the relation and its kind, and of a scan what the rest of the plan makes of its rows
+abbrev pub IsStill : (Purpose → List Row) → Act → (List Row → Plan) → List Row → Type 0
+IsStill now (Lookup name mode) rest (rows.Class rel own kind fill ∷ more) = BeginWith rel kind (now (scans.Class rel))
+IsStill now (Search scan) rest given = ComeAlike (rest given) (rest (now scan))
+IsStill now (Read scan) rest given = ComeAlike (rest given) (rest (now scan))
+IsStill now act rest given = ⊤
 
 -- the same of the first act of a plan, if there is one
 abbrev pub IsFirstStill : (Purpose → List Row) → Plan → List Row → Type 0
-IsFirstStill now (Do act rest) given = IsStill now act given
+IsFirstStill now (Do act rest) given = IsStill now act rest given
 IsFirstStill now plan given = ⊤
 
 -- and of each act on the way

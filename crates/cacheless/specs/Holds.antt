@@ -1,11 +1,12 @@
 -- What the code holds is the session of its backend in a history.
 use Rattle.std.specs.Prelude.{◌≡◌, ◌≤◌, ◌+◌, ◌++◌, ◌∷◌, ◌||◌, [], ℕ, Bool, true, List, length, drop, All, Some, slice_get, ⊤}
 use Rattle.std.specs.List.{AllByRecursion}
+use Rattle.std.specs.Option.{IfSome}
 use Rattle.base_types.specs.Scans.{is_build_scan}
 use Rattle.base_types.specs.Scenario.{IsBackend}
 use Rattle.base_types.specs.declared.scan.Purpose.TheVariants as scans
 use Rattle.event_kinds.specs.declared.entry.Event.TheVariants as events
-use Rattle.ddl_effect.specs.Plans.{Plan, Act, Absent, Do, Lookup, Column}
+use Rattle.ddl_effect.specs.Plans.{Plan, Act, Done, Absent, Do, Lookup, Search, told_rests_on}
 use Rattle.txn_blocks.specs.Blocks.{no_block}
 use Rattle.ddl_effect.specs.Commands.{commands_of}
 use Rattle.ddl_effect.specs.Stages.{plan_at, plan_again}
@@ -20,7 +21,7 @@ use Rattle.cacheless.specs.Owed.{owed_at_start, owed_after}
 use Rattle.cacheless.specs.Settled.{done_here, act_done, is_finished, next_session, settled}
 use Rattle.cacheless.specs.Sessions.{entered, session_of}
 use Rattle.cacheless.specs.Puts.{PutsOpened}
-use Rattle.cacheless.specs.State.{owed_at, running_of, lists_at, is_kept, is_absent, IsNew, Rest, session_at}
+use Rattle.cacheless.specs.State.{owed_at, running_of, lists_at, is_kept, is_absent, ends_on_scan, IsNew, Rest, session_at}
 use Rattle.cacheless.specs.Silently.{IsAtRest}
 
 -- what is kept of a scan is what the last such scan gave
@@ -28,10 +29,11 @@ pub record ReadRight (rows : Purpose → List Row) (k : KeptScan) : Type 0 where
   pub build : is_build_scan k.scan ≡ true
   pub rows_are : k.rows ≡ rows k.scan
 
--- what the scan of a name or a column gave is what the code holds of it, and it knows whether that serves still
+-- what the scan of a catalog cache gave is what the code holds of it, and it knows whether that serves still
 abbrev pub NamedFit : Facts → Plan → List Row → Bool → Type 0
 NamedFit facts (Do (Lookup name mode) rest) given named = (facts.rows (scans.RelName name) ≡ given) × (facts.usable (scans.RelName name) ≡ named)
-NamedFit facts (Do (Column rel name) rest) given named = (facts.rows (scans.AttName rel name) ≡ given) × (facts.usable (scans.AttName rel name) ≡ named)
+NamedFit facts (Do (Search scan) rest) given named = (facts.rows scan ≡ given) × (facts.usable scan ≡ named)
+NamedFit facts (Done told) given named = IfSome (told_rests_on told) (λ scan. (facts.rows scan ≡ given) × (facts.usable scan ≡ named))
 NamedFit facts (Absent name) given named = (facts.rows (scans.RelName name) ≡ given) × (facts.usable (scans.RelName name) ≡ named)
 NamedFit facts plan given named = ⊤
 
@@ -42,7 +44,7 @@ pub record FactsFit (facts : Facts) (s : Progress) : Type 0 where
   pub owed : owed_after facts.last ≡ owed_at s.due
   pub usable : (scan : Purpose) → is_build_scan scan ≡ true → facts.usable scan ≡ is_kept s.kept scan
   pub kept : All (ReadRight facts.rows) s.kept
-  pub given : (s.read || is_absent (plan_at s.exec)) ≡ true → NamedFit facts (plan_at s.exec) s.given.items s.named
+  pub given : (s.read || ends_on_scan (plan_at s.exec)) ≡ true → NamedFit facts (plan_at s.exec) s.given.items s.named
 
 -- the running command has made so many entries at most
 pub record CountsFit (c : Counts) (entries : ℕ) : Type 0 where

@@ -26,5 +26,7 @@ pub mod KeptByRelation
 pub mod SameItems
 pub mod May
 pub mod Endings
+pub mod Answering
 pub mod Silently
 pub mod Holds
+pub mod Telling

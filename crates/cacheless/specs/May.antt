@@ -10,7 +10,7 @@ use Rattle.base_types.specs.declared.scan.Purpose.TheVariants as scans
 use Rattle.event_kinds.specs.declared.entry.Event.TheVariants as events
 use Rattle.base_types.specs.declared.change.Change.{Change}
 use Rattle.base_types.specs.declared.change.Change.TheVariants as changes
-use Rattle.ddl_effect.specs.Plans.{Plan, Do, Lookup, Open, Column, Read, Lock, Write}
+use Rattle.ddl_effect.specs.Plans.{Plan, Done, Do, Lookup, Open, Search, Read, Lock, Write, told_rests_on}
 use Rattle.ddl_effect.specs.Stages.{plan_at}
 use Rattle.history_model.specs.Names.{has_name}
 use Rattle.history_model.specs.Writes.{is_empty}
@@ -45,10 +45,11 @@ has_looked_at s = nat_lt (s.tally.scans + s.tally.grants + started_at s + s.tall
 abbrev pub is_first_missing : Purpose → List KeptScan → Kind → Oid → Bool
 is_first_missing scan kept kind rel = option_map_or (same_scan scan) (find (λ d. not (is_kept kept d)) (build_scans kind rel)) false
 
--- the scan is the first that the next act lacks
+-- the scan is the first that the next act or the answer lacks
 abbrev pub is_next_of_act : Purpose → Progress → Plan → Bool
 is_next_of_act scan s (Do (Lookup name mode) rest) = not (s.read && (s.named || is_locked s.locks.items mode s.given.items)) && same_scan scan (scans.RelName name)
-is_next_of_act scan s (Do (Column rel name) rest) = not (s.read && s.named) && same_scan scan (scans.AttName rel name)
+is_next_of_act scan s (Do (Search wanted) rest) = not (s.read && s.named) && same_scan scan wanted
+is_next_of_act scan s (Done told) = option_map_or (λ wanted. not s.named && same_scan scan wanted) (told_rests_on told) false
 is_next_of_act scan s (Do (Open rel kind) rest) = is_first_missing scan s.kept kind rel
 is_next_of_act scan s plan = false
 

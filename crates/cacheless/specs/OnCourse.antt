@@ -5,17 +5,18 @@ use Rattle.base_types.specs.declared.row.Row.TheVariants as rows
 use Rattle.base_types.specs.declared.scan.Purpose.TheVariants as scans
 use Rattle.event_kinds.specs.declared.entry.Event.TheVariants as events
 use Rattle.lock_modes.specs.Own.{cleared}
+use Rattle.ddl_effect.specs.declared.told.Told.TheVariants as tells
 use Rattle.ddl_effect.specs.Plans.{Act, Lookup, Write, Plan, Done, Fails, Absent, Do, NotBuilt}
 use Rattle.ddl_effect.specs.Commands.{plan_of, commands_of}
 use Rattle.history_model.specs.Lives.{last_event_of}
 use Rattle.history_model.specs.Read.{rows_read}
 use Rattle.history_model.specs.Versions.{answer_of}
 use Rattle.history_model.specs.Writes.{has_written}
-use Rattle.cacheless.specs.Types.{Oid, Mode, Kind, Row, Command, CommandError, Draft, Scenario, Entry, Event}
+use Rattle.cacheless.specs.Types.{Oid, Mode, Kind, Row, Command, CommandError, Draft, Told, Scenario, Entry, Event}
 use Rattle.cacheless.specs.Facts.{Facts, facts_of}
 use Rattle.cacheless.specs.Owed.{owes_accept}
 use Rattle.cacheless.specs.Runs.{runs}
-use Rattle.cacheless.specs.Session.{Session, none_open, number_of, outcome_of, is_settled}
+use Rattle.cacheless.specs.Session.{Session, Well, none_open, number_of, outcome_of, is_settled}
 use Rattle.cacheless.specs.Settled.{class_oid, found_by, is_finished}
 use Rattle.cacheless.specs.Sessions.{session_of}
 use Rattle.cacheless.specs.ActsDone.{reached, made_in, opening_by, locked_relation_by, IsHeld, IsStill, WayHolds}
@@ -41,7 +42,7 @@ pub record HasWritten (seen : List Entry) (b : ℕ) (s : Session) (command : Com
   pub draft : Draft
   pub further : List Row → Plan
   pub came : reached gave (plan_of none_open command) ≡ Do (Write draft) further
-  pub plan : s.left ≡ Done
+  pub plan : s.left ≡ Done tells.Ok
   pub written : has_written seen b (number_of s) ≡ true
 
 -- a command that isn't built, and so never ends
@@ -65,10 +66,10 @@ pub data Way (seen : List Entry) (b : ℕ) (s : Session) (command : Command) : T
   Unbuilt : (unbuilt : IsNotBuilt s) → Way seen b s command
   Over : (over : IsOver seen b s) → Way seen b s command
 
--- what an act gave is so, and the relation that it found is locked
-pub record GaveNow (seen : List Entry) (b : ℕ) (act : Act) (gave : List Row) : Type 0 where
+-- what an act gave is so, as far as the rest of its plan goes, and the relation that it found is locked
+pub record GaveNow (seen : List Entry) (b : ℕ) (act : Act) (rest : List Row → Plan) (gave : List Row) : Type 0 where
   pub locked : AllByRecursion (IsHeld seen b) (locked_relation_by act gave)
-  pub still : IsStill (answer_of seen b) act gave
+  pub still : IsStill (answer_of seen b) act rest gave
 
 -- a lookup by its oid shows the backend one relation, of this kind
 pub record SeesRelation (seen : List Entry) (b : ℕ) (rel : Oid) (kind : Kind) : Type 0 where
@@ -98,13 +99,18 @@ pub record WasSought (seen : List Entry) (b : ℕ) (s : Session) (command : Comm
   pub opened : s.opened ≡ []
   pub unwritten : has_written seen b (number_of s) ≡ false
 
+-- a command that does no act has opened nothing, and if it hasn't failed its answer is left
+pub record DoesNoAct (s : Session) (told : Told) : Type 0 where
+  pub opened : s.opened ≡ []
+  pub left : outcome_of s.left ≡ Well → s.left ≡ Done told
+
 -- the running command does what its plan says
 pub record FollowsPlan (seen : List Entry) (b : ℕ) (s : Session) (command : Command) : Type 0 where
   pub refused : (error : CommandError) → s.refused ≡ Some error → s.left ≡ Fails error
   pub way : s.refused ≡ None → Way seen b s command
   pub named : NamedFits seen b s.left s.read
   pub sought : (name : List ℕ) → s.left ≡ Absent name → WasSought seen b s command name
-  pub plain : plan_of none_open command ≡ Done → s.opened ≡ []
+  pub plain : (told : Told) → plan_of none_open command ≡ Done told → DoesNoAct s told
 
 -- a session is on its course: the running command, if there is one, does what its plan says and hasn't made its release, and no later one has written
 pub record IsOnCourse (scenario : Scenario) (seen : List Entry) (b : ℕ) (s : Session) : Type 0 where

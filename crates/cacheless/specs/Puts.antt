@@ -3,11 +3,10 @@ use Rattle.std.specs.Prelude.{◌≡◌, ⊤, ℕ, Bool, true, List, [], ◌∷�
 use Rattle.std.specs.List.{AllByRecursion, list_any}
 use Rattle.base_types.specs.Scans.{same_oid, selects}
 use Rattle.base_types.specs.declared.row.Row.TheVariants as rows
-use Rattle.base_types.specs.declared.scan.Purpose.TheVariants as scans
 use Rattle.base_types.specs.declared.change.Change.{Change}
 use Rattle.base_types.specs.declared.change.Change.TheVariants.{Replace}
 use Rattle.ddl_effect.specs.Drawing.{drawn_oid}
-use Rattle.ddl_effect.specs.Plans.{Open, Column, Read, Write, Plan, Do}
+use Rattle.ddl_effect.specs.Plans.{Open, Search, Read, Write, Plan, Do}
 use Rattle.cacheless.specs.Types.{Oid, Row, Purpose, Opening}
 
 -- the descriptor of the relation is opened
@@ -26,7 +25,7 @@ AreGivenBy scan given = AllByRecursion (λ row. selects scan row ≡ true) given
 -- the writes of a plan put no other relation's row, whichever rows its scans give
 abbrev pub PutsOpened : List Opening → Plan → Type 0
 PutsOpened opened (Do (Open rel kind) rest) = (given : List Row) → PutsOpened (opened ++ record { rel = rel; kind = kind } ∷ []) (rest given)
-PutsOpened opened (Do (Column rel name) rest) = (given : List Row) → AreGivenBy (scans.AttName rel name) given → PutsOpened opened (rest given)
+PutsOpened opened (Do (Search scan) rest) = (given : List Row) → AreGivenBy scan given → PutsOpened opened (rest given)
 PutsOpened opened (Do (Read scan) rest) = (given : List Row) → AreGivenBy scan given → PutsOpened opened (rest given)
 PutsOpened opened (Do (Write draft) rest) = AllByRecursion (PutOpened opened draft.new_oids) draft.changes × ((given : List Row) → PutsOpened [] (rest given))
 PutsOpened opened (Do act rest) = (given : List Row) → PutsOpened opened (rest given)

@@ -1,5 +1,6 @@
 -- The session of a backend: how far it is in its commands.
 use Rattle.std.specs.Prelude.{ℕ, Bool, true, false, Option, Some, None, List, [], ◌∷◌, ◌+◌, length, is_some}
+use Rattle.ddl_effect.specs.declared.told.Told.TheVariants as tells
 use Rattle.ddl_effect.specs.Plans.{Plan, Done, Fails, Absent, Do, NotBuilt}
 use Rattle.ddl_effect.specs.Commands.{plan_of}
 use Rattle.txn_blocks.specs.Blocks.{Block, Blocks, refused_by}
@@ -27,7 +28,7 @@ pub record Tally : Type 0 where
 --   refused    the error that the blocks or an entry showed
 --   blocked    that error is the blocks'
 --   opened     the descriptors that the command has opened, until its write
---   read       the scan of a name or a column on which the next act rests is made
+--   read       the scan of a catalog cache on which the next act rests is made
 --   found      the relations with which its lookups ended
 --   sought     what was left of it before its last lookup
 --   ended      its release is made
@@ -76,7 +77,7 @@ plan_admitted None command = plan_of none_open command
 
 -- the plan of a command, if there is one
 abbrev pub plan_first : Blocks → Option Command → Plan
-plan_first blocks None = Done
+plan_first blocks None = Done tells.Ok
 plan_first blocks (Some command) = plan_admitted (refused_by blocks command) command
 
 -- at the beginning of a command, or after the last one
@@ -90,7 +91,7 @@ at_command blocks finished locks last command = record {
   opened = [];
   read = false;
   found = [];
-  sought = Done;
+  sought = Done tells.Ok;
   ended = false;
   tally = record { looks = 0; scans = 0; grants = 0; fetches = 0; full = 0 };
   locks = locks;
@@ -106,7 +107,7 @@ pub data Outcome : Type 0 where
 
 -- how the plan that is left comes out
 abbrev pub outcome_of : Plan → Outcome
-outcome_of Done = Well
+outcome_of (Done told) = Well
 outcome_of (Fails error) = Badly
 outcome_of (Absent name) = Badly
 outcome_of (Do act rest) = Unsettled

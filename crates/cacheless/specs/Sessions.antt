@@ -1,12 +1,12 @@
 -- The session of a backend: a fold over its entries.
 use Rattle.std.specs.Prelude.{ℕ, Bool, true, false, not, Option, Some, None, List, [], ◌∷◌, ◌++◌, ◌+◌, ◌-◌, ◌==◌, ◌&&◌, ◌||◌, if◌then◌else◌, map, length, take, drop}
-use Rattle.std.specs.Option.{option_map}
+use Rattle.std.specs.Option.{option_map, option_map_or}
 use Rattle.base_types.specs.Scans.{same_scan}
 use Rattle.base_types.specs.declared.scan.Purpose.TheVariants as scans
 use Rattle.event_kinds.specs.declared.entry.Event.TheVariants as events
 use Rattle.command_answers.specs.declared.error.CommandError.TheVariants as errors
 use Rattle.lock_modes.specs.Own.{cleared}
-use Rattle.ddl_effect.specs.Plans.{Lookup, Column, Write, Plan, Fails, Absent, Do}
+use Rattle.ddl_effect.specs.Plans.{Lookup, Search, Write, Plan, Done, Fails, Absent, Do, told_rests_on}
 use Rattle.ddl_effect.specs.Commands.{commands_of}
 use Rattle.txn_blocks.specs.Blocks.{no_block}
 use Rattle.history_model.specs.Prefixes.{along_own}
@@ -21,10 +21,11 @@ use Rattle.cacheless.specs.Settled.{settled}
 abbrev pub refused_with : CommandError → Session → Session
 refused_with error s = record s { left = Fails error; refused = Some error }
 
--- the next act looks a name or a column up by this scan
+-- the next act searches a catalog cache by this scan, or the answer rests on it
 abbrev pub is_wanted : Purpose → Plan → Bool
 is_wanted scan (Do (Lookup name mode) rest) = same_scan scan (scans.RelName name)
-is_wanted scan (Do (Column rel name) rest) = same_scan scan (scans.AttName rel name)
+is_wanted scan (Do (Search wanted) rest) = same_scan scan wanted
+is_wanted scan (Done told) = option_map_or (same_scan scan) (told_rests_on told) false
 is_wanted scan plan = false
 
 -- the write of the command is made, and its descriptors are closed

@@ -3,7 +3,7 @@ use Rattle.std.specs.Prelude.{Bool, true, false, Option, Some, None, List, [], �
 use Rattle.base_types.specs.declared.row.Row.TheVariants as rows
 use Rattle.base_types.specs.declared.scan.Purpose.TheVariants as scans
 use Rattle.lock_modes.specs.Own.{has_lock}
-use Rattle.ddl_effect.specs.Plans.{Act, Lookup, Open, Column, Read, Lock, Write, Plan, Do}
+use Rattle.ddl_effect.specs.Plans.{Act, Lookup, Open, Search, Read, Lock, Write, Plan, Do}
 use Rattle.txn_blocks.specs.Blocks.{Blocks, blocks_well, blocks_badly}
 use Rattle.history_model.specs.Writes.{is_empty}
 use Rattle.cacheless.specs.Types.{Oid, Mode, Row, Command, Opening, OwnLock}
@@ -31,7 +31,7 @@ looked_up locks mode given = Some given
 abbrev pub gives : Facts → List OwnLock → Act → Option (List Row)
 gives facts locks (Lookup name mode) = looked_up locks mode (facts.rows (scans.RelName name))
 gives facts locks (Open rel kind) = Some []
-gives facts locks (Column rel name) = Some (facts.rows (scans.AttName rel name))
+gives facts locks (Search scan) = Some (facts.rows scan)
 gives facts locks (Read scan) = Some (facts.rows scan)
 gives facts locks (Lock rel mode) = if_locked (has_lock locks rel mode) []
 gives facts locks (Write draft) = None

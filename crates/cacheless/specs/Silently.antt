@@ -1,11 +1,12 @@
 -- What a backend does without an entry, by what the code holds.
 use Rattle.std.specs.Prelude.{◌≡◌, ℕ, Bool, true, false, Option, Some, None, List, [], ◌∷◌, ◌&&◌, ◌||◌, ◌+◌, ◌-◌, ◌*◌, is_some, slice_get, length}
+use Rattle.std.specs.Option.{option_map, option_map_or}
 use Rattle.lock_modes.specs.Own.{has_lock}
-use Rattle.ddl_effect.specs.Plans.{Plan, Act, Do, Lookup, Open, Column, Read, Lock, Write}
+use Rattle.ddl_effect.specs.Plans.{Plan, Act, Do, Lookup, Open, Search, Read, Lock, Write}
 use Rattle.ddl_effect.specs.Stages.{plan_at, acts_left}
 use Rattle.ddl_effect.specs.declared.want.Want.{Want}
 use Rattle.ddl_effect.specs.declared.want.Want.TheVariants as wants
-use Rattle.cacheless.specs.Types.{Row, Command, Opening}
+use Rattle.cacheless.specs.Types.{Row, Command, Line, Opening}
 use Rattle.cacheless.specs.declared.kept_scan.KeptScan.{KeptScan}
 use Rattle.cacheless.specs.declared.progress.Progress.{Progress}
 use Rattle.cacheless.specs.declared.silent.Silent.{Silent}
@@ -13,13 +14,14 @@ use Rattle.cacheless.specs.declared.silent.Silent.TheVariants as silents
 use Rattle.cacheless.specs.Ends.{End, Ends}
 use Rattle.cacheless.specs.Settled.{if_locked, looked_up}
 use Rattle.cacheless.specs.State.{rows_kept, is_out, end_at}
-use Rattle.cacheless.specs.May.{owes_nothing}
+use Rattle.cacheless.specs.May.{has_failed, owes_nothing}
+use Rattle.cacheless.specs.Answering.{IsToldText}
 
 -- what an act gives that needs no entry
 abbrev pub gives_at : Progress → Act → Option (List Row)
 gives_at s (Lookup name mode) = looked_up s.locks.items mode s.given.items
 gives_at s (Open rel kind) = Some []
-gives_at s (Column rel name) = Some s.given.items
+gives_at s (Search scan) = Some s.given.items
 gives_at s (Read scan) = Some (rows_kept s.kept scan)
 gives_at s (Lock rel mode) = if_locked (has_lock s.locks.items rel mode) []
 gives_at s (Write draft) = None
@@ -41,6 +43,14 @@ is_ends end = false
 -- the command is finished
 abbrev pub is_finished_at : Command → Progress → Bool
 is_finished_at command s = is_out s && (s.ended || is_ends (end_at s command)) && owes_nothing command s
+
+-- the command has come out, and nothing more can change what it answers: it has failed, or nothing has to come before its end
+abbrev pub is_to_answer : Command → Progress → Bool
+is_to_answer command s = is_out s && (has_failed s || owes_nothing command s)
+
+-- the same of the running command, if there is one
+abbrev pub is_to_answer_at : Progress → Bool
+is_to_answer_at s = elim (slice_get s.commands s.finished) [ Some command ↦ is_to_answer command s | None ↦ false ]
 
 -- the rows that are given to an act
 abbrev pub rows_for : Want → List Row → List KeptScan → List Row
@@ -64,18 +74,46 @@ pub record Acts (s : Progress) : Type 0 where
   pub at : slice_get s.commands s.finished ≡ Some command
   pub acts : acts_on command s ≡ true
 
--- a command that is finished
+-- a command that is to be answered, and isn't yet
+pub record Answers (s : Progress) : Type 0 where
+  pub command : Command
+  pub at : slice_get s.commands s.finished ≡ Some command
+  pub out : is_to_answer command s ≡ true
+  pub none : s.answer ≡ None
+
+-- a command that is finished, and is answered
 pub record Finishes (s : Progress) : Type 0 where
   pub command : Command
   pub at : slice_get s.commands s.finished ≡ Some command
   pub finished : is_finished_at command s ≡ true
+  pub answered : is_some s.answer ≡ true
+
+-- nothing is done without an entry, and the running command is answered if it is to be
+pub record IsSettled (s : Progress) : Type 0 where
+  pub still : IsAtRest s
+  pub answered : is_to_answer_at s ≡ true → is_some s.answer ≡ true
 
 -- what a backend does without an entry
 abbrev pub IsSilentOf : Progress → Silent → Type 0
 IsSilentOf s silents.Act = Acts s
+IsSilentOf s silents.Answer = Answers s
 IsSilentOf s silents.Finish = Finishes s
-IsSilentOf s silents.Rest = IsAtRest s
+IsSilentOf s silents.Rest = IsSettled s
+
+-- the running command is answered, and nothing else changes
+pub record HasAnswered (was now : Progress) : Type 0 where
+  pub text : List ℕ
+  pub told : IsToldText was text
+  pub is : now ≡ record was { answer = Some text }
+
+-- the line of the running command is its answer
+abbrev pub IsLineOf : Progress → Line → Type 0
+IsLineOf s line = option_map (λ text. record { backend = s.id; command = s.finished + 1; text = text }) s.answer ≡ Some line
+
+-- 1 where the running command isn't answered
+abbrev pub unanswered : Progress → ℕ
+unanswered s = option_map_or (λ text. 0) s.answer 1
 
 -- how much a backend has left to do without an entry, at most
 abbrev pub left_of : Progress → ℕ
-left_of s = 6 * (length s.commands - s.finished) + acts_left s.exec
+left_of s = 7 * (length s.commands - s.finished) + acts_left s.exec + unanswered s

@@ -12,7 +12,7 @@ use Rattle.lock_modes.specs.Own.{cleared, new_lock}
 use Rattle.inval_messages.specs.Lists.{Written, has_write_from, unsent_after}
 use Rattle.inval_messages.specs.Messages.{is_spared}
 use Rattle.command_lists.specs.Lists.{all_lists, no_lists}
-use Rattle.ddl_effect.specs.Plans.{Plan, Absent, Do, Lookup, Column, rests_on}
+use Rattle.ddl_effect.specs.Plans.{Plan, Done, Absent, Do, Lookup, Search, rests_on, told_rests_on}
 use Rattle.txn_blocks.specs.Blocks.{Block, Outside, Inside, Failed, Blocks, no_block, ends_block, refused_by, innermost, blocks_well, blocks_badly}
 use Rattle.ddl_effect.specs.Stages.{plan_at, plan_again}
 use Rattle.ddl_effect.specs.declared.exec.Exec.TheVariants as stages
@@ -93,7 +93,7 @@ has_write_since from s = has_write_from from (lists_at s)
 abbrev pub is_kept : List KeptScan → Purpose → Bool
 is_kept kept scan = list_any (λ k. same_scan k.scan scan) kept
 
--- what is kept of a scan that gave these rows in the entry of this number: nothing, where a name or a column is looked up by it
+-- what is kept of a scan that gave these rows in the entry of this number: nothing, where a catalog cache is searched by it
 abbrev pub newly_kept : Bool → Purpose → List Row → ℕ → List KeptScan
 newly_kept true scan given at = []
 newly_kept false scan given at = record { scan = scan; rows = given; at = at } ∷ []
@@ -102,16 +102,27 @@ newly_kept false scan given at = record { scan = scan; rows = given; at = at } �
 abbrev pub rows_kept : List KeptScan → Purpose → List Row
 rows_kept kept scan = option_map_or (λ k. k.rows) (find (λ k. same_scan k.scan scan) kept) []
 
+-- the place of a scan that is kept
+abbrev pub place_kept : List KeptScan → Purpose → ℕ
+place_kept kept scan = option_map_or (λ k. k.at) (find (λ k. same_scan k.scan scan) kept) 0
+
 -- what is kept once messages are executed: what none of them covers
 abbrev pub kept_spared : List Message → List KeptScan → List KeptScan
 kept_spared messages kept = filter (λ k. is_spared k.scan messages) kept
 
--- whether the scan behind the next act, or behind the answer that no relation has the name, is usable after messages
+-- whether the scan of a catalog cache behind the next act or behind the answer is usable after messages
 abbrev pub named_spared : List Message → Plan → Bool → Bool
 named_spared messages (Do (Lookup name mode) rest) named = named && is_spared (scans.RelName name) messages
-named_spared messages (Do (Column rel name) rest) named = named && is_spared (scans.AttName rel name) messages
+named_spared messages (Do (Search scan) rest) named = named && is_spared scan messages
+named_spared messages (Done told) named = option_map_or (λ scan. named && is_spared scan messages) (told_rests_on told) named
 named_spared messages (Absent name) named = named && is_spared (scans.RelName name) messages
 named_spared messages plan named = named
+
+-- the answer of a command that has come out rests on the scan of a catalog cache
+abbrev pub ends_on_scan : Plan → Bool
+ends_on_scan (Absent name) = true
+ends_on_scan (Done told) = is_some (told_rests_on told)
+ends_on_scan plan = false
 
 -- those of these scans that aren't kept
 abbrev pub missing : List KeptScan → List Purpose → List Purpose
@@ -121,11 +132,12 @@ missing kept wanted = filter (λ scan. not (is_kept kept scan)) wanted
 abbrev pub builds_missing : List KeptScan → List Opening → List Purpose
 builds_missing kept opened = flat_map (λ o. missing kept (build_scans o.kind o.rel)) opened
 
--- the scans that the next act lacks: that of a name or of a column serves while nothing took it away, and a name's on while the relation is locked
+-- the scans that the next act or the answer lacks: that of a catalog cache serves while nothing took it away, and a name's on while the relation is locked
 abbrev pub act_missing : Progress → Plan → List Purpose
 act_missing s (Do (Lookup name mode) rest) = if s.read && (s.named || is_locked s.locks.items mode s.given.items) then [] else scans.RelName name ∷ []
-act_missing s (Do (Column rel name) rest) = if s.read && s.named then [] else scans.AttName rel name ∷ []
+act_missing s (Do (Search scan) rest) = if s.read && s.named then [] else scan ∷ []
 act_missing s (Do act rest) = missing s.kept (rests_on act)
+act_missing s (Done told) = option_map_or (λ scan. if s.named then [] else scan ∷ []) (told_rests_on told) []
 act_missing s plan = []
 
 -- the scans that come before the next act: none once the command has failed
@@ -215,7 +227,7 @@ error_of name (clashes.Running xid) = errors.NameInUse name xid
 
 -- an entry showed an error, which ends the command
 abbrev pub failed_with : CommandError → Progress → Progress
-failed_with error s = record s { exec = stages.Failing error; due = dues.Nothing; running = Some (begun_own (s.finished + 1) s.running) }
+failed_with error s = record s { exec = stages.Failing error; due = dues.Nothing; running = Some (begun_own (s.finished + 1) s.running); answer = None }
 
 -- the same, with all locks clear
 pub record FailsWith (error : CommandError) (old new : Progress) : Type 0 where
@@ -249,6 +261,7 @@ pub record IsNew (id : ℕ) (all : List Command) (s : Progress) : Type 0 where
   pub opened : s.opened ≡ []
   pub locks : s.locks.items ≡ []
   pub kept : s.kept ≡ []
+  pub answer : s.answer ≡ None
 
 -- what the code doesn't hold of its session
 pub record Rest : Type 0 where

@@ -1,44 +1,48 @@
 -- What the running command answers, by what the last scans of its backend gave and by its locks.
-use Rattle.std.specs.Prelude.{ℕ, Option, Some, None, List, [], ◌∷◌, map, if◌then◌else◌}
+use Rattle.std.specs.Prelude.{ℕ, Some, None, List, map, if◌then◌else◌}
 use Rattle.base_types.specs.Fields.{field_text, fields_of, read_by}
-use Rattle.base_types.specs.declared.command.Command.TheVariants as commands
 use Rattle.base_types.specs.declared.scan.Purpose.TheVariants as scans
 use Rattle.command_answers.specs.declared.answer.Answer.TheVariants as answers
 use Rattle.command_answers.specs.declared.error.CommandError.TheVariants.{NoRelation}
 use Rattle.lock_modes.specs.Own.{clear_modes}
-use Rattle.ddl_effect.specs.Plans.{Plan, Fails, Absent}
-use Rattle.cacheless.specs.Types.{Field, Row, Purpose, Command, Opening, OwnLock, Answer, Shown}
-use Rattle.cacheless.specs.Lines.{commit_answer}
+use Rattle.ddl_effect.specs.declared.told.Told.TheVariants as tells
+use Rattle.ddl_effect.specs.Plans.{Plan, Done, Fails, Absent}
+use Rattle.txn_blocks.specs.Blocks.{Block}
+use Rattle.history_model.specs.Read.{place_read, rows_read}
+use Rattle.cacheless.specs.Types.{Oid, Kind, Field, Row, Purpose, OwnLock, Answer, Shown, Told, Entry}
+use Rattle.cacheless.specs.Lines.{name_in, commit_answer}
 use Rattle.cacheless.specs.Protected.{protects}
 use Rattle.cacheless.specs.Session.{Session}
 
 -- a field by what the last scan for it gave and where that stands, which is told unless locks protect the field
-abbrev pub told_field : (Purpose → List Row) → (Purpose → ℕ) → List OwnLock → Opening → Field → Shown
-told_field rows places locks o field = record { field = field; value = field_text field o.rel (rows (read_by field o.rel)); at = if protects (clear_modes locks o.rel) o.kind field then None else Some (places (read_by field o.rel)) }
+abbrev pub told_field : (Purpose → List Row) → (Purpose → ℕ) → List OwnLock → Oid → Kind → Field → Shown
+told_field rows places locks rel kind field = record { field = field; value = field_text field rel (rows (read_by field rel)); at = if protects (clear_modes locks rel) kind field then None else Some (places (read_by field rel)) }
 
--- all fields of a relation, or one
-abbrev pub told_fields : (Purpose → List Row) → (Purpose → ℕ) → List OwnLock → Option Field → Opening → Answer
-told_fields rows places locks None o = answers.Shown o.kind o.rel (map (told_field rows places locks o) (fields_of o.kind))
-told_fields rows places locks (Some field) o = answers.One (told_field rows places locks o field)
+-- the name of an oid by what the last scan for it gave
+abbrev pub told_name : (Purpose → List Row) → (Purpose → ℕ) → Oid → Answer
+told_name rows places oid = answers.Regclass oid (name_in (rows (scans.RelOid oid))) (places (scans.RelOid oid))
 
--- an answer of the descriptor that is open
-abbrev pub told_open : (Opening → Answer) → List Opening → Answer
-told_open shows [] = answers.Ok
-told_open shows (o ∷ opened) = shows o
-
--- of a command that came out well
-abbrev pub told_well : (Purpose → List Row) → (Purpose → ℕ) → Session → Command → Answer
-told_well rows places s (commands.Show name None) = told_open (told_fields rows places s.locks None) s.opened
-told_well rows places s (commands.Show name (Some field)) = told_open (told_fields rows places s.locks (Some field)) s.opened
-told_well rows places s commands.Commit = commit_answer s.blocks.block
-told_well rows places s command = answers.Ok
+-- of a command that began in this block and came out well, by what it tells
+abbrev pub told_well : (Purpose → List Row) → (Purpose → ℕ) → List OwnLock → Block → Told → Answer
+told_well rows places locks block tells.Ok = answers.Ok
+told_well rows places locks block (tells.Relation rel kind) = answers.Shown kind rel (map (told_field rows places locks rel kind) (fields_of kind))
+told_well rows places locks block (tells.Field rel kind field) = answers.One (told_field rows places locks rel kind field)
+told_well rows places locks block (tells.Columns columns) = answers.Columns columns
+told_well rows places locks block (tells.Column num col_type) = answers.Column num col_type
+told_well rows places locks block (tells.Regclass oid) = told_name rows places oid
+told_well rows places locks block tells.Commit = commit_answer block
 
 -- by the plan that is left of it
-abbrev pub told_left : (Purpose → List Row) → (Purpose → ℕ) → Session → Command → Plan → Answer
-told_left rows places s command (Fails error) = answers.Error error
-told_left rows places s command (Absent name) = answers.Error (NoRelation name (places (scans.RelName name)))
-told_left rows places s command plan = told_well rows places s command
+abbrev pub told_left : (Purpose → List Row) → (Purpose → ℕ) → List OwnLock → Block → Plan → Answer
+told_left rows places locks block (Done told) = told_well rows places locks block told
+told_left rows places locks block (Fails error) = answers.Error error
+told_left rows places locks block (Absent name) = answers.Error (NoRelation name (places (scans.RelName name)))
+told_left rows places locks block plan = answers.Ok
 
 -- what the running command answers, once it has come out
-abbrev pub told : (Purpose → List Row) → (Purpose → ℕ) → Session → Command → Answer
-told rows places s command = told_left rows places s command s.left
+abbrev pub told : (Purpose → List Row) → (Purpose → ℕ) → Session → Answer
+told rows places s = told_left rows places s.locks s.blocks.block s.left
+
+-- what it answers by the last scans of its backend in a history
+abbrev pub told_read : List Entry → ℕ → Session → Answer
+told_read history b s = told (rows_read history b) (place_read history b) s

@@ -22,4 +22,5 @@ pub use Rattle.inval_messages.specs.declared.message.Message.{Message}
 pub use Rattle.lock_modes.specs.declared.own_lock.OwnLock.{OwnLock}
 pub use Rattle.ddl_effect.specs.declared.draft.Draft.{Draft}
 pub use Rattle.ddl_effect.specs.declared.exec.Exec.{Exec}
+pub use Rattle.ddl_effect.specs.declared.told.Told.{Told}
 pub use Rattle.cacheless.specs.declared.opening.Opening.{Opening}

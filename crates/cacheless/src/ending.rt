@@ -163,7 +163,7 @@ impl Progress {
         ensures { end_of_ending result ≡ end_at self.now command.now }
     {
         match self.exec.next() {
-            Want::Done => self.end_well(command),
+            Want::Done(_) => self.end_well(command),
             Want::Fails(_) | Want::Absent(_) => self.end_badly(),
             _ => Ending::Ends,
         }

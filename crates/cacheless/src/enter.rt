@@ -2,7 +2,7 @@
 // (`AcceptInvalidationMessages` in `src/backend/utils/cache/inval.c`, `ReceiveSharedInvalidMessages` in
 // `src/backend/storage/ipc/sinval.c`).
 
-ghost use Rattle.std.specs.Prelude.{◌≡◌, ◌≤◌, ◌++◌, ◌∷◌, [], Some, length, slice_get};
+ghost use Rattle.std.specs.Prelude.{◌≡◌, ◌≤◌, ◌++◌, ◌∷◌, [], None, Some, length, slice_get};
 ghost use Rattle.base_types.specs.Scenario.{Scenario};
 ghost use Rattle.event_kinds.specs.declared.entry.Entry.{Entry};
 ghost use Rattle.history_model.specs.Log.{fetched_by};
@@ -33,6 +33,7 @@ impl Progress {
     pub fn enter_start(&mut self)
         ensures kept { self.new.kept ≡ self.old.kept }
         ensures given_at { self.new.given_at ≡ self.old.given_at }
+        ensures answer { self.new.answer ≡ self.old.answer }
         ensures holds { (scenario : Scenario) (seen : List Entry) → HasNotStarted scenario seen self.old → HasStarted scenario seen self.old self.new }
     {
         self.running = None;
@@ -44,6 +45,7 @@ impl Progress {
         requires few { self.old.finished ≤ 20000 }
         ensures kept { self.new.kept ≡ self.old.kept }
         ensures given_at { self.new.given_at ≡ self.old.given_at }
+        ensures answer { self.new.answer ≡ self.old.answer }
         ensures holds { (scenario : Scenario) (seen : List Entry) → (rests : Rests scenario seen self.old) → HasEntered scenario seen self.old Event.Stop rests self.new }
     {
         self.due = Due::Nothing;
@@ -58,6 +60,7 @@ impl Progress {
         requires room { HasRoom self.old }
         ensures kept { self.new.kept ≡ self.old.kept }
         ensures given_at { self.new.given_at ≡ self.old.given_at }
+        ensures answer { self.new.answer ≡ None }
         ensures holds { (scenario : Scenario) (seen : List Entry) → (rests : Rests scenario seen self.old) → HasEntered scenario seen self.old (Event.Look some_wait) rests self.new }
     {
         self.running = Some(RunningTransaction::begun(self.finished + 1, self.running));
@@ -65,6 +68,7 @@ impl Progress {
         self.tally.looks += 1;
         let accepting = self.is_in_acceptance();
         accept(&mut self.locks, accepting);
+        self.answer = None;
     }
 
     /// It took these messages from the queue: what they cover doesn't serve any more, and a search that
@@ -74,6 +78,7 @@ impl Progress {
         requires room { HasRoom self.old }
         ensures kept { self.new.kept ≡ kept_spared messages.now self.old.kept }
         ensures given_at { self.new.given_at ≡ self.old.given_at }
+        ensures answer { self.new.answer ≡ None }
         ensures holds { (scenario : Scenario) (seen : List Entry) → (rests : Rests scenario seen self.old) → messages.now ≡ fetched_by seen self.old.id (length messages.now) → HasEntered scenario seen self.old (Event.Fetch (length messages.now)) rests self.new }
     {
         self.running = Some(RunningTransaction::begun(self.finished + 1, self.running));
@@ -85,6 +90,7 @@ impl Progress {
         self.tally.full += self.full_of(messages.len());
         let accepting = self.is_in_acceptance();
         accept(&mut self.locks, accepting);
+        self.answer = None;
     }
 
     /// It was told to reset all that it caches: nothing that it has read serves any more
@@ -95,6 +101,7 @@ impl Progress {
         requires room { HasRoom self.old }
         ensures kept { self.new.kept ≡ [] }
         ensures given_at { self.new.given_at ≡ self.old.given_at }
+        ensures answer { self.new.answer ≡ None }
         ensures holds { (scenario : Scenario) (seen : List Entry) → (rests : Rests scenario seen self.old) → HasEntered scenario seen self.old Event.FetchReset rests self.new }
     {
         self.running = Some(RunningTransaction::begun(self.finished + 1, self.running));
@@ -105,6 +112,7 @@ impl Progress {
         self.tally.fetches += 1;
         let accepting = self.is_in_acceptance();
         accept(&mut self.locks, accepting);
+        self.answer = None;
     }
 
     // Where a search found no relation it is made anew, by the rows that its scan gave.

@@ -26,6 +26,7 @@ impl Progress {
         requires few { self.old.finished ≤ 20000 }
         ensures kept { self.new.kept ≡ self.old.kept }
         ensures given_at { self.new.given_at ≡ self.old.given_at }
+        ensures answer { self.new.answer ≡ self.old.answer }
         ensures holds { (scenario : Scenario) (seen : List Entry) → (rests : Rests scenario seen self.old) → HasEntered scenario seen self.old (Event.Visible xid) rests self.new }
     {
         let _xid = xid;
@@ -45,6 +46,7 @@ impl Progress {
         requires fits { published_at self.old + count < 2 ^ 64 }
         ensures kept { self.new.kept ≡ self.old.kept }
         ensures given_at { self.new.given_at ≡ self.old.given_at }
+        ensures answer { self.new.answer ≡ self.old.answer }
         ensures holds { (scenario : Scenario) (seen : List Entry) → (rests : Rests scenario seen self.old) → HasEntered scenario seen self.old (Event.Publish count) rests self.new }
     {
         let own = RunningTransaction::begun(self.finished + 1, self.running);
@@ -64,6 +66,7 @@ impl Progress {
         requires few { self.old.finished ≤ 20000 }
         ensures kept { self.new.kept ≡ kept_spared (rels_in (lists_from from (lists_at self.old))) (kept_spared (cats_in (lists_from from (lists_at self.old))) self.old.kept) }
         ensures given_at { self.new.given_at ≡ self.old.given_at }
+        ensures answer { self.new.answer ≡ self.old.answer }
         ensures holds { (scenario : Scenario) (seen : List Entry) → (rests : Rests scenario seen self.old) → HasEntered scenario seen self.old (Event.Gone from) rests self.new }
     {
         self.running = Some(RunningTransaction::begun(self.finished + 1, self.running));
@@ -84,6 +87,7 @@ impl Progress {
         requires few { self.old.finished ≤ 20000 }
         ensures kept { self.new.kept ≡ self.old.kept }
         ensures given_at { self.new.given_at ≡ self.old.given_at }
+        ensures answer { self.new.answer ≡ self.old.answer }
         ensures holds { (scenario : Scenario) (seen : List Entry) → (rests : Rests scenario seen self.old) → HasEntered scenario seen self.old (Event.Release from) rests self.new }
     {
         clear_if(

@@ -1,6 +1,6 @@
 // How a session changes with its locks, and with the error of a refused one.
 
-ghost use Rattle.std.specs.Prelude.{◌≡◌, ◌≤◌, ◌<◌, false, OnOk};
+ghost use Rattle.std.specs.Prelude.{◌≡◌, ◌≤◌, ◌<◌, false, None, OnOk};
 ghost use Rattle.base_types.specs.Scenario.{Scenario};
 ghost use Rattle.event_kinds.specs.declared.entry.Entry.{Entry};
 ghost use Rattle.lock_modes.specs.Own.{has_lock};
@@ -36,12 +36,14 @@ impl Progress {
         requires new { has_lock self.old.locks.items rel mode ≡ false }
         ensures kept { self.new.kept ≡ self.old.kept }
         ensures given_at { self.new.given_at ≡ self.old.given_at }
+        ensures answer { self.new.answer ≡ None }
         ensures holds { (scenario : Scenario) (seen : List Entry) → (rests : Rests scenario seen self.old) → HasEntered scenario seen self.old (Event.LockOk rel mode) rests self.new }
     {
         self.running = Some(RunningTransaction::begun(self.finished + 1, self.running));
         self.due = Due::Look;
         self.tally.grants += 1;
         self.locks.add(rel, mode, self.finished + 1);
+        self.answer = None;
     }
 
     /// It was refused a lock, which ends its command: this is the first other holder of a mode that
@@ -50,6 +52,7 @@ impl Progress {
         requires few { self.old.finished ≤ 20000 }
         ensures kept { self.new.kept ≡ self.old.kept }
         ensures given_at { self.new.given_at ≡ self.old.given_at }
+        ensures answer { self.new.answer ≡ None }
         ensures holds { (scenario : Scenario) (seen : List Entry) → (rests : Rests scenario seen self.old) → HasEntered scenario seen self.old (Event.LockHeld rel mode holder held) rests self.new }
     {
         let _mode = mode;
@@ -70,5 +73,6 @@ impl Progress {
         self.due = Due::Nothing;
         self.exec = Exec::Failing(error);
         self.locks.clear_all();
+        self.answer = None;
     }
 }

@@ -1,6 +1,6 @@
 // How a session changes with its scans.
 
-ghost use Rattle.std.specs.Prelude.{◌≡◌, ◌≤◌, true, false, OnOk};
+ghost use Rattle.std.specs.Prelude.{◌≡◌, ◌≤◌, true, false, None, OnOk};
 ghost use Rattle.base_types.specs.Scenario.{Scenario};
 ghost use Rattle.event_kinds.specs.declared.entry.Entry.{Entry};
 ghost use Rattle.history_model.specs.Versions.{answer_of};
@@ -29,6 +29,7 @@ impl Progress {
         requires next { is_next_at scan.now self.old ≡ true }
         ensures kept { OnOk result (self.new.kept ≡ self.old.kept ++ newly_kept (is_wanted_by scan.now (plan_at self.old.exec)) scan.now rows.items at) }
         ensures given_at { OnOk result (self.new.given_at ≡ (if is_wanted_by scan.now (plan_at self.old.exec) then at else self.old.given_at)) }
+        ensures answer { OnOk result (self.new.answer ≡ None) }
         ensures holds { OnOk result ((scenario : Scenario) (seen : List Entry) (count : ℕ) → (rests : Rests scenario seen self.old) → rows.items ≡ answer_of seen self.old.id scan.now → HasEntered scenario seen self.old (Event.Scan scan.now count) rests self.new) }
     {
         if self.is_wanted(scan) {
@@ -38,13 +39,14 @@ impl Progress {
         self.enter_build(scan, rows, at)
     }
 
-    // The scan of the name or the column on which the next act rests.
+    // The scan of a catalog cache on which the next act or the answer rests.
     fn enter_named(&mut self, scan: &Purpose, rows: Vec<Row>, at: u64)
         requires few { self.old.finished ≤ 20000 }
         requires room { HasRoom self.old }
         requires wanted { is_wanted_by scan.now (plan_at self.old.exec) ≡ true }
         ensures kept { self.new.kept ≡ self.old.kept }
         ensures given_at { self.new.given_at ≡ at }
+        ensures answer { self.new.answer ≡ None }
         ensures holds { (scenario : Scenario) (seen : List Entry) (count : ℕ) → (rests : Rests scenario seen self.old) → rows.items ≡ answer_of seen self.old.id scan.now → HasEntered scenario seen self.old (Event.Scan scan.now count) rests self.new }
     {
         let _scan = *scan;
@@ -57,6 +59,7 @@ impl Progress {
         let accepting = self.is_in_acceptance();
         accept(&mut self.locks, accepting);
         self.given = rows;
+        self.answer = None;
     }
 
     // A scan for a descriptor.
@@ -67,6 +70,7 @@ impl Progress {
         requires other { is_wanted_by scan.now (plan_at self.old.exec) ≡ false }
         ensures kept { OnOk result (self.new.kept ≡ self.old.kept ++ record { scan = scan.now; rows = rows.items; at = at } ∷ []) }
         ensures given_at { OnOk result (self.new.given_at ≡ self.old.given_at) }
+        ensures answer { OnOk result (self.new.answer ≡ None) }
         ensures holds { OnOk result ((scenario : Scenario) (seen : List Entry) (count : ℕ) → (rests : Rests scenario seen self.old) → rows.items ≡ answer_of seen self.old.id scan.now → HasEntered scenario seen self.old (Event.Scan scan.now count) rests self.new) }
     {
         let made = KeptScan {
@@ -80,16 +84,21 @@ impl Progress {
         self.tally.scans += 1;
         let accepting = self.is_in_acceptance();
         accept(&mut self.locks, accepting);
+        self.answer = None;
         Ok(())
     }
 
-    // Whether the next act looks a name or a column up by this scan.
+    // Whether the next act searches a catalog cache by this scan, or the answer rests on it.
     fn is_wanted(&self, scan: &Purpose) -> bool
         ensures { result ≡ is_wanted_by scan.now (plan_at self.now.exec) }
     {
         match self.exec.next() {
             Want::Lookup { name, .. } => same_scan(scan, &Purpose::RelName(name)),
-            Want::Column { rel, name } => same_scan(scan, &Purpose::AttName(rel, name)),
+            Want::Search(wanted) => same_scan(scan, &wanted),
+            Want::Done(rests_on) => match rests_on {
+                Some(wanted) => same_scan(scan, &wanted),
+                None => false,
+            },
             _ => false,
         }
     }

@@ -1,6 +1,6 @@
 // How a session changes with its writes, and with those that are refused.
 
-ghost use Rattle.std.specs.Prelude.{◌≡◌, ◌≤◌, ◌<◌, ◌++◌, ◌∷◌, ◌+◌, [], false, Some, OnOk};
+ghost use Rattle.std.specs.Prelude.{◌≡◌, ◌≤◌, ◌<◌, ◌++◌, ◌∷◌, ◌+◌, [], false, None, Some, OnOk};
 ghost use Rattle.std.specs.List.{AllByRecursion, flat_map};
 ghost use Rattle.base_types.specs.Scenario.{Scenario};
 ghost use Rattle.base_types.specs.declared.mode.Mode.TheVariants.{AccessExclusive};
@@ -50,6 +50,7 @@ impl Progress {
         requires new { 0 < new_oids → has_lock self.old.locks.items first AccessExclusive ≡ false }
         ensures kept { OnOk result (self.new.kept ≡ kept_spared messages.now self.old.kept) }
         ensures given_at { OnOk result (self.new.given_at ≡ self.old.given_at) }
+        ensures answer { OnOk result (self.new.answer ≡ None) }
         ensures holds { OnOk result ((scenario : Scenario) (seen : List Entry) (items : List Item) → (rests : Rests scenario seen self.old) → messages.now ≡ messages_in seen self.old.id items → flat_map (locked_by (self.old.finished + 1)) items ≡ locks_made new_oids first (self.old.finished + 1) → HasEntered scenario seen self.old (Event.Write xid items) rests self.new) }
     {
         let command = self.finished + 1;
@@ -58,11 +59,12 @@ impl Progress {
         lock_new(&mut self.locks, new_oids, first, command);
         self.running = Some(RunningTransaction::begun(command, self.running).with_xid(xid));
         self.due = Due::Nothing;
-        self.exec.give(&[]);
+        self.exec.give(alloc, &[])?;
         self.opened = Listed::new(alloc);
         self.read = false;
         let accepting = self.is_in_acceptance();
         accept(&mut self.locks, accepting);
+        self.answer = None;
         Ok(())
     }
 
@@ -71,6 +73,7 @@ impl Progress {
         requires few { self.old.finished ≤ 20000 }
         ensures kept { self.new.kept ≡ self.old.kept }
         ensures given_at { self.new.given_at ≡ self.old.given_at }
+        ensures answer { self.new.answer ≡ None }
         ensures holds { (scenario : Scenario) (seen : List Entry) → (rests : Rests scenario seen self.old) → HasEntered scenario seen self.old (clash_event name clash) rests self.new }
     {
         self.fail(clash_error(name, clash));

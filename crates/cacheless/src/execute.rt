@@ -10,8 +10,8 @@ use base_types::{CacheId, Key, KeyPart, Purpose, key_hash};
 use ddl_effect::{Exec, Want};
 use inval_messages::Message;
 
-// Whether the scan of the name or the column on which the next act rests, or with which a lookup found
-// nothing, serves still after messages.
+// Whether the scan of a catalog cache on which the next act or the answer rests serves still after
+// messages.
 pub(crate) fn serves_still(named: bool, exec: &Exec, messages: &[Message]) -> bool
     ensures { result ≡ named_spared messages.now (plan_at exec.now) named }
 {
@@ -19,7 +19,11 @@ pub(crate) fn serves_still(named: bool, exec: &Exec, messages: &[Message]) -> bo
         Want::Lookup { name, .. } | Want::Absent(name) => {
             named && !is_covered(messages, &Purpose::RelName(name))
         }
-        Want::Column { rel, name } => named && !is_covered(messages, &Purpose::AttName(rel, name)),
+        Want::Search(scan) => named && !is_covered(messages, &scan),
+        Want::Done(rests_on) => match rests_on {
+            Some(scan) => named && !is_covered(messages, &scan),
+            None => named,
+        },
         _ => named,
     }
 }

@@ -1,12 +1,12 @@
 // The scans for descriptors that a backend relies on, found by relation.
 
-ghost use Rattle.std.specs.Prelude.{◌≡◌, ◌++◌, ◌∷◌, [], true, nat_eq, is_some, length, OnOk, OnErr};
-ghost use Rattle.std.specs.HashMap.{get};
-ghost use Rattle.std.specs.Option.{option_copied};
-ghost use Rattle.std.specs.List.{find, list_any};
+ghost use Rattle.std.specs.Prelude.{◌≡◌, ◌≤◌, ◌<◌, ◌++◌, ◌∷◌, ◌-◌, ◌||◌, [], ℕ, true, nat_le, length, take, vec_len, slice_get, OnOk, OnErr};
+ghost use Rattle.std.specs.Option.{option_copied, option_map_or};
+ghost use Rattle.std.specs.List.{AllByRecursion, find};
+ghost use Rattle.std.specs.List.Sorted.{IsNonDecreasingBy};
 ghost use Rattle.base_types.specs.Scans.{is_build_scan, same_scan as same};
 ghost use Rattle.cacheless.specs.State.{kept_spared as spared};
-ghost use Rattle.cacheless.specs.KeptByRelation.{relation_of as named_by, IsPartFor, is_about_one as is_told_of, MayStart, AreForgotten};
+ghost use Rattle.cacheless.specs.KeptByRelation.{relation_of as named_by, starts_by as does_start_by, IsPartFor, IsPartSince, is_by, IsFirstStart, StartsStay, AreForgotten};
 
 use crate::KeptScan;
 use crate::execute::is_covered;
@@ -17,17 +17,16 @@ use std::collections::HashMap;
 use std::marker::Model;
 
 /// The scans for descriptors that a backend relies on, in the order of their entries. Of each relation
-/// it knows a place before which none of its scans is: a message for a relation of which nothing is kept
-/// passes over none, and a question whether a scan is kept over those from that place on
-/// (`RelationIdCache` in `src/backend/utils/cache/relcache.c`).
+/// it knows an entry of the history before which none of its scans was made. So a message for a relation,
+/// and a question whether a scan of it is kept, pass over the scans from that entry on, and over none where
+/// none of the relation is kept (`RelationIdCache` in `src/backend/utils/cache/relcache.c`).
 #[derive(Drop)]
 pub struct KeptScans {
     scans: Vec<KeptScan>,
-    // by the number of each relation of which a scan is kept: so many scans had been taken away, or were
-    // kept, when its first one came
+    // by the number of a relation: an entry before which no scan of it is kept; each of which one is kept has it
     starts: HashMap<u32, u64>,
-    // how many scans were taken away so far, or the most that a u64 holds
-    gone: u64,
+    // the numbers of the entries never fell, so that the scans from an entry on are found by halves
+    sorted: bool,
 }
 
 impl Model for KeptScans {
@@ -39,7 +38,7 @@ impl Model for KeptScans {
 
     ghost view = { λ kept. kept.scans.items };
 
-    ghost invariant = { λ kept. IsIndex kept.starts kept.gone kept.scans.items };
+    ghost invariant = { λ kept. IsIndex kept.starts kept.sorted kept.scans.items };
 }
 
 impl KeptScans {
@@ -50,7 +49,7 @@ impl KeptScans {
         KeptScans {
             scans: Vec::new(alloc),
             starts: HashMap::new(alloc),
-            gone: 0,
+            sorted: true,
         }
     }
 
@@ -66,10 +65,7 @@ impl KeptScans {
         ensures { IsPartFor rel self.now result.now }
     {
         match self.starts.get(&rel) {
-            Some(start) => {
-                let place = start.saturating_sub(self.gone).min(self.scans.len() as u64);
-                &self.scans[place as usize..]
-            }
+            Some(start) => since(self.scans.as_slice(), self.sorted, *start),
             None => &[],
         }
     }
@@ -87,10 +83,10 @@ impl KeptScans {
         ensures ok { OnOk result (self.new ≡ self.old ++ made ∷ []) }
         ensures err { OnErr result (self.new ≡ self.old) }
     {
-        let rel = relation_of(&made.scan);
-        let start = self.gone.saturating_add(count(self.scans.as_slice()));
-        note_start(&mut self.starts, rel, start)?;
+        let next = comes_last(self.scans.as_slice(), made.at);
+        note_start(&mut self.starts, relation_of(&made.scan), made.at)?;
         self.scans.push(made)?;
+        self.sorted &= next;
         Ok(())
     }
 
@@ -100,23 +96,60 @@ impl KeptScans {
     pub fn execute(&mut self, messages: &[Message])
         ensures { self.new ≡ spared messages.now self.old }
     {
-        if !tell_of_any(&self.starts, messages) {
+        let Some(start) = first_start(&self.starts, messages) else {
             return;
-        }
+        };
         forget(&mut self.starts, messages);
-        let before = count(self.scans.as_slice());
-        self.scans
-            .retain(|k: &KeptScan| !is_covered(messages, &k.scan));
-        let left = count(self.scans.as_slice());
-        self.gone = self.gone.saturating_add(before.saturating_sub(left));
+        let place = since_place(self.scans.as_slice(), self.sorted, start);
+        spare_from(&mut self.scans, messages, place);
     }
 }
 
-// How many scans these are.
-fn count(kept: &[KeptScan]) -> u64
-    ensures { result ≡ length kept.now }
+// The scans without those at the start whose entries are before this one, if they are in order; else all.
+fn since(kept: &[KeptScan], sorted: bool, start: u64) -> &[KeptScan]
+    requires { sorted ≡ true → IsNonDecreasingBy (λ k. k.at) kept.now }
+    ensures { IsPartSince start kept.now result.now }
 {
-    kept.len() as u64
+    &kept[since_place(kept, sorted, start)..]
+}
+
+// How many scans at the start have entries before this one, found by halves, if they are in order; else none.
+fn since_place(kept: &[KeptScan], sorted: bool, start: u64) -> usize
+    requires { sorted ≡ true → IsNonDecreasingBy (λ k. k.at) kept.now }
+    ensures within { result ≤ length kept.now }
+    ensures earlier { AllByRecursion (λ k. k.at < start) (take result kept.now) }
+{
+    if sorted {
+        kept.partition_point(|k| k.at < start)
+    } else {
+        0
+    }
+}
+
+// Takes out what the messages cover. Condition: they cover none of the scans before this place.
+fn spare_from(scans: &mut Vec<KeptScan>, messages: &[Message], place: usize)
+    requires within { place ≤ vec_len scans.old }
+    requires before { spared messages.now (take place scans.old.items) ≡ take place scans.old.items }
+    ensures { scans.new.items ≡ spared messages.now scans.old.items }
+{
+    let mut left = place;
+    for at in place..scans.len() {
+        if !is_covered(messages, &scans[at].scan) {
+            scans.swap(left, at);
+            left += 1;
+        }
+    }
+    scans.truncate(left);
+}
+
+// Whether the last scan has no later entry than this one.
+fn comes_last(kept: &[KeptScan], at: u64) -> bool
+    ensures { result ≡ option_map_or (λ k. nat_le k.at at) (slice_get kept.now (length kept.now - 1)) true }
+{
+    match kept.last() {
+        Some(last) => last.at <= at,
+        None => true,
+    }
 }
 
 // The first of these scans that is this one.
@@ -126,32 +159,57 @@ fn first_like<'a>(kept: &'a [KeptScan], scan: &Purpose) -> Option<&'a KeptScan>
     kept.iter().find(|k| same_scan(&k.scan, scan))
 }
 
-// Notes where the scans of a relation start, where that isn't known.
-fn note_start(starts: &mut HashMap<u32, u64>, rel: u32, start: u64) -> Result<(), NoMemory>
-    ensures starts { MayStart starts.old starts.new start }
-    ensures ok { OnOk result (is_some (get nat_eq starts.new rel) ≡ true) }
+// Notes the entry of a scan of a relation, where no earlier one is known.
+fn note_start(starts: &mut HashMap<u32, u64>, rel: u32, at: u64) -> Result<(), NoMemory>
+    ensures stay { StartsStay starts.old starts.new }
+    ensures ok { OnOk result (does_start_by starts.new rel at ≡ true) }
 {
-    if starts.contains_key(&rel) {
+    if starts_by(starts, rel, at) {
         return Ok(());
     }
-    starts.insert(rel, start)?;
+    starts.insert(rel, at)?;
     Ok(())
 }
 
-// Whether one of the messages is for one of the relations.
-fn tell_of_any(starts: &HashMap<u32, u64>, messages: &[Message]) -> bool
-    ensures { result ≡ list_any (is_told_of starts.now) messages.now }
+// Whether the relation has a start, at this entry or before it.
+fn starts_by(starts: &HashMap<u32, u64>, rel: u32, at: u64) -> bool
+    ensures { result ≡ does_start_by starts.now rel at }
 {
-    messages.iter().any(|message| tells_of_one(starts, message))
+    match starts.get(&rel) {
+        Some(start) => *start <= at,
+        None => false,
+    }
 }
 
-// Whether the message is for one of the relations.
-fn tells_of_one(starts: &HashMap<u32, u64>, message: &Message) -> bool
-    ensures { result ≡ is_told_of starts.now message.now }
+// An entry before which no scan is that one of the messages is for, if there may be such a scan.
+fn first_start(starts: &HashMap<u32, u64>, messages: &[Message]) -> Option<u64>
+    ensures { IsFirstStart messages.now starts.now result }
+{
+    let mut first = None;
+    for message in messages {
+        first = earlier(first, start_for(starts, message));
+    }
+    first
+}
+
+// The start of the relation that the message is for, if it has one.
+fn start_for(starts: &HashMap<u32, u64>, message: &Message) -> Option<u64>
+    ensures { IsFirstStart (message.now ∷ []) starts.now result }
 {
     match message {
-        Message::Cat { .. } => false,
-        Message::Rel { rel } => starts.get(&rel.0).is_some(),
+        Message::Cat { .. } => None,
+        Message::Rel { rel } => starts.get(&rel.0).copied(),
+    }
+}
+
+// The earlier of two entries, or the one that there is.
+fn earlier(one: Option<u64>, other: Option<u64>) -> Option<u64>
+    ensures { (at : ℕ) → is_by result at ≡ (is_by one at || is_by other at) }
+{
+    match (one, other) {
+        (Some(one), Some(other)) => Some(one.min(other)),
+        (None, other) => other,
+        (one, None) => one,
     }
 }
 

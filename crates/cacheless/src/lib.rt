@@ -16,25 +16,29 @@
 //! its session, its running transaction and the messages of its writes, what its last entry asks for,
 //! and the scans that serve. [`Progress::may_play`] is exactly what the definitions allow next, a call
 //! `enter_..` takes any entry that the backend may leave, whoever chose it, and [`Progress::settle`]
-//! goes on as far as no entry is needed. Whoever makes entries (a backend of the program) and whoever
-//! reads them (a judge of a given history) go by the same calls:
+//! goes on as far as no entry is needed: it does acts, works out what a command answers that has come out,
+//! and gives the lines of the commands that it passes over. Whoever makes entries (a backend of the
+//! program) and whoever reads them (a judge of a given history) go by the same calls:
 //!
 //! ```text
 //! let mut backend = Progress::new(alloc, 1, commands)?;
+//! let mut lines = Listed::new(alloc);
 //! backend.enter_start();
-//! backend.settle(alloc)?;
+//! backend.settle(alloc, &mut lines)?;
 //! if backend.may_play(next_oid, &Event::Look { yes: false }) {
 //!     backend.enter_look(false);
-//!     backend.settle(alloc)?;
+//!     backend.settle(alloc, &mut lines)?;
 //! }
 //! ```
 //!
 //! The promise is in specs/Holds.antt: before an entry the code `Rests` in a history, after it `Holds`
 //! the session of the longer one, after `settle` it rests again. The history stands in the contracts
 //! alone. specs/State has what the code holds in the definitions' words, May what may come next by
-//! these, Silently what is done without an entry.
+//! these, Silently what is done without an entry, Answering what a command answers by them, Telling when
+//! that is its line.
 #![tactic(auto)]
 
+mod answering;
 mod begun;
 mod draft_items;
 mod ending;

@@ -159,7 +159,7 @@ impl Progress {
             .any(|o| is_first_missing(scan, &self.kept, o.kind, o.rel))
     }
 
-    // Whether the scan is the first that the next act lacks.
+    // Whether the scan is the first that the next act or the answer lacks.
     fn is_next_of(&self, scan: &Purpose, want: &Want) -> bool
         requires want { want_of (plan_at self.now.exec) ≡ want.now }
         ensures { result ≡ is_next_of_act scan.now self.now (plan_at self.now.exec) }
@@ -169,9 +169,8 @@ impl Progress {
                 !(self.read && (self.named || self.is_found_locked(*mode)))
                     && same_scan(scan, &Purpose::RelName(*name))
             }
-            Want::Column { rel, name } => {
-                !(self.read && self.named) && same_scan(scan, &Purpose::AttName(*rel, *name))
-            }
+            Want::Search(wanted) => !(self.read && self.named) && same_scan(scan, wanted),
+            Want::Done(Some(wanted)) => !self.named && same_scan(scan, wanted),
             Want::Open { rel, kind } => is_first_missing(scan, &self.kept, *kind, *rel),
             _ => false,
         }
@@ -293,7 +292,7 @@ impl Progress {
         }
     }
 
-    // Whether the next act lacks a scan.
+    // Whether the next act or the answer lacks a scan.
     fn act_lacks(&self, want: &Want) -> bool
         requires want { want_of (plan_at self.now.exec) ≡ want.now }
         ensures { not result ≡ none_in (act_missing self.now (plan_at self.now.exec)) }
@@ -301,7 +300,8 @@ impl Progress {
         match want {
             Want::Lookup { mode, .. } => !(self.read
                 && (self.named || self.is_found_locked(*mode))),
-            Want::Column { .. } => !(self.read && self.named),
+            Want::Search(_) => !(self.read && self.named),
+            Want::Done(Some(_)) => !self.named,
             Want::Open { rel, kind } => { first_missing(&self.kept, *kind, *rel).is_some() }
             Want::Read(scan) => !has_kept(&self.kept, scan),
             _ => false,

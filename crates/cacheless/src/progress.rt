@@ -10,6 +10,7 @@ use crate::{KeptScans, Opening};
 use base_types::{Command, Listed, NoMemory, Row};
 use command_lists::InvalLists;
 use ddl_effect::Exec;
+use event_kinds::LineText;
 use lock_modes::OwnLocks;
 use std::alloc::Global;
 use txn_blocks::{RunningTransaction, TxnBlocks};
@@ -71,8 +72,8 @@ pub struct Progress {
     pub blocks: TxnBlocks,
     pub running: Option<RunningTransaction>,
     pub lists: InvalLists,
-    // whether the scan of the name or the column on which the next act rests is made, whether nothing
-    // has taken it away since, and what it gave, in the entry of this number
+    // whether the scan of a catalog cache on which the next act rests is made, whether nothing has taken
+    // it away since, and what it gave, in the entry of this number
     pub read: bool,
     pub named: bool,
     pub given: Vec<Row>,
@@ -82,6 +83,8 @@ pub struct Progress {
     pub locks: OwnLocks,
     // the scans for descriptors that serve
     pub kept: KeptScans,
+    // what the running command answers, where that is worked out
+    pub answer: Option<LineText>,
 }
 
 impl Progress {
@@ -112,6 +115,7 @@ impl Progress {
             opened: Listed::new(alloc),
             locks: OwnLocks::new(alloc),
             kept: KeptScans::new(alloc),
+            answer: None,
         })
     }
 }

@@ -1,6 +1,6 @@
 // What a backend does without an entry.
 
-ghost use Rattle.std.specs.Prelude.{◌≡◌, ◌≤◌, ◌<◌, [], true, All, OnOk, is_some, slice_get, length};
+ghost use Rattle.std.specs.Prelude.{◌≡◌, ◌≤◌, ◌<◌, ◌&&◌, [], None, true, All, OnOk, IfOk, is_none, is_some, slice_get, length};
 ghost use Rattle.ddl_effect.specs.Stages.{plan_at, want_of};
 ghost use Rattle.cacheless.specs.Runs.{runs};
 ghost use Rattle.cacheless.specs.State.{blocks_passed, rows_kept as kept_rows};
@@ -10,13 +10,16 @@ use crate::begun::begun;
 use crate::{Counts, KeptScans, Opening, Progress};
 use base_types::{Command, Kind, Listed, NoMemory, Oid, Purpose, Row};
 use ddl_effect::{Exec, Want};
+use event_kinds::Line;
 use std::alloc::Global;
 use txn_blocks::TxnBlocks;
 
-/// What a backend does without an entry: the next act of its command, or the end of it, or nothing.
+/// What a backend does without an entry: the next act of its command, its answer, or the end of it, or
+/// nothing.
 #[derive(Clone, Copy)]
 pub enum Silent {
     Act,
+    Answer,
     Finish,
     Rest,
 }
@@ -26,22 +29,28 @@ impl Progress {
     ghost use Rattle.base_types.specs.Scenario.{Scenario};
     ghost use Rattle.event_kinds.specs.declared.entry.Entry.{Entry};
     ghost use Rattle.cacheless.specs.State.{is_out as has_come_out, end_at};
-    ghost use Rattle.cacheless.specs.Silently.{opened_for, gives_next, acts_on, is_finished_at, Acts, Finishes, IsSilentOf, left_of};
+    ghost use Rattle.cacheless.specs.Silently.{opened_for, gives_next, acts_on, is_to_answer, is_to_answer_at, is_finished_at, Acts, Answers, Finishes, IsSilentOf, HasAnswered, IsLineOf, left_of};
     ghost use Rattle.cacheless.specs.Holds.{Holds, Rests, HasActed, HasPassed};
+    ghost use Rattle.cacheless.specs.Answering.{PlacesFit};
+    ghost use Rattle.cacheless.specs.Telling.{TellsNow, HasGoneOn};
 
-    /// Goes on as far as it can without an entry. Out of memory, it may not be used any more.
-    pub fn settle(&mut self, alloc: Global) -> Result<(), NoMemory>
+    /// Goes on as far as it can without an entry, and adds the lines of the commands that it passes over.
+    /// Out of memory, it may not be used any more.
+    pub fn settle(&mut self, alloc: Global, lines: &mut Listed<Line>) -> Result<(), NoMemory>
         requires built { All (λ command. runs command ≡ true) self.old.commands }
         requires few { length self.old.commands ≤ 20000 }
         ensures rests { OnOk result ((scenario : Scenario) (seen : List Entry) → Holds scenario seen self.old → Rests scenario seen self.new) }
+        ensures answered { OnOk result (is_to_answer_at self.new ≡ true → is_some self.new.answer ≡ true) }
+        ensures goes_on { OnOk result ((scenario : Scenario) (seen : List Entry) (held : Holds scenario seen self.old) → TellsNow scenario seen self.old held → PlacesFit seen self.old → HasGoneOn scenario seen self.old held lines.old self.new lines.new) }
         ensures kept { OnOk result (self.new.kept ≡ self.old.kept) }
         ensures given_at { OnOk result (self.new.given_at ≡ self.old.given_at) }
         ensures same { OnOk result (self.new.commands ≡ self.old.commands) }
     {
         'settling: loop {
             match self.silent() {
-                Silent::Act => self.act()?,
-                Silent::Finish => self.finish(alloc)?,
+                Silent::Act => self.act(alloc)?,
+                Silent::Answer => self.answer(alloc)?,
+                Silent::Finish => lines.push(self.finish(alloc)?)?,
                 Silent::Rest => return Ok(()),
             }
         }
@@ -57,6 +66,9 @@ impl Progress {
         };
         if self.acts(command) {
             return Silent::Act;
+        }
+        if self.answers(command) {
+            return Silent::Answer;
         }
         if self.is_finished(command) {
             return Silent::Finish;
@@ -81,9 +93,16 @@ impl Progress {
                 _ => true,
             },
             Want::Lock { rel, mode } => self.locks.state(rel, mode).is_some(),
-            Want::Open { .. } | Want::Column { .. } | Want::Read(_) => true,
+            Want::Open { .. } | Want::Search(_) | Want::Read(_) => true,
             _ => false,
         }
+    }
+
+    // Whether the command is to be answered, and isn't yet.
+    fn answers(&self, command: &Command) -> bool
+        ensures { result ≡ (is_none self.now.answer && is_to_answer command.now self.now) }
+    {
+        self.answer.is_none() && self.is_out() && (self.has_failed() || self.owes_nothing(command))
     }
 
     // Whether the command is finished.
@@ -100,69 +119,83 @@ impl Progress {
     {
         matches!(
             self.exec.next(),
-            Want::Done | Want::Fails(_) | Want::Absent(_)
+            Want::Done(_) | Want::Fails(_) | Want::Absent(_)
         )
     }
 
     /// It does its next act, which needs no entry. Out of memory, it may not be used any more.
-    pub fn act(&mut self) -> Result<(), NoMemory>
+    pub fn act(&mut self, alloc: Global) -> Result<(), NoMemory>
         requires acts { Acts self.old }
         ensures acts { OnOk result ((scenario : Scenario) (seen : List Entry) (held : Holds scenario seen self.old) → HasActed scenario seen self.old held self.new) }
         ensures kept { OnOk result (self.new.kept ≡ self.old.kept) }
         ensures given_at { OnOk result (self.new.given_at ≡ self.old.given_at) }
+        ensures answer { OnOk result (self.new.answer ≡ self.old.answer) }
         ensures less { OnOk result (left_of self.new < left_of self.old) }
         ensures same { OnOk result (self.new.commands ≡ self.old.commands) }
     {
         match self.exec.next() {
-            Want::Open { rel, kind } => self.open(rel, kind),
-            _ => {
-                self.find();
-                Ok(())
-            }
+            Want::Open { rel, kind } => self.open(alloc, rel, kind),
+            _ => self.find(alloc),
         }
     }
 
     // It opens a descriptor.
-    fn open(&mut self, rel: Oid, kind: Kind) -> Result<(), NoMemory>
+    fn open(&mut self, alloc: Global, rel: Oid, kind: Kind) -> Result<(), NoMemory>
         requires acts { Acts self.old }
         requires opens { want_of (plan_at self.old.exec) ≡ Want.Open rel kind }
         ensures acts { OnOk result ((scenario : Scenario) (seen : List Entry) (held : Holds scenario seen self.old) → HasActed scenario seen self.old held self.new) }
         ensures kept { OnOk result (self.new.kept ≡ self.old.kept) }
         ensures given_at { OnOk result (self.new.given_at ≡ self.old.given_at) }
+        ensures answer { OnOk result (self.new.answer ≡ self.old.answer) }
         ensures less { OnOk result (left_of self.new < left_of self.old) }
         ensures same { OnOk result (self.new.commands ≡ self.old.commands) }
     {
         self.opened.push(Opening { rel, kind })?;
-        self.exec.give(&[]);
+        self.exec.give(alloc, &[])?;
         self.read = false;
         Ok(())
     }
 
     // It goes on by rows that are there.
-    fn find(&mut self)
+    fn find(&mut self, alloc: Global) -> Result<(), NoMemory>
         requires acts { Acts self.old }
         requires other { opened_for (want_of (plan_at self.old.exec)) ≡ [] }
-        ensures acts { (scenario : Scenario) (seen : List Entry) (held : Holds scenario seen self.old) → HasActed scenario seen self.old held self.new }
-        ensures kept { self.new.kept ≡ self.old.kept }
-        ensures given_at { self.new.given_at ≡ self.old.given_at }
-        ensures less { left_of self.new < left_of self.old }
-        ensures same { self.new.commands ≡ self.old.commands }
+        ensures acts { OnOk result ((scenario : Scenario) (seen : List Entry) (held : Holds scenario seen self.old) → HasActed scenario seen self.old held self.new) }
+        ensures kept { OnOk result (self.new.kept ≡ self.old.kept) }
+        ensures given_at { OnOk result (self.new.given_at ≡ self.old.given_at) }
+        ensures answer { OnOk result (self.new.answer ≡ self.old.answer) }
+        ensures less { OnOk result (left_of self.new < left_of self.old) }
+        ensures same { OnOk result (self.new.commands ≡ self.old.commands) }
     {
         let want = self.exec.next();
         self.exec
-            .give(rows_for(&want, self.given.as_slice(), &self.kept));
+            .give(alloc, rows_for(&want, self.given.as_slice(), &self.kept))?;
         self.read = false;
+        Ok(())
     }
 
-    /// It passes to its next command. Condition: the running one is finished. Out of memory, it may not be
-    /// used any more.
-    pub fn finish(&mut self, alloc: Global) -> Result<(), NoMemory>
+    /// It works out what its command answers. Condition: the command is to be answered, and isn't yet. Out
+    /// of memory, nothing changes.
+    pub fn answer(&mut self, alloc: Global) -> Result<(), NoMemory>
+        requires answers { Answers self.old }
+        ensures answers { OnOk result (HasAnswered self.old self.new) }
+        ensures less { OnOk result (left_of self.new < left_of self.old) }
+    {
+        self.answer = Some(self.told_text(alloc)?);
+        Ok(())
+    }
+
+    /// It passes to its next command, and gives the line of the one before. Condition: the running one is
+    /// finished and answered. Out of memory, it may not be used any more.
+    pub fn finish(&mut self, alloc: Global) -> Result<Line, NoMemory>
         requires built { All (λ command. runs command ≡ true) self.old.commands }
         requires few { length self.old.commands ≤ 20000 }
         requires finishes { Finishes self.old }
         ensures passes { OnOk result ((scenario : Scenario) (seen : List Entry) (held : Holds scenario seen self.old) → HasPassed scenario seen self.old held self.new) }
         ensures kept { OnOk result (self.new.kept ≡ self.old.kept) }
         ensures given_at { OnOk result (self.new.given_at ≡ self.old.given_at) }
+        ensures answer { OnOk result (self.new.answer ≡ None) }
+        ensures line { IfOk result (λ line. IsLineOf self.old line) }
         ensures less { OnOk result (left_of self.new < left_of self.old) }
         ensures same { OnOk result (self.new.commands ≡ self.old.commands) }
     {
@@ -172,6 +205,9 @@ impl Progress {
         };
         pass(&mut self.blocks, &self.exec, number, command);
         let next = begun(alloc, &self.blocks, self.commands.as_slice(), number)?;
+        let Some(text) = self.answer.take() else {
+            unreachable!()
+        };
         self.finished = number;
         self.exec = next.exec;
         self.blocked = next.blocked;
@@ -179,7 +215,11 @@ impl Progress {
         self.tally = Counts::none();
         self.read = false;
         self.opened = Listed::new(alloc);
-        Ok(())
+        Ok(Line {
+            backend: self.id,
+            command: number,
+            text,
+        })
     }
 }
 
@@ -188,7 +228,7 @@ fn pass(blocks: &mut TxnBlocks, exec: &Exec, number: u32, command: &Command)
     ensures { blocks.new ≡ blocks_passed (plan_at exec.now) number command.now blocks.old }
 {
     match exec.next() {
-        Want::Done => blocks.ended_well(number, command),
+        Want::Done(_) => blocks.ended_well(number, command),
         _ => blocks.fail(),
     }
 }

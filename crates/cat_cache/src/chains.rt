@@ -56,10 +56,7 @@ impl Chains {
         ensures ok { OnOk result (1 ≤ room_at self.new hash) }
     {
         if let Some(chain) = self.chains.get_mut(&hash) {
-            return match chain.reserve() {
-                Ok(()) => Ok(()),
-                Err(error) => Err(error),
-            };
+            return chain.reserve();
         }
         let mut chain = Chain::new(self.alloc);
         chain.reserve()?;

@@ -13,6 +13,12 @@ yes_at test n v slots is = ap (λ t. if t then n ∷ numbers_at test (n + 1) slo
 pub no_at : (test : Version → Bool) (n : ℕ) (v : Version) (slots : List (Option Version)) → test v ≡ false → numbers_at test n (Some v ∷ slots) ≡ numbers_at test (n + 1) slots
 no_at test n v slots is = ap (λ t. if t then n ∷ numbers_at test (n + 1) slots else numbers_at test (n + 1) slots) is
 
+-- each version has a number
+pub numbers_each : (n : ℕ) (slots : List (Option Version)) → length (numbers_at (λ v. true) n slots) ≡ length (versions_in slots)
+numbers_each n [] = refl
+numbers_each n (None ∷ slots) = numbers_each (n + 1) slots
+numbers_each n (Some v ∷ slots) = ap suc (numbers_each (n + 1) slots)
+
 -- the numbers in two lists of slots
 pub numbers_at-append : (test : Version → Bool) (n : ℕ) (xs ys : List (Option Version)) → numbers_at test n (xs ++ ys) ≡ numbers_at test n xs ++ numbers_at test (n + length xs) ys
 numbers_at-append test n [] ys = ap (λ k. numbers_at test k ys) (omega arith)

@@ -14,7 +14,7 @@ use Rattle.catalog_rows.specs.declared.index.Index.{Index}
 use Rattle.catalog_rows.specs.declared.indexes.Indexes.{Indexes}
 use Rattle.catalog_rows.specs.Numbers.{IsAscending}
 use Rattle.catalog_rows.specs.Places.{is_under, key_place, scan_place}
-use Rattle.catalog_rows.specs.Slots.{IsIn, slot_at, version_numbered, versions_in}
+use Rattle.catalog_rows.specs.Slots.{IsIn, slot_at, version_numbered, version_for, passes_at, versions_in}
 use Rattle.catalog_rows.specs.Index.{listed_at, ends_at, is_dead, IsNumbered, IsOnly, IsCurrent, Serves}
 use Rattle.catalog_rows.proofs.Ascending.{all_in, all_more}
 use Rattle.catalog_rows.proofs.SlotLists.{some_more}
@@ -214,6 +214,21 @@ find_first test (x ∷ xs) = by (test x) refl (find_first test xs)
     by : (t : Bool) → test x ≡ t → find test xs ≡ find (λ v. true) (filter test xs) → find test (x ∷ xs) ≡ find (λ v. true) (filter test (x ∷ xs))
     by true is rest = (λ i. cond (is i) (Some x) (find test xs)) ∙ sym (ap (λ t. find (λ v. true) (cond t (x ∷ filter test xs) (filter test xs))) is)
     by false is rest = (λ i. cond (is i) (Some x) (find test xs)) ∙ rest ∙ sym (ap (λ t. find (λ v. true) (cond t (x ∷ filter test xs) (filter test xs))) is)
+
+-- the first listed version that passes a test has the first number at which one passes
+pub first_passing : (test : Version → Bool) (slots : List (Option Version)) (list : List ℕ) → version_for slots (find (passes_at test slots) list) ≡ find test (filter_map (version_numbered slots) list)
+first_passing test slots [] = refl
+first_passing test slots (n ∷ list) = by (version_numbered slots n) refl (first_passing test slots list)
+  where
+    by_test : (v : Version) → version_numbered slots n ≡ Some v → version_for slots (find (passes_at test slots) list) ≡ find test (filter_map (version_numbered slots) list) → (t : Bool)
+        → version_for slots (cond t (Some n) (find (passes_at test slots) list)) ≡ cond t (Some v) (find test (filter_map (version_numbered slots) list))
+    by_test v is rest true = is
+    by_test v is rest false = rest
+
+    by : (o : Option Version) → version_numbered slots n ≡ o → version_for slots (find (passes_at test slots) list) ≡ find test (filter_map (version_numbered slots) list)
+        → version_for slots (cond (option_map_or test o false) (Some n) (find (passes_at test slots) list)) ≡ find test (cons_option o (filter_map (version_numbered slots) list))
+    by None is rest = rest
+    by (Some v) is rest = by_test v is rest (test v)
 
 pub find_served : (committed : List Bool) (slots : List (Option Version)) (place : Place) (list : List ℕ) (test : Version → Bool) → ((v : Version) → test v ≡ true → (is_dead committed v ≡ false) × (is_under place v.row ≡ true)) → Serves committed slots place list
     → find test (filter_map (version_numbered slots) list) ≡ find test (versions_in slots)

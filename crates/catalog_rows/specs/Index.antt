@@ -7,7 +7,7 @@ use Rattle.catalog_rows.specs.Types.{Change, Stamp, Version}
 use Rattle.catalog_rows.specs.Store.{is_ended, has_committed}
 use Rattle.catalog_rows.specs.Places.{same_place, is_under}
 use Rattle.catalog_rows.specs.Numbers.{IsAscending, added, removed}
-use Rattle.catalog_rows.specs.Slots.{IsIn, version_numbered, numbers_at}
+use Rattle.catalog_rows.specs.Slots.{IsIn, version_numbered, passes_at, numbers_at}
 use Rattle.catalog_rows.specs.declared.place.Place.{Place}
 use Rattle.catalog_rows.specs.declared.index.Index.{Index}
 use Rattle.catalog_rows.specs.declared.indexes.Indexes.{Indexes}
@@ -90,7 +90,7 @@ pub record IsIndexed (slots : List (Option Version)) (lists : Lists) : Type 0 wh
 
 -- a change ends the version with a number
 abbrev pub ends_at : List Bool → Stamp → Change → List (Option Version) → ℕ → Bool
-ends_at committed stamp change slots n = option_map_or (is_ended committed stamp change) (version_numbered slots n) false
+ends_at committed stamp change slots n = passes_at (is_ended committed stamp change) slots n
 
 -- what a transaction's changes end it has noted
 abbrev pub AreNoted : List Bool → Stamp → List Change → List (Option Version) → Lists → Type 0

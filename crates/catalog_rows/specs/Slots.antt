@@ -1,5 +1,6 @@
 -- The slots of versions: each number has one, with its version unless an undo took that back.
-use Rattle.std.specs.Prelude.{ℕ, Bool, true, Option, Some, None, List, [], ◌∷◌, ◌++◌, ◌≡◌, ◌+◌, ◌⊎◌, map, slice_index_or, if◌then◌else◌}
+use Rattle.std.specs.Prelude.{ℕ, Bool, true, false, Option, Some, None, List, [], ◌∷◌, ◌++◌, ◌≡◌, ◌+◌, ◌⊎◌, map, slice_index_or, if◌then◌else◌}
+use Rattle.std.specs.Option.{option_map_or}
 use Rattle.std.specs.List.{flat_map}
 use Rattle.catalog_rows.specs.Types.{Change, Stamp, Version}
 use Rattle.catalog_rows.specs.Store.{option_items, new_version, is_ended, end_if, restored}
@@ -16,6 +17,15 @@ slot_at slots j = slice_index_or slots j None
 -- the version with a number: that of the first slot is 1
 abbrev pub version_numbered : List (Option Version) → ℕ → Option Version
 version_numbered slots n = slot_at (None ∷ slots) n
+
+-- the version with a number, if there is a number
+abbrev pub version_for : List (Option Version) → Option ℕ → Option Version
+version_for slots None = None
+version_for slots (Some n) = version_numbered slots n
+
+-- there is a version with a number, and it passes a test
+abbrev pub passes_at : (Version → Bool) → List (Option Version) → ℕ → Bool
+passes_at test slots n = option_map_or test (version_numbered slots n) false
 
 -- all versions, in the order of their slots
 abbrev pub versions_in : List (Option Version) → List Version

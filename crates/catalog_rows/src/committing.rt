@@ -8,7 +8,8 @@ use crate::store::has_committed;
 use base_types::Xid;
 use row_visibility::Version;
 
-// Takes out of the second index what nobody sees any more, now that the transaction is committed.
+// Takes out of the second index what the transaction wrote or ended and nobody sees any more, now that it
+// is committed.
 pub(crate) fn drop_dead(slots: &[Option<Version>], lists: &mut Lists, committed: &[bool], xid: Xid)
     requires indexed { IsIndexed slots.now lists.old }
     requires current { IsCurrent committed.now slots.now lists.old.indexes }
@@ -45,7 +46,7 @@ fn drop_if_dead(slots: &[Option<Version>], indexes: &mut Indexes, number: u64, c
     ensures all { indexes.new.all ≡ indexes.old.all }
 {
     if let Some(version) = version_at(slots, number) {
-        if is_dead(&version, committed) {
+        if is_dead(version, committed) {
             indexes.current.remove_row(&version.row, number);
         }
     }

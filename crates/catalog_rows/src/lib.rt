@@ -19,14 +19,13 @@
 //!
 //! Each version has a number, from 1 in the order of writing. An index (`src/index.rt`) keeps the numbers
 //! by place: that of a row's key, of a relation's or a column's name, or of all rows of one catalog that
-//! belong to a relation. There are two (`src/indexes.rt`). The first has exactly the versions that no undo
+//! belong to a relation or refer to it. There are two (`src/indexes.rt`). The first has exactly the versions that no undo
 //! took back, and [`RowStore::under`] shows its list for a scan. Out of the second a commit takes those
 //! that committed transactions wrote and ended, since nobody sees them any more. So a scan, a look-up, a
 //! test of a name and a change pass over the versions of one place that somebody may see yet or that a
 //! running transaction has replaced, as the server's do by its indexes once dead rows are pruned; a scan
 //! puts each row among those before it, and an undo passes over what its transaction wrote or ended.
-//! A write first adds all its versions, takes them off again where memory is out, and only then
-//! ends others.
+//! A write first adds all its versions, or none where memory is out, and then ends others.
 //!
 //! Different from the server: there are no pages; a commit prunes at once, and what it prunes keeps its
 //! slot; a unique name is tested by [`RowStore::name_clash`], which answers where the unique index of

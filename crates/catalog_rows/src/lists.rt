@@ -110,7 +110,7 @@ fn touch_if_ended(
     ensures same { ends_at committed.now stamp change.now slots.now number ≡ false → touched.new ≡ touched.old }
 {
     match version_at(slots, number) {
-        Some(version) if is_ended(&version, committed, stamp, change) => {
+        Some(version) if is_ended(version, committed, stamp, change) => {
             touch(alloc, touched, stamp.xid, number)
         }
         _ => Ok(()),

@@ -36,7 +36,7 @@ fn first_claimed(
     ensures { result ≡ find (λ v. has_name name.now v.row && does_claim committed.now own v) (filter_map (version_numbered slots.now) list.now) }
 {
     list.iter()
-        .filter_map(|number| version_at(slots, *number))
+        .filter_map(|number| version_at(slots, *number).copied())
         .find(|version| is_named(version, name) && is_claimed(version, committed, own))
 }
 
@@ -51,7 +51,7 @@ fn first_standing(
     ensures { result ≡ find (λ v. has_name name.now v.row && seen_by (counts committed.now own) v) (filter_map (version_numbered slots.now) list.now) }
 {
     list.iter()
-        .filter_map(|number| version_at(slots, *number))
+        .filter_map(|number| version_at(slots, *number).copied())
         .find(|version| is_named(version, name) && is_standing(version, committed, own))
 }
 

@@ -1,4 +1,4 @@
-ghost use Rattle.std.specs.Prelude.{◌≡◌, ◌∷◌, [], None, false, map};
+ghost use Rattle.std.specs.Prelude.{◌≡◌, ◌∷◌, ◌||◌, [], None, false, map};
 ghost use Rattle.catalog_rows.specs.Store.{has_committed as is_committed_in, is_back as goes_back};
 ghost use Rattle.catalog_rows.specs.Index.{IsIndexed, IsCurrent, IsNumbered, IsOnly};
 ghost use Rattle.catalog_rows.specs.Slots.{Settles, slot_back};
@@ -25,6 +25,7 @@ pub(crate) fn undo(
     ensures indexed { IsIndexed slots.new lists.new }
     ensures current { IsCurrent committed.now slots.new lists.new.indexes }
     ensures slots { slots.new ≡ map (slot_back (goes_back xid from)) slots.old }
+    ensures whole { lists.new.indexes.whole ≡ (lists.old.indexes.whole || is_committed_in committed.now xid.0) }
 {
     lists.indexes.whole |= has_committed(xid, committed);
     take_back(

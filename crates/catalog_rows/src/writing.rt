@@ -1,4 +1,6 @@
 ghost use Rattle.std.specs.Prelude.{◌≡◌, ◌<◌, ◌≤◌, ◌+◌, ◌++◌, ◌∷◌, [], ℕ, None, true, false, fold, map, take, length, replicate, vec_len, vec_capacity};
+ghost use Rattle.std.specs.Option.{option_map_or};
+ghost use Rattle.base_types.specs.RowKeys.{key_of, same_key};
 ghost use Rattle.row_visibility.specs.Seen.{seen_by};
 ghost use Rattle.catalog_rows.specs.Store.{counts, is_ended as does_end, ended_key as key_ended, added_row as row_added, end_if, option_items};
 ghost use Rattle.catalog_rows.specs.Index.{ends_at, IsIndexed, IsCurrent, AreNoted};
@@ -101,34 +103,34 @@ fn end_one(
     ensures { Settles (slot_changed (end_if (does_end committed.now stamp change.now) stamp)) (number ∷ []) (None ∷ slots.old) (None ∷ slots.new) }
 {
     if let Some(at) = slot_of(slots, number) {
-        slots[at] = ended(slots[at], committed, stamp, change);
+        end_in(&mut slots[at], committed, stamp, change);
     }
 }
 
-// The version in a slot, ended if the change ends it.
-fn ended(
-    version: Option<Version>,
-    committed: &[bool],
-    stamp: Stamp,
-    change: &Change,
-) -> Option<Version>
-    ensures { result ≡ slot_changed (end_if (does_end committed.now stamp change.now) stamp) version }
+// The same for the version in a slot, if there is one.
+fn end_in(slot: &mut Option<Version>, committed: &[bool], stamp: Stamp, change: &Change)
+    ensures { slot.new ≡ slot_changed (end_if (does_end committed.now stamp change.now) stamp) slot.old }
 {
-    let mut version = version?;
-    if is_ended(&version, committed, stamp, change) {
-        version.ended = Some(stamp);
+    if let Some(version) = slot {
+        if is_ended(version, committed, stamp, change) {
+            version.ended = Some(stamp);
+        }
     }
-    Some(version)
 }
 
 // Whether the change ends the version.
 pub(crate) fn is_ended(version: &Version, committed: &[bool], stamp: Stamp, change: &Change) -> bool
     ensures { result ≡ does_end committed.now stamp change.now version.now }
 {
+    is_standing(version, committed, Some(stamp.xid)) && is_of_row(version, change)
+}
+
+// Whether the version is of the row that a change ends, if it ends one.
+fn is_of_row(version: &Version, change: &Change) -> bool
+    ensures { result ≡ option_map_or (same_key (key_of version.now.row)) (key_ended change.now) false }
+{
     match ended_key(change) {
-        Some(key) => {
-            version.row.key().is(&key) && is_standing(version, committed, Some(stamp.xid))
-        }
+        Some(key) => version.row.key().is(&key),
         None => false,
     }
 }

@@ -7,7 +7,7 @@ use crate::row_texts::rows_of;
 use crate::scripts::{script_of, text_of_command};
 use base_types::{Change, Command, Kind, Listed, Mode, Name, NoMemory, Oid, Placed, Row, Xid};
 use command_answers::{Answer, CommandError, answer_text};
-use ddl_effect::{Draft, EffectRefusal, Exec, Facts, Want, effect};
+use ddl_effect::{Draft, EffectRefusal, Exec, Facts, Told, Want, effect};
 use event_kinds::{Entry, Event, Item};
 use script_text::Script;
 use std::alloc::Global;
@@ -146,23 +146,28 @@ fn has_turns(
     turns: [&'static str; 3],
 ) -> Result<bool, NoMemory> {
     match commands {
-        [placed] => Ok(wants_in_turn(begun(alloc, &placed.command)?, rows, turns)),
+        [placed] => wants_in_turn(alloc, begun(alloc, &placed.command)?, rows, turns),
         _ => Ok(false),
     }
 }
 
-fn wants_in_turn(mut exec: Exec, rows: &[Row], turns: [&'static str; 3]) -> bool {
+fn wants_in_turn(
+    alloc: Global,
+    mut exec: Exec,
+    rows: &[Row],
+    turns: [&'static str; 3],
+) -> Result<bool, NoMemory> {
     let first = wanted(&exec) == turns[0];
-    exec.give(rows);
+    exec.give(alloc, rows)?;
     let second = wanted(&exec) == turns[1];
-    exec.give(rows);
-    first && second && wanted(&exec) == turns[2]
+    exec.give(alloc, rows)?;
+    Ok(first && second && wanted(&exec) == turns[2])
 }
 
 // A command at its beginning, or none where it has no plan.
 fn begun(alloc: Global, command: &Command) -> Result<Exec, NoMemory> {
     if !has_plan(command) {
-        return Ok(Exec::Done);
+        return Ok(Exec::Done(Told::Ok));
     }
     Exec::new(alloc, command)
 }
@@ -170,7 +175,7 @@ fn begun(alloc: Global, command: &Command) -> Result<Exec, NoMemory> {
 // What a command wants next.
 fn wanted(exec: &Exec) -> &'static str {
     match exec.next() {
-        Want::Done => "done",
+        Want::Done(_) => "done",
         Want::Fails(error) => code_of(error),
         Want::Absent(_) => "absent",
         Want::Lookup {

@@ -320,6 +320,20 @@ const READERS_AT_BOTH_ENDS: &[(Call, Answer)] = &[
     (Call::Fetch(4), Answer::Messages(1, 96)),
 ];
 
+// They go back while a reader that is exactly at the wraparound has messages left, and another has read on.
+const A_READER_AT_THE_WRAPAROUND: &[(Call, Answer)] = &[
+    (Call::Start(1), Answer::Done),
+    (Call::Start(2), Answer::Done),
+    (Call::Insert(31), Answer::Idle),
+    (Call::Fetch(1), Answer::Messages(31, 0)),
+    (Call::Fetch(2), Answer::Messages(31, 0)),
+    (Call::Insert(20), Answer::Idle),
+    (Call::Fetch(1), Answer::Messages(20, 31)),
+    (Call::Clean(0), Answer::Cleaned(0, None)),
+    (Call::Number, Answer::Number(20)),
+    (Call::Fetch(2), Answer::Messages(20, 31)),
+];
+
 // The size of the queue and the number of its first message, the last of which is the highest that there may be, and
 // the calls. What each is answered was worked out by hand from the rules of the server.
 const TABLES: &[(u32, u64, &[(Call, Answer)])] = &[
@@ -334,6 +348,7 @@ const TABLES: &[(u32, u64, &[(Call, Answer)])] = &[
     (64, 16_777_213, STOPPED_WHILE_BEHIND),
     (64, 16_777_214, NUMBERS_GO_BACK),
     (64, 16_777_184, READERS_AT_BOTH_ENDS),
+    (64, 16_777_185, A_READER_AT_THE_WRAPAROUND),
 ];
 
 #[test]

@@ -1,39 +1,39 @@
 -- A command that is given what the rows have for its want comes to the same.
-use Rattle.std.proofs.Common.{◌≡◌, ◌<◌, ◌≤◌, ℕ, List, [], refl, ap, arith}
-use Rattle.ddl_effect.specs.Types.{Row, Purpose, CommandError, Altering, Search, Exec}
+use Rattle.std.proofs.Common.{◌≡◌, ◌<◌, ◌≤◌, ℕ, Option, None, List, [], refl, ap, arith}
+use Rattle.ddl_effect.specs.Types.{Row, Purpose, CommandError, Altering, Finding, Exec}
 use Rattle.ddl_effect.specs.declared.altering.Altering.TheVariants as alters
 use Rattle.ddl_effect.specs.declared.exec.Exec.TheVariants as stages
-use Rattle.ddl_effect.specs.declared.search.Search.TheVariants as searches
+use Rattle.ddl_effect.specs.declared.finding.Finding.TheVariants as findings
 use Rattle.ddl_effect.specs.declared.want.Want.TheVariants as wants
-use Rattle.ddl_effect.specs.Plans.{Plan, Done, Fails, Absent, Do, NotBuilt, Lookup, Open, Column, Read, Lock, Write, after_act}
+use Rattle.ddl_effect.specs.Plans.{Plan, Done, Fails, Absent, Do, NotBuilt, Lookup, Open, Search, Read, Lock, Write, after_act, told_rests_on}
 use Rattle.ddl_effect.specs.Effects.{effect_of, given_for}
-use Rattle.ddl_effect.specs.Stages.{want_of, plan_at, plan_again, altering_at, altering_again, name_sought, acts_left, alter_acts_left, search_acts_left}
+use Rattle.ddl_effect.specs.Stages.{want_of, plan_at, plan_again, altering_at, altering_again, name_sought, acts_left, alter_acts_left, find_acts_left}
 
 pub effect_of-after : (rows : Purpose → List Row) (plan : Plan) (given : List Row) → (want_of plan ≡ wants.Write → ⊥) → given ≡ given_for rows (want_of plan)
     → effect_of rows (after_act given plan) ≡ effect_of rows plan
-effect_of-after rows Done given other is = refl
+effect_of-after rows (Done told) given other is = refl
 effect_of-after rows (Fails error) given other is = refl
 effect_of-after rows (Absent name) given other is = refl
 effect_of-after rows NotBuilt given other is = refl
 effect_of-after rows (Do (Write draft) rest) given other is = absurd (other refl)
 effect_of-after rows (Do (Lookup name mode) rest) given other is = ap (λ l. effect_of rows (rest l)) is
 effect_of-after rows (Do (Open rel kind) rest) given other is = ap (λ l. effect_of rows (rest l)) is
-effect_of-after rows (Do (Column rel name) rest) given other is = ap (λ l. effect_of rows (rest l)) is
+effect_of-after rows (Do (Search scan) rest) given other is = ap (λ l. effect_of rows (rest l)) is
 effect_of-after rows (Do (Read scan) rest) given other is = ap (λ l. effect_of rows (rest l)) is
 effect_of-after rows (Do (Lock rel mode) rest) given other is = ap (λ l. effect_of rows (rest l)) is
 
-searches_some : (search : Search) → 0 < search_acts_left search
-searches_some (searches.LockTable name mode) = omega arith
-searches_some search = omega arith
+finds_some : (finding : Finding) → 0 < find_acts_left finding
+finds_some (findings.LockTable name mode) = omega arith
+finds_some finding = omega arith
 
 -- one that hasn't come out has acts left
-pub acts_some : (exec : Exec) → (want_of (plan_at exec) ≡ wants.Done → ⊥) → ((error : CommandError) → want_of (plan_at exec) ≡ wants.Fails error → ⊥) → ((name : List ℕ) → want_of (plan_at exec) ≡ wants.Absent name → ⊥)
+pub acts_some : (exec : Exec) → ((scan : Option Purpose) → want_of (plan_at exec) ≡ wants.Done scan → ⊥) → ((error : CommandError) → want_of (plan_at exec) ≡ wants.Fails error → ⊥) → ((name : List ℕ) → want_of (plan_at exec) ≡ wants.Absent name → ⊥)
     → 0 < acts_left exec
-acts_some stages.Done done fails absent = absurd (done refl)
+acts_some (stages.Done told) done fails absent = absurd (done (told_rests_on told) refl)
 acts_some (stages.Failing error) done fails absent = absurd (fails error refl)
-acts_some (stages.Missing search) done fails absent = absurd (absent (name_sought search) refl)
-acts_some (stages.Finding search) done fails absent = searches_some search
-acts_some (stages.Altering alters.Done) done fails absent = absurd (done refl)
+acts_some (stages.Missing finding) done fails absent = absurd (absent (name_sought finding) refl)
+acts_some (stages.Finding finding) done fails absent = finds_some finding
+acts_some (stages.Altering alters.Done) done fails absent = absurd (done None refl)
 acts_some (stages.Altering (alters.Failing error)) done fails absent = absurd (fails error refl)
 acts_some (stages.Altering (alters.Missing name alteration)) done fails absent = absurd (absent name refl)
 acts_some (stages.Altering stage) done fails absent = omega arith
@@ -44,12 +44,12 @@ alters_few : (altering : Altering) → alter_acts_left altering ≤ 5
 alters_few alters.Done = omega arith
 alters_few stage = omega arith
 
-searches_few : (search : Search) → search_acts_left search ≤ 2
-searches_few (searches.LockTable name mode) = omega arith
-searches_few search = omega arith
+finds_few : (finding : Finding) → find_acts_left finding ≤ 2
+finds_few (findings.LockTable name mode) = omega arith
+finds_few finding = omega arith
 
 pub acts_few : (exec : Exec) → acts_left exec ≤ 5
-acts_few (stages.Finding search) = omega (arith, searches_few search)
+acts_few (stages.Finding finding) = omega (arith, finds_few finding)
 acts_few (stages.Altering altering) = alters_few altering
 acts_few stage = omega arith
 
@@ -71,6 +71,6 @@ alters_again (alters.Finding own alteration) name is = absurd (cc)
 alters_again stage name is = absurd (cc)
 
 pub seeks_again : (exec : Exec) (name : List ℕ) → plan_at exec ≡ Absent name → Seeks name (plan_again exec)
-seeks_again (stages.Missing search) name is = absent_name (name_sought search) name is
+seeks_again (stages.Missing finding) name is = absent_name (name_sought finding) name is
 seeks_again (stages.Altering altering) name is = alters_again altering name is
 seeks_again stage name is = absurd (cc)

@@ -12,6 +12,7 @@ use Rattle.base_types.specs.declared.scan.Purpose.{Purpose}
 use Rattle.base_types.specs.declared.scan.Purpose.TheVariants.{RelName}
 use Rattle.base_types.specs.declared.change.Change.TheVariants.{Insert}
 use Rattle.command_answers.specs.declared.error.CommandError.TheVariants as errors
+use Rattle.ddl_effect.specs.declared.told.Told.TheVariants as tells
 use Rattle.ddl_effect.specs.Plans.{Fails}
 use Rattle.ddl_effect.specs.Effects.{Nothing, Refuses, Unknown, effect_of, effect_at}
 use Rattle.ddl_effect.specs.Commands.{plan_of, new_table}
@@ -45,7 +46,7 @@ pub field_of_index : effect_of (rows_of (Class (oid 16384) (codes "t") Table Non
 field_of_index = refl
 
 -- and an index has it
-pub field_of_its_own : effect_of (rows_of (Class (oid 16384) (codes "i") Index None)) (plan_of [] (commands.Show (codes "i") (Some fields.Of))) ≡ Nothing
+pub field_of_its_own : effect_of (rows_of (Class (oid 16384) (codes "i") Index None)) (plan_of [] (commands.Show (codes "i") (Some fields.Of))) ≡ Nothing (tells.Field (oid 16384) Index fields.Of)
 field_of_its_own = refl
 
 -- no row has the name

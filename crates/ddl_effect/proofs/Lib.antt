@@ -2,5 +2,7 @@ mod Alterations
 pub mod Driven
 mod Examples
 mod HasPlan
+mod Listing
+mod Reading
 mod Repeated
 mod Tables

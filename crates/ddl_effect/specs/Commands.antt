@@ -1,7 +1,7 @@
 -- The plan of each command, one clause a command.
 use Rattle.std.specs.Prelude.{ℕ, ℤ, Bool, true, false, not, Option, Some, None, List, [], ◌∷◌, ◌++◌, ◌+◌, ◌==◌, ◌&&◌, nat_le, nat_lt, int_lt, map, filter, length, pos, negsuc, if◌then◌else◌}
 use Rattle.std.specs.Int.{int_min}
-use Rattle.std.specs.List.{list_any, enumerate_from, find}
+use Rattle.std.specs.List.{list_any, enumerate_from, filter_map, find}
 use Rattle.std.specs.Str.{bytes_eq}
 use Rattle.base_types.specs.declared.dropped.TheConstants.{MOST_COLUMNS}
 use Rattle.base_types.specs.Fields.{has_field}
@@ -10,9 +10,11 @@ use Rattle.base_types.specs.RowKeys.{key_of}
 use Rattle.base_types.specs.declared.scan.Purpose.TheVariants as scans
 use Rattle.base_types.specs.declared.row.Row.TheVariants as rows
 use Rattle.base_types.specs.declared.command.Command.TheVariants as commands
+use Rattle.command_answers.specs.declared.answer.Column.{Column}
 use Rattle.command_answers.specs.declared.error.CommandError.TheVariants as errors
-use Rattle.ddl_effect.specs.Types.{Oid, Mode, AccessShare, ShareUpdateExclusive, AccessExclusive, Kind, Table, Field, ColType, Row, Change, Insert, Replace, Delete, Purpose, Command, NewColumn, Scenario, CommandError, Draft}
-use Rattle.ddl_effect.specs.Plans.{Lookup, Open, Column, Read, Write, Plan, Done, Fails, Absent, Do, NotBuilt}
+use Rattle.ddl_effect.specs.declared.told.Told.TheVariants as tells
+use Rattle.ddl_effect.specs.Types.{Oid, Mode, AccessShare, ShareUpdateExclusive, AccessExclusive, Kind, Table, Field, ColType, Row, Change, Insert, Replace, Delete, Purpose, Command, NewColumn, Scenario, CommandError, Draft, Told}
+use Rattle.ddl_effect.specs.Plans.{Lookup, Open, Search, Read, Write, Plan, Done, Fails, Absent, Do, NotBuilt}
 
 -- the commands of a backend, in order
 abbrev pub commands_of : Scenario → ℕ → List Command
@@ -38,7 +40,7 @@ opening rel kind plan = Do (Open rel kind) (λ given. plan)
 
 -- writes, and is done
 abbrev pub writing : Draft → Plan
-writing draft = Do (Write draft) (λ given. Done)
+writing draft = Do (Write draft) (λ given. Done tells.Ok)
 
 -- the first name that repeats an earlier one
 abbrev pub first_twice : List (List ℕ) → List (List ℕ) → Option (List ℕ)
@@ -70,13 +72,18 @@ new_table name columns = record { changes = table_row name ∷ map new_column (e
 abbrev pub creating : List ℕ → List NewColumn → Plan
 creating name columns = if_passes (nat_le (length columns) MOST_COLUMNS) errors.TooManyColumns (if_no_column (first_twice [] (map (λ c. c.name) columns)) (writing (new_table name columns)))
 
--- `show T`, after its lookup
-abbrev pub showing : Oid → Kind → Plan
-showing rel kind = opening rel kind Done
+-- what is told of a relation: all its fields, or one
+abbrev pub told_fields : Option Field → Oid → Kind → Told
+told_fields None rel kind = tells.Relation rel kind
+told_fields (Some field) rel kind = tells.Field rel kind field
+
+-- `show`, once its lookup found a relation that has what is to be shown
+abbrev pub showing : Option Field → Oid → Kind → Plan
+showing field rel kind = opening rel kind (Done (told_fields field rel kind))
 
 -- `show T FIELD`, after its lookup: the kind has the field
 abbrev pub showing_field : List ℕ → Field → Oid → Kind → Plan
-showing_field name field rel kind = if_passes (has_field kind field) (errors.NoField name field) (opening rel kind Done)
+showing_field name field rel kind = if_passes (has_field kind field) (errors.NoField name field) (showing (Some field) rel kind)
 
 -- the relation is a table
 abbrev pub is_table : Kind → Bool
@@ -85,7 +92,7 @@ is_table kind = false
 
 -- `lock table`, after its lookup, which has locked the relation: it has to be a table
 abbrev pub locking : List ℕ → Oid → Kind → Plan
-locking name rel kind = if_passes (is_table kind) (errors.NotTable name) Done
+locking name rel kind = if_passes (is_table kind) (errors.NotTable name) (Done tells.Ok)
 
 -- an alteration, after its lookup: the relation has to be a table, and its descriptor is opened
 abbrev pub altering : List ℕ → (Oid → Plan) → Oid → Kind → Plan
@@ -101,13 +108,17 @@ abbrev pub column_free : List ℕ → Plan → List Row → Plan
 column_free column plan [] = plan
 column_free column plan (row ∷ more) = Fails (errors.ColumnExists column)
 
+-- searches a catalog cache
+abbrev pub searching : Purpose → (List Row → Plan) → Plan
+searching scan rest = Do (Search scan) rest
+
 -- finds a column by its name
 abbrev pub with_column : Oid → List ℕ → (Row → Plan) → Plan
-with_column rel column rest = Do (Column rel column) (column_there column rest)
+with_column rel column rest = searching (scans.AttName rel column) (column_there column rest)
 
 -- finds that no column has the name
 abbrev pub without_column : Oid → List ℕ → Plan → Plan
-without_column rel column plan = Do (Column rel column) (column_free column plan)
+without_column rel column plan = searching (scans.AttName rel column) (column_free column plan)
 
 -- reads rows of an open descriptor
 abbrev pub reading : Purpose → (List Row → Plan) → Plan
@@ -194,19 +205,53 @@ with_fill fill row = row
 
 -- `set (fillfactor = N)`, by the table's row
 abbrev pub filling : ℕ → List Row → Plan
-filling fill [] = Done
+filling fill [] = Done tells.Ok
 filling fill (row ∷ more) = changing (Replace (with_fill fill row) ∷ [])
 
 -- `set (fillfactor = N)`, once the descriptor is open: 10 to 100
 abbrev pub set_fillfactor : ℕ → Oid → Plan
 set_fillfactor fill rel = if_passes (nat_le 10 fill && nat_le fill 100) (errors.OutOfRange (pos fill)) (reading (scans.Class rel) (filling fill))
 
+-- the column of a row, if it is live
+abbrev pub live_column : Row → Option Column
+live_column (rows.Att rel num own col_type stat true) = Some (record { name = own; col_type = col_type })
+live_column row = None
+
+-- `columns`, by the rows of the table's columns: those that are live
+abbrev pub telling_columns : List Row → Plan
+telling_columns columns = Done (tells.Columns (filter_map live_column columns))
+
+-- `columns`, after its lookup: the relation has to be a table
+abbrev pub listing_columns : List ℕ → Oid → Kind → Plan
+listing_columns name rel kind = if_passes (is_table kind) (errors.NotTable name) (searching (scans.AttList rel) telling_columns)
+
+-- `columns`
+abbrev pub columns_of : List ℕ → Plan
+columns_of name = looking_up name AccessShare (listing_columns name)
+
+-- `column`, by the rows of the column, which has to be there
+abbrev pub telling_column : List ℕ → List Row → Plan
+telling_column column (rows.Att rel num own col_type stat live ∷ more) = Done (tells.Column num col_type)
+telling_column column given = Fails (errors.NoColumn column)
+
+-- `column`, after its lookup: the relation has to be a table
+abbrev pub finding_column : List ℕ → List ℕ → Oid → Kind → Plan
+finding_column name column rel kind = if_passes (is_table kind) (errors.NotTable name) (searching (scans.AttName rel column) (telling_column column))
+
+-- `column`
+abbrev pub column_of : List ℕ → List ℕ → Plan
+column_of name column = looking_up name AccessShare (finding_column name column)
+
+-- `regclass`
+abbrev pub regclass_of : Oid → Plan
+regclass_of oid = searching (scans.RelOid oid) (λ given. Done (tells.Regclass oid))
+
 -- what each command does; `held` are the relations that the session holds open
 abbrev pub plan_of : List Oid → Command → Plan
-plan_of held commands.Begin = Done
-plan_of held commands.Commit = Done
-plan_of held commands.Rollback = Done
-plan_of held (commands.Show name None) = looking_up name AccessShare showing
+plan_of held commands.Begin = Done tells.Ok
+plan_of held commands.Commit = Done tells.Commit
+plan_of held commands.Rollback = Done tells.Ok
+plan_of held (commands.Show name None) = looking_up name AccessShare (showing None)
 plan_of held (commands.Show name (Some field)) = looking_up name AccessShare (showing_field name field)
 plan_of held (commands.LockTable name mode) = looking_up name mode (locking name)
 plan_of held (commands.CreateTable name columns) = creating name columns

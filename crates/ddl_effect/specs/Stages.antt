@@ -1,15 +1,16 @@
 -- The plan that is left at each stage of a command, and what it wants.
-use Rattle.std.specs.Prelude.{ℕ, Bool, true, false, List, [], ◌∷◌, ◌++◌}
+use Rattle.std.specs.Prelude.{ℕ, Bool, true, false, None, List, [], ◌∷◌, ◌++◌}
 use Rattle.base_types.specs.declared.command.Command.TheVariants as commands
 use Rattle.base_types.specs.declared.scan.Purpose.TheVariants as scans
 use Rattle.ddl_effect.specs.declared.alteration.Alteration.TheVariants as alterations
 use Rattle.ddl_effect.specs.declared.altering.Altering.TheVariants as alters
 use Rattle.ddl_effect.specs.declared.exec.Exec.TheVariants as stages
-use Rattle.ddl_effect.specs.declared.search.Search.TheVariants as searches
+use Rattle.ddl_effect.specs.declared.finding.Finding.TheVariants as findings
+use Rattle.ddl_effect.specs.declared.told.Told.TheVariants as tells
 use Rattle.ddl_effect.specs.declared.want.Want.TheVariants as wants
-use Rattle.ddl_effect.specs.Types.{Oid, Kind, Command, Mode, AccessShare, ShareUpdateExclusive, AccessExclusive, Table, Insert, Replace, Alteration, Altering, Search, Exec, Want}
-use Rattle.ddl_effect.specs.Plans.{Act, Lookup, Open, Column, Read, Lock, Write, Plan, Done, Fails, Absent, Do, NotBuilt}
-use Rattle.ddl_effect.specs.Commands.{looking_up, showing, showing_field, locking, opening, writing, altering, with_column, reading, changing, deleting, adding, add_column, dropping, drop_column, renaming, rename_column, targeting, set_statistics, filling, set_fillfactor}
+use Rattle.ddl_effect.specs.Types.{Oid, Kind, Command, Mode, AccessShare, ShareUpdateExclusive, AccessExclusive, Table, Insert, Replace, Alteration, Altering, Finding, Told, Exec, Want}
+use Rattle.ddl_effect.specs.Plans.{Act, Lookup, Open, Search, Read, Lock, Write, Plan, Done, Fails, Absent, Do, NotBuilt, told_rests_on}
+use Rattle.ddl_effect.specs.Commands.{looking_up, showing, showing_field, locking, listing_columns, telling_columns, finding_column, telling_column, regclass_of, searching, opening, writing, altering, with_column, reading, changing, deleting, adding, add_column, dropping, drop_column, renaming, rename_column, targeting, set_statistics, filling, set_fillfactor}
 
 -- the command alters a table
 abbrev pub alters_table : Command → Bool
@@ -36,7 +37,7 @@ altered (alterations.SetFillfactor fill) rel = set_fillfactor fill rel
 
 -- the plan that is left of an alteration
 abbrev pub altering_at : Altering → Plan
-altering_at alters.Done = Done
+altering_at alters.Done = Done tells.Ok
 altering_at (alters.Failing error) = Fails error
 altering_at (alters.Missing name alteration) = Absent name
 altering_at (alters.Finding name alteration) = looking_up name (mode_of alteration) (altering name (altered alteration))
@@ -52,31 +53,37 @@ altering_at (alters.SettingFillfactor rel fill) = reading (scans.Class rel) (fil
 altering_at (alters.Inserting row) = changing (Insert row ∷ [])
 altering_at (alters.Replacing deleted row) = changing (deleting deleted ++ Replace row ∷ [])
 
--- the name that a search looks for
-abbrev pub name_sought : Search → List ℕ
-name_sought (searches.Show name) = name
-name_sought (searches.ShowField name field) = name
-name_sought (searches.LockTable name mode) = name
+-- the name of the relation that a command finds first
+abbrev pub name_sought : Finding → List ℕ
+name_sought (findings.Show name) = name
+name_sought (findings.ShowField name field) = name
+name_sought (findings.LockTable name mode) = name
+name_sought (findings.Columns name) = name
+name_sought (findings.Column name column) = name
 
--- the mode in which a search locks the relation
-abbrev pub mode_sought : Search → Mode
-mode_sought (searches.Show name) = AccessShare
-mode_sought (searches.ShowField name field) = AccessShare
-mode_sought (searches.LockTable name mode) = mode
+-- the mode in which it locks the relation
+abbrev pub mode_sought : Finding → Mode
+mode_sought (findings.LockTable name mode) = mode
+mode_sought finding = AccessShare
 
--- what comes after a search that found a relation
-abbrev pub plan_found : Search → Oid → Kind → Plan
-plan_found (searches.Show name) = showing
-plan_found (searches.ShowField name field) = showing_field name field
-plan_found (searches.LockTable name mode) = locking name
+-- what comes after its lookup, which found a relation
+abbrev pub plan_found : Finding → Oid → Kind → Plan
+plan_found (findings.Show name) = showing None
+plan_found (findings.ShowField name field) = showing_field name field
+plan_found (findings.LockTable name mode) = locking name
+plan_found (findings.Columns name) = listing_columns name
+plan_found (findings.Column name column) = finding_column name column
 
 -- the plan that is left
 abbrev pub plan_at : Exec → Plan
-plan_at stages.Done = Done
+plan_at (stages.Done told) = Done told
 plan_at (stages.Failing error) = Fails error
-plan_at (stages.Missing search) = Absent (name_sought search)
-plan_at (stages.Finding search) = looking_up (name_sought search) (mode_sought search) (plan_found search)
-plan_at (stages.Opening rel kind) = opening rel kind Done
+plan_at (stages.Missing finding) = Absent (name_sought finding)
+plan_at (stages.Finding finding) = looking_up (name_sought finding) (mode_sought finding) (plan_found finding)
+plan_at (stages.Opening rel kind field) = showing field rel kind
+plan_at (stages.ListingColumns rel) = searching (scans.AttList rel) telling_columns
+plan_at (stages.FindingColumn rel column) = searching (scans.AttName rel column) (telling_column column)
+plan_at (stages.FindingOid oid) = regclass_of oid
 plan_at (stages.Writing draft) = writing draft
 plan_at (stages.Altering altering) = altering_at altering
 
@@ -85,9 +92,9 @@ abbrev pub altering_again : Altering → Plan
 altering_again (alters.Missing name alteration) = altering_at (alters.Finding name alteration)
 altering_again altering = altering_at altering
 
--- the plan that is left, where a search that found no relation is made anew
+-- the plan that is left, where a lookup that found no relation is made anew
 abbrev pub plan_again : Exec → Plan
-plan_again (stages.Missing search) = plan_at (stages.Finding search)
+plan_again (stages.Missing finding) = plan_at (stages.Finding finding)
 plan_again (stages.Altering altering) = altering_again altering
 plan_again exec = plan_at exec
 
@@ -95,18 +102,18 @@ plan_again exec = plan_at exec
 abbrev pub want_of_act : Act → Want
 want_of_act (Lookup name mode) = wants.Lookup name mode
 want_of_act (Open rel kind) = wants.Open rel kind
-want_of_act (Column rel name) = wants.Column rel name
+want_of_act (Search scan) = wants.Search scan
 want_of_act (Read scan) = wants.Read scan
 want_of_act (Lock rel mode) = wants.Lock rel mode
 want_of_act (Write draft) = wants.Write
 
 -- what a plan wants next; what isn't built wants nothing
 abbrev pub want_of : Plan → Want
-want_of Done = wants.Done
+want_of (Done told) = wants.Done (told_rests_on told)
 want_of (Fails error) = wants.Fails error
 want_of (Absent name) = wants.Absent name
 want_of (Do act rest) = want_of_act act
-want_of NotBuilt = wants.Done
+want_of NotBuilt = wants.Done None
 
 -- at most so many acts of an alteration are left
 abbrev pub alter_acts_left : Altering → ℕ
@@ -124,15 +131,23 @@ alter_acts_left (alters.Inserting row) = 1
 alter_acts_left (alters.Replacing deleted row) = 1
 alter_acts_left stage = 0
 
--- at most so many acts are left of a command that looks for a relation
-abbrev pub search_acts_left : Search → ℕ
-search_acts_left (searches.LockTable name mode) = 1
-search_acts_left search = 2
+-- what a plan answers that is done
+abbrev pub told_of : Plan → Told
+told_of (Done told) = told
+told_of plan = tells.Ok
+
+-- at most so many acts are left of a command that finds a relation first
+abbrev pub find_acts_left : Finding → ℕ
+find_acts_left (findings.LockTable name mode) = 1
+find_acts_left finding = 2
 
 -- at most so many acts are left
 abbrev pub acts_left : Exec → ℕ
-acts_left (stages.Finding search) = search_acts_left search
-acts_left (stages.Opening rel kind) = 1
+acts_left (stages.Finding finding) = find_acts_left finding
+acts_left (stages.Opening rel kind field) = 1
+acts_left (stages.ListingColumns rel) = 1
+acts_left (stages.FindingColumn rel column) = 1
+acts_left (stages.FindingOid oid) = 1
 acts_left (stages.Writing draft) = 1
 acts_left (stages.Altering altering) = alter_acts_left altering
 acts_left stage = 0

@@ -15,9 +15,10 @@ pub use Rattle.base_types.specs.declared.command.NewColumn.{NewColumn}
 pub use Rattle.base_types.specs.Scenario.{Scenario}
 pub use Rattle.command_answers.specs.declared.error.CommandError.{CommandError}
 pub use Rattle.ddl_effect.specs.declared.draft.Draft.{Draft}
+pub use Rattle.ddl_effect.specs.declared.told.Told.{Told}
 pub use Rattle.ddl_effect.specs.declared.alteration.Alteration.{Alteration}
 pub use Rattle.ddl_effect.specs.declared.altering.Altering.{Altering}
-pub use Rattle.ddl_effect.specs.declared.search.Search.{Search}
+pub use Rattle.ddl_effect.specs.declared.finding.Finding.{Finding}
 pub use Rattle.ddl_effect.specs.declared.exec.Exec.{Exec}
 pub use Rattle.ddl_effect.specs.declared.want.Want.{Want}
 pub use Rattle.ddl_effect.specs.declared.facts.Facts.{Facts}

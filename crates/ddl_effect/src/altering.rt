@@ -100,7 +100,7 @@ impl Altering {
         ensures { result ≡ want_of (altering_at self.now) }
     {
         match self {
-            Altering::Done => Want::Done,
+            Altering::Done => Want::Done(None),
             Altering::Failing(error) => Want::Fails(*error),
             Altering::Missing { name, .. } => Want::Absent(*name),
             Altering::Finding { name, alteration } => Want::Lookup {
@@ -114,14 +114,10 @@ impl Altering {
             Altering::AddingColumn { rel, column, .. }
             | Altering::DroppingColumn { rel, column }
             | Altering::RenamingColumn { rel, column, .. }
-            | Altering::SettingStatistics { rel, column, .. } => Want::Column {
-                rel: *rel,
-                name: *column,
-            },
-            Altering::RenamingTo { rel, to, .. } => Want::Column {
-                rel: *rel,
-                name: *to,
-            },
+            | Altering::SettingStatistics { rel, column, .. } => {
+                Want::Search(Purpose::AttName(*rel, *column))
+            }
+            Altering::RenamingTo { rel, to, .. } => Want::Search(Purpose::AttName(*rel, *to)),
             Altering::NumberingColumn { rel, .. } => Want::Read(Purpose::Attribute(*rel)),
             Altering::DroppingDefault { rel, .. } => Want::Read(Purpose::AttrDef(*rel)),
             Altering::SettingFillfactor { rel, .. } => Want::Read(Purpose::Class(*rel)),

@@ -1,28 +1,44 @@
-ghost use Rattle.std.specs.Prelude.{◌≡◌, ◌<◌, ℕ, List, true, [], IfOk, MatchOption};
-ghost use Rattle.ddl_effect.specs.Plans.{Absent, is_built, after_act};
-ghost use Rattle.ddl_effect.specs.Commands.{plan_of, found as found_rows, writing};
-ghost use Rattle.ddl_effect.specs.Stages.{plan_at, plan_again, plan_found, name_sought, want_of, acts_left};
+ghost use Rattle.std.specs.Prelude.{◌≡◌, ◌<◌, ℕ, List, true, [], IfOk, OnOk, MatchOption};
+ghost use Rattle.std.specs.List.{filter_map};
+ghost use Rattle.ddl_effect.specs.Plans.{Absent, Done, is_built, after_act, told_rests_on};
+ghost use Rattle.ddl_effect.specs.Commands.{plan_of, found as found_rows, live_column as column_live, telling_columns, telling_column, regclass_of, told_fields, writing};
+ghost use Rattle.ddl_effect.specs.Stages.{plan_at, plan_again, plan_found, name_sought, want_of, told_of, acts_left};
 
 use crate::altering::alteration_of;
 use crate::table::create_table;
-use crate::{Altering, Draft, Search, Want};
-use base_types::{Command, Kind, NoMemory, Oid, Row, has_field};
-use command_answers::CommandError;
+use crate::{Altering, Draft, Finding, Told, Want};
+use base_types::{Command, Field, Kind, Listed, Name, NoMemory, Oid, Purpose, Row, has_field};
+use command_answers::{Column, CommandError};
 use std::alloc::Global;
 
 /// How far a command that has a plan is: what is left of it.
 #[derive(Drop)]
 pub enum Exec {
-    /// It has done what it says.
-    Done,
+    /// It has done what it says, and answers this.
+    Done(Told),
     /// It failed.
     Failing(CommandError),
-    /// It failed: this search found no relation.
-    Missing(Search),
+    /// It failed: no relation has the name.
+    Missing(Finding),
     /// It looks for a relation.
-    Finding(Search),
-    /// It opens the relation's descriptor.
-    Opening { rel: Oid, kind: Kind },
+    Finding(Finding),
+    /// `show`: it opens the relation's descriptor, of which it shows all fields or one.
+    Opening {
+        rel: Oid,
+        kind: Kind,
+        field: Option<Field>,
+    },
+    /// `columns`: it looks for the table's columns.
+    ListingColumns {
+        rel: Oid,
+    },
+    /// `column`: it looks for the column.
+    FindingColumn {
+        rel: Oid,
+        column: Name,
+    },
+    /// `regclass`: it looks for the relation of an oid.
+    FindingOid(Oid),
     /// It writes.
     Writing(Draft),
     /// It alters a table.
@@ -57,18 +73,19 @@ impl Exec {
         ensures { IfOk result (λ exec. plan_at exec ≡ plan_of [] command.now) }
     {
         match command {
-            Command::Begin | Command::Commit | Command::Rollback => Ok(Exec::Done),
+            Command::Begin | Command::Rollback => Ok(Exec::Done(Told::Ok)),
+            Command::Commit => Ok(Exec::Done(Told::Commit)),
             Command::Show { name, field: None } => {
-                Ok(Exec::Finding(Search::Show { name: *name }))
+                Ok(Exec::Finding(Finding::Show { name: *name }))
             }
             Command::Show {
                 name,
                 field: Some(field),
-            } => Ok(Exec::Finding(Search::ShowField {
+            } => Ok(Exec::Finding(Finding::ShowField {
                 name: *name,
                 field: *field,
             })),
-            Command::LockTable { name, mode } => Ok(Exec::Finding(Search::LockTable {
+            Command::LockTable { name, mode } => Ok(Exec::Finding(Finding::LockTable {
                 name: *name,
                 mode: *mode,
             })),
@@ -83,47 +100,68 @@ impl Exec {
     }
 
     /// What it wants next.
+    #[inline(always)]
     pub fn next(&self) -> Want
         ensures { result ≡ want_of (plan_at self.now) }
     {
         match self {
-            Exec::Done => Want::Done,
+            Exec::Done(told) => Want::Done(rests_on(told)),
             Exec::Failing(error) => Want::Fails(*error),
-            Exec::Missing(search) => Want::Absent(search.name()),
-            Exec::Finding(search) => Want::Lookup {
-                name: search.name(),
-                mode: search.mode(),
+            Exec::Missing(finding) => Want::Absent(finding.name()),
+            Exec::Finding(finding) => Want::Lookup {
+                name: finding.name(),
+                mode: finding.mode(),
             },
-            Exec::Opening { rel, kind } => Want::Open {
+            Exec::Opening { rel, kind, .. } => Want::Open {
                 rel: *rel,
                 kind: *kind,
             },
+            Exec::ListingColumns { rel } => Want::Search(Purpose::AttList(*rel)),
+            Exec::FindingColumn { rel, column } => Want::Search(Purpose::AttName(*rel, *column)),
+            Exec::FindingOid(oid) => Want::Search(Purpose::RelOid(*oid)),
             Exec::Writing(_) => Want::Write,
             Exec::Altering(altering) => altering.next(),
         }
     }
 
-    /// What it wanted was done, and gave these rows: those of the scan on which the act rests.
-    pub fn give(&mut self, rows: &[Row])
-        ensures plan { plan_at self.new ≡ after_act rows.now (plan_at self.old) }
-        ensures less { 0 < acts_left self.old → acts_left self.new < acts_left self.old }
-        ensures again { (name : List ℕ) → 0 < acts_left self.old → plan_at self.new ≡ Absent name → plan_again self.new ≡ plan_at self.old }
+    /// What it answers, where it has done what it says and there is more to tell than that.
+    pub fn told(&self) -> Option<&Told>
+        ensures { MatchOption result (told_of (plan_at self.now) ≡ Told.Ok) (λ told. told_of (plan_at self.now) ≡ told.now) }
     {
-        let next = match self {
-            Exec::Finding(search) => found(*search, rows),
-            Exec::Opening { .. } | Exec::Writing(_) => Exec::Done,
-            Exec::Altering(altering) => Exec::Altering(altering.after(rows)),
-            Exec::Done | Exec::Failing(_) | Exec::Missing(_) => return,
-        };
-        *self = next;
+        match self {
+            Exec::Done(told) => Some(told),
+            _ => None,
+        }
     }
 
-    /// Where its search found no relation, it makes that anew; any other command stays as it is.
+    /// What it wanted was done, and gave these rows: those of the scan on which the act rests. Out of
+    /// memory, it may not be used any more.
+    pub fn give(&mut self, alloc: Global, rows: &[Row]) -> Result<(), NoMemory>
+        ensures plan { OnOk result (plan_at self.new ≡ after_act rows.now (plan_at self.old)) }
+        ensures less { OnOk result (0 < acts_left self.old → acts_left self.new < acts_left self.old) }
+        ensures oid { OnOk result ((oid : Oid) → 0 < acts_left self.old → plan_at self.new ≡ Done (Told.Regclass oid) → plan_at self.old ≡ regclass_of oid) }
+        ensures again { OnOk result ((name : List ℕ) → 0 < acts_left self.old → plan_at self.new ≡ Absent name → plan_again self.new ≡ plan_at self.old) }
+    {
+        let next = match self {
+            Exec::Finding(finding) => found(*finding, rows),
+            Exec::Opening { rel, kind, field } => Exec::Done(shown(*field, *rel, *kind)),
+            Exec::ListingColumns { .. } => Exec::Done(Told::Columns(live_columns(alloc, rows)?)),
+            Exec::FindingColumn { column, .. } => found_column(*column, rows),
+            Exec::FindingOid(oid) => Exec::Done(Told::Regclass(*oid)),
+            Exec::Writing(_) => Exec::Done(Told::Ok),
+            Exec::Altering(altering) => Exec::Altering(altering.after(rows)),
+            Exec::Done(_) | Exec::Failing(_) | Exec::Missing(_) => return Ok(()),
+        };
+        *self = next;
+        Ok(())
+    }
+
+    /// Where its lookup found no relation, it makes that anew; any other command stays as it is.
     pub fn search_again(&mut self)
         ensures { plan_at self.new ≡ plan_again self.old }
     {
         match self {
-            Exec::Missing(search) => *self = Exec::Finding(*search),
+            Exec::Missing(finding) => *self = Exec::Finding(*finding),
             Exec::Altering(altering) => *self = Exec::Altering(altering.again()),
             _ => {}
         }
@@ -142,35 +180,120 @@ impl Exec {
     }
 }
 
-// After a search.
-fn found(search: Search, rows: &[Row]) -> Exec
-    ensures plan { plan_at result ≡ found_rows (name_sought search) (plan_found search) rows.now }
-    ensures left { acts_left result < acts_left (Exec.Finding search) }
-    ensures again { (name : List ℕ) → plan_at result ≡ Absent name → plan_again result ≡ plan_at (Exec.Finding search) }
+// After the lookup.
+fn found(finding: Finding, rows: &[Row]) -> Exec
+    ensures plan { plan_at result ≡ found_rows (name_sought finding) (plan_found finding) rows.now }
+    ensures left { acts_left result < acts_left (Exec.Finding finding) }
+    ensures again { (name : List ℕ) → plan_at result ≡ Absent name → plan_again result ≡ plan_at (Exec.Finding finding) }
+    ensures named { (oid : Oid) → plan_at result ≡ Done (Told.Regclass oid) → ⊥ }
 {
     match rows.first() {
-        Some(Row::Class { oid, kind, .. }) => goes_on(search, *oid, *kind),
-        _ => Exec::Missing(search),
+        Some(Row::Class { oid, kind, .. }) => goes_on(finding, *oid, *kind),
+        _ => Exec::Missing(finding),
     }
 }
 
-// A search that found this relation.
-fn goes_on(search: Search, rel: Oid, kind: Kind) -> Exec
-    ensures plan { plan_at result ≡ plan_found search rel kind }
-    ensures left { acts_left result < acts_left (Exec.Finding search) }
+// A lookup that found this relation.
+fn goes_on(finding: Finding, rel: Oid, kind: Kind) -> Exec
+    ensures plan { plan_at result ≡ plan_found finding rel kind }
+    ensures left { acts_left result < acts_left (Exec.Finding finding) }
     ensures there { (name : List ℕ) → plan_at result ≡ Absent name → ⊥ }
+    ensures named { (oid : Oid) → plan_at result ≡ Done (Told.Regclass oid) → ⊥ }
 {
-    match search {
-        Search::Show { .. } => Exec::Opening { rel, kind },
-        Search::ShowField { name, field } => {
+    match finding {
+        Finding::Show { .. } => Exec::Opening {
+            rel,
+            kind,
+            field: None,
+        },
+        Finding::ShowField { name, field } => {
             if !has_field(kind, field) {
                 return Exec::Failing(CommandError::NoField { name, field });
             }
-            Exec::Opening { rel, kind }
+            Exec::Opening {
+                rel,
+                kind,
+                field: Some(field),
+            }
         }
-        Search::LockTable { name, .. } => match kind {
-            Kind::Table => Exec::Done,
+        Finding::LockTable { name, .. } => match kind {
+            Kind::Table => Exec::Done(Told::Ok),
             Kind::Index => Exec::Failing(CommandError::NotTable { name }),
         },
+        Finding::Columns { name } => match kind {
+            Kind::Table => Exec::ListingColumns { rel },
+            Kind::Index => Exec::Failing(CommandError::NotTable { name }),
+        },
+        Finding::Column { name, column } => match kind {
+            Kind::Table => Exec::FindingColumn { rel, column },
+            Kind::Index => Exec::Failing(CommandError::NotTable { name }),
+        },
+    }
+}
+
+// The scan on which an answer rests, if on any.
+fn rests_on(told: &Told) -> Option<Purpose>
+    ensures { result ≡ told_rests_on told.now }
+{
+    match told {
+        Told::Regclass(oid) => Some(Purpose::RelOid(*oid)),
+        _ => None,
+    }
+}
+
+// What is told of a relation that is shown.
+fn shown(field: Option<Field>, rel: Oid, kind: Kind) -> Told
+    ensures { result ≡ told_fields field rel kind }
+{
+    match field {
+        None => Told::Relation { rel, kind },
+        Some(field) => Told::Field { rel, kind, field },
+    }
+}
+
+// The live columns of a table, by the rows of its columns.
+fn live_columns(alloc: Global, rows: &[Row]) -> Result<Listed<Column>, NoMemory>
+    ensures { IfOk result (λ columns. columns ≡ filter_map column_live rows.now) }
+{
+    let mut columns = Listed::new(alloc);
+    for row in rows {
+        if let Some(column) = live_column(row) {
+            columns.push(column)?;
+        }
+    }
+    Ok(columns)
+}
+
+// The column of a row, if it is live.
+fn live_column(row: &Row) -> Option<Column>
+    ensures { result ≡ column_live row.now }
+{
+    match row {
+        Row::Att {
+            name,
+            col_type,
+            live: true,
+            ..
+        } => Some(Column {
+            name: *name,
+            col_type: *col_type,
+        }),
+        _ => None,
+    }
+}
+
+// `column`, by the rows of the column.
+fn found_column(column: Name, rows: &[Row]) -> Exec
+    ensures plan { plan_at result ≡ telling_column column rows.now }
+    ensures left { acts_left result ≡ 0 }
+    ensures there { (name : List ℕ) → plan_at result ≡ Absent name → ⊥ }
+    ensures named { (oid : Oid) → plan_at result ≡ Done (Told.Regclass oid) → ⊥ }
+{
+    match rows.first() {
+        Some(Row::Att { num, col_type, .. }) => Exec::Done(Told::Column {
+            num: *num,
+            col_type: *col_type,
+        }),
+        _ => Exec::Failing(CommandError::NoColumn { name: column }),
     }
 }

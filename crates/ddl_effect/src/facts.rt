@@ -38,7 +38,7 @@ pub fn effect(alloc: Global, command: &Command, facts: &Facts) -> Result<Draft, 
     };
     'acts: loop {
         match exec.next() {
-            Want::Done => return Ok(no_draft(alloc)),
+            Want::Done(_) => return Ok(no_draft(alloc)),
             Want::Fails(error) => return Err(EffectRefusal::Cause(error)),
             Want::Absent(name) => return Err(EffectRefusal::Absent(name)),
             Want::Write => {
@@ -51,7 +51,9 @@ pub fn effect(alloc: Global, command: &Command, facts: &Facts) -> Result<Draft, 
                 let Ok(rows) = rows_for(alloc, &want, facts.rows.as_slice()) else {
                     return Err(EffectRefusal::NoMemory);
                 };
-                exec.give(&rows);
+                let Ok(()) = exec.give(alloc, &rows) else {
+                    return Err(EffectRefusal::NoMemory);
+                };
             }
         }
     }
@@ -74,8 +76,7 @@ fn rows_for(alloc: Global, want: &Want, rows: &[Row]) -> Result<Vec<Row>, NoMemo
 {
     match want {
         Want::Lookup { name, .. } => scan_rows(alloc, &Purpose::RelName(*name), rows),
-        Want::Column { rel, name } => scan_rows(alloc, &Purpose::AttName(*rel, *name), rows),
-        Want::Read(scan) => scan_rows(alloc, scan, rows),
+        Want::Search(scan) | Want::Read(scan) => scan_rows(alloc, scan, rows),
         _ => Ok(Vec::new(alloc)),
     }
 }

@@ -1,10 +1,10 @@
 //! What a command does: its plan.
 //!
-//! A command finds a relation by its name and locks it, opens the relation's descriptor, looks at
-//! columns, takes further locks, and writes catalog rows (`src/backend/commands/tablecmds.c`). Each
+//! A command finds a relation by its name and locks it, opens the relation's descriptor, searches
+//! catalog caches, takes further locks, and writes catalog rows (`src/backend/commands/tablecmds.c`). Each
 //! of these is an act, and what comes after an act depends on the rows that it gave and on nothing
-//! else. So a command is a plan: it is done, or it fails, or it does an act and goes on by the rows
-//! that the act gave. There is one clause of a plan for each command (`specs/Commands.antt`), and all
+//! else. So a command is a plan: it is done, with what it answers, or it fails, or it does an act and
+//! goes on by the rows that the act gave. There is one clause of a plan for each command (`specs/Commands.antt`), and all
 //! that is said of commands elsewhere is said of plans.
 //!
 //! An [`Exec`] is how far a command is: the plan that is left of it. The program runs a command where
@@ -17,8 +17,9 @@ mod altering;
 mod draft;
 mod exec;
 mod facts;
-mod search;
+mod finding;
 mod table;
+mod told;
 mod want;
 
 pub use alteration::Alteration;
@@ -26,5 +27,6 @@ pub use altering::Altering;
 pub use draft::Draft;
 pub use exec::Exec;
 pub use facts::{EffectRefusal, Facts, effect};
-pub use search::Search;
+pub use finding::Finding;
+pub use told::Told;
 pub use want::Want;

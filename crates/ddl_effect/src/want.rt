@@ -4,8 +4,9 @@ use command_answers::CommandError;
 /// What a command wants next.
 #[derive(Clone, Copy)]
 pub enum Want {
-    /// Nothing: it has done what it says.
-    Done,
+    /// Nothing: it has done what it says, and answers what [`crate::Exec::told`] says. That rests on this
+    /// scan, if on any.
+    Done(Option<Purpose>),
     /// Nothing: it failed.
     Fails(CommandError),
     /// Nothing: it failed, since no relation has the name.
@@ -14,8 +15,8 @@ pub enum Want {
     Lookup { name: Name, mode: Mode },
     /// The descriptor of this relation.
     Open { rel: Oid, kind: Kind },
-    /// The column of this name; given are the rows of its scan by name.
-    Column { rel: Oid, name: Name },
+    /// What a catalog cache has for this scan; given are its rows.
+    Search(Purpose),
     /// The rows that an open descriptor has of this scan.
     Read(Purpose),
     /// A lock on a further relation.

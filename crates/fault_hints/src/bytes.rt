@@ -4,27 +4,17 @@ use std::fmt::Write;
 
 // Which byte of a line is none that a line of a script may have, from 1; `None` where all may be there.
 pub(crate) fn byte_hint(alloc: Global, line: &[u8]) -> Result<Option<String>, NoMemory> {
-    let rest = from_bad(line);
-    let [byte, ..] = rest else {
+    let Some(at) = line.iter().position(|byte| !is_good(*byte)) else {
         return Ok(None);
     };
-    let byte = *byte;
-    let column = line.len().saturating_sub(rest.len()).saturating_add(1);
+    let rest = line.get(at..).unwrap_or(&[]);
+    let byte = rest.first().copied().unwrap_or(0);
+    let column = at.saturating_add(1);
     let mut text = String::from_str(alloc, "BadByte: ")?;
     write!(text, "the byte 0x{byte:02X} in column {column}")?;
     push_what(&mut text, byte, rest)?;
     text.push_str(" is neither printable ASCII nor a tab")?;
     Ok(Some(text))
-}
-
-// A line from the first byte that it may not have; empty where it has none.
-fn from_bad(line: &[u8]) -> &[u8] {
-    for (at, byte) in line.iter().enumerate() {
-        if !is_good(*byte) {
-            return line.get(at..).unwrap_or(&[]);
-        }
-    }
-    &[]
 }
 
 fn is_good(byte: u8) -> bool {
@@ -45,29 +35,22 @@ fn push_what(text: &mut String, byte: u8, rest: &[u8]) -> Result<(), NoMemory> {
 
 // The character of two to four bytes that a text begins with.
 fn code_point(text: &[u8]) -> Option<u32> {
-    let [first, rest @ ..] = text else {
-        return None;
-    };
-    let (count, high) = match *first {
-        0xC2..=0xDF => (1, *first & 0x1F),
-        0xE0..=0xEF => (2, *first & 0x0F),
-        0xF0..=0xF4 => (3, *first & 0x07),
+    let first = *text.first()?;
+    let (count, high) = match first {
+        0xC2..=0xDF => (1, first & 0x1F),
+        0xE0..=0xEF => (2, first & 0x0F),
+        0xF0..=0xF4 => (3, first & 0x07),
         _ => return None,
     };
-    match rest.get(..count) {
-        Some(rest) => code_of(high, rest),
-        None => None,
-    }
-}
-
-// The code of the high bits, and of the low bits of the other bytes.
-fn code_of(high: u8, rest: &[u8]) -> Option<u32> {
-    let mut code = high as u32;
-    for byte in rest {
-        if *byte & 0xC0 != 0x80 {
-            return None;
+    let mut code = u32::from(high);
+    for at in 1..4 {
+        if at <= count {
+            let byte = *text.get(at)?;
+            if byte & 0xC0 != 0x80 {
+                return None;
+            }
+            code = code.wrapping_mul(64) | u32::from(byte & 0x3F);
         }
-        code = code.wrapping_mul(64) | (*byte & 0x3F) as u32;
     }
     Some(code)
 }

@@ -1,7 +1,7 @@
-use crate::following::{is_wanted, most_taken, wanted_after};
+use crate::following::{most_taken, wanted_after};
 use crate::lines::{command_of, push_ascii, push_quoted};
 use crate::near::is_near;
-use crate::symbols::{FIELDS, Symbol, TYPES, are_digits};
+use crate::symbols::{FIELDS, Symbol, TYPES};
 use crate::tokens::{Span, is, text_at, tokens_of};
 use base_types::{Name, NameFault, NoMemory};
 use std::alloc::Global;
@@ -18,7 +18,7 @@ pub(crate) fn command_hint(alloc: Global, line: &[u8]) -> Result<Option<String>,
     let spans = without_semicolon(command, &spans);
     let count = most_taken(&small, spans);
     let wanted = wanted_after(alloc, &small, spans, count)?;
-    if count >= spans.len() && is_wanted(&wanted, Symbol::End) {
+    if count >= spans.len() && wanted.iter().any(|symbol| matches!(symbol, Symbol::End)) {
         return Ok(None);
     }
     let mut text = String::from_str(alloc, "BadCommand: ")?;
@@ -58,7 +58,11 @@ fn push_before(
         return Ok(());
     };
     let least = last.end.saturating_sub(MOST_SHOWN);
-    let start = start_from(taken, least).unwrap_or(last.start);
+    let start = taken
+        .iter()
+        .map(|span| span.start)
+        .find(|start| *start >= least)
+        .unwrap_or(last.start);
     text.push_str("after \"")?;
     if start > first.start {
         text.push_str(".. ")?;
@@ -75,16 +79,6 @@ fn push_before(
     )?;
     text.push_str("\" comes ")?;
     Ok(())
-}
-
-// Where the first token that begins at this place, or after it, begins.
-fn start_from(spans: &[Span], least: usize) -> Option<usize> {
-    for span in spans {
-        if span.start >= least {
-            return Some(span.start);
-        }
-    }
-    None
 }
 
 fn push_wanted(text: &mut String, wanted: &[Symbol]) -> Result<(), NoMemory> {
@@ -128,9 +122,9 @@ fn push_help(text: &mut String, found: &[u8], wanted: &[Symbol]) -> Result<(), N
     } else if let Some(why) = why_unknown(found, wanted) {
         text.push_str(why)?;
     } else if is_wanted(wanted, Symbol::Type) {
-        push_words(text, "types", TYPES)?;
+        push_words(text, "types", &TYPES)?;
     } else if is_wanted(wanted, Symbol::Field) && Name::new(found).is_ok() {
-        push_words(text, "fields", FIELDS)?;
+        push_words(text, "fields", &FIELDS)?;
     } else if let Some(why) = why_not(found, wanted) {
         text.push_str(why)?;
     }
@@ -149,13 +143,17 @@ fn push_words(text: &mut String, what: &str, words: &[&'static str]) -> Result<(
     Ok(())
 }
 
+fn is_wanted(wanted: &[Symbol], symbol: Symbol) -> bool {
+    wanted.iter().any(|other| other.is_same(symbol))
+}
+
 // The first of the words that could stand there that is near.
 fn near_word(found: &[u8], wanted: &[Symbol]) -> Option<&'static str> {
     for symbol in wanted {
         let near = match symbol {
             Symbol::Word(word) => first_near(found, &[*word]),
-            Symbol::Type => first_near(found, TYPES),
-            Symbol::Field => first_near(found, FIELDS),
+            Symbol::Type => first_near(found, &TYPES),
+            Symbol::Field => first_near(found, &FIELDS),
             _ => None,
         };
         if near.is_some() {
@@ -196,7 +194,7 @@ fn why_not(found: &[u8], wanted: &[Symbol]) -> Option<&'static str> {
     if is_wanted(wanted, Symbol::Name) {
         return match Name::new(found) {
             Err(NameFault::TooLong) => Some(" (a name has at most 63 bytes)"),
-            Err(NameFault::BadByte { at: 0 }) if matches!(found, [b'0'..=b'9', ..]) => {
+            Err(NameFault::BadByte { at: 0 }) if found.first().is_some_and(u8::is_ascii_digit) => {
                 Some(" (a name doesn't begin with a digit)")
             }
             Err(NameFault::BadByte { .. }) if !is_mark(found) => Some(
@@ -208,7 +206,8 @@ fn why_not(found: &[u8], wanted: &[Symbol]) -> Option<&'static str> {
     if is_wanted(wanted, Symbol::Target) && !found.is_empty() {
         return Some(" (a statistics target is from -1 to 10000, and has at most nine digits)");
     }
-    if is_wanted(wanted, Symbol::Number) && are_digits(found) && found.len() > 9 {
+    let is_number = found.iter().all(|byte| byte.is_ascii_digit());
+    if is_wanted(wanted, Symbol::Number) && is_number && found.len() > 9 {
         return Some(" (a number has at most nine digits)");
     }
     None

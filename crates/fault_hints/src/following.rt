@@ -14,11 +14,8 @@ struct Reach {
 // By how many tokens the line follows the form that goes furthest.
 pub(crate) fn most_taken(line: &[u8], spans: &[Span]) -> usize {
     let mut most = 0;
-    for &form in FORMS {
-        let count = reach_of(form, line, spans).count;
-        if count > most {
-            most = count;
-        }
+    for form in FORMS {
+        most = most.max(reach_of(form, line, spans).count);
     }
     most
 }
@@ -31,7 +28,7 @@ pub(crate) fn wanted_after(
     count: usize,
 ) -> Result<Vec<Symbol>, NoMemory> {
     let mut wanted = Vec::new(alloc);
-    for &form in FORMS {
+    for form in FORMS {
         let reach = reach_of(form, line, spans);
         if reach.count == count {
             put(&mut wanted, symbol_at(form, reach.at))?;
@@ -45,20 +42,10 @@ pub(crate) fn wanted_after(
 
 // Puts a symbol to the end, unless one that is called so is there.
 fn put(wanted: &mut Vec<Symbol>, symbol: Symbol) -> Result<(), NoMemory> {
-    if !is_wanted(wanted, symbol) {
+    if !wanted.iter().any(|other| other.is_same(symbol)) {
         wanted.push(symbol)?;
     }
     Ok(())
-}
-
-// Whether a symbol that is called so is among these.
-pub(crate) fn is_wanted(wanted: &[Symbol], symbol: Symbol) -> bool {
-    for other in wanted {
-        if other.is_same(symbol) {
-            return true;
-        }
-    }
-    false
 }
 
 fn reach_of(form: &'static str, line: &[u8], spans: &[Span]) -> Reach {
@@ -84,8 +71,7 @@ fn place_after(form: &'static str, at: usize, token: &[u8]) -> Option<usize> {
         Symbol::More(back) if is(token, ",") => Some(at.saturating_sub(back)),
         Symbol::Rest if is(token, ")") => Some(next.saturating_add(1)),
         Symbol::Rest => Some(at),
-        symbol if symbol.takes(token) => Some(next),
-        _ => None,
+        symbol => symbol.takes(token).then_some(next),
     }
 }
 

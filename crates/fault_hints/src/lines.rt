@@ -28,12 +28,10 @@ pub(crate) fn counts(line: &[u8]) -> bool {
 
 // The text of a command's line after its colon.
 pub(crate) fn command_of(line: &[u8]) -> &[u8] {
-    for (at, byte) in line.iter().enumerate() {
-        if *byte == b':' {
-            return line.get(at.saturating_add(1)..).unwrap_or(&[]);
-        }
+    match line.iter().position(|byte| *byte == b':') {
+        Some(colon) => line.get(colon.saturating_add(1)..).unwrap_or(&[]),
+        None => &[],
     }
-    &[]
 }
 
 // Puts ASCII text to the end.

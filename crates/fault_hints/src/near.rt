@@ -21,39 +21,25 @@ fn is_one_slip(found: &[u8], word: &[u8]) -> bool {
 // How many bytes both begin with.
 fn common_front(a: &[u8], b: &[u8]) -> usize {
     let mut count: usize = 0;
-    for byte in a {
-        if !begins_with(after(b, count), *byte) {
+    for (x, y) in a.iter().zip(b.iter()) {
+        if x != y {
             return count;
         }
         count = count.saturating_add(1);
     }
     count
-}
-
-fn begins_with(text: &[u8], byte: u8) -> bool {
-    match text {
-        [first, ..] => *first == byte,
-        [] => false,
-    }
 }
 
 // How many bytes both end with.
 fn common_back(a: &[u8], b: &[u8]) -> usize {
     let mut count: usize = 0;
-    for _ in a {
-        if !end_alike(before(a, count), before(b, count)) {
+    for (x, y) in a.iter().rev().zip(b.iter().rev()) {
+        if x != y {
             return count;
         }
         count = count.saturating_add(1);
     }
     count
-}
-
-fn end_alike(a: &[u8], b: &[u8]) -> bool {
-    match (a, b) {
-        ([.., x], [.., y]) => *x == *y,
-        _ => false,
-    }
 }
 
 fn after(text: &[u8], count: usize) -> &[u8] {

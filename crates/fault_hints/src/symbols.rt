@@ -25,7 +25,7 @@ pub(crate) enum Symbol {
 }
 
 // The words for types, and those for fields.
-pub(crate) const TYPES: &[&str] = &[
+pub(crate) const TYPES: [&str; 13] = [
     "bool",
     "boolean",
     "int2",
@@ -41,7 +41,7 @@ pub(crate) const TYPES: &[&str] = &[
     "timestamptz",
 ];
 
-pub(crate) const FIELDS: &[&str] = &[
+pub(crate) const FIELDS: [&str; 11] = [
     "name",
     "columns",
     "defaults",
@@ -78,8 +78,8 @@ impl Symbol {
         match self {
             Symbol::Word(word) => is(token, word),
             Symbol::Name => Name::new(token).is_ok(),
-            Symbol::Type => is_among(token, TYPES),
-            Symbol::Field => is_among(token, FIELDS),
+            Symbol::Type => is_among(token, &TYPES),
+            Symbol::Field => is_among(token, &FIELDS),
             Symbol::Number => is_number(token),
             Symbol::Target => is_number(token.strip_prefix(b"-").unwrap_or(token)),
             Symbol::Value => Word::new(token).is_ok(),
@@ -118,25 +118,10 @@ impl Symbol {
 }
 
 fn is_among(token: &[u8], words: &[&'static str]) -> bool {
-    for word in words {
-        if is(token, word) {
-            return true;
-        }
-    }
-    false
+    words.iter().any(|word| is(token, word))
 }
 
 // At most nine digits.
 fn is_number(token: &[u8]) -> bool {
-    !token.is_empty() && token.len() <= 9 && are_digits(token)
-}
-
-// Whether all bytes are digits.
-pub(crate) fn are_digits(text: &[u8]) -> bool {
-    for byte in text {
-        if !matches!(*byte, b'0'..=b'9') {
-            return false;
-        }
-    }
-    true
+    !token.is_empty() && token.len() <= 9 && token.iter().all(|byte| byte.is_ascii_digit())
 }

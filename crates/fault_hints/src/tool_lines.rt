@@ -6,8 +6,8 @@ use std::alloc::Global;
 pub(crate) fn steps_hint(alloc: Global, line: &[u8]) -> Result<Option<String>, NoMemory> {
     let mut small = line.to_vec(alloc)?;
     small.make_ascii_lowercase();
-    for span in tokens_of(alloc, &small)?.iter() {
-        if is(text_at(&small, *span), "to") {
+    for span in tokens_of(alloc, &small)? {
+        if is(text_at(&small, span), "to") {
             return said(
                 alloc,
                 "BadSteps: 'B to ..' is read by the tools alone: tools/schedule < SCRIPT | ./catsync walk",

@@ -29,23 +29,19 @@ pub fn unbuilt_command(alloc: Global, text: &[u8]) -> Result<Option<String>, NoM
 
 // How many commands stand before the first that isn't built.
 fn first_unbuilt(script: &Script) -> Option<usize> {
-    for (at, placed) in script.commands().iter().enumerate() {
-        if !is_built_command(&placed.command) {
-            return Some(at);
-        }
-    }
-    None
+    script
+        .commands()
+        .iter()
+        .position(|placed| !is_built_command(&placed.command))
 }
 
 // The line and the words of the command after so many others.
 fn named(alloc: Global, text: &[u8], before: usize) -> Result<Option<String>, NoMemory> {
     let mut commands: usize = 0;
-    let mut number: usize = 0;
-    for line in text.split_inclusive(|byte| *byte == b'\n') {
-        number = number.saturating_add(1);
+    for (at, line) in text.split_inclusive(|byte| *byte == b'\n').enumerate() {
         if is_command(bare(line)) {
             if commands == before {
-                return Ok(Some(line_named(alloc, number, bare(line))?));
+                return Ok(Some(line_named(alloc, at.saturating_add(1), bare(line))?));
             }
             commands = commands.saturating_add(1);
         }

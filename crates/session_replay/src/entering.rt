@@ -14,7 +14,7 @@ use crate::writes::{drawn_by, messages_of_write, rows_of};
 use base_types::{Command, Listed, Mode, Oid, Purpose, Xid};
 use cacheless::Progress;
 use ddl_effect::Want;
-use event_kinds::{Entry, Event, Item};
+use event_kinds::{Entry, Event, Item, Line};
 use inval_messages::Message;
 use row_visibility::Clash;
 use std::alloc::Global;
@@ -58,12 +58,13 @@ impl Segment {
     }
 }
 
-/// The session of a backend, and how much of the queue it has fetched.
+/// The session of a backend, how much of the queue it has fetched, and the lines of its finished commands.
 #[derive(Drop)]
 pub(crate) struct Session {
     progress: Progress,
     is_started: bool,
     fetched: usize,
+    lines: Listed<Line>,
 }
 
 impl Session {
@@ -76,7 +77,13 @@ impl Session {
             progress: Progress::new(alloc, id, commands).ok()?,
             is_started: false,
             fetched: 0,
+            lines: Listed::new(alloc),
         })
+    }
+
+    /// The answer lines of its finished commands, in order.
+    pub fn lines(&self) -> &[Line] {
+        self.lines.as_slice()
     }
 
     /// Whether the entry may come next: a start, or an entry of its running command.
@@ -209,7 +216,7 @@ impl Session {
         if commands.len() > MOST_COMMANDS || !are_built(commands) {
             return None;
         }
-        self.progress.settle(alloc).ok()
+        self.progress.settle(alloc, &mut self.lines).ok()
     }
 }
 

@@ -7,10 +7,10 @@
 //! deletes. A line `? ENTRY` asks whether the entry may come next, and doesn't enter it.
 //!
 //! Each question is answered by `N allowed` or `N refused`, where N is the number that the entry would have
-//! in the history. Each case ends with `N entered` after its N entries, with `N refused` where the entry of
-//! this number may not come next, or with `N unfit` where the session can't take it, by a condition of its
-//! call or for lack of memory; then the rest of the case is passed over. The exit status is 0, or 1
-//! where a text, memory or the outside fails.
+//! in the history. Each case ends with `N entered` after its N entries and the answer lines of the commands
+//! that are finished then, with `N refused` where the entry of this number may not come next, or with
+//! `N unfit` where the session can't take it, by a condition of its call or for lack of memory; then the
+//! rest of the case is passed over. The exit status is 0, or 1 where a text, memory or the outside fails.
 #![tactic(auto)]
 
 mod commands;
@@ -19,7 +19,7 @@ mod replay;
 mod writes;
 
 use crate::replay::{Replay, Taken};
-use edge_io::{StdSource, read_all};
+use edge_io::{StdSink, StdSource, read_all};
 use event_kinds::read_entry;
 use script_text::{Rest, read_script};
 use std::alloc::Global;
@@ -71,6 +71,7 @@ impl Case {
                 if line == b"end".as_slice() {
                     if !self.is_over {
                         println!(rt; "{} entered", replay.entries()).ok()?;
+                        replay.put_lines(&mut StdSink::new(std::io::writer(rt)))?;
                     }
                     *self = Case::new(alloc);
                 } else if !self.is_over {

@@ -1,7 +1,8 @@
 use crate::commands::own_commands;
 use crate::entering::{Segment, Session};
-use cacheless::Progress;
+use edge_io::Sink;
 use event_kinds::{Entry, Event};
+use out_text::put_line;
 use script_text::Script;
 use std::alloc::Global;
 
@@ -40,6 +41,16 @@ impl Replay {
     /// How many entries the history has.
     pub fn entries(&self) -> u64 {
         self.segment.entries
+    }
+
+    /// Writes the answer lines of the commands that are finished, by backend; none where that fails.
+    pub fn put_lines<K: Sink>(&self, sink: &mut K) -> Option<()> {
+        for session in &self.sessions {
+            for line in session.lines() {
+                put_line(sink, line).ok()?;
+            }
+        }
+        Some(())
     }
 
     /// Whether the entry may come next.

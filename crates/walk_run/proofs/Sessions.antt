@@ -32,7 +32,7 @@ part_of s h x stands = of x.life stands
     of : (life : Life) → StandsAs s h x life → x.lines ≡ lines_of_backend s h x.progress.id
     of lives.Unstarted new = new.new.lines ∙ sym (lines_finished s h x.progress.id [] (ap (λ o. option_map_or (λ now. now.finished) o []) new.session))
     of lives.Alive awaits =
-        awaits.tells.lines ∙ ap (lines_from s h x.progress.id 1 (waiting awaits).finished) awaits.rests.holds.commands
+        awaits.lines ∙ ap (lines_from s h x.progress.id 1 (waiting awaits).finished) awaits.rests.holds.commands
         ∙ sym (lines_finished s h x.progress.id (waiting awaits).finished (ap (λ o. option_map_or (λ now. now.finished) o []) (waiting_is s h x awaits)))
     of lives.Stopped left = left.lines
 

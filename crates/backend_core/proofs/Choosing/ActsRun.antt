@@ -7,6 +7,7 @@ use Rattle.base_types.specs.declared.command.Command.TheVariants as commands
 use Rattle.command_answers.specs.declared.error.CommandError.TheVariants as errors
 use Rattle.txn_blocks.specs.Blocks.{Block, Outside, Inside, Failed, no_block, ends_block, ends_failure, refused_in, refused_by}
 use Rattle.ddl_effect.specs.Commands.{plan_of}
+use Rattle.ddl_effect.specs.declared.told.Told.TheVariants as tells
 use Rattle.ddl_effect.specs.Plans.{Act, Plan, Done, Fails, Absent, NotBuilt, Do}
 use Rattle.ddl_effect.specs.Stages.{plan_at}
 use Rattle.cacheless.specs.Facts.{Facts, facts_of}
@@ -16,7 +17,8 @@ use Rattle.cacheless.specs.Owed.{Owes, OwesLook, begins, owed_at_start}
 use Rattle.cacheless.specs.Runs.{runs}
 use Rattle.cacheless.specs.Session.{Session, Unsettled, Badly, none_open, outcome_of, is_settled, plan_admitted, plan_first, refused_first}
 use Rattle.cacheless.specs.State.{owed_first}
-use Rattle.cacheless.specs.Types.{CommandError}
+use Rattle.cacheless.specs.Types.{CommandError, Told}
+use Rattle.cacheless.proofs.Plans.ActOrder.{FollowsOrder, follows_order}
 use Rattle.cacheless.proofs.Same.{start_owed}
 use Rattle.cacheless.proofs.Plans.SilentActs.{on_its_way}
 use Rattle.cacheless.proofs.Tests.{and_true, not_true, or_either}
@@ -36,16 +38,20 @@ refused_badly (Some command) s is = by_error (refused_by s.blocks command) is
     by_error None some = absurd (cc some)
     by_error (Some error) some = refl
 
+-- a plan that isn't an answer alone
+abbrev DoesSome : Plan → Type 0
+DoesSome plan = (told : Told) → plan ≡ Done told → ⊥
+
 -- a command that does something ends no block
-ends_none : (command : Command) → plan_of none_open command ≢ Done → ends_block command ≡ false
-ends_none commands.Commit acts = absurd (acts refl)
-ends_none commands.Rollback acts = absurd (acts refl)
+ends_none : (command : Command) → DoesSome (plan_of none_open command) → ends_block command ≡ false
+ends_none commands.Commit acts = absurd (acts tells.Commit refl)
+ends_none commands.Rollback acts = absurd (acts tells.Ok refl)
 ends_none command acts = refl
 
 -- and one that the program runs mends none
-mends_none : (command : Command) → runs command ≡ true → plan_of none_open command ≢ Done → ends_failure command ≡ false
-mends_none commands.Commit built acts = absurd (acts refl)
-mends_none commands.Rollback built acts = absurd (acts refl)
+mends_none : (command : Command) → runs command ≡ true → DoesSome (plan_of none_open command) → ends_failure command ≡ false
+mends_none commands.Commit built acts = absurd (acts tells.Commit refl)
+mends_none commands.Rollback built acts = absurd (acts tells.Ok refl)
 mends_none (commands.RollbackTo name) built acts = absurd (cc built)
 mends_none command built acts = refl
 
@@ -53,7 +59,7 @@ none_left : {X : Type 0} (o : Option X) → is_some o ≡ false → is_none o �
 none_left None is = refl
 none_left (Some x) is = absurd (cc is)
 
-pub acts_run : (facts : Facts) (o : Option Command) (s : Session) (looked to_build : Bool) (command : Command) → o ≡ Some command → Fits facts o s looked to_build → s.ended ≡ false → s.blocked ≡ false → runs command ≡ true → plan_of none_open command ≢ Done → owed_at_start facts command s ≡ []
+pub acts_run : (facts : Facts) (o : Option Command) (s : Session) (looked to_build : Bool) (command : Command) → o ≡ Some command → Fits facts o s looked to_build → s.ended ≡ false → s.blocked ≡ false → runs command ≡ true → DoesSome (plan_of none_open command) → owed_at_start facts command s ≡ []
     → is_some facts.running ≡ true
 acts_run facts o s looked to_build command at fits going unblocked built acts free = by_block s.blocks.block refl (subst (TransactionFits facts o s) going fits.transaction)
   where
@@ -84,13 +90,13 @@ module _ (scenario : Scenario) (seen : List Entry) (s : Backend) (waits : Awaits
       by_test false is = is
       by_test true is = absurd (let badly : outcome_of (plan_first (waiting waits).blocks (command_at s)) ≡ Badly = refused_badly (command_at s) (waiting waits) (sym waits.fits.blocked ∙ is) in goes (ap outcome_of (waits.fits.settled (ap is_settled badly)) ∙ badly))
 
-  runs_here : owed_first s.progress command ≡ [] → outcome_of (plan_at s.progress.exec) ≢ Badly → plan_of none_open command ≢ Done → is_some (facts_of seen s.progress.id).running ≡ true
+  runs_here : owed_first s.progress command ≡ [] → outcome_of (plan_at s.progress.exec) ≢ Badly → DoesSome (plan_of none_open command) → is_some (facts_of seen s.progress.id).running ≡ true
   runs_here free goes acts = acts_run (facts_of seen s.progress.id) (command_at s) (waiting waits) s.looked s.looked_to_build command at waits.fits (going scenario seen s waits courses command at) (unblocked_here goes) built acts
       (start_owed (facts_of seen s.progress.id) command s.progress waits.rests.holds.rest waits.rests.holds.facts ∙ free)
 
-  -- what it does isn't all of an empty plan
-  acts_none : (act : Act) (rest : List Row → Plan) → plan_at s.progress.exec ≡ Do act rest → plan_of none_open command ≢ Done
-  acts_none act rest acts none = let way : OnItsWay seen s.progress.id (waiting waits) command = on_its_way seen s.progress.id (waiting waits) command act rest (follows scenario seen s waits courses command at) acts in
+  -- its plan isn't an answer alone
+  acts_none : (act : Act) (rest : List Row → Plan) → plan_at s.progress.exec ≡ Do act rest → DoesSome (plan_of none_open command)
+  acts_none act rest acts told none = let way : OnItsWay seen s.progress.id (waiting waits) command = on_its_way seen s.progress.id (waiting waits) command act rest (follows scenario seen s waits courses command at) acts in
       none_reached way.gave (plan_of none_open command) act rest (ap acting none) (sym way.plan ∙ acts)
 
   -- before an act
@@ -100,16 +106,17 @@ module _ (scenario : Scenario) (seen : List Entry) (s : Backend) (waits : Awaits
   -- before a scan
   pub scan_runs : (scan : Purpose) → is_next_at scan s.progress ≡ true → owed_first s.progress command ≡ [] → is_some (facts_of seen s.progress.id).running ≡ true
   scan_runs scan next free = runs_here free (λ badly. both_ways _ (not_true (has_failed s.progress) both.0) (ap (λ o. elim o as (λ x. Bool) [ Badly ↦ true | other ↦ false ]) badly))
-      (λ none. or_either (list_any (λ o. is_first_missing scan s.progress.kept o.kind o.rel) s.progress.opened) (is_next_of_act scan s.progress (plan_at s.progress.exec)) both.1
-      (λ opened. both_ways _ (ap (list_any (λ o. is_first_missing scan s.progress.kept o.kind o.rel)) ((follows scenario seen s waits courses command at).plain none)) opened)
-      (λ act. by_plan (plan_at s.progress.exec) refl act none))
+      (λ told none. or_either (list_any (λ o. is_first_missing scan s.progress.kept o.kind o.rel) s.progress.opened) (is_next_of_act scan s.progress (plan_at s.progress.exec)) both.1
+      (λ opened. both_ways _ (ap (list_any (λ o. is_first_missing scan s.progress.kept o.kind o.rel)) ((follows scenario seen s waits courses command at).plain told none).opened) opened)
+      (λ act. by_plan (plan_at s.progress.exec) refl act told none))
     where
       both : (not (has_failed s.progress) ≡ true) × ((list_any (λ o. is_first_missing scan s.progress.kept o.kind o.rel) s.progress.opened || is_next_of_act scan s.progress (plan_at s.progress.exec)) ≡ true)
       both = and_true (not (has_failed s.progress)) _ next
 
-      by_plan : (p : Plan) → plan_at s.progress.exec ≡ p → is_next_of_act scan s.progress p ≡ true → plan_of none_open command ≢ Done
+      by_plan : (p : Plan) → plan_at s.progress.exec ≡ p → is_next_of_act scan s.progress p ≡ true → DoesSome (plan_of none_open command)
       by_plan (Do act rest) is of = acts_none act rest is
-      by_plan Done is of = absurd (cc of)
+      by_plan (Done (tells.Regclass oid)) is of = λ told none. subst FollowsOrder (none ∙ sym (((follows scenario seen s waits courses command at).plain told none).left (ap outcome_of is)) ∙ is) (follows_order none_open command built)
+      by_plan (Done told) is of = absurd (cc of)
       by_plan (Fails error) is of = absurd (cc of)
       by_plan (Absent name) is of = absurd (cc of)
       by_plan NotBuilt is of = absurd (cc of)

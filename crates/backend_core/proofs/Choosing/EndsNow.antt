@@ -8,7 +8,6 @@ use Rattle.event_kinds.specs.declared.entry.Event.TheVariants as events
 use Rattle.inval_messages.specs.Lists.{has_write_from}
 use Rattle.txn_blocks.specs.Blocks.{Block, Level, Blocks, Outside, Inside, Failed, refused_in, refused_by, innermost, blocks_well}
 use Rattle.ddl_effect.specs.Commands.{plan_of}
-use Rattle.ddl_effect.specs.Plans.{Done}
 use Rattle.history_model.specs.Sent.{unsent_in}
 use Rattle.history_model.specs.Transactions.{Running, is_visible}
 use Rattle.history_model.specs.Writes.{is_empty}
@@ -192,8 +191,8 @@ level_outside : (levels : List Level) (n : ℕ) → false ≡ not (is_empty leve
 level_outside [] n is = refl
 level_outside (level ∷ levels) n is = absurd (cc is)
 
--- a failed block admits what ends it, whose plan is empty
-ends_failed : (command : Command) → is_some (refused_in Failed command) ≡ false → runs command ≡ true → plan_of none_open command ≡ Done
+-- a failed block admits what ends it, which does no act
+ends_failed : (command : Command) → is_some (refused_in Failed command) ≡ false → runs command ≡ true → outcome_of (plan_of none_open command) ≡ Well
 ends_failed commands.Commit admitted built = refl
 ends_failed commands.Rollback admitted built = refl
 ends_failed (commands.RollbackTo name) admitted built = absurd (cc built)
@@ -245,14 +244,14 @@ module _ (facts : Facts) (o : Option Command) (s : Session) (looked to_build : B
       by_outcome Badly end = absurd (badly_back s first end)
       by_outcome Unsettled end = absurd (let no : Ends ≡ Commits first = end in cc no)
 
-  failed_done : runs command ≡ true → s.blocks.block ≡ Failed → s.blocked ≡ false → s.left ≡ Done
-  failed_done built failed admitted = fits.settled (ap (λ p. is_settled (outcome_of p)) first) ∙ first
+  failed_done : runs command ≡ true → s.blocks.block ≡ Failed → s.blocked ≡ false → outcome_of s.left ≡ Well
+  failed_done built failed admitted = ap outcome_of (fits.settled (ap is_settled first)) ∙ first
     where
       free : is_some (refused_by s.blocks command) ≡ false
       free = ap (λ c. is_some (refused_first s.blocks c)) (sym at) ∙ sym fits.blocked ∙ admitted
 
-      first : plan_first s.blocks o ≡ Done
-      first = ap (plan_first s.blocks) at ∙ admitted_plan (refused_by s.blocks command) command free ∙ ends_failed command (ap (λ b. is_some (refused_in b command)) (sym failed) ∙ free) built
+      first : outcome_of (plan_first s.blocks o) ≡ Well
+      first = ap (λ c. outcome_of (plan_first s.blocks c)) at ∙ ap outcome_of (admitted_plan (refused_by s.blocks command) command free) ∙ ends_failed command (ap (λ b. is_some (refused_in b command)) (sym failed) ∙ free) built
 
   -- what fits the blocks after the command, by how it came out
   after_well : (later : Facts) → outcome_of s.left ≡ Well → RunsIn later (blocks_well (number_of s) command s.blocks) → RunsAfter later o s
@@ -285,7 +284,7 @@ module _ (facts : Facts) (o : Option Command) (s : Session) (looked to_build : B
       by_block Outside outside admitted by to = Whole (first_alone facts o s by ∙ sym (level_outside s.blocks.levels (number_of s) (ap (λ b. elim b as (λ x. Bool) [ Outside ↦ false | block ↦ true ]) (sym outside) ∙ fits.opens)) ∙ to)
           (λ later none. after_badly later Outside badly outside (subst (RunsAt later s.blocks.levels) (sym outside) none))
       by_block Inside inside admitted by to = from_inside from badly inside by to
-      by_block Failed failed admitted by to = absurd (let no : Well ≡ Badly = sym (ap outcome_of (failed_done built failed admitted)) ∙ badly in cc no)
+      by_block Failed failed admitted by to = absurd (let no : Well ≡ Badly = sym (failed_done built failed admitted) ∙ badly in cc no)
 
       by_blocked : (t : Bool) → s.blocked ≡ t → end_from (elim t as (λ x. End) [ true ↦ Ends | false ↦ TakesBack (innermost (number_of s) s.blocks.levels) ]) ≡ Some from → Releases facts o s from
       by_blocked true blocked end = absurd (cc end)

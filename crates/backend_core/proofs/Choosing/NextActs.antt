@@ -7,7 +7,7 @@ use Rattle.std.proofs.lemmas.Bool.{both_ways}
 use Rattle.base_types.specs.Scans.{same_scan, is_build_scan, build_scans}
 use Rattle.base_types.specs.declared.scan.Purpose.TheVariants as scans
 use Rattle.base_types.proofs.SameScan.{same_scan-itself}
-use Rattle.ddl_effect.specs.Plans.{Plan, Act, Done, Fails, Absent, NotBuilt, Do, Lookup, Open, Column, Read, Lock, Write}
+use Rattle.ddl_effect.specs.Plans.{Plan, Act, Done, Fails, Absent, NotBuilt, Do, Lookup, Open, Search, Read, Lock, Write}
 use Rattle.ddl_effect.specs.Stages.{plan_at, want_of_act, want_of}
 use Rattle.ddl_effect.specs.declared.want.Want.{Want}
 use Rattle.ddl_effect.specs.declared.want.Want.TheVariants as wants
@@ -18,19 +18,20 @@ use Rattle.cacheless.specs.OpenedReads.{ReadsOpened}
 use Rattle.cacheless.specs.Session.{Badly, outcome_of}
 use Rattle.cacheless.specs.Silently.{gives_at, gives_next, IsAtRest}
 use Rattle.cacheless.specs.State.{is_kept, builds_missing, act_missing}
+use Rattle.cacheless.proofs.ReadsBuilds.{ReadsBuilds, stage_reads}
 use Rattle.cacheless.proofs.Same.{lacks_opened_is}
 use Rattle.cacheless.proofs.Plans.SilentActs.{empty_list}
 use Rattle.cacheless.proofs.Tests.{both_true}
 use Rattle.backend_core.specs.Types.{Oid, Mode, Kind, Row, Purpose, Command, Progress}
 use Rattle.backend_core.specs.Steps.{IsFree, IsScanNext}
-use Rattle.backend_core.proofs.KeptReads.{kept_opened}
+use Rattle.cacheless.proofs.Answers.KeptReads.{kept_opened}
 use Rattle.backend_core.proofs.Choosing.Nexting.{out_owes, none_built, find_all, each_builds}
 
 -- the act that is wanted, but for a write
 abbrev wanted_act : Want → Option Act
 wanted_act (wants.Lookup name mode) = Some (Lookup name mode)
 wanted_act (wants.Open rel kind) = Some (Open rel kind)
-wanted_act (wants.Column rel name) = Some (Column rel name)
+wanted_act (wants.Search scan) = Some (Search scan)
 wanted_act (wants.Read scan) = Some (Read scan)
 wanted_act (wants.Lock rel mode) = Some (Lock rel mode)
 wanted_act want = None
@@ -40,7 +41,7 @@ record Wants (plan : Plan) (act : Act) : Type 0 where
   is : plan ≡ Do act rest
 
 plan_wanted : (plan : Plan) (act : Act) → wanted_act (want_of plan) ≡ Some act → Wants plan act
-plan_wanted Done act is = absurd (cc is)
+plan_wanted (Done told) act is = absurd (cc is)
 plan_wanted (Fails error) act is = absurd (cc is)
 plan_wanted (Absent name) act is = absurd (cc is)
 plan_wanted NotBuilt act is = absurd (cc is)
@@ -74,6 +75,10 @@ found_lacks f (x ∷ xs) = by_test (f x) (found_lacks f xs)
     by_test true more = refl
     by_test false more = more
 
+one_lacks : (t : Bool) (scan : Purpose) → not (is_empty (if t then [] else scan ∷ [])) ≡ not t
+one_lacks true scan = refl
+one_lacks false scan = refl
+
 module _ (p : Progress) (command : Command) (still : IsAtRest p) (free : IsFree p command) (whole : lacks_opened p.kept p.opened ≡ false) where
   -- the scan of a name
   pub lookup_next : (name : List ℕ) (mode : Mode) → want_of (plan_at p.exec) ≡ wants.Lookup name mode → owes_nothing command p ≡ false → IsScanNext p (scans.RelName name) false
@@ -86,15 +91,35 @@ module _ (p : Progress) (command : Command) (still : IsAtRest p) (free : IsFree 
       act = plan_wanted (plan_at p.exec) (Lookup name mode) (ap wanted_act want)
 
       lacks : (t : Bool) → made ≡ t → lacks_any p ≡ not t
-      lacks t is = lacks_is p (Lookup name mode) act whole ∙ ap (λ x. not (is_empty (if x then [] else scans.RelName name ∷ []))) is ∙ by_test t
-        where
-          by_test : (x : Bool) → not (is_empty (if x then [] else scans.RelName name ∷ [])) ≡ not x
-          by_test true = refl
-          by_test false = refl
+      lacks t is = lacks_is p (Lookup name mode) act whole ∙ ap (λ x. not (is_empty (if x then [] else scans.RelName name ∷ []))) is ∙ one_lacks t (scans.RelName name)
 
       by_made : (t : Bool) → made ≡ t → IsScanNext p (scans.RelName name) false
       by_made true is = absurd (both_ways _ owes (out_owes p command free (lacks true is)))
       by_made false is = record { command = command; free = free; lacks = lacks false is; next = next_is p (Lookup name mode) act (scans.RelName name) (ap (λ t. not t && same_scan (scans.RelName name) (scans.RelName name)) is ∙ same_scan-itself (scans.RelName name)); first = λ other. none_built p.kept p.opened (scans.RelName name) other whole; kind = refl }
+
+  -- the scan of a catalog cache
+  pub search_next : (scan : Purpose) → want_of (plan_at p.exec) ≡ wants.Search scan → IsScanNext p scan false
+  search_next scan want = by_made made refl
+    where
+      made : Bool
+      made = p.read && p.named
+
+      act : Wants (plan_at p.exec) (Search scan)
+      act = plan_wanted (plan_at p.exec) (Search scan) (ap wanted_act want)
+
+      lacks : (t : Bool) → made ≡ t → lacks_any p ≡ not t
+      lacks t is = lacks_is p (Search scan) act whole ∙ ap (λ x. not (is_empty (if x then [] else scan ∷ []))) is ∙ one_lacks t scan
+
+      by_made : (t : Bool) → made ≡ t → IsScanNext p scan false
+      by_made true is = absurd (not_at_rest p command (Search scan) still free act (out_owes p command free (lacks true is)) refl)
+      by_made false is = record {
+        command = command;
+        free = free;
+        lacks = lacks false is;
+        next = next_is p (Search scan) act scan (ap (λ t. not t && same_scan scan scan) is ∙ same_scan-itself scan);
+        first = λ other. none_built p.kept p.opened scan other whole;
+        kind = subst ReadsBuilds act.is (stage_reads p.exec);
+      }
 
   -- the first scan of a descriptor that is to be opened
   pub open_next : (rel : Oid) (kind : Kind) (scan : Purpose) → want_of (plan_at p.exec) ≡ wants.Open rel kind → find (λ d. not (is_kept p.kept d)) (build_scans kind rel) ≡ Some scan → IsScanNext p scan true
@@ -138,7 +163,7 @@ fails_none p want goes is failing = by_plan (plan_at p.exec) refl (ap fails is �
     by_act act bad = cc bad
 
     by_plan : (q : Plan) → plan_at p.exec ≡ q → fails (want_of q) ≡ true → ⊥
-    by_plan Done at bad = cc bad
+    by_plan (Done told) at bad = cc bad
     by_plan NotBuilt at bad = cc bad
     by_plan (Do act rest) at bad = by_act act bad
     by_plan (Fails error) at bad = both_ways _ goes (ap (λ x. elim (outcome_of x) as (λ y. Bool) [ Badly ↦ true | other ↦ false ]) at)

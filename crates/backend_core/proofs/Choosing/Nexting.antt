@@ -9,7 +9,7 @@ use Rattle.base_types.specs.declared.kind.Kind.TheVariants.{Table, Index}
 use Rattle.base_types.proofs.SameScan.{same_scan-itself}
 use Rattle.txn_blocks.specs.Blocks.{Inside}
 use Rattle.ddl_effect.specs.Commands.{plan_of, commands_of}
-use Rattle.ddl_effect.specs.Plans.{Plan, Act, Done, Fails, Absent, NotBuilt, Do, Lookup, Open, Column, Read, Lock, Write}
+use Rattle.ddl_effect.specs.Plans.{Plan, Act, Done, Fails, Absent, NotBuilt, Do, Lookup, Open, Search, Read, Lock, Write}
 use Rattle.ddl_effect.specs.Stages.{plan_at}
 use Rattle.history_model.specs.Writes.{is_empty}
 use Rattle.cacheless.specs.ActsDone.{reached, made_in, opening_by}
@@ -90,10 +90,10 @@ reads_reached (given ∷ gave) opened plan reads = by_plan (reads_reached gave) 
     by_plan further (Do (Write draft) rest) has = further opened (Do (Write draft) rest) has
     by_plan further (Do (Lookup name mode) rest) has = on further (Lookup name mode) rest has
     by_plan further (Do (Open rel kind) rest) has = on further (Open rel kind) rest has
-    by_plan further (Do (Column rel name) rest) has = on further (Column rel name) rest has
+    by_plan further (Do (Search scan) rest) has = on further (Search scan) rest has
     by_plan further (Do (Read scan) rest) has = on further (Read scan) rest has
     by_plan further (Do (Lock rel mode) rest) has = on further (Lock rel mode) rest has
-    by_plan further Done has = further opened Done tt
+    by_plan further (Done told) has = further opened (Done told) tt
     by_plan further (Fails error) has = further opened (Fails error) tt
     by_plan further (Absent name) has = further opened (Absent name) tt
     by_plan further NotBuilt has = further opened NotBuilt tt

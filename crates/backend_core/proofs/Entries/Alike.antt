@@ -12,10 +12,10 @@ use Rattle.cacheless.specs.May.{lacks_opened, owes_nothing}
 use Rattle.cacheless.specs.Puts.{PutsOpened}
 use Rattle.cacheless.specs.Session.{Badly, outcome_of, is_settled}
 use Rattle.cacheless.specs.Settled.{settled}
-use Rattle.cacheless.specs.Silently.{IsAtRest}
-use Rattle.cacheless.specs.State.{owed_at, owed_first, act_missing, is_absent, IsLockedIn, Rest, session_at}
+use Rattle.cacheless.specs.Silently.{IsAtRest, is_to_answer_at}
+use Rattle.cacheless.specs.State.{ends_on_scan, owed_at, owed_first, act_missing, is_absent, IsLockedIn, Rest, session_at}
 use Rattle.backend_core.specs.Types.{Oid, Mode, Command, Draft, Exec, OwnLock, Scenario, Entry, Progress, Backend}
-use Rattle.backend_core.specs.Agrees.{command_at, is_to_answer_at, PlaceFits, AwaitsEntry}
+use Rattle.backend_core.specs.Agrees.{command_at, PlaceFits, AwaitsEntry}
 use Rattle.backend_core.specs.Fits.{Fits}
 use Rattle.backend_core.specs.Steps.{MakesEntry, Enters, IsLockNext, IsWriteNext}
 
@@ -41,7 +41,7 @@ module _ (scenario : Scenario) (seen : List Entry) (s : Backend) (exec : Exec) (
       owed = h.facts.owed;
       usable = h.facts.usable;
       kept = h.facts.kept;
-      given = subst (λ p. (s.progress.read || is_absent p) ≡ true → NamedFit (facts_of seen s.progress.id) p s.progress.given.items s.progress.named) (sym plan) h.facts.given;
+      given = subst (λ p. (s.progress.read || ends_on_scan p) ≡ true → NamedFit (facts_of seen s.progress.id) p s.progress.given.items s.progress.named) (sym plan) h.facts.given;
     };
     counts = h.counts;
     order = h.order;
@@ -49,18 +49,18 @@ module _ (scenario : Scenario) (seen : List Entry) (s : Backend) (exec : Exec) (
     puts = subst (PutsOpened s.progress.opened) (sym plan) h.puts;
   }
 
-  alike_awaits : IsAtRest other.progress → (is_to_answer_at other.progress ≡ true → is_some s.answer ≡ true) → AwaitsEntry scenario seen s → AwaitsEntry scenario seen other
+  alike_awaits : IsAtRest other.progress → (is_to_answer_at other.progress ≡ true → is_some s.progress.answer ≡ true) → AwaitsEntry scenario seen s → AwaitsEntry scenario seen other
   alike_awaits still answered waits = record {
     keeps = let k = waits.keeps in record {
       alive = k.alive;
       life = record { last = k.life.last; alive = k.life.alive; most = k.life.most };
       built = k.built;
-      kept = k.kept;
-      given_at = subst (λ p. PlaceFits seen s.progress.id p s.progress.read s.progress.given_at) (sym plan) k.given_at;
+      places = record { kept = k.places.kept; given_at = subst (λ p. PlaceFits seen s.progress.id p s.progress.read s.progress.given_at) (sym plan) k.places.given_at };
     };
     rests = record { holds = holds_same waits.rests.holds; still = still };
     fits = subst (λ x. Fits (facts_of seen s.progress.id) (command_at s) x s.looked s.looked_to_build) (sym (session_same waits.rests.holds.rest)) waits.fits;
-    tells = record { lines = waits.tells.lines; answer = waits.tells.answer; out = λ some. ap (λ p. is_settled (outcome_of p)) plan ∙ waits.tells.out some };
+    lines = waits.lines;
+    tells = record { answer = waits.tells.answer; out = λ some. ap (λ p. is_settled (outcome_of p)) plan ∙ waits.tells.out some };
     answered = answered;
   }
 
@@ -69,7 +69,7 @@ pub reserved_awaits : (scenario : Scenario) (seen : List Entry) (s : Backend) (p
 reserved_awaits scenario seen s p same waits = subst (λ x. AwaitsEntry scenario seen (record s { progress = x })) (sym same.is)
     (alike_awaits scenario seen s s.progress.exec p.locks refl same.locks_are (λ is. refl)
     (subst (λ l. IsAtRest (record s.progress { locks = record { items = l; room = p.locks.room } })) (sym same.locks_are) waits.rests.still)
-    (subst (λ l. is_to_answer_at (record s.progress { locks = record { items = l; room = p.locks.room } }) ≡ true → is_some s.answer ≡ true) (sym same.locks_are) waits.answered) waits)
+    (subst (λ l. is_to_answer_at (record s.progress { locks = record { items = l; room = p.locks.room } }) ≡ true → is_some s.progress.answer ≡ true) (sym same.locks_are) waits.answered) waits)
 
 pub reserved_lock : (s p : Progress) (rel : Oid) (mode : Mode) → IsLockedIn s.locks.items s p → IsLockNext s rel mode → IsLockNext p rel mode
 reserved_lock s p rel mode same next = subst (λ x. IsLockNext x rel mode) (sym same.is)

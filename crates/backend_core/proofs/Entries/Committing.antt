@@ -15,12 +15,12 @@ use Rattle.cacheless.specs.Ends.{Ends, Commits, TakesBack}
 use Rattle.cacheless.specs.Facts.{Facts, facts_of}
 use Rattle.cacheless.specs.Holds.{HasEntered}
 use Rattle.cacheless.specs.OnCourse.{AllOnCourse}
-use Rattle.cacheless.specs.Owed.{Owes, owed_after, owed_of, builds_owed}
+use Rattle.cacheless.specs.Owed.{Owes, owed_after, owed_of}
 use Rattle.cacheless.specs.Plays.{MayPlayIn}
 use Rattle.cacheless.specs.Session.{Session, Well, outcome_of}
 use Rattle.cacheless.specs.Sessions.{ends_command}
 use Rattle.cacheless.specs.State.{running_of, lists_at, unsent_at}
-use Rattle.cacheless.proofs.Allowed.Releases.{owes_none_built}
+use Rattle.cacheless.proofs.Allowed.Releases.{OwesNoScan, owes_no_scan}
 use Rattle.backend_core.specs.Types.{Xid, Command, Scenario, Entry, Event, Message, OwnLock, Progress, Backend}
 use Rattle.backend_core.specs.Agrees.{IsPlayed, KeptAt, command_at, AwaitsEntry}
 use Rattle.backend_core.specs.Fits.{Fits}
@@ -49,16 +49,16 @@ none_gone facts o s looked to_build event fits commit = by_last facts.last refl
 
 module _ (facts : Facts) (o : Option Command) (s : Session) (looked to_build : Bool) (next : ℕ) (event : Event) (ends : ends_command event ≡ true) (fits : Fits facts o s looked to_build) (plays : MayPlayIn next facts o s event) (commit : IsCommit facts (end_by facts o s)) where
   -- its command owes no scan
-  commit_built : outcome_of s.left ≡ Well → builds_owed facts s.opened ≡ []
-  commit_built well = by_command o plays commit
+  commit_free : outcome_of s.left ≡ Well → OwesNoScan facts s
+  commit_free well = by_command o plays commit
     where
-      by_command : (x : Option Command) → MayPlayIn next facts x s event → IsCommit facts (end_by facts x s) → builds_owed facts s.opened ≡ []
+      by_command : (x : Option Command) → MayPlayIn next facts x s event → IsCommit facts (end_by facts x s) → OwesNoScan facts s
       by_command None may own = absurd (all_back facts.running own.is)
         where
           all_back : (r : Option Running) → option_map_or (λ t. TakesBack t.first) r Ends ≡ Commits own.first → ⊥
           all_back None is = cc is
           all_back (Some t) is = cc is
-      by_command (Some command) may own = owes_none_built facts command s well (sym (ap (λ e. elim e as (λ x. List Owes) [ TakesBack from ↦ owed_after facts.last | end ↦ owed_of facts command s ]) own.is) ∙ (is_end next facts command s event ends may).0)
+      by_command (Some command) may own = owes_no_scan facts command s well (sym (ap (λ e. elim e as (λ x. List Owes) [ TakesBack from ↦ owed_after facts.last | end ↦ owed_of facts command s ]) own.is) ∙ (is_end next facts command s event ends may).0)
 
 -- it may be entered
 pub commit_call : (scenario : Scenario) (seen : List Entry) (s : Backend) (xid : Xid) → AwaitsEntry scenario seen s → EndsNext s.progress (events.Visible xid) → MayCall scenario seen (entry_of s.progress.id (s.progress.finished + 1) (events.Visible xid))
@@ -127,7 +127,7 @@ module _ (scenario : Scenario) (old : List Entry) (was : Backend) (event : Event
   commit_fits locks at free standing = fits_ending before after_commit (command_at was) (waiting waits) was.looked was.looked_to_build event locks at waits.fits now goes
       (λ is. begun_xid (was.progress.finished + 1) before.running (waits.fits.written is))
       (λ is. commits_on before after_commit (command_at was) (waiting waits) was.looked was.looked_to_build event locks at waits.fits now goes commit refl
-      (commit_built before (command_at was) (waiting waits) was.looked was.looked_to_build (next_oid old) event ends waits.fits (end_plays scenario old was waits event ends next) commit))
+      (commit_free before (command_at was) (waiting waits) was.looked was.looked_to_build (next_oid old) event ends waits.fits (end_plays scenario old was waits event ends next) commit))
       (λ from is. absurd (standing from is))
     where
       now : EndsBy before (command_at was) (waiting waits) event
@@ -141,9 +141,9 @@ module _ (scenario : Scenario) (old : List Entry) (was : Backend) (event : Event
 
 -- the state after its visibility step
 pub commit_enters : (scenario : Scenario) (old new : List Entry) (had has : ℕ → ℕ) (was : Backend) (xid : Xid) (p : Progress) (waits : AwaitsEntry scenario old was) → IsPlayed scenario old → AllOnCourse scenario old → EndsNext was.progress (events.Visible xid)
-    → HasEntered scenario old was.progress (events.Visible xid) waits.rests p → p.kept ≡ was.progress.kept → p.given_at ≡ was.progress.given_at → Appends old new had has (entry_of was.progress.id (was.progress.finished + 1) (events.Visible xid)) → Enters scenario old new had has was (record was { progress = p })
-commit_enters scenario old new had has was xid p waits played courses next goes kept given_at appends =
-    end_enters scenario old new had has was event p waits refl played courses next goes (subst (All (KeptAt old was.progress.id)) (sym kept) waits.keeps.kept) given_at
+    → HasEntered scenario old was.progress (events.Visible xid) waits.rests p → p.kept ≡ was.progress.kept → p.given_at ≡ was.progress.given_at → p.answer ≡ was.progress.answer → Appends old new had has (entry_of was.progress.id (was.progress.finished + 1) (events.Visible xid)) → Enters scenario old new had has was (record was { progress = p })
+commit_enters scenario old new had has was xid p waits played courses next goes kept given_at same appends =
+    end_enters scenario old new had has was event p waits refl played courses next goes (subst (All (KeptAt old was.progress.id)) (sym kept) waits.keeps.places.kept) given_at same
     (commit_fits scenario old was event waits refl next now.commit (begun (was.progress.finished + 1) facts.running).published true _ (length old + 1) refl (λ from is. cc is)) appends
   where
     event : Event
@@ -158,10 +158,10 @@ commit_enters scenario old new had has was xid p waits played courses next goes 
 -- the state after a publish
 pub publish_enters : (scenario : Scenario) (old new : List Entry) (had has : ℕ → ℕ) (was : Backend) (messages : List Message) (p : Progress) (waits : AwaitsEntry scenario old was) → IsPlayed scenario old → AllOnCourse scenario old
     → EndsNext was.progress (events.Publish (length (take 64 (unsent_at was.progress)))) → messages ≡ take 64 (unsent_at was.progress)
-    → HasEntered scenario old was.progress (events.Publish (length messages)) waits.rests p → p.kept ≡ was.progress.kept → p.given_at ≡ was.progress.given_at
+    → HasEntered scenario old was.progress (events.Publish (length messages)) waits.rests p → p.kept ≡ was.progress.kept → p.given_at ≡ was.progress.given_at → p.answer ≡ was.progress.answer
     → Appends old new had has (entry_of was.progress.id (was.progress.finished + 1) (events.Publish (length messages))) → Enters scenario old new had has was (record was { progress = p })
-publish_enters scenario old new had has was messages p waits played courses next is goes kept given_at appends =
-    end_enters scenario old new had has was event p waits refl played courses now_next goes (subst (All (KeptAt old was.progress.id)) (sym kept) waits.keeps.kept) given_at
+publish_enters scenario old new had has was messages p waits played courses next is goes kept given_at same appends =
+    end_enters scenario old new had has was event p waits refl played courses now_next goes (subst (All (KeptAt old was.progress.id)) (sym kept) waits.keeps.places.kept) given_at same
     (commit_fits scenario old was event waits refl now_next (publish_now scenario old was messages waits next is).commit ((begun (was.progress.finished + 1) facts.running).published + length messages) (begun (was.progress.finished + 1) facts.running).visible _ (length old + 1) refl (λ from same. cc same)) appends
   where
     event : Event

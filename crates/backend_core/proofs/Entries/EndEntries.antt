@@ -1,6 +1,7 @@
 -- The entries of an end of a backend that waits.
-use Rattle.std.proofs.Common.{◌≡◌, ◌≤◌, ◌+◌, ◌∙◌, ◌&&◌, ℕ, Bool, true, false, Option, Some, None, List, [], refl, sym, ap, subst, length, drop, is_some, All, arith}
+use Rattle.std.proofs.Common.{◌≡◌, ◌≤◌, ◌+◌, ◌∙◌, ◌&&◌, ◌||◌, ℕ, Bool, true, false, Option, Some, None, List, [], refl, sym, ap, subst, length, drop, is_some, All, arith}
 use Rattle.std.specs.Option.{option_map_or}
+use Rattle.std.proofs.Math.Bool.{or-true}
 use Rattle.std.proofs.lemmas.Bool.{both_ways}
 use Rattle.std.proofs.lemmas.Option.{slice_get_within, get_or_from_slice_get}
 use Rattle.event_kinds.specs.declared.entry.Event.TheVariants as events
@@ -15,13 +16,14 @@ use Rattle.seg_calls.specs.Calls.{entry_of, MayCall, Appends}
 use Rattle.txn_blocks.specs.declared.transaction.RunningTransaction.{RunningTransaction}
 use Rattle.cacheless.specs.Facts.{facts_of, facts_by}
 use Rattle.cacheless.specs.Holds.{HasEntered, with_own}
-use Rattle.cacheless.specs.May.{is_next_of_back, is_next_of_end, owes_nothing, may_end_at, may_play_at, may_last_at, may_play_now}
+use Rattle.cacheless.specs.May.{has_failed, is_next_of_back, is_next_of_end, owes_nothing, may_end_at, may_play_at, may_last_at, may_play_now}
 use Rattle.cacheless.specs.OnCourse.{AllOnCourse}
 use Rattle.cacheless.specs.Plays.{MayPlayIn}
 use Rattle.cacheless.specs.Runs.{runs}
 use Rattle.cacheless.specs.Schedule.{LooksTruly}
 use Rattle.cacheless.specs.Session.{Session}
 use Rattle.cacheless.specs.Sessions.{ends_command, noted, entered}
+use Rattle.cacheless.specs.Silently.{is_to_answer}
 use Rattle.cacheless.specs.State.{owed_at, has_write_since, is_out, end_of_running}
 use Rattle.cacheless.proofs.Deciding.{holds_decides}
 use Rattle.cacheless.proofs.Allowed.NextOnCourse.{entered_noted}
@@ -97,11 +99,11 @@ module _ (scenario : Scenario) (seen : List Entry) (s : Backend) (waits : Awaits
   end_now = ends_by (next_oid seen) (facts_of seen s.progress.id) (command_at s) (waiting waits) s.looked s.looked_to_build event ends waits.fits end_plays
 
   -- its command is answered
-  end_answered : (command : Command) → command_at s ≡ Some command → is_some s.answer ≡ true
+  end_answered : (command : Command) → command_at s ≡ Some command → is_some s.progress.answer ≡ true
   end_answered command at = by_case next
     where
-      by_case : EndsNext s.progress event → is_some s.answer ≡ true
-      by_case (InCommand c free out owes may) = waits.answered (ap (λ o. elim o as (λ x. Bool) [ Some x ↦ is_out s.progress && owes_nothing x s.progress | None ↦ false ]) free.at ∙ both_true (is_out s.progress) (owes_nothing c s.progress) out owes)
+      by_case : EndsNext s.progress event → is_some s.progress.answer ≡ true
+      by_case (InCommand c free out owes may) = waits.answered (ap (λ o. elim o as (λ x. Bool) [ Some x ↦ is_to_answer x s.progress | None ↦ false ]) free.at ∙ both_true (is_out s.progress) (has_failed s.progress || owes_nothing c s.progress) out (ap (λ t. has_failed s.progress || t) owes ∙ or-true (has_failed s.progress)))
       by_case (AfterAll past comes) = absurd (let no : Some command ≡ None = sym at ∙ past in cc no)
 
   -- it may be called for
@@ -123,15 +125,15 @@ built_at scenario seen s waits command at = subst (λ c. runs c ≡ true) (get_o
 
 -- after an entry of an end the backend agrees
 pub end_enters : (scenario : Scenario) (old new : List Entry) (had has : ℕ → ℕ) (was : Backend) (event : Event) (p : Progress) (waits : AwaitsEntry scenario old was) → ends_command event ≡ true → IsPlayed scenario old → AllOnCourse scenario old → EndsNext was.progress event
-    → HasEntered scenario old was.progress event waits.rests p → All (KeptAt old was.progress.id) p.kept → p.given_at ≡ was.progress.given_at
+    → HasEntered scenario old was.progress event waits.rests p → All (KeptAt old was.progress.id) p.kept → p.given_at ≡ was.progress.given_at → p.answer ≡ was.progress.answer
     → Fits (facts_by old was.progress.id (was.progress.finished + 1) event (facts_of old was.progress.id)) (command_at was)
     (entered (facts_of (with_own old was.progress event) was.progress.id) (drop was.progress.finished was.progress.commands) (length old + 1) (was.progress.finished + 1) event (waiting waits)) was.looked was.looked_to_build
     → Appends old new had has (entry_of was.progress.id (was.progress.finished + 1) event) → Enters scenario old new had has was (record was { progress = p })
-end_enters scenario old new had has was event p waits ends played courses next goes kept given_at fits appends =
+end_enters scenario old new had has was event p waits ends played courses next goes kept given_at same fits appends =
     own_enters scenario old new had has was (record was { progress = p }) event waits played courses (record { plays = end_plays scenario old was waits event ends next; truly = plain.truly; queue = plain.queue }) goes
     (keeps_still scenario old was event waits p goes (record was { progress = p }) refl plain.lives plain.unread kept
     (ap (λ (x : Session). x.left) goes.session ∙ noted_is.after.left ∙ end_left event (waiting waits) ends) (ap (λ (x : Session). x.read) goes.session ∙ noted_is.read ∙ plain.read (waiting waits)) given_at)
-    (fits_at scenario old was event waits p goes was.looked was.looked_to_build fits) refl (AtEnd ends (end_answered scenario old was waits event ends next) refl) (λ inside. absurd (both_ways _ inside ends)) appends
+    (fits_at scenario old was event waits p goes was.looked was.looked_to_build fits) refl (AtEnd ends (end_answered scenario old was waits event ends next) same) (λ inside. absurd (both_ways _ inside ends)) appends
   where
     plain : IsPlain scenario old was.progress.id (was.progress.finished + 1) event
     plain = is_plain scenario old was.progress.id (was.progress.finished + 1) event ends

@@ -73,17 +73,17 @@ pub record IsActing (scenario : Scenario) (old : List Entry) (was : Backend) (co
 
 -- after it the backend agrees
 pub failed_enters : (scenario : Scenario) (old new : List Entry) (had has : ℕ → ℕ) (was : Backend) (p : Progress) (event : Event) (error : CommandError) (command : Command) (waits : AwaitsEntry scenario old was) → IsPlayed scenario old → AllOnCourse scenario old → IsActing scenario old was command
-    → ShowsError scenario old was (waiting waits) event error → MayPlayIn (next_oid old) (facts_of old was.progress.id) (command_at was) (waiting waits) event → HasEntered scenario old was.progress event waits.rests p → p.kept ≡ was.progress.kept
-    → Appends old new had has (entry_of was.progress.id (was.progress.finished + 1) event) → Enters scenario old new had has was (record was { progress = p; answer = None })
-failed_enters scenario old new had has was p event error command waits played courses acting shows plays goes kept appends =
-    own_enters scenario old new had has was (record was { progress = p; answer = None }) event waits played courses (record { plays = plays; truly = shows.truly; queue = shows.queue }) goes
-    (keeps_at scenario old was event waits p goes (record was { progress = p; answer = None }) refl shows.lives
-    (kept_stays old (entry_of was.progress.id (was.progress.finished + 1) event) was.progress.id p.kept shows.others (subst (All (KeptAt old was.progress.id)) (sym kept) waits.keeps.kept))
+    → ShowsError scenario old was (waiting waits) event error → MayPlayIn (next_oid old) (facts_of old was.progress.id) (command_at was) (waiting waits) event → HasEntered scenario old was.progress event waits.rests p → p.kept ≡ was.progress.kept → p.answer ≡ None
+    → Appends old new had has (entry_of was.progress.id (was.progress.finished + 1) event) → Enters scenario old new had has was (record was { progress = p })
+failed_enters scenario old new had has was p event error command waits played courses acting shows plays goes kept none appends =
+    own_enters scenario old new had has was (record was { progress = p }) event waits played courses (record { plays = plays; truly = shows.truly; queue = shows.queue }) goes
+    (keeps_at scenario old was event waits p goes (record was { progress = p }) refl shows.lives
+    (kept_stays old (entry_of was.progress.id (was.progress.finished + 1) event) was.progress.id p.kept shows.others (subst (All (KeptAt old was.progress.id)) (sym kept) waits.keeps.places.kept))
     (subst (λ q. PlaceFits (with_own old was.progress event) was.progress.id q p.read p.given_at) (sym (ap (λ (x : Session). x.left) goes.session ∙ shows.left)) tt))
     (fits_at scenario old was event waits p goes was.looked was.looked_to_build
     (inside_fits scenario old was waits courses command acting.at later now was.looked was.looked_to_build same shows.lists shows.last
     (record { blocks = shows.blocks; finished = ap length shows.finished; blocked = shows.blocked; ended = shows.ended; left = λ is there. absurd (both_ways _ acting.unsettled is) }) acting.runs (Acts acting.unsettled) looks))
-    refl (Inside shows.inside refl) (λ inside. shows.goes_on) appends
+    refl (Inside shows.inside none) (λ inside. shows.goes_on) appends
   where
     later : Facts
     later = later_of old was event

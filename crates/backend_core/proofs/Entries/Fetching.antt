@@ -148,16 +148,16 @@ record BringsBack (scenario : Scenario) (old : List Entry) (was : Backend) (even
 
 -- after either the backend agrees
 fetch_agrees : (scenario : Scenario) (old new : List Entry) (had has : ℕ → ℕ) (was : Backend) (p : Progress) (event : Event) (marked : Bool) (waits : AwaitsEntry scenario old was) → IsPlayed scenario old → AllOnCourse scenario old → was.progress.due ≡ dues.Fetch → BringsBack scenario old was event waits
-    → HasEntered scenario old was.progress event waits.rests p → All (KeptAt old was.progress.id) p.kept → p.given_at ≡ was.progress.given_at → Appends old new had has (entry_of was.progress.id (was.progress.finished + 1) event)
-    → Enters scenario old new had has was (record was { progress = p; looked_to_build = was.looked_to_build && not marked; answer = None })
-fetch_agrees scenario old new had has was p event marked waits played courses is_fetch brings goes kept given_at appends =
-    own_enters scenario old new had has was (record was { progress = p; looked_to_build = was.looked_to_build && not marked; answer = None }) event waits played courses brings.own goes
-    (keeps_at scenario old was event waits p goes (record was { progress = p; looked_to_build = was.looked_to_build && not marked; answer = None }) refl brings.lives (kept_stays old e b p.kept brings.others kept)
+    → HasEntered scenario old was.progress event waits.rests p → All (KeptAt old was.progress.id) p.kept → p.given_at ≡ was.progress.given_at → p.answer ≡ None → Appends old new had has (entry_of was.progress.id (was.progress.finished + 1) event)
+    → Enters scenario old new had has was (record was { progress = p; looked_to_build = was.looked_to_build && not marked })
+fetch_agrees scenario old new had has was p event marked waits played courses is_fetch brings goes kept given_at none appends =
+    own_enters scenario old new had has was (record was { progress = p; looked_to_build = was.looked_to_build && not marked }) event waits played courses brings.own goes
+    (keeps_at scenario old was event waits p goes (record was { progress = p; looked_to_build = was.looked_to_build && not marked }) refl brings.lives (kept_stays old e b p.kept brings.others kept)
     (subst (λ x. PlaceFits (old ++ e ∷ []) b x p.read p.given_at) (sym left) (subst (λ t. PlaceFits (old ++ e ∷ []) b (resumed s.left s).left t p.given_at) (sym read) (subst (λ n. PlaceFits (old ++ e ∷ []) b (resumed s.left s).left (resumed s.left s).read n) (sym given_at)
-    (place_fetched old e b s due.command was.progress.given_at brings.others (follows scenario old was waits courses due.command due.at).sought waits.keeps.given_at)))))
+    (place_fetched old e b s due.command was.progress.given_at brings.others (follows scenario old was waits courses due.command due.at).sought waits.keeps.places.given_at)))))
     (fits_at scenario old was event waits p goes was.looked (was.looked_to_build && not marked) (subst (λ f. Fits f (command_at was) (entered (facts_of (with_own old was.progress event) b) (drop was.progress.finished was.progress.commands) (length old + 1) (was.progress.finished + 1) event s) was.looked (was.looked_to_build && not marked)) (sym brings.facts)
     (fetch_fits (facts_of old b) (command_at was) s _ event brings.usable due.command was.looked was.looked_to_build marked due.at waits.fits brings.fetched due.runs (hidden scenario old was waits due.command due.at due.busy) (going scenario old was waits courses due.command due.at) due.owed)))
-    refl (StaysWithin brings.inside refl) (λ inside. ap (λ (x : Session). x.ended) brings.notes ∙ (is_resumed s.left s).ended) appends
+    refl (StaysWithin brings.inside none) (λ inside. ap (λ (x : Session). x.ended) brings.notes ∙ (is_resumed s.left s).ended) appends
   where
     b : ℕ
     b = was.progress.id
@@ -254,12 +254,12 @@ fetched_count old b count due = length-take-le count (drop (position_of old b) (
 -- the messages of a fetch
 pub messages_enter : (scenario : Scenario) (old new : List Entry) (had has : ℕ → ℕ) (was now : Backend) (count : ℕ) (taken given : List Message) (waits : AwaitsEntry scenario old was) → IsPlayed scenario old → AllOnCourse scenario old → was.progress.due ≡ dues.Fetch
     → Fetches scenario.size old new had has was.progress.id (was.progress.finished + 1) taken (fetches.Messages count) → given ≡ taken
-    → (given ≡ fetched_by old was.progress.id (length given) → HasEntered scenario old was.progress (events.Fetch (length given)) waits.rests now.progress) → now.progress.kept ≡ kept_spared given was.progress.kept → now.progress.given_at ≡ was.progress.given_at
-    → now ≡ record was { progress = now.progress; looked_to_build = was.looked_to_build && not (marks_build was.progress given); answer = None } → Enters scenario old new had has was now
-messages_enter scenario old new had has was now count taken given waits played courses due gives same goes kept given_at is =
+    → (given ≡ fetched_by old was.progress.id (length given) → HasEntered scenario old was.progress (events.Fetch (length given)) waits.rests now.progress) → now.progress.kept ≡ kept_spared given was.progress.kept → now.progress.given_at ≡ was.progress.given_at → now.progress.answer ≡ None
+    → now ≡ record was { progress = now.progress; looked_to_build = was.looked_to_build && not (marks_build was.progress given) } → Enters scenario old new had has was now
+messages_enter scenario old new had has was now count taken given waits played courses due gives same goes kept given_at none is =
     subst (Enters scenario old new had has was) (sym is)
     (fetch_agrees scenario old new had has was now.progress (events.Fetch (length given)) (marks_build was.progress given) waits played courses due (messages_bring scenario old was (length given) waits due gives.served) (goes (same ∙ gives.messages ∙ ap (fetched_by old was.progress.id) counts))
-    (subst (All (KeptAt old was.progress.id)) (sym kept) (All-filter (λ k. is_spared k.scan given) (KeptAt old was.progress.id) was.progress.kept waits.keeps.kept)) given_at
+    (subst (All (KeptAt old was.progress.id)) (sym kept) (All-filter (λ k. is_spared k.scan given) (KeptAt old was.progress.id) was.progress.kept waits.keeps.places.kept)) given_at none
     (subst (λ n. Appends old new had has (entry_of was.progress.id (was.progress.finished + 1) (events.Fetch n))) counts gives.appends))
   where
     counts : count ≡ length given
@@ -267,9 +267,9 @@ messages_enter scenario old new had has was now count taken given waits played c
 
 -- a reset
 pub reset_enters : (scenario : Scenario) (old new : List Entry) (had has : ℕ → ℕ) (was now : Backend) (given : List Message) (waits : AwaitsEntry scenario old was) → IsPlayed scenario old → AllOnCourse scenario old → was.progress.due ≡ dues.Fetch
-    → Fetches scenario.size old new had has was.progress.id (was.progress.finished + 1) given fetches.Reset → HasEntered scenario old was.progress events.FetchReset waits.rests now.progress → now.progress.kept ≡ [] → now.progress.given_at ≡ was.progress.given_at
-    → now ≡ record was { progress = now.progress; looked_to_build = was.looked_to_build && not (has_begun was.progress); answer = None } → Enters scenario old new had has was now
-reset_enters scenario old new had has was now given waits played courses due gives goes kept given_at is =
+    → Fetches scenario.size old new had has was.progress.id (was.progress.finished + 1) given fetches.Reset → HasEntered scenario old was.progress events.FetchReset waits.rests now.progress → now.progress.kept ≡ [] → now.progress.given_at ≡ was.progress.given_at → now.progress.answer ≡ None
+    → now ≡ record was { progress = now.progress; looked_to_build = was.looked_to_build && not (has_begun was.progress) } → Enters scenario old new had has was now
+reset_enters scenario old new had has was now given waits played courses due gives goes kept given_at none is =
     subst (Enters scenario old new had has was) (sym is)
     (fetch_agrees scenario old new had has was now.progress events.FetchReset (has_begun was.progress) waits played courses due (reset_brings scenario old was waits due gives.lapped) goes
-    (subst (All (KeptAt old was.progress.id)) (sym kept) (λ i d within. absurd (omega (arith, within)))) given_at gives.appends)
+    (subst (All (KeptAt old was.progress.id)) (sym kept) (λ i d within. absurd (omega (arith, within)))) given_at none gives.appends)

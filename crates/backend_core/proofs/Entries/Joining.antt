@@ -6,7 +6,6 @@ use Rattle.std.proofs.lemmas.List.Elements.{All-nil}
 use Rattle.event_kinds.specs.declared.entry.Event.TheVariants as events
 use Rattle.txn_blocks.specs.Blocks.{no_block}
 use Rattle.ddl_effect.specs.Commands.{commands_of}
-use Rattle.ddl_effect.specs.Plans.{Plan, Absent, Do, Lookup}
 use Rattle.ddl_effect.specs.Stages.{plan_at}
 use Rattle.inval_messages.specs.Lists.{has_write_from}
 use Rattle.std.specs.Option.{option_map_or}
@@ -30,6 +29,7 @@ use Rattle.cacheless.proofs.Resting.{first_left}
 use Rattle.cacheless.proofs.Reading.{facts_of-own}
 use Rattle.cacheless.proofs.Allowed.SettledCourse.{begins_on_course}
 use Rattle.cacheless.proofs.Allowed.StaysOnCourse.{has_written-quiet}
+use Rattle.cacheless.proofs.Answers.Telling.{place_first}
 use Rattle.backend_core.specs.Types.{Command, Scenario, Entry, KeptScan, Progress, Backend}
 use Rattle.backend_core.specs.declared.life.Life.TheVariants as lives
 use Rattle.backend_core.specs.Agrees.{IsPlayed, KeptAt, PlaceFits, AgreesNow, HasNotJoined}
@@ -71,31 +71,24 @@ fits_first facts o at runs lists last = record {
     none : started_in 1 facts ≡ 0
     none = ap (λ r. option_map_or (λ (t : Running). elim (t.first == 1) as (λ x. ℕ) [ true ↦ 1 | false ↦ 0 ]) r 0) runs
 
--- a plan that has read nothing rests on no place
-pub place_first : (seen : List Entry) (b : ℕ) (plan : Plan) (at : ℕ) → is_absent plan ≡ false → PlaceFits seen b plan false at
-place_first seen b (Absent name) at there = absurd (cc there)
-place_first seen b (Do (Lookup name mode) rest) at there = tt
-place_first seen b plan at there = tt
-
 -- the state after it
-pub join_enters : (scenario : Scenario) (old new : List Entry) (had has : ℕ → ℕ) (was : Backend) (p : Progress) → HasNotJoined scenario old was → IsPlayed scenario old → HasStarted scenario old was.progress p → p.kept ≡ was.progress.kept
+pub join_enters : (scenario : Scenario) (old new : List Entry) (had has : ℕ → ℕ) (was : Backend) (p : Progress) → HasNotJoined scenario old was → IsPlayed scenario old → HasStarted scenario old was.progress p → p.kept ≡ was.progress.kept → p.answer ≡ was.progress.answer
     → Appends old new had has (entry_of was.progress.id 0 events.Start) → Enters scenario old new had has was (record was { progress = p; life = lives.Alive })
-join_enters scenario old new had has was p before played started kept appends = record {
+join_enters scenario old new had has was p before played started kept same appends = record {
   makes = makes;
   id = started.moves.id;
   agrees = subst (λ h. AgreesNow scenario h now) (sym appends.entries) (record {
-    played = IsPlayed-more scenario old e played makes.may;
     keeps = record {
       alive = refl;
       life = record { last = 0; alive = ap (life_of (old ++ e ∷ [])) started.moves.id ∙ life_of-own old e b own; most = omega arith };
       built = subst (All (λ c. runs c ≡ true)) (sym started.moves.commands) before.built;
-      kept = subst (λ (l : List KeptScan). All (KeptAt (old ++ e ∷ []) p.id) l) (sym (kept ∙ before.new.progress.kept)) (All-nil (KeptAt (old ++ e ∷ []) p.id));
-      given_at = subst (λ r. PlaceFits (old ++ e ∷ []) p.id (plan_at p.exec) r p.given_at) (sym (ap (λ (s : Session). s.read) started.session))
-          (place_first (old ++ e ∷ []) p.id (plan_at p.exec) p.given_at (ap is_absent (ap (λ (s : Session). s.left) started.session) ∙ not_absent no_block (slice_get was.progress.commands 0)));
+      places = record {
+        kept = subst (λ (l : List KeptScan). All (KeptAt (old ++ e ∷ []) p.id) l) (sym (kept ∙ before.new.progress.kept)) (All-nil (KeptAt (old ++ e ∷ []) p.id));
+        given_at = subst (λ r. PlaceFits (old ++ e ∷ []) p.id (plan_at p.exec) r p.given_at) (sym (ap (λ (s : Session). s.read) started.session))
+            (place_first (old ++ e ∷ []) p.id (plan_at p.exec) p.given_at (ap is_absent (ap (λ (s : Session). s.left) started.session) ∙ not_absent no_block (slice_get was.progress.commands 0)));
+      };
     };
     holds = started.holds;
-    course = subst (λ k. EntersCourse scenario (old ++ e ∷ []) k (session_at p started.holds.rest)) (sym started.moves.id) (subst (EntersCourse scenario (old ++ e ∷ []) b) (sym (started.session ∙ ap (at_command no_block [] [] (length old + 1)) first_is))
-        (begins_on_course scenario (old ++ e ∷ []) b no_block [] [] (length old + 1) (commands_of scenario b) refl (λ n after. has_written-quiet old e b n refl ∙ before.unwritten n) refl));
     fits = subst (λ f. Fits f (slice_get p.commands p.finished) (session_at p started.holds.rest) was.looked was.looked_to_build) (sym facts_are)
         (subst (λ x. Fits facts (slice_get p.commands p.finished) x was.looked was.looked_to_build) (sym started.session)
         (subst (λ o. Fits facts o (at_command no_block [] [] (length old + 1) (slice_get was.progress.commands 0)) was.looked was.looked_to_build) (sym first_command)
@@ -103,15 +96,21 @@ join_enters scenario old new had has was p before played started kept appends = 
         (subst (λ t. Fits facts (slice_get was.progress.commands 0) (at_command no_block [] [] (length old + 1) (slice_get was.progress.commands 0)) t false) (sym before.new.looked)
         (fits_first facts (slice_get was.progress.commands 0) (length old + 1) refl (ap (λ f. f.lists) before.facts) refl)))));
     tells = record {
-      lines = before.new.lines ∙ sym (ap (λ l. lines_from scenario (old ++ e ∷ []) p.id 1 l p.commands) (ap (λ (s : Session). s.finished) started.session));
-      answer = λ text command told at. absurd (let both : None ≡ Some text = sym before.new.answer ∙ told in cc both);
-      out = λ some. absurd (both_ways _ (ap (λ o. is_some o) before.new.answer) some);
+      played = IsPlayed-more scenario old e played makes.may;
+      course = subst (λ k. EntersCourse scenario (old ++ e ∷ []) k (session_at p started.holds.rest)) (sym started.moves.id) (subst (EntersCourse scenario (old ++ e ∷ []) b) (sym (started.session ∙ ap (at_command no_block [] [] (length old + 1)) first_is))
+          (begins_on_course scenario (old ++ e ∷ []) b no_block [] [] (length old + 1) (commands_of scenario b) refl (λ n after. has_written-quiet old e b n refl ∙ before.unwritten n) refl));
+      tells = record {
+        answer = λ text command told at. absurd (let both : None ≡ Some text = sym (same ∙ before.new.progress.answer) ∙ told in cc both);
+        out = λ some. absurd (both_ways _ (ap (λ o. is_some o) (same ∙ before.new.progress.answer)) some);
+      };
+      here = λ command at none. record {
+        judged = omega (arith, length_push old e, ap (λ (s : Session). s.judged) started.session);
+        stands = (λ i. is_over (last_event_of (old ++ e ∷ []) (started.moves.id i)) (started.session i)) ∙ ap (λ o. is_over o (at_command no_block [] [] (length old + 1) (slice_get was.progress.commands 0))) (last_event_of-own old e b own);
+      };
+      last = omega (arith, length_push old e, ap (λ (s : Session). s.last) started.session);
+      back = λ from command gone at. absurd (let both : Some events.Start ≡ Some (events.Gone from) = sym (last_event_of-own old e b own) ∙ ap (last_event_of (old ++ e ∷ [])) (sym started.moves.id) ∙ gone in cc both);
     };
-    here = λ command at none. record {
-      judged = omega (arith, length_push old e, ap (λ (s : Session). s.judged) started.session);
-      stands = (λ i. is_over (last_event_of (old ++ e ∷ []) (started.moves.id i)) (started.session i)) ∙ ap (λ o. is_over o (at_command no_block [] [] (length old + 1) (slice_get was.progress.commands 0))) (last_event_of-own old e b own);
-    };
-    last = omega (arith, length_push old e, ap (λ (s : Session). s.last) started.session);
+    lines = before.new.lines ∙ sym (ap (λ l. lines_from scenario (old ++ e ∷ []) p.id 1 l p.commands) (ap (λ (s : Session). s.finished) started.session));
   });
 }
   where

@@ -18,7 +18,7 @@ use Rattle.cacheless.specs.Lines.{lines_from}
 use Rattle.cacheless.specs.OnCourse.{AllOnCourse}
 use Rattle.cacheless.specs.Plays.{MayPlayIn}
 use Rattle.cacheless.specs.Session.{Session}
-use Rattle.cacheless.specs.Sessions.{entered, session_of}
+use Rattle.cacheless.specs.Sessions.{session_of}
 use Rattle.cacheless.specs.Settled.{settled}
 use Rattle.cacheless.specs.State.{running_of, session_at}
 use Rattle.cacheless.proofs.CommandEnds.{left_none}
@@ -94,9 +94,9 @@ leave_steps scenario old new had has was p waits played courses past none goes k
     has_left : HasLeft scenario (old ++ e ∷ []) left
     has_left = record {
       holds = goes.holds;
-      kept = subst (λ k. All (KeptAt (old ++ e ∷ []) k) p.kept) (sym goes.moves.id) (subst (All (KeptAt (old ++ e ∷ []) b)) (sym kept) (λ i d within. place_read-more old e b (get_or was.progress.kept i d).scan refl ∙ waits.keeps.kept i d within));
+      kept = subst (λ k. All (KeptAt (old ++ e ∷ []) k) p.kept) (sym goes.moves.id) (subst (All (KeptAt (old ++ e ∷ []) b)) (sym kept) (λ i d within. place_read-more old e b (get_or was.progress.kept i d).scan refl ∙ waits.keeps.places.kept i d within));
       life = ap (life_of (old ++ e ∷ [])) goes.moves.id ∙ life_of-own old e b (eq-eqb b b refl);
-      lines = waits.tells.lines ∙ ap (lines_from scenario old b 1 s.finished) waits.rests.holds.commands ∙ sym (finished_lines-more scenario old e b s (waiting_is scenario old was waits))
+      lines = waits.lines ∙ ap (lines_from scenario old b 1 s.finished) waits.rests.holds.commands ∙ sym (finished_lines-more scenario old e b s (waiting_is scenario old was waits))
           ∙ (λ i. lines_from scenario (old ++ e ∷ []) (sym goes.moves.id i) 1 (sym finished_same i) (commands_of scenario (sym goes.moves.id i)))
           ∙ sym (ap (λ o. lines_from scenario (old ++ e ∷ []) p.id 1 (option_map_or (λ (x : Session). x.finished) o []) (commands_of scenario p.id)) session_is);
     }

@@ -8,7 +8,7 @@ use Rattle.lock_modes.specs.Grants.{holds}
 use Rattle.lock_modes.specs.Own.{has_lock}
 use Rattle.lock_modes.specs.declared.granted.LockRefusal.{LockRefusal}
 use Rattle.lock_modes.specs.declared.granted.LockRefusal.TheVariants.{Conflict}
-use Rattle.ddl_effect.specs.Plans.{Act, Plan, Done, Fails, Absent, NotBuilt, Do, Lookup, Open, Column, Read, Lock, Write}
+use Rattle.ddl_effect.specs.Plans.{Act, Plan, Done, Fails, Absent, NotBuilt, Do, Lookup, Open, Search, Read, Lock, Write}
 use Rattle.ddl_effect.specs.Stages.{plan_at}
 use Rattle.history_model.specs.Drawn.{next_oid}
 use Rattle.history_model.specs.Held.{held_of}
@@ -59,7 +59,7 @@ not_held : (facts : Facts) (s : Progress) (p : Plan) (rel : Oid) (mode : Mode) �
 not_held facts s (Do (Lookup name wanted) rest) rel mode is asks none = subst (λ m. has_lock s.locks.items rel m ≡ false) (sym asks.1) (unlocked s.locks.items wanted s.given.items rel (and_parts (names_relation rel s.given.items) _ is).0 none)
 not_held facts s (Do (Lock other wanted) rest) rel mode is asks none = (λ i. has_lock s.locks.items (asks.0 i) (asks.1 i)) ∙ unlocked_still (has_lock s.locks.items other wanted) none
 not_held facts s (Do (Open of kind) rest) rel mode is asks none = absurd asks
-not_held facts s (Do (Column of name) rest) rel mode is asks none = absurd asks
+not_held facts s (Do (Search scan) rest) rel mode is asks none = absurd asks
 not_held facts s (Do (Read scan) rest) rel mode is asks none = absurd asks
 not_held facts s (Do (Write draft) rest) rel mode is asks none = absurd asks
 not_held facts s p rel mode is asks none = absurd asks
@@ -72,7 +72,7 @@ record IsAct (p : Plan) : Type 0 where
 
 locks_act : (facts : Facts) (p : Plan) (rel : Oid) (mode : Mode) → IsLock facts p rel mode → IsAct p
 locks_act facts (Do act rest) rel mode asks = record { act = act; rest = rest; is = refl }
-locks_act facts Done rel mode asks = absurd asks
+locks_act facts (Done told) rel mode asks = absurd asks
 locks_act facts (Fails error) rel mode asks = absurd asks
 locks_act facts (Absent name) rel mode asks = absurd asks
 locks_act facts NotBuilt rel mode asks = absurd asks
@@ -131,17 +131,17 @@ module _ (scenario : Scenario) (old : List Entry) (was : Backend) (waits : Await
   lock_drawn = keeping.lock_drawn old was.progress.id s next.command rel mode played.sound (follows scenario old was waits courses next.command next.free.at) asks.0 asks.1
 
   -- a lock that is granted, to a backend that had the room for it made
-  module _ (first : Backend) (id : was.progress.id ≡ first.progress.id) (new : List Entry) (had has : ℕ → ℕ) (p : Progress) (kept : p.kept ≡ was.progress.kept) where
+  module _ (first : Backend) (id : was.progress.id ≡ first.progress.id) (new : List Entry) (had has : ℕ → ℕ) (p : Progress) (kept : p.kept ≡ was.progress.kept) (none : p.answer ≡ None) where
     pub granted_enters : HasEntered scenario old was.progress (events.LockOk rel mode) waits.rests p → p.given_at ≡ was.progress.given_at
-        → Appends old new had has (entry_of was.progress.id (was.progress.finished + 1) (events.LockOk rel mode)) → Enters scenario old new had has first (record was { progress = p; answer = None })
-    granted_enters goes given_at appends = alike_enters scenario old new had has first was (record was { progress = p; answer = None }) id (
-        own_enters scenario old new had has was (record was { progress = p; answer = None }) event waits played courses (record { plays = plays event next.may; truly = tt; queue = tt }) goes
-        (keeps_still scenario old was event waits p goes (record was { progress = p; answer = None }) refl refl (λ scan. refl) (subst (All (KeptAt old was.progress.id)) (sym kept) waits.keeps.kept)
+        → Appends old new had has (entry_of was.progress.id (was.progress.finished + 1) (events.LockOk rel mode)) → Enters scenario old new had has first (record was { progress = p })
+    granted_enters goes given_at appends = alike_enters scenario old new had has first was (record was { progress = p }) id (
+        own_enters scenario old new had has was (record was { progress = p }) event waits played courses (record { plays = plays event next.may; truly = tt; queue = tt }) goes
+        (keeps_still scenario old was event waits p goes (record was { progress = p }) refl refl (λ scan. refl) (subst (All (KeptAt old was.progress.id)) (sym kept) waits.keeps.places.kept)
         (ap (λ (x : Session). x.left) goes.session) (ap (λ (x : Session). x.read) goes.session) given_at)
         (fits_at scenario old was event waits p goes was.looked was.looked_to_build
         (inside_fits scenario old was waits courses next.command next.free.at later now was.looked was.looked_to_build same refl (λ from is. cc is) (record { blocks = refl; finished = refl; blocked = refl; ended = refl; left = λ is there. refl }) acting.runs (Acts acting.unsettled)
         (record { enough = omega (arith, before.enough, ap looks_due acting.owed, started); within = omega (arith, before.within, ap looks_due acting.owed, started) })))
-        refl (Inside refl refl) (λ inside. refl) appends)
+        refl (Inside refl none) (λ inside. refl) appends)
       where
         event : Event
         event = events.LockOk rel mode
@@ -157,6 +157,6 @@ module _ (scenario : Scenario) (old : List Entry) (was : Backend) (waits : Await
 
     -- and one that is refused
     pub refused_enters : (holder : ℕ) (held : Mode) → HasEntered scenario old was.progress (events.LockHeld rel mode holder held) waits.rests p
-        → Appends old new had has (entry_of was.progress.id (was.progress.finished + 1) (events.LockHeld rel mode holder held)) → Enters scenario old new had has first (record was { progress = p; answer = None })
-    refused_enters holder held goes appends = alike_enters scenario old new had has first was (record was { progress = p; answer = None }) id (failed_enters scenario old new had has was p (events.LockHeld rel mode holder held) (errors.Locked rel holder held) next.command waits played courses acting
-        (held_shows scenario old was s rel mode holder held) (plays (events.LockHeld rel mode holder held) next.may) goes kept appends)
+        → Appends old new had has (entry_of was.progress.id (was.progress.finished + 1) (events.LockHeld rel mode holder held)) → Enters scenario old new had has first (record was { progress = p })
+    refused_enters holder held goes appends = alike_enters scenario old new had has first was (record was { progress = p }) id (failed_enters scenario old new had has was p (events.LockHeld rel mode holder held) (errors.Locked rel holder held) next.command waits played courses acting
+        (held_shows scenario old was s rel mode holder held) (plays (events.LockHeld rel mode holder held) next.may) goes kept none appends)

@@ -8,7 +8,7 @@ use Rattle.base_types.specs.Scans.{same_scan, is_build_scan}
 use Rattle.base_types.specs.declared.scan.Purpose.TheVariants as scans
 use Rattle.base_types.proofs.SameScan.{same_scan-true, same_scan-itself}
 use Rattle.event_kinds.specs.declared.entry.Event.TheVariants as events
-use Rattle.ddl_effect.specs.Plans.{Plan, Absent, Do, Lookup, Column}
+use Rattle.ddl_effect.specs.Plans.{Plan, Absent, Do, Lookup}
 use Rattle.ddl_effect.specs.Stages.{plan_at}
 use Rattle.history_model.specs.Drawn.{next_oid}
 use Rattle.history_model.specs.Read.{place_read}
@@ -22,7 +22,8 @@ use Rattle.cacheless.specs.Plays.{started_in, has_looked, MayPlayIn}
 use Rattle.cacheless.specs.Session.{Session, Badly, number_of, outcome_of}
 use Rattle.cacheless.specs.Sessions.{is_wanted, entered}
 use Rattle.cacheless.specs.State.{owed_at, one_if, is_kept, newly_kept}
-use Rattle.cacheless.proofs.Entries.EnteredScans.{next_lacks}
+use Rattle.cacheless.proofs.ReadsBuilds.{stage_reads}
+use Rattle.cacheless.proofs.Entries.EnteredScans.{wanted_named, next_lacks}
 use Rattle.cacheless.proofs.Answers.ReadPlaces.{place_read-more, place_read-scan}
 use Rattle.cacheless.proofs.Same.{next_same}
 use Rattle.cacheless.proofs.Tests.{and_true, not_true}
@@ -54,18 +55,12 @@ one_less false false to_build l t is left right = absurd (cc is)
 looked_enough : (facts : Facts) (s : Session) (looked to_build : Bool) → LooksFit facts s looked to_build → owed_after facts.last ≡ [] → 1 ≤ one_if looked + one_if to_build → has_looked facts s ≡ true
 looked_enough facts s looked to_build fits none some = lt-ltb (s.tally.scans + s.tally.grants + started_in (number_of s) facts + s.tally.full) s.tally.looks (omega (arith, fits.enough, ap looks_due none, some))
 
--- the scan of a name or a column is none for a descriptor
-wanted_named : (scan : Purpose) (p : Plan) → is_wanted scan p ≡ true → is_build_scan scan ≡ false
-wanted_named scan (Do (Lookup name mode) rest) is = ap is_build_scan (same_scan-true scan (scans.RelName name) is)
-wanted_named scan (Do (Column rel name) rest) is = ap is_build_scan (same_scan-true scan (scans.AttName rel name) is)
-wanted_named scan p is = absurd (cc is)
-
 -- what comes next isn't kept
 none_kept : (p : Progress) (scan : Purpose) (k : KeptScan) → is_next_at scan p ≡ true → is_build_scan k.scan ≡ true → (same_scan k.scan scan ≡ true → is_kept p.kept scan ≡ true) → same_scan scan k.scan ≡ false
 none_kept p scan k next build among = by_same (same_scan scan k.scan) refl
   where
     by_wanted : scan ≡ k.scan → (t : Bool) → is_wanted scan (plan_at p.exec) ≡ t → ⊥
-    by_wanted same true is = both_ways _ (wanted_named scan (plan_at p.exec) is) (ap is_build_scan same ∙ build)
+    by_wanted same true is = both_ways _ (wanted_named scan (plan_at p.exec) (stage_reads p.exec) is) (ap is_build_scan same ∙ build)
     by_wanted same false is = both_ways _ (not_true (is_kept p.kept scan) (next_lacks p scan is next).0) (among (subst (λ x. same_scan x scan ≡ true) same (same_scan-itself scan)))
 
     by_same : (t : Bool) → same_scan scan k.scan ≡ t → same_scan scan k.scan ≡ false
@@ -162,7 +157,7 @@ module _ (scenario : Scenario) (old : List Entry) (was : Backend) (waits : Await
       stay : All (KeptAt (with_own old was.progress event) was.progress.id) was.progress.kept
       stay = λ i d within. place_read-more old (entry_of was.progress.id (was.progress.finished + 1) event) was.progress.id (get_or was.progress.kept i d).scan
           (none_kept was.progress scan (get_or was.progress.kept i d) next.next (waits.rests.holds.facts.kept i d within).build (list_any_at (λ k. same_scan k.scan scan) was.progress.kept i d within))
-          ∙ waits.keeps.kept i d within
+          ∙ waits.keeps.places.kept i d within
 
       by_kind : (u : Bool) → All (KeptAt (with_own old was.progress event) was.progress.id) (was.progress.kept ++ newly_kept u scan rows (length old + 1))
       by_kind true = subst (All (KeptAt (with_own old was.progress event) was.progress.id)) (sym (append-nil was.progress.kept)) stay
@@ -173,16 +168,16 @@ module _ (scenario : Scenario) (old : List Entry) (was : Backend) (waits : Await
 
   -- so after it the backend agrees
   pub scan_enters : (new : List Entry) (had has : ℕ → ℕ) (p : Progress) (l t : Bool) (rows : List Row) (at : ℕ) → IsPlayed scenario old → HasEntered scenario old was.progress event waits.rests p → at ≡ length old + 1
-      → p.kept ≡ was.progress.kept ++ newly_kept (is_wanted scan (plan_at was.progress.exec)) scan rows at → p.given_at ≡ (if is_wanted scan (plan_at was.progress.exec) then at else was.progress.given_at)
+      → p.kept ≡ was.progress.kept ++ newly_kept (is_wanted scan (plan_at was.progress.exec)) scan rows at → p.given_at ≡ (if is_wanted scan (plan_at was.progress.exec) then at else was.progress.given_at) → p.answer ≡ None
       → l ≡ (was.looked && not (not builds)) → t ≡ (was.looked_to_build && not builds)
-      → Appends old new had has (entry_of was.progress.id (was.progress.finished + 1) event) → Enters scenario old new had has was (record was { progress = p; looked = l; looked_to_build = t; answer = None })
-  scan_enters new had has p l t rows at played goes at_is kept given_at left right appends =
-      own_enters scenario old new had has was (record was { progress = p; looked = l; looked_to_build = t; answer = None }) event waits played courses scan_own goes
-      (keeps_at scenario old was event waits p goes (record was { progress = p; looked = l; looked_to_build = t; answer = None }) refl refl
+      → Appends old new had has (entry_of was.progress.id (was.progress.finished + 1) event) → Enters scenario old new had has was (record was { progress = p; looked = l; looked_to_build = t })
+  scan_enters new had has p l t rows at played goes at_is kept given_at none left right appends =
+      own_enters scenario old new had has was (record was { progress = p; looked = l; looked_to_build = t }) event waits played courses scan_own goes
+      (keeps_at scenario old was event waits p goes (record was { progress = p; looked = l; looked_to_build = t }) refl refl
       (subst (All (KeptAt (with_own old was.progress event) was.progress.id)) (sym (kept ∙ ap (λ n. was.progress.kept ++ newly_kept (is_wanted scan (plan_at was.progress.exec)) scan rows n) at_is)) (kept_then rows (is_wanted scan (plan_at was.progress.exec))))
       (subst (PlaceFits (with_own old was.progress event) was.progress.id (plan_at p.exec) p.read) (sym (given_at ∙ ap (λ n. if is_wanted scan (plan_at was.progress.exec) then n else was.progress.given_at) at_is))
       (subst (λ r. PlaceFits (with_own old was.progress event) was.progress.id (plan_at p.exec) r (if is_wanted scan (plan_at was.progress.exec) then length old + 1 else was.progress.given_at)) (sym (ap (λ (x : Session). x.read) goes.session))
       (subst (λ q. PlaceFits (with_own old was.progress event) was.progress.id q (is_wanted scan (plan_at was.progress.exec) || was.progress.read) (if is_wanted scan (plan_at was.progress.exec) then length old + 1 else was.progress.given_at)) (sym (ap (λ (x : Session). x.left) goes.session))
-      (scan_place old was.progress.id (was.progress.finished + 1) scan count (plan_at was.progress.exec) was.progress.read was.progress.given_at goes_well waits.keeps.given_at)))))
+      (scan_place old was.progress.id (was.progress.finished + 1) scan count (plan_at was.progress.exec) was.progress.read was.progress.given_at goes_well waits.keeps.places.given_at)))))
       (fits_at scenario old was event waits p goes l t (scan_fits l t left right))
-      refl (Inside refl refl) (λ inside. refl) appends
+      refl (Inside refl none) (λ inside. refl) appends

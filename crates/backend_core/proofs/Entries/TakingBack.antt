@@ -1,11 +1,15 @@
 -- What was written is taken back.
 use Rattle.std.proofs.Common.{◌≡◌, ◌+◌, ◌∙◌, ℕ, Bool, true, false, Option, Some, None, List, [], refl, sym, ap, subst, length, is_some, All}
+use Rattle.std.specs.List.{cons_option}
 use Rattle.std.specs.Option.{option_map_or}
 use Rattle.std.proofs.lemmas.Bool.{both_ways, false_from_ne_true}
 use Rattle.std.proofs.lemmas.List.Elements.{All-filter}
 use Rattle.event_kinds.specs.declared.entry.Event.TheVariants as events
 use Rattle.inval_messages.specs.Lists.{has_write_from, lists_from, cats_in, rels_in}
 use Rattle.inval_messages.specs.Messages.{is_spared}
+use Rattle.ddl_effect.specs.declared.told.Told.TheVariants as tells
+use Rattle.ddl_effect.specs.Plans.{Done, told_rests_on}
+use Rattle.ddl_effect.specs.Stages.{told_of}
 use Rattle.history_model.specs.Legal.{FollowsVisible, FollowsGone}
 use Rattle.history_model.specs.Transactions.{Running, is_visible}
 use Rattle.seg_calls.specs.Calls.{entry_of, MayCall, Appends}
@@ -13,10 +17,10 @@ use Rattle.cacheless.specs.Ends.{Commits, TakesBack}
 use Rattle.cacheless.specs.Facts.{Facts, facts_of, facts_by}
 use Rattle.cacheless.specs.Holds.{HasEntered}
 use Rattle.cacheless.specs.OnCourse.{AllOnCourse}
-use Rattle.cacheless.specs.Owed.{Owes, owed_after, owed_of, builds_owed}
-use Rattle.cacheless.specs.Session.{Session, Well, outcome_of}
+use Rattle.cacheless.specs.Owed.{Owes, unusable, owed_after, owed_of, builds_owed}
+use Rattle.cacheless.specs.Session.{Session, Well, outcome_of, is_settled, plan_first}
 use Rattle.cacheless.specs.State.{lists_at, kept_spared}
-use Rattle.cacheless.proofs.Allowed.Releases.{ends_built}
+use Rattle.cacheless.proofs.Allowed.Releases.{OwesNoScan, ends_free}
 use Rattle.backend_core.specs.Types.{Command, Scenario, Entry, Event, OwnLock, Message, KeptScan, Progress, Backend}
 use Rattle.backend_core.specs.Agrees.{IsPlayed, KeptAt, command_at, AwaitsEntry}
 use Rattle.backend_core.specs.Fits.{first_at, Fits}
@@ -25,6 +29,10 @@ use Rattle.backend_core.proofs.Entries.EndEntries.{end_now, end_call, end_enters
 use Rattle.backend_core.proofs.Choosing.EndsNow.{end_by, EndsBy, comes_now, commit_end, back_end}
 use Rattle.backend_core.proofs.Fitting.FitsEnds.{later_at, GoesOn, end_same, fits_ending, takes_back_on, write_from_first, none_from, goes_first, begun_xid, begun_visible, written_runs}
 use Rattle.backend_core.proofs.Own.{waiting, follows}
+
+-- after the last command no scan is owed
+past_free : (facts : Facts) (s : Session) → s.opened ≡ [] → s.left ≡ Done tells.Ok → OwesNoScan facts s
+past_free facts s opened left = (ap (builds_owed facts) opened, λ told is. ap (λ t. unusable facts (cons_option (told_rests_on t) [])) (ap told_of (sym is ∙ left)))
 
 -- a transaction that is taken back isn't visible
 back_hidden : (facts : Facts) (o : Option Command) (s : Session) (looked to_build : Bool) (from : ℕ) → Fits facts o s looked to_build → end_by facts o s ≡ TakesBack from → is_visible facts.running ≡ false
@@ -68,13 +76,13 @@ module _ (scenario : Scenario) (old : List Entry) (was : Backend) (from : ℕ) (
   goes_on : GoesOn facts later
   goes_on = record { runs = written_runs facts.running written; some = refl; same = goes_first (was.progress.finished + 1) facts.running (written_runs facts.running written); free = refl }
 
-  -- a command that comes out well and is taken back has opened nothing
-  none_built : AllOnCourse scenario old → (locks : List OwnLock) (at : ℕ) → outcome_of s.left ≡ Well → builds_owed later s.opened ≡ []
-  none_built courses locks at well = by_command (command_at was) refl
+  -- a command that comes out well and is taken back owes no scan
+  takes_free : AllOnCourse scenario old → (locks : List OwnLock) (at : ℕ) → outcome_of s.left ≡ Well → OwesNoScan later s
+  takes_free courses locks at well = by_command (command_at was) refl
     where
-      by_command : (o : Option Command) → command_at was ≡ o → builds_owed later s.opened ≡ []
-      by_command None past = ap (builds_owed later) (waits.fits.past past).opened
-      by_command (Some command) is = ends_built later command (later_at s locks at) (follows scenario old was waits courses command is).plain well
+      by_command : (o : Option Command) → command_at was ≡ o → OwesNoScan later s
+      by_command None past = past_free later s (waits.fits.past past).opened (waits.fits.settled (ap (λ o. is_settled (outcome_of (plan_first s.blocks o))) past) ∙ ap (plan_first s.blocks) past)
+      by_command (Some command) is = ends_free later command (later_at s locks at) (λ told none. let alone = (follows scenario old was waits courses command is).plain told none in record { opened = alone.opened; left = alone.left }) well
           (ap (λ e. elim e as (λ x. List Owes) [ TakesBack n ↦ owed_after later.last | end ↦ owed_of later command (later_at s locks at) ]) (end_same facts later command s locks at goes_on ∙ ap (λ o. end_by facts o s) (sym is) ∙ takes.0))
 
   take_back_fits : AllOnCourse scenario old → (locks : List OwnLock) (at : ℕ) → Fits later (command_at was) (later_at s locks at) was.looked was.looked_to_build
@@ -82,7 +90,7 @@ module _ (scenario : Scenario) (old : List Entry) (was : Backend) (from : ℕ) (
       (λ is. begun_xid (was.progress.finished + 1) facts.running written)
       (λ is. absurd (both_ways _ hidden (sym (begun_visible (was.progress.finished + 1) facts.running) ∙ is)))
       (λ n is. let same : from ≡ n = (let both : Some (events.Gone from) ≡ Some (events.Gone n) = is in cc both) in
-      takes_back_on facts later (command_at was) s was.looked was.looked_to_build (events.Gone from) locks at waits.fits now n goes_on (takes.0 ∙ ap TakesBack same) (subst (λ k. has_write_from k later.lists ≡ false) same (none_from from facts.lists)) (none_built courses locks at))
+      takes_back_on facts later (command_at was) s was.looked was.looked_to_build (events.Gone from) locks at waits.fits now n goes_on (takes.0 ∙ ap TakesBack same) (subst (λ k. has_write_from k later.lists ≡ false) same (none_from from facts.lists)) (takes_free courses locks at))
 
 -- what holds of each scan that was kept holds of each that is kept still
 spared_twice : (P : KeptScan → Type 0) (cats rels : List Message) (kept : List KeptScan) → All P kept → All P (kept_spared rels (kept_spared cats kept))
@@ -90,9 +98,9 @@ spared_twice P cats rels kept holds = All-filter (λ k. is_spared k.scan rels) P
 
 -- the state after it
 pub take_back_enters : (scenario : Scenario) (old new : List Entry) (had has : ℕ → ℕ) (was : Backend) (from : ℕ) (p : Progress) (waits : AwaitsEntry scenario old was) → IsPlayed scenario old → AllOnCourse scenario old → EndsNext was.progress (events.Gone from)
-    → HasEntered scenario old was.progress (events.Gone from) waits.rests p → p.kept ≡ kept_spared (rels_in (lists_from from (lists_at was.progress))) (kept_spared (cats_in (lists_from from (lists_at was.progress))) was.progress.kept) → p.given_at ≡ was.progress.given_at
+    → HasEntered scenario old was.progress (events.Gone from) waits.rests p → p.kept ≡ kept_spared (rels_in (lists_from from (lists_at was.progress))) (kept_spared (cats_in (lists_from from (lists_at was.progress))) was.progress.kept) → p.given_at ≡ was.progress.given_at → p.answer ≡ was.progress.answer
     → Appends old new had has (entry_of was.progress.id (was.progress.finished + 1) (events.Gone from)) → Enters scenario old new had has was (record was { progress = p })
-take_back_enters scenario old new had has was from p waits played courses next goes kept given_at appends =
+take_back_enters scenario old new had has was from p waits played courses next goes kept given_at same appends =
     end_enters scenario old new had has was (events.Gone from) p waits refl played courses next goes
-    (subst (All (KeptAt old was.progress.id)) (sym kept) (spared_twice (KeptAt old was.progress.id) (cats_in (lists_from from (lists_at was.progress))) (rels_in (lists_from from (lists_at was.progress))) was.progress.kept waits.keeps.kept)) given_at
+    (subst (All (KeptAt old was.progress.id)) (sym kept) (spared_twice (KeptAt old was.progress.id) (cats_in (lists_from from (lists_at was.progress))) (rels_in (lists_from from (lists_at was.progress))) was.progress.kept waits.keeps.places.kept)) given_at same
     (take_back_fits scenario old was from waits next courses _ (length old + 1)) appends

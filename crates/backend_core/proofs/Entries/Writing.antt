@@ -13,6 +13,7 @@ use Rattle.lock_modes.specs.Grants.{holds}
 use Rattle.lock_modes.specs.Own.{has_lock}
 use Rattle.inval_messages.specs.Lists.{Written}
 use Rattle.ddl_effect.specs.Commands.{writing}
+use Rattle.ddl_effect.specs.declared.told.Told.TheVariants as tells
 use Rattle.ddl_effect.specs.Plans.{Done, Write}
 use Rattle.ddl_effect.specs.Stages.{plan_at}
 use Rattle.history_model.specs.Drawn.{next_oid}
@@ -82,19 +83,19 @@ module _ (scenario : Scenario) (old : List Entry) (was : Backend) (draft : Draft
   acting = record {
     at = next.free.at;
     unsettled = ap (λ p. is_settled (outcome_of p)) at;
-    runs = act_runs scenario old was waits courses next.command next.free.at (Write draft) (λ given. Done) at next.free.first;
+    runs = act_runs scenario old was waits courses next.command next.free.at (Write draft) (λ given. Done tells.Ok) at next.free.first;
     owed = waits.rests.holds.facts.owed ∙ ap owed_at next.free.due;
   }
 
   way : OnItsWay old was.progress.id s next.command
-  way = on_its_way old was.progress.id s next.command (Write draft) (λ given. Done) (follows scenario old was waits courses next.command next.free.at) at
+  way = on_its_way old was.progress.id s next.command (Write draft) (λ given. Done tells.Ok) (follows scenario old was waits courses next.command next.free.at) at
 
   unwritten : has_written old was.progress.id (was.progress.finished + 1) ≡ false
   unwritten = subst (λ n. has_written old was.progress.id (n + 1) ≡ false) waits.rests.holds.count way.unwritten
 
   -- what it is about to write may be written
   suits : WriteFits old was.progress.id (was.progress.finished + 1) facts draft
-  suits = write_fits old was.progress.id (was.progress.finished + 1) facts next.command way.gave draft (λ given. Done) played.sound played.tables way.runs way.holds (sym way.plan ∙ at)
+  suits = write_fits old was.progress.id (was.progress.finished + 1) facts next.command way.gave draft (λ given. Done tells.Ok) played.sound played.tables way.runs way.holds (sym way.plan ∙ at)
 
   pub write_request : MayRequest scenario old was.progress.id (was.progress.finished + 1)
   write_request = may_request scenario old was waits next.command next.free.at (Acts acting.unsettled)
@@ -124,13 +125,13 @@ module _ (scenario : Scenario) (old : List Entry) (was : Backend) (draft : Draft
       (subst (MakesEntry scenario old new had has) id (own_makes scenario old new had has was (events.Write made.xid (items_drawn old draft)) waits played courses (write_own made.xid) makes.appends))
 
   -- after it the backend agrees
-  wrote_enters : (new : List Entry) (had has : ℕ → ℕ) (p : Progress) (xid : Xid) (messages : List Message) → HasEntered scenario old was.progress (events.Write xid (items_drawn old draft)) waits.rests p → p.kept ≡ kept_spared messages was.progress.kept
-      → Appends old new had has (entry_of was.progress.id (was.progress.finished + 1) (events.Write xid (items_drawn old draft))) → Enters scenario old new had has was (record was { progress = p; answer = None })
-  wrote_enters new had has p xid messages goes kept appends =
-      own_enters scenario old new had has was (record was { progress = p; answer = None }) event waits played courses (write_own xid) goes
-      (keeps_at scenario old was event waits p goes (record was { progress = p; answer = None }) refl refl
+  wrote_enters : (new : List Entry) (had has : ℕ → ℕ) (p : Progress) (xid : Xid) (messages : List Message) → HasEntered scenario old was.progress (events.Write xid (items_drawn old draft)) waits.rests p → p.kept ≡ kept_spared messages was.progress.kept → p.answer ≡ None
+      → Appends old new had has (entry_of was.progress.id (was.progress.finished + 1) (events.Write xid (items_drawn old draft))) → Enters scenario old new had has was (record was { progress = p })
+  wrote_enters new had has p xid messages goes kept none appends =
+      own_enters scenario old new had has was (record was { progress = p }) event waits played courses (write_own xid) goes
+      (keeps_at scenario old was event waits p goes (record was { progress = p }) refl refl
       (subst (All (KeptAt (with_own old was.progress event) was.progress.id)) (sym kept) (all-spared (KeptAt (with_own old was.progress event) was.progress.id) messages was.progress.kept
-      (kept_stays old (entry_of was.progress.id (was.progress.finished + 1) event) was.progress.id was.progress.kept (λ scan. refl) waits.keeps.kept)))
+      (kept_stays old (entry_of was.progress.id (was.progress.finished + 1) event) was.progress.id was.progress.kept (λ scan. refl) waits.keeps.places.kept)))
       (subst (λ q. PlaceFits (with_own old was.progress event) was.progress.id q p.read p.given_at) (sym (ap (λ (x : Session). x.left) goes.session ∙ ap (λ q. (written q s).left) at)) tt))
       (fits_at scenario old was event waits p goes was.looked was.looked_to_build
       (entry_fits scenario old was waits courses next.command next.free.at later now was.looked was.looked_to_build
@@ -138,7 +139,7 @@ module _ (scenario : Scenario) (old : List Entry) (was : Backend) (draft : Draft
       (record { blocks = ap (λ q. (written q s).blocks) at; finished = ap (λ q. length (written q s).finished) at; blocked = ap (λ q. (written q s).blocked) at; ended = ap (λ q. (written q s).ended) at; left = λ is there. absurd (both_ways _ acting.unsettled is) })
       acting.runs (Acts acting.unsettled)
       (record { enough = omega (arith, before.enough, ap looks_due acting.owed, started); within = omega (arith, before.within, ap looks_due acting.owed, started) })))
-      refl (Inside refl refl) (λ inside. ap (λ q. (written q s).ended) at) appends
+      refl (Inside refl none) (λ inside. ap (λ q. (written q s).ended) at) appends
     where
       event : Event
       event = events.Write xid (items_drawn old draft)
@@ -156,15 +157,15 @@ module _ (scenario : Scenario) (old : List Entry) (was : Backend) (draft : Draft
       started = ap (λ q. started_in (length (written q s).finished + 1) later) at ∙ started_still (number_of s) (was.progress.finished + 1) facts.running acting.runs
 
   -- so it does where memory for it isn't refused
-  pub wrote_agrees : {E : Type 0} (first : Backend) → was.progress.id ≡ first.progress.id → (new : List Entry) (had has : ℕ → ℕ) (p : Progress) (result : Result (Unit {0}) E) (made : Made) (messages : List Message) → MakesWrite old new had has was.progress.id (was.progress.finished + 1) draft made → messages ≡ made.messages.items → OnOk result (p.kept ≡ kept_spared messages was.progress.kept)
+  pub wrote_agrees : {E : Type 0} (first : Backend) → was.progress.id ≡ first.progress.id → (new : List Entry) (had has : ℕ → ℕ) (p : Progress) (result : Result (Unit {0}) E) (made : Made) (messages : List Message) → MakesWrite old new had has was.progress.id (was.progress.finished + 1) draft made → messages ≡ made.messages.items → OnOk result (p.kept ≡ kept_spared messages was.progress.kept) → OnOk result (p.answer ≡ None)
       → OnOk result ((scenario : Scenario) (seen : List Entry) (items : List Item) → (rests : Rests scenario seen was.progress) → messages ≡ messages_in seen was.progress.id items → flat_map (locked_by (was.progress.finished + 1)) items ≡ locks_made draft.new_oids made.first_oid (was.progress.finished + 1) → HasEntered scenario seen was.progress (events.Write made.xid items) rests p)
-      → OnOk result (Enters scenario old new had has first (record was { progress = p; answer = None }))
-  wrote_agrees first id new had has p (Ok x) made messages makes are kept goes = alike_enters scenario old new had has first was (record was { progress = p; answer = None }) id (wrote_enters new had has p made.xid messages (goes scenario old (items_drawn old draft) waits.rests (are ∙ makes.messages) (suits.locks made.first_oid [] makes.first)) kept makes.appends)
-  wrote_agrees first id new had has p (Err e) made messages makes are kept goes = tt
+      → OnOk result (Enters scenario old new had has first (record was { progress = p }))
+  wrote_agrees first id new had has p (Ok x) made messages makes are kept none goes = alike_enters scenario old new had has first was (record was { progress = p }) id (wrote_enters new had has p made.xid messages (goes scenario old (items_drawn old draft) waits.rests (are ∙ makes.messages) (suits.locks made.first_oid [] makes.first)) kept none makes.appends)
+  wrote_agrees first id new had has p (Err e) made messages makes are kept none goes = tt
 
   -- and after one that is refused
-  pub clash_enters : (first : Backend) → was.progress.id ≡ first.progress.id → (new : List Entry) (had has : ℕ → ℕ) (p : Progress) (name : List ℕ) (clash : Clash) → HasEntered scenario old was.progress (clash_event name clash) waits.rests p → p.kept ≡ was.progress.kept
-      → Writes old new had has was.progress.id (was.progress.finished + 1) draft (Err (refusals.Clash name clash)) → Enters scenario old new had has first (record was { progress = p; answer = None })
-  clash_enters first id new had has p name clash goes kept writes = let refused = clashes_as old new had has was.progress.id (was.progress.finished + 1) draft name clash writes in alike_enters scenario old new had has first was (record was { progress = p; answer = None }) id (failed_enters scenario old new had has was p (clash_event name clash) (error_of name clash) next.command waits played courses acting (clash_shows scenario old was s name clash)
+  pub clash_enters : (first : Backend) → was.progress.id ≡ first.progress.id → (new : List Entry) (had has : ℕ → ℕ) (p : Progress) (name : List ℕ) (clash : Clash) → HasEntered scenario old was.progress (clash_event name clash) waits.rests p → p.kept ≡ was.progress.kept → p.answer ≡ None
+      → Writes old new had has was.progress.id (was.progress.finished + 1) draft (Err (refusals.Clash name clash)) → Enters scenario old new had has first (record was { progress = p })
+  clash_enters first id new had has p name clash goes kept none writes = let refused = clashes_as old new had has was.progress.id (was.progress.finished + 1) draft name clash writes in alike_enters scenario old new had has first was (record was { progress = p }) id (failed_enters scenario old new had has was p (clash_event name clash) (error_of name clash) next.command waits played courses acting (clash_shows scenario old was s name clash)
       (subst (λ o. MayPlayIn (next_oid old) facts o s (clash_event name clash)) (sym next.free.at)
-      (clash_plays (next_oid old) facts next.command s name clash owed_none (subst (λ p. IsClash facts (next_oid old) p name) (sym at) (suits.names name refused.is_new)))) goes kept refused.appends)
+      (clash_plays (next_oid old) facts next.command s name clash owed_none (subst (λ p. IsClash facts (next_oid old) p name) (sym at) (suits.names name refused.is_new)))) goes kept none refused.appends)

@@ -67,8 +67,10 @@ module _ (scenario : Scenario) (old : List Entry) (was : Backend) (event : Event
       most = omega (arith, goes.moves.finished);
     };
     built = subst (All (λ c. runs c ≡ true)) (sym goes.moves.commands) waits.keeps.built;
-    kept = subst (λ b. All (KeptAt (with_own old was.progress event) b) p.kept) (sym goes.moves.id) kept;
-    given_at = subst (λ b. PlaceFits (with_own old was.progress event) b (plan_at p.exec) p.read p.given_at) (sym goes.moves.id) place;
+    places = record {
+      kept = subst (λ b. All (KeptAt (with_own old was.progress event) b) p.kept) (sym goes.moves.id) kept;
+      given_at = subst (λ b. PlaceFits (with_own old was.progress event) b (plan_at p.exec) p.read p.given_at) (sym goes.moves.id) place;
+    };
   }
 
   -- so where the entry is no scan and leaves its plan
@@ -76,4 +78,4 @@ module _ (scenario : Scenario) (old : List Entry) (was : Backend) (event : Event
       → plan_at p.exec ≡ plan_at was.progress.exec → p.read ≡ was.progress.read → p.given_at ≡ was.progress.given_at → Keeps (with_own old was.progress event) (record now { progress = p })
   keeps_still now life goes_on others kept plan read at = keeps_at now life goes_on (kept_stays old (entry_of was.progress.id (was.progress.finished + 1) event) was.progress.id p.kept others kept)
       (place_stays old (entry_of was.progress.id (was.progress.finished + 1) event) was.progress.id (plan_at p.exec) p.read p.given_at others
-      (subst (λ n. PlaceFits old was.progress.id (plan_at p.exec) p.read n) (sym at) (subst (λ t. PlaceFits old was.progress.id (plan_at p.exec) t was.progress.given_at) (sym read) (subst (λ x. PlaceFits old was.progress.id x was.progress.read was.progress.given_at) (sym plan) waits.keeps.given_at))))
+      (subst (λ n. PlaceFits old was.progress.id (plan_at p.exec) p.read n) (sym at) (subst (λ t. PlaceFits old was.progress.id (plan_at p.exec) t was.progress.given_at) (sym read) (subst (λ x. PlaceFits old was.progress.id x was.progress.read was.progress.given_at) (sym plan) waits.keeps.places.given_at))))

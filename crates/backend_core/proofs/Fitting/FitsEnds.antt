@@ -8,13 +8,14 @@ use Rattle.base_types.specs.declared.command.Command.TheVariants as commands
 use Rattle.event_kinds.specs.declared.entry.Event.TheVariants as events
 use Rattle.inval_messages.specs.Lists.{Written, has_write_from, lists_before}
 use Rattle.txn_blocks.specs.Blocks.{Block, Outside, Inside, Failed}
-use Rattle.ddl_effect.specs.Plans.{Plan, Done, Fails, Absent, NotBuilt, Do}
+use Rattle.ddl_effect.specs.Plans.{Plan, left_rests_on, Done, Fails, Absent, NotBuilt, Do}
 use Rattle.history_model.specs.Sent.{ends_transaction}
 use Rattle.history_model.specs.Transactions.{Running, begun, after_release, is_visible}
 use Rattle.history_model.specs.Writes.{is_empty}
 use Rattle.cacheless.specs.Ends.{End, Ends, Commits, TakesBack, end_of_all, end_of_block, end_well, end_badly, end_of}
 use Rattle.cacheless.specs.Facts.{Facts}
-use Rattle.cacheless.specs.Owed.{Owes, OwesLook, OwesScan, owed_at_start, owed_after, begins, builds_owed, act_owed, scans_owed, owed_of}
+use Rattle.cacheless.proofs.Allowed.Releases.{OwesNoScan}
+use Rattle.cacheless.specs.Owed.{Owes, OwesLook, OwesScan, unusable, owed_at_start, owed_after, begins, builds_owed, act_owed, scans_owed, owed_of}
 use Rattle.cacheless.specs.Plays.{started_in}
 use Rattle.cacheless.specs.Session.{Session, Outcome, Well, Badly, Unsettled, number_of, outcome_of, is_settled}
 use Rattle.backend_core.specs.Types.{Purpose, Command, Event, OwnLock}
@@ -73,20 +74,20 @@ end_same facts later command s locks at goes = by_outcome (outcome_of s.left)
     by_outcome Unsettled = refl
 
 -- nothing is owed before its next entry
-owed_later : (facts later : Facts) (command : Command) (s : Session) (locks : List OwnLock) (at : ℕ) → GoesOn facts later → is_settled (outcome_of s.left) ≡ true → (outcome_of s.left ≡ Well → builds_owed later s.opened ≡ []) → owed_of later command (later_at s locks at) ≡ []
+owed_later : (facts later : Facts) (command : Command) (s : Session) (locks : List OwnLock) (at : ℕ) → GoesOn facts later → is_settled (outcome_of s.left) ≡ true → (outcome_of s.left ≡ Well → OwesNoScan later s) → owed_of later command (later_at s locks at) ≡ []
 owed_later facts later command s locks at goes out built =
-    ap (λ l. l ++ owed_after later.last ++ map OwesScan (scans_owed later (later_at s locks at))) start ∙ ap (λ l. l ++ map OwesScan (scans_owed later (later_at s locks at))) goes.free ∙ ap (map OwesScan) (by_plan s.left out built)
+    ap (λ l. l ++ owed_after later.last ++ map OwesScan (scans_owed later (later_at s locks at))) start ∙ ap (λ l. l ++ map OwesScan (scans_owed later (later_at s locks at))) goes.free ∙ ap (map OwesScan) (by_plan s.left refl out built)
   where
     start : owed_at_start later command (later_at s locks at) ≡ []
     start = ap (λ t. elim (begins command s && t) as (λ x. List Owes) [ true ↦ OwesLook ∷ [] | false ↦ [] ]) (none_some later.running goes.some)
         ∙ ap (λ t. elim t as (λ x. List Owes) [ true ↦ OwesLook ∷ [] | false ↦ [] ]) (and-false (begins command s))
 
-    by_plan : (p : Plan) → is_settled (outcome_of p) ≡ true → (outcome_of p ≡ Well → builds_owed later s.opened ≡ []) → ◌≡◌ {A = List Purpose} (elim (outcome_of p) [ Badly ↦ [] | other ↦ builds_owed later s.opened ++ act_owed later locks s.read p ]) []
-    by_plan Done is none = ap (λ l. l ++ []) (none refl)
-    by_plan (Fails error) is none = refl
-    by_plan (Absent name) is none = refl
-    by_plan (Do act rest) is none = absurd (cc is)
-    by_plan NotBuilt is none = absurd (cc is)
+    by_plan : (p : Plan) → s.left ≡ p → is_settled (outcome_of p) ≡ true → (outcome_of s.left ≡ Well → OwesNoScan later s) → ◌≡◌ {A = List Purpose} (elim (outcome_of p) [ Badly ↦ [] | other ↦ builds_owed later s.opened ++ act_owed later locks s.read p ]) []
+    by_plan (Done told) at is none = let free = none (ap outcome_of at) in ap (λ l. l ++ unusable later (left_rests_on (Done told))) free.0 ∙ free.1 told at
+    by_plan (Fails error) at is none = refl
+    by_plan (Absent name) at is none = refl
+    by_plan (Do act rest) at is none = absurd (cc is)
+    by_plan NotBuilt at is none = absurd (cc is)
 
 module _ (facts later : Facts) (o : Option Command) (s : Session) (looked to_build : Bool) (event : Event) (locks : List OwnLock) (at : ℕ) (fits : Fits facts o s looked to_build) (ends : EndsBy facts o s event) where
   runs_later : GoesOn facts later → (t : Bool) → TransactionFits facts o s t → s.ended ≡ t → TransactionFits later o (later_at s locks at) t
@@ -133,7 +134,7 @@ module _ (facts later : Facts) (o : Option Command) (s : Session) (looked to_bui
       due_now = ap looks_due goes.free
 
   -- a commit goes on
-  pub commits_on : GoesOn facts later → IsCommit facts (end_by facts o s) → later.lists ≡ facts.lists → (outcome_of s.left ≡ Well → builds_owed later s.opened ≡ []) → OnCommit later o (later_at s locks at)
+  pub commits_on : GoesOn facts later → IsCommit facts (end_by facts o s) → later.lists ≡ facts.lists → (outcome_of s.left ≡ Well → OwesNoScan later s) → OnCommit later o (later_at s locks at)
   commits_on goes commit lists none = by_command o refl
     where
       begun_is : (own : Option Running) (n : ℕ) → is_some own ≡ true → option_map_or (λ t. t.first) own 0 ≡ option_map_or (λ t. t.first) own n
@@ -160,7 +161,7 @@ module _ (facts later : Facts) (o : Option Command) (s : Session) (looked to_bui
       }
 
   -- taking back goes on
-  pub takes_back_on : (from : ℕ) → GoesOn facts later → end_by facts o s ≡ TakesBack from → has_write_from from later.lists ≡ false → (outcome_of s.left ≡ Well → builds_owed later s.opened ≡ []) → OnTakingBack later o (later_at s locks at) from
+  pub takes_back_on : (from : ℕ) → GoesOn facts later → end_by facts o s ≡ TakesBack from → has_write_from from later.lists ≡ false → (outcome_of s.left ≡ Well → OwesNoScan later s) → OnTakingBack later o (later_at s locks at) from
   takes_back_on from goes back bare none = record { runs = goes.some; going = ends.going; out = ends.out; end = by_command o back; none = bare }
     where
       by_command : (x : Option Command) → end_by facts x s ≡ TakesBack from → elim x as (λ y. Type 0) [ Some c ↦ (end_of later c (later_at s locks at) ≡ TakesBack from) × (owed_of later c (later_at s locks at) ≡ []) | None ↦ end_of_all later ≡ TakesBack from ]

@@ -14,6 +14,7 @@ use Rattle.cacheless.specs.Owed.{OwesScan, owed_at_start, owed_after, scans_owed
 use Rattle.cacheless.specs.Ends.{End, Ends, Commits, TakesBack, end_of, end_of_all, end_left, next_of_end}
 use Rattle.cacheless.specs.Settled.{act_done, is_finished, blocks_after, finished_as, next_session}
 use Rattle.cacheless.specs.Plays.{started_in}
+use Rattle.cacheless.specs.Telling.{IsOnItsEnd}
 use Rattle.cacheless.proofs.Plans.SilentActs.{both_empty, empty_list}
 use Rattle.backend_core.specs.Types.{Row, Command, Event}
 use Rattle.backend_core.specs.Fits.{looks_due, first_at, LevelsRise, RunsAt, RunsIn, RunsBy, RunsAfter, TransactionFits, IsPast, Fits}
@@ -92,6 +93,14 @@ on_its_way facts command s event done going comes = both_ways _ (ap (λ e. is_no
 pub gone_unfinished : (facts : Facts) (o : Option Command) (s : Session) (looked to_build : Bool) (command : Command) (from : ℕ) → o ≡ Some command → is_finished facts command s ≡ true → Fits facts o s looked to_build → facts.last ≡ Some (events.Gone from) → ⊥
 gone_unfinished facts o s looked to_build command from at finished fits is = on_its_way facts command s _ (parts_of facts command s finished) (fits.taken from is).going
     (ap (next_of_end facts) (subst (λ x. elim x as (λ y. Type 0) [ Some c ↦ (end_of facts c s ≡ TakesBack from) × (owed_of facts c s ≡ []) | None ↦ end_of_all facts ≡ TakesBack from ]) at (fits.taken from is).end).0)
+
+-- its end isn't whole
+pub gone_on : (facts : Facts) (o : Option Command) (s : Session) (looked to_build : Bool) (command : Command) (from : ℕ) → o ≡ Some command → Fits facts o s looked to_build → facts.last ≡ Some (events.Gone from) → IsOnItsEnd facts command s
+gone_on facts o s looked to_build command from at fits is = record { out = (fits.taken from is).out; going = by_test (is_finished facts command s) refl }
+  where
+    by_test : (t : Bool) → is_finished facts command s ≡ t → t ≡ false
+    by_test true finished = absurd (gone_unfinished facts o s looked to_build command from at finished fits is)
+    by_test false going = refl
 
 not_started : (number : ℕ) (own : Option Running) → option_map_or (λ t. t.first) own 0 ≤ number → option_map_or (λ t. elim (t.first == number + 1) as (λ x. ℕ) [ true ↦ 1 | false ↦ 0 ]) own 0 ≡ 0
 not_started number None low = refl

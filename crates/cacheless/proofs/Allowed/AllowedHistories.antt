@@ -2,6 +2,7 @@
 use Rattle.std.proofs.Common.{ℕ, List, [], ◌∷◌, ◌++◌, refl}
 use Rattle.history_model.specs.Legal.{MayFollow, IsLegal}
 use Rattle.history_model.specs.Orderly.{IsOrderly, MayComeNext, IsSound}
+use Rattle.history_model.specs.Read.{ScansOnlyIfNeeded, IsEconomical}
 use Rattle.history_model.proofs.Prefixes.{EachEntry-more, EachFrom-both, each-keeps}
 use Rattle.cacheless.specs.Types.{Scenario, Entry}
 use Rattle.cacheless.specs.OnCourse.{AllOnCourse}
@@ -9,6 +10,7 @@ use Rattle.cacheless.specs.Played.{IsPlayed}
 use Rattle.cacheless.specs.Plays.{IsNext, Plays}
 use Rattle.cacheless.specs.Output.{IsAllowed, IsOutput}
 use Rattle.cacheless.specs.TableWrites.{WritesTables}
+use Rattle.cacheless.proofs.Allowed.Economical.{plays_needed}
 use Rattle.cacheless.proofs.Allowed.NextKeeps.{next_keeps}
 use Rattle.cacheless.proofs.Allowed.NextOnCourse.{all_stay}
 
@@ -39,7 +41,13 @@ plays_on_course scenario history legal plays =
     each-keeps (λ before e. MayFollow before e × IsNext scenario before e) (λ h. IsPlayed scenario h × AllOnCourse scenario h) (played_start scenario) (λ before e k may. played_more scenario before e k.0 k.1 may.0 may.1) history
     (EachFrom-both MayFollow (IsNext scenario) [] history legal plays)
 
--- so an allowed history is
+-- so a history is economical: nobody scans again for a descriptor what it may still rely on
+pub plays_economical : (scenario : Scenario) (history : List Entry) → IsLegal history → Plays scenario history → IsEconomical history
+plays_economical scenario history legal plays = (each-keeps (λ before e. MayFollow before e × IsNext scenario before e) (λ h. (IsPlayed scenario h × AllOnCourse scenario h) × IsEconomical h) (played_start scenario, tt)
+    (λ before e k may. (played_more scenario before e k.0.0 k.0.1 may.0 may.1, EachEntry-more (λ front x. ScansOnlyIfNeeded front x.backend x.event) before e k.1 (plays_needed scenario before e k.0.1 may.1))) history
+    (EachFrom-both MayFollow (IsNext scenario) [] history legal plays)).1
+
+-- an allowed history is played
 pub allowed_played : (scenario : Scenario) (history : List Entry) → IsAllowed scenario history → IsPlayed scenario history
 allowed_played scenario history allowed = (plays_on_course scenario history allowed.legal allowed.plays).0
 

@@ -5,7 +5,7 @@ use Rattle.std.proofs.lemmas.Bool.{and_parts}
 use Rattle.base_types.specs.declared.row.Row.TheVariants as rows
 use Rattle.base_types.specs.declared.scan.Purpose.TheVariants as scans
 use Rattle.event_kinds.specs.declared.entry.Event.TheVariants as events
-use Rattle.ddl_effect.specs.Plans.{Act, Lookup, Open, Column, Read, Lock, Write, Plan, Done, Fails, Absent, NotBuilt, Do}
+use Rattle.ddl_effect.specs.Plans.{Act, Lookup, Open, Search, Read, Lock, Write, Plan, Done, Fails, Absent, NotBuilt, Do}
 use Rattle.ddl_effect.specs.Commands.{commands_of}
 use Rattle.history_model.specs.Drawn.{next_oid}
 use Rattle.history_model.specs.Orderly.{main_rel, IsOrderlyWrite, IsOrderlyEvent, IsOrderly, IsSound}
@@ -53,10 +53,10 @@ lock_drawn history b s command rel mode sound follows none lock = by_plan s.left
         seen_drawn history b rel (rows_read history b (scans.RelName name)) sound (subst (NamedFits history b (Do (Lookup name wanted) rest)) read (subst (λ p. NamedFits history b p s.read) at follows.named)) asks.0
     by_plan (Do (Lock on wanted) rest) at asks = absurd (no_lock _ _ on wanted rest (its_place history b s command (Lock on wanted) rest (on_its_way history b s command (Lock on wanted) rest follows at) at))
     by_plan (Do (Open of kind) rest) at asks = absurd asks
-    by_plan (Do (Column of name) rest) at asks = absurd asks
+    by_plan (Do (Search scan) rest) at asks = absurd asks
     by_plan (Do (Read scan) rest) at asks = absurd asks
     by_plan (Do (Write draft) rest) at asks = absurd asks
-    by_plan Done at asks = absurd asks
+    by_plan (Done told) at asks = absurd asks
     by_plan (Fails error) at asks = absurd asks
     by_plan (Absent name) at asks = absurd asks
     by_plan NotBuilt at asks = absurd asks
@@ -72,10 +72,10 @@ write_orderly history b s command items sound tables follows writes = by_plan s.
         (subst (IsOrderlyWrite history b) (sym are) fits.fit.orderly, subst (KeepsTables history b) (sym are) fits.keeps)
     by_plan (Do (Lookup name mode) rest) at are = absurd are
     by_plan (Do (Open rel kind) rest) at are = absurd are
-    by_plan (Do (Column rel name) rest) at are = absurd are
+    by_plan (Do (Search scan) rest) at are = absurd are
     by_plan (Do (Read scan) rest) at are = absurd are
     by_plan (Do (Lock rel mode) rest) at are = absurd are
-    by_plan Done at are = absurd are
+    by_plan (Done told) at are = absurd are
     by_plan (Fails error) at are = absurd are
     by_plan (Absent name) at are = absurd are
     by_plan NotBuilt at are = absurd are

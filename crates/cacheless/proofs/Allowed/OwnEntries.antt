@@ -9,7 +9,8 @@ use Rattle.base_types.specs.declared.row.Row.TheVariants as rows
 use Rattle.base_types.specs.declared.scan.Purpose.TheVariants as scans
 use Rattle.event_kinds.specs.declared.entry.Event.TheVariants as events
 use Rattle.command_answers.specs.declared.error.CommandError.TheVariants as errors
-use Rattle.ddl_effect.specs.Plans.{Lookup, Open, Column, Read, Lock, Write, Plan, Done, Fails, Absent, NotBuilt, Do}
+use Rattle.ddl_effect.specs.declared.told.Told.TheVariants as tells
+use Rattle.ddl_effect.specs.Plans.{Lookup, Open, Search, Read, Lock, Write, Plan, Done, Fails, Absent, NotBuilt, Do}
 use Rattle.history_model.specs.Drawn.{next_oid}
 use Rattle.history_model.specs.Lives.{last_event_of}
 use Rattle.history_model.specs.Orderly.{IsSound}
@@ -19,10 +20,10 @@ use Rattle.history_model.specs.Writes.{has_written, is_write}
 use Rattle.history_model.proofs.Locked.{IsQuiet, found_first}
 use Rattle.history_model.proofs.Reading.{has_written-more, last_event_of-own, rows_read-own}
 use Rattle.history_model.proofs.Touched.{entry_of}
-use Rattle.cacheless.specs.Types.{Mode, Purpose, Row, Item, Opening, Command, CommandError, Entry, Event}
+use Rattle.cacheless.specs.Types.{Mode, Purpose, Row, Item, Opening, Command, CommandError, Told, Entry, Event}
 use Rattle.cacheless.specs.Ends.{End, Ends, end_of, next_of_end, end_left, end_well, end_badly}
 use Rattle.cacheless.specs.Facts.{Facts, facts_of}
-use Rattle.cacheless.specs.OnCourse.{is_absent, OnItsWay, is_over, Begun, Wrote, Over, IsFirstSeen, NamedFits, WasSought, FollowsPlan}
+use Rattle.cacheless.specs.OnCourse.{is_absent, OnItsWay, is_over, Begun, Wrote, Over, IsFirstSeen, NamedFits, WasSought, DoesNoAct, FollowsPlan}
 use Rattle.cacheless.specs.Owed.{unusable, act_next, is_next_scan}
 use Rattle.cacheless.specs.Plays.{IsWrite, MayPlay}
 use Rattle.cacheless.specs.Session.{Session, Outcome, Unsettled, Well, Badly, none_open, number_of, outcome_of, is_settled}
@@ -30,7 +31,8 @@ use Rattle.cacheless.specs.Sessions.{refused_with, is_wanted, written, resumed, 
 use Rattle.cacheless.specs.Settled.{class_oid}
 use Rattle.cacheless.proofs.Plans.ActOrder.{at_write}
 use Rattle.cacheless.proofs.Plans.SilentActs.{on_its_way, its_place, unrefused}
-use Rattle.cacheless.proofs.Allowed.StaysOnCourse.{has_written-quiet, rows_read-unscanned, IsAfter, MayCome, first_seen-more, named_out, way-more, sought-more, follows-more, over_stays}
+use Rattle.cacheless.proofs.Allowed.StaysOnCourse.{has_written-quiet, rows_read-unscanned, IsAfter, MayCome, first_seen-more, named_out, way-more, sought-more, plain-more, follows-more, over_stays}
+use Rattle.cacheless.proofs.Plans.Ways.{acts, none_reached}
 use Rattle.ddl_effect.specs.Commands.{plan_of}
 
 -- an entry that the running command of a backend may make next
@@ -58,13 +60,13 @@ quiet_follows history b s later command event own quiet unwritten unread noted =
     (λ name. rows_read-unscanned history (entry_of b (number_of s) event) b (scans.RelName name) (unread name)) (own_over history b s later command event own quiet noted.ended) noted.after noted.read own.follows
 
 -- an entry that shows an error
-error_follows : (seen : List Entry) (b : ℕ) (s later : Session) (command : Command) (error : CommandError) → (plan_of none_open command ≡ Done → s.opened ≡ []) → IsNoted (refused_with error s) later → FollowsPlan seen b later command
+error_follows : (seen : List Entry) (b : ℕ) (s later : Session) (command : Command) (error : CommandError) → ((told : Told) → plan_of none_open command ≡ Done told → DoesNoAct s told) → IsNoted (refused_with error s) later → FollowsPlan seen b later command
 error_follows seen b s later command error plain noted = record {
   refused = λ shown is. noted.after.left ∙ (let both : Some error ≡ Some shown = sym noted.after.refused ∙ is in cc both);
   way = λ none. absurd (let both : Some error ≡ None = sym noted.after.refused ∙ none in cc both);
   named = subst (λ p. NamedFits seen b p later.read) (sym noted.after.left) tt;
   sought = λ name is. absurd (let both : Fails error ≡ Absent name = sym noted.after.left ∙ is in cc both);
-  plain = λ none. noted.after.opened ∙ plain none;
+  plain = λ told none. record { opened = noted.after.opened ∙ (plain told none).opened; left = λ well. absurd (let both : Badly ≡ Well = ap outcome_of (sym noted.after.left) ∙ well in cc both) };
 }
 
 -- a command that failed to find a relation makes no scan
@@ -85,7 +87,7 @@ scan_follows history b s later command scan count own noted = record {
   way = λ none. way-more history e b s later command own.may (λ mine. tt) (λ c. has_written-quiet history e b c refl) (own_over history b s later command (events.Scan scan count) own tt noted.ended) after (own.follows.way (sym after.refused ∙ none));
   named = subst (λ p. NamedFits new b p later.read) (sym after.left) (subst (NamedFits new b s.left) (sym noted.read) (by_plan s.left there own.follows.named));
   sought = λ name is. absurd (let both : false ≡ true = sym there ∙ ap is_absent (sym after.left ∙ is) in cc both);
-  plain = λ none. after.opened ∙ own.follows.plain none;
+  plain = λ told none. plain-more s later told after (own.follows.plain told none);
 }
   where
     e : Entry
@@ -137,7 +139,7 @@ brought_back history b s later command name event own unwritten unread at noted 
   named = subst (λ p. NamedFits new b p later.read) (sym (after.left ∙ was.looks)) (subst (NamedFits new b (Do (Lookup name was.mode) was.rest)) (sym noted.read)
       (none_first new b (rows_read new b (scans.RelName name)) (ap class_oid (rows_read-unscanned history e b (scans.RelName name) (unread name)) ∙ subst (λ p. NamedFits history b p s.read) at own.follows.named)));
   sought = λ other is. absurd (let both : Do (Lookup name was.mode) was.rest ≡ Absent other = sym (after.left ∙ was.looks) ∙ is in cc both);
-  plain = λ none. after.opened ∙ was.opened;
+  plain = λ told none. absurd (let both : Do (Lookup name was.mode) was.rest ≡ Done told = sym was.looks ∙ was.first ∙ none in cc both);
 }
   where
     e : Entry
@@ -185,21 +187,21 @@ write_follows history b s later command xid items own noted = by_plan s.left ref
         written = ap (λ l. has_written new b (length l + 1)) is.after.finished ∙ written_now history b (number_of s) xid items;
       });
       named = subst (λ p. NamedFits new b p later.read) (sym done) tt;
-      sought = λ name absent. absurd (let both : Done ≡ Absent name = sym done ∙ absent in cc both);
-      plain = λ none. is.after.opened;
+      sought = λ name absent. absurd (let both : Done tells.Ok ≡ Absent name = sym done ∙ absent in cc both);
+      plain = λ told none. absurd (none_reached way.gave (plan_of none_open command) (Write draft) rest (ap acts none) (sym way.plan ∙ at));
     }
       where
         way : OnItsWay history b s command
         way = on_its_way history b s command (Write draft) rest own.follows at
 
-        done : later.left ≡ Done
+        done : later.left ≡ Done tells.Ok
         done = is.after.left ∙ (at_write _ _ draft rest (its_place history b s command (Write draft) rest way at)).0 []
     by_plan (Do (Lookup name mode) rest) at writes is = absurd writes
     by_plan (Do (Open rel kind) rest) at writes is = absurd writes
-    by_plan (Do (Column rel name) rest) at writes is = absurd writes
+    by_plan (Do (Search scan) rest) at writes is = absurd writes
     by_plan (Do (Read scan) rest) at writes is = absurd writes
     by_plan (Do (Lock rel mode) rest) at writes is = absurd writes
-    by_plan Done at writes is = absurd writes
+    by_plan (Done told) at writes is = absurd writes
     by_plan (Fails error) at writes is = absurd writes
     by_plan (Absent name) at writes is = absurd writes
     by_plan NotBuilt at writes is = absurd writes
@@ -225,7 +227,7 @@ over_follows history b s later command event own out unwritten unread over after
   way = λ none. Over (record { out = ap (λ p. is_settled (outcome_of p)) after.left ∙ out; over = ap (λ last. is_over last later) (last_event_of-own history e b (eq-eqb b b refl)) ∙ over });
   named = subst (λ p. NamedFits new b p later.read) (sym after.left) (named_out history e b s.left s.read later.read out (λ name. rows_read-unscanned history e b (scans.RelName name) (unread name)) own.follows.named);
   sought = λ name is. sought-more history e b s later command name (λ c. has_written-quiet history e b c unwritten) after (own.follows.sought name (sym after.left ∙ is));
-  plain = λ none. after.opened ∙ own.follows.plain none;
+  plain = λ told none. plain-more s later told after (own.follows.plain told none);
 }
   where
     e : Entry

@@ -1,16 +1,20 @@
 -- After the release at its end nothing is left of a command.
 use Rattle.std.proofs.Common.{◌≡◌, ◌∙◌, ℕ, Bool, true, false, not, Option, None, List, [], ◌∷◌, ◌++◌, ◌&&◌, refl, sym, ap, subst, map, is_none}
+use Rattle.std.specs.List.{cons_option}
 use Rattle.std.proofs.Math.Bool.{and-false}
 use Rattle.base_types.specs.declared.command.Command.TheVariants as commands
 use Rattle.event_kinds.specs.declared.entry.Event.TheVariants as events
 use Rattle.txn_blocks.specs.Blocks.{Block, Outside, Inside, Failed, no_block, ends_block, refused_by}
+use Rattle.ddl_effect.specs.declared.told.Told.TheVariants as tells
 use Rattle.ddl_effect.specs.Commands.{plan_of}
-use Rattle.ddl_effect.specs.Plans.{Plan, Done, Fails, Absent, NotBuilt, Do, Write}
+use Rattle.ddl_effect.specs.Stages.{told_of}
+use Rattle.ddl_effect.specs.Plans.{Plan, told_rests_on, left_rests_on, Done, Fails, Absent, NotBuilt, Do, Write}
 use Rattle.history_model.specs.Writes.{is_empty}
-use Rattle.cacheless.specs.Types.{Purpose, Command, Entry, Event}
+use Rattle.cacheless.specs.Types.{Purpose, Command, Told, Entry, Event}
 use Rattle.cacheless.specs.Ends.{End, Ends, Commits, TakesBack, end_of, next_of_end, end_left, end_well, end_badly}
 use Rattle.cacheless.specs.Facts.{Facts, facts_of, facts_by}
-use Rattle.cacheless.specs.Owed.{Owes, OwesLook, OwesScan, begins, owed_at_start, owed_after, builds_owed, act_owed, scans_owed, owed_of}
+use Rattle.cacheless.specs.OnCourse.{DoesNoAct}
+use Rattle.cacheless.specs.Owed.{Owes, OwesLook, OwesScan, unusable, begins, owed_at_start, owed_after, builds_owed, act_owed, scans_owed, owed_of}
 use Rattle.cacheless.specs.Plays.{owed_at_end}
 use Rattle.cacheless.specs.Session.{Session, Outcome, Unsettled, Well, Badly, none_open, number_of, outcome_of, is_settled}
 use Rattle.cacheless.specs.Sessions.{written, resumed, noted}
@@ -39,10 +43,15 @@ none_at_start : (facts : Facts) (command : Command) (s : Session) → s.ended �
 none_at_start facts command s over = ap (λ t. elim (t && is_none facts.running) as (λ x. List Owes) [ true ↦ OwesLook ∷ [] | false ↦ [] ]) (none_begins command s over)
 
 -- a command that came out well and whose transaction is taken back only ends blocks
-taken_back_ends : (facts : Facts) (command : Command) (s : Session) (from : ℕ) → end_well facts command s ≡ TakesBack from → plan_of none_open command ≡ Done
+record AnswersAlone (command : Command) : Type 0 where
+  told : Told
+  plan : plan_of none_open command ≡ Done told
+  rests : told_rests_on told ≡ None
+
+taken_back_ends : (facts : Facts) (command : Command) (s : Session) (from : ℕ) → end_well facts command s ≡ TakesBack from → AnswersAlone command
 taken_back_ends facts commands.Begin s from is = absurd (cc is)
-taken_back_ends facts commands.Commit s from is = refl
-taken_back_ends facts commands.Rollback s from is = refl
+taken_back_ends facts commands.Commit s from is = record { told = tells.Commit; plan = refl; rests = refl }
+taken_back_ends facts commands.Rollback s from is = record { told = tells.Ok; plan = refl; rests = refl }
 taken_back_ends facts command s from is = absurd (by_block s.blocks.block is)
   where
     by_block : (block : Block) → elim block as (λ x. End) [ Outside ↦ Commits (number_of s) | other ↦ Ends ] ≡ TakesBack from → ⊥
@@ -50,18 +59,28 @@ taken_back_ends facts command s from is = absurd (by_block s.blocks.block is)
     by_block Inside end = cc end
     by_block Failed end = cc end
 
--- no scan for an opened descriptor is owed of a command that came out well and owes nothing
-pub owes_none_built : (facts : Facts) (command : Command) (s : Session) → outcome_of s.left ≡ Well → owed_of facts command s ≡ [] → builds_owed facts s.opened ≡ []
-owes_none_built facts command s well none = unmapped (builds_owed facts s.opened) (act_owed facts s.locks s.read s.left)
-    (sym (ap (λ o. map OwesScan (elim o as (λ x. List Purpose) [ Badly ↦ [] | other ↦ builds_owed facts s.opened ++ act_owed facts s.locks s.read s.left ])) well) ∙ (both_empty _ (map OwesScan (scans_owed facts s)) none).1)
-  where
-    unmapped : (l more : List Purpose) → map OwesScan (l ++ more) ≡ [] → l ≡ []
-    unmapped [] more is = refl
-    unmapped (x ∷ xs) more is = absurd (cc is)
+-- no scan is owed, for an opened descriptor or by the answer
+abbrev pub OwesNoScan : Facts → Session → Type 0
+OwesNoScan facts s = (builds_owed facts s.opened ≡ []) × ((told : Told) → s.left ≡ Done told → unusable facts (left_rests_on (Done told)) ≡ [])
 
--- nor at its end
-pub ends_built : (facts : Facts) (command : Command) (s : Session) → (plan_of none_open command ≡ Done → s.opened ≡ []) → outcome_of s.left ≡ Well → owed_at_end facts command s ≡ [] → builds_owed facts s.opened ≡ []
-ends_built facts command s plain well none = by_end (end_well facts command s) refl (sym (ap (λ o. owed_if (end_if o)) well) ∙ none)
+-- so it is of a command that came out well and owes nothing
+pub owes_no_scan : (facts : Facts) (command : Command) (s : Session) → outcome_of s.left ≡ Well → owed_of facts command s ≡ [] → OwesNoScan facts s
+owes_no_scan facts command s well none = (both.0, λ told is. ap (act_owed facts s.locks s.read) (sym is) ∙ both.1)
+  where
+    unmapped : (l : List Purpose) → map OwesScan l ≡ [] → l ≡ []
+    unmapped [] is = refl
+    unmapped (x ∷ xs) is = absurd (cc is)
+
+    both : (builds_owed facts s.opened ≡ []) × (act_owed facts s.locks s.read s.left ≡ [])
+    both = both_empty (builds_owed facts s.opened) (act_owed facts s.locks s.read s.left) (unmapped _
+        (sym (ap (λ o. map OwesScan (elim o as (λ x. List Purpose) [ Badly ↦ [] | other ↦ builds_owed facts s.opened ++ act_owed facts s.locks s.read s.left ])) well) ∙ (both_empty _ (map OwesScan (scans_owed facts s)) none).1))
+
+pub owes_none_built : (facts : Facts) (command : Command) (s : Session) → outcome_of s.left ≡ Well → owed_of facts command s ≡ [] → builds_owed facts s.opened ≡ []
+owes_none_built facts command s well none = (owes_no_scan facts command s well none).0
+
+-- nor is one owed at its end
+pub ends_free : (facts : Facts) (command : Command) (s : Session) → ((told : Told) → plan_of none_open command ≡ Done told → DoesNoAct s told) → outcome_of s.left ≡ Well → owed_at_end facts command s ≡ [] → OwesNoScan facts s
+ends_free facts command s plain well none = by_end (end_well facts command s) refl (sym (ap (λ o. owed_if (end_if o)) well) ∙ none)
   where
     end_if : Outcome → End
     end_if o = elim o as (λ x. End) [ Well ↦ end_well facts command s | Badly ↦ end_badly s | Unsettled ↦ Ends ]
@@ -69,10 +88,11 @@ ends_built facts command s plain well none = by_end (end_well facts command s) r
     owed_if : End → List Owes
     owed_if end = elim end as (λ x. List Owes) [ TakesBack from ↦ owed_after facts.last | other ↦ owed_of facts command s ]
 
-    by_end : (end : End) → end_well facts command s ≡ end → owed_if end ≡ [] → builds_owed facts s.opened ≡ []
-    by_end Ends is nothing = owes_none_built facts command s well nothing
-    by_end (Commits first) is nothing = owes_none_built facts command s well nothing
-    by_end (TakesBack from) is nothing = ap (builds_owed facts) (plain (taken_back_ends facts command s from is))
+    by_end : (end : End) → end_well facts command s ≡ end → owed_if end ≡ [] → OwesNoScan facts s
+    by_end Ends is nothing = owes_no_scan facts command s well nothing
+    by_end (Commits first) is nothing = owes_no_scan facts command s well nothing
+    by_end (TakesBack from) is nothing = let alone = taken_back_ends facts command s from is in let none = plain alone.told alone.plan in
+        (ap (builds_owed facts) none.opened, λ told left. ap (λ t. unusable facts (cons_option (told_rests_on t) [])) (ap told_of (sym left ∙ none.left well)) ∙ ap (λ o. unusable facts (cons_option o [])) alone.rests)
 
 -- after its release it is finished
 released : (history : List Entry) (b : ℕ) (s : Session) (command : Command) (from : ℕ) (facts : Facts) → OwnEntry history b s command (events.Release from) → facts ≡ facts_by history b (number_of s) (events.Release from) (facts_of history b) → (later : Session) → IsNoted (noted (events.Release from) s) later
@@ -94,15 +114,18 @@ released history b s command from facts own are later stands =
     by_outcome Badly is settles = ap (λ o. elim o as (λ x. List Purpose) [ Badly ↦ [] | other ↦ builds_owed after later.opened ++ act_owed after later.locks later.read later.left ]) (ap outcome_of stands.after.left ∙ is)
     by_outcome Well is settles =
         ap (λ o. elim o as (λ x. List Purpose) [ Badly ↦ [] | other ↦ builds_owed after later.opened ++ act_owed after later.locks later.read later.left ]) (ap outcome_of stands.after.left ∙ is)
-        ∙ ap (λ l. l ++ act_owed after later.locks later.read later.left) (ap (builds_owed after) stands.after.opened ∙ ends_built (facts_of history b) command s own.follows.plain is own.plays.0)
-        ∙ ap (act_owed after later.locks later.read) (stands.after.left ∙ well_done s.left is)
+        ∙ ap (λ l. l ++ act_owed after later.locks later.read later.left) (ap (builds_owed after) stands.after.opened ∙ free.0)
+        ∙ ap (act_owed after later.locks later.read) stands.after.left ∙ answer_owed s.left refl is
       where
-        well_done : (p : Plan) → outcome_of p ≡ Well → p ≡ Done
-        well_done Done w = refl
-        well_done (Fails error) w = absurd (cc w)
-        well_done (Absent name) w = absurd (cc w)
-        well_done NotBuilt w = absurd (cc w)
-        well_done (Do act rest) w = absurd (cc w)
+        free : OwesNoScan (facts_of history b) s
+        free = ends_free (facts_of history b) command s own.follows.plain is own.plays.0
+
+        answer_owed : (p : Plan) → s.left ≡ p → outcome_of p ≡ Well → act_owed after later.locks later.read p ≡ []
+        answer_owed (Done told) at w = free.1 told at
+        answer_owed (Fails error) at w = absurd (cc w)
+        answer_owed (Absent name) at w = absurd (cc w)
+        answer_owed NotBuilt at w = absurd (cc w)
+        answer_owed (Do act rest) at w = absurd (cc w)
 
     owes : owed_of after command later ≡ []
     owes = ap (λ l. l ++ [] ++ map OwesScan (scans_owed after later)) (none_at_start after command later stands.ended) ∙ ap (map OwesScan) (by_outcome (outcome_of s.left) refl (ends_out (facts_of history b) command s (events.Release from) own.plays.1))

@@ -8,7 +8,7 @@ use Rattle.ddl_effect.specs.Plans.{Act, Plan, Done, Fails, Absent, Do, NotBuilt,
 use Rattle.txn_blocks.specs.Blocks.{Blocks, refused_by}
 use Rattle.ddl_effect.specs.Commands.{plan_of, commands_of}
 use Rattle.history_model.specs.Writes.{has_written, is_empty}
-use Rattle.cacheless.specs.Types.{Row, Purpose, Scenario, Command, CommandError, OwnLock, Entry}
+use Rattle.cacheless.specs.Types.{Row, Purpose, Scenario, Command, CommandError, Told, OwnLock, Entry}
 use Rattle.cacheless.specs.Facts.{Facts, facts_of}
 use Rattle.cacheless.specs.OnCourse.{is_absent, Way, Begun, Unbuilt, FollowsPlan, IsOnCourse, ClearUnlessOwed, EntersCourse}
 use Rattle.cacheless.specs.Owed.{Owes, OwesScan, owed_at_start, owed_after, builds_owed, act_owed, scans_owed, owes_build, owes_accept}
@@ -76,7 +76,7 @@ acted_follows scenario seen b command s has clear follows = by_test (is_empty (o
 
 -- a command that isn't built has no plan
 not_built : (plan : Plan) → is_built plan ≡ false → plan ≡ NotBuilt
-not_built Done is = absurd (cc is)
+not_built (Done told) is = absurd (cc is)
 not_built (Fails error) is = absurd (cc is)
 not_built (Absent name) is = absurd (cc is)
 not_built (Do act rest) is = absurd (cc is)
@@ -93,6 +93,11 @@ admitted_there : (refusal : Option CommandError) (command : Command) → is_abse
 admitted_there None command = plan_there command
 admitted_there (Some error) command = refl
 
+-- the answer of a command that does no act is left of it, unless the blocks refuse it
+admitted_done : (command : Command) (refusal : Option CommandError) (told : Told) → plan_of none_open command ≡ Done told → outcome_of (plan_admitted refusal command) ≡ Well → plan_admitted refusal command ≡ Done told
+admitted_done command None told is well = is
+admitted_done command (Some error) told is well = absurd (cc well)
+
 -- a command at its beginning does what its plan says
 pub begins_plan : (seen : List Entry) (b : ℕ) (blocks : Blocks) (finished : List Finished) (locks : List OwnLock) (last : ℕ) (command : Command) → has_written seen b (length finished + 1) ≡ false → FollowsPlan seen b (at_command blocks finished locks last (Some command)) command
 begins_plan seen b blocks finished locks last command unwritten = record {
@@ -100,7 +105,7 @@ begins_plan seen b blocks finished locks last command unwritten = record {
   way = λ none. by_test (ap (λ o. plan_admitted o command) none) (runs command) refl;
   named = named_unread seen b (plan_admitted (refused_by blocks command) command) (admitted_there (refused_by blocks command) command);
   sought = λ name is. absurd (let both : true ≡ false = sym (absent_name name (plan_admitted (refused_by blocks command) command) is) ∙ admitted_there (refused_by blocks command) command in cc both);
-  plain = λ none. refl;
+  plain = λ told none. record { opened = refl; left = λ well. admitted_done command (refused_by blocks command) told none well };
 }
   where
     by_test : plan_admitted (refused_by blocks command) command ≡ plan_of none_open command → (t : Bool) → runs command ≡ t → Way seen b (at_command blocks finished locks last (Some command)) command

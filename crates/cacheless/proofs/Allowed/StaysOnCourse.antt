@@ -16,8 +16,8 @@ use Rattle.history_model.specs.Versions.{answer_of}
 use Rattle.history_model.specs.Writes.{has_written, is_write}
 use Rattle.history_model.proofs.Locked.{IsQuiet, IsIdle}
 use Rattle.history_model.proofs.Reading.{has_written-more, rows_read-own, rows_read-other}
-use Rattle.cacheless.specs.Types.{Row, Purpose, Command, Entry, Event}
-use Rattle.cacheless.specs.OnCourse.{OnItsWay, is_over, Way, Begun, Wrote, Unbuilt, Over, IsFirstSeen, NamedFits, WasSought, FollowsPlan}
+use Rattle.cacheless.specs.Types.{Row, Purpose, Command, Told, Entry, Event}
+use Rattle.cacheless.specs.OnCourse.{OnItsWay, is_over, Way, Begun, Wrote, Unbuilt, Over, IsFirstSeen, NamedFits, WasSought, DoesNoAct, FollowsPlan}
 use Rattle.cacheless.specs.Session.{Session, none_open, number_of, outcome_of, is_settled}
 use Rattle.cacheless.specs.Settled.{class_oid}
 use Rattle.cacheless.specs.TableWrites.{WritesTables}
@@ -134,6 +134,10 @@ sought-more history e b s later command name writes after was = record {
   unwritten = ap (has_written (history ++ e ∷ []) b) (number_same s later after) ∙ writes (number_of s) ∙ was.unwritten;
 }
 
+-- a command that does no act
+pub plain-more : (s later : Session) (told : Told) → IsAfter s later → DoesNoAct s told → DoesNoAct later told
+plain-more s later told after none = record { opened = after.opened ∙ none.opened; left = λ well. after.left ∙ none.left (ap outcome_of (sym after.left) ∙ well) }
+
 quiet_back : (event : Event) → IsQuiet event → IsNoGone event
 quiet_back (events.Gone from) quiet = quiet
 quiet_back event quiet = tt
@@ -147,7 +151,7 @@ follows-more history e b s later command may idle writes names over after read f
   named = subst (λ p. NamedFits (history ++ e ∷ []) b p later.read) (sym after.left) (subst (NamedFits (history ++ e ∷ []) b s.left) (sym read)
       (named-more history e b s.left s.read may (λ own. quiet_back e.event (idle own)) names follows.named));
   sought = λ name is. sought-more history e b s later command name writes after (follows.sought name (sym after.left ∙ is));
-  plain = λ none. after.opened ∙ follows.plain none;
+  plain = λ told none. plain-more s later told after (follows.plain told none);
 }
 
 -- after a taking back only the release comes

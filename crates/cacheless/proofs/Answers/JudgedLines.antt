@@ -1,5 +1,5 @@
 -- Commands are judged at entries of their history, and so the line of a finished command stays with each further entry.
-use Rattle.std.proofs.Common.{◌≡◌, ◌≤◌, ◌+◌, ◌∙◌, ℕ, Bool, true, false, suc, Option, Some, None, List, [], ◌∷◌, ◌++◌, ◌==◌, if◌then◌else◌, refl, sym, ap, subst, length, All, arith}
+use Rattle.std.proofs.Common.{◌≡◌, ◌≤◌, ◌+◌, ◌∙◌, ℕ, Bool, true, false, suc, Option, Some, None, List, [], ◌∷◌, ◌++◌, ◌==◌, if◌then◌else◌, refl, sym, ap, subst, length, slice_get, All, arith}
 use Rattle.std.specs.Prelude.{⊤}
 use Rattle.std.specs.List.{AllByRecursion}
 use Rattle.std.proofs.lemmas.List.{take-append-le, length_push}
@@ -33,6 +33,20 @@ lines-more scenario seen e b c (f ∷ finished) (command ∷ commands) places =
     ap (λ l. l ∷ lines_from scenario (seen ++ e ∷ []) b (c + 1) finished commands) (line-more scenario seen e b c f command (places 0 f (omega arith)))
     ∙ ap (λ l. line_of scenario seen b c f command ∷ l) (lines-more scenario seen e b (c + 1) finished commands (λ i d within. places (suc i) d (omega (arith, within))))
 
+-- one more line
+pub lines-push : (scenario : Scenario) (seen : List Entry) (b c : ℕ) (finished : List Finished) (f : Finished) (commands : List Command) (command : Command) → slice_get commands (length finished) ≡ Some command
+    → lines_from scenario seen b c (finished ++ f ∷ []) commands ≡ lines_from scenario seen b c finished commands ++ line_of scenario seen b (c + length finished) f command ∷ []
+lines-push scenario seen b c [] f [] command at = absurd (cc)
+lines-push scenario seen b c [] f (x ∷ commands) command at =
+    let same : x ≡ command = cc in
+    let here : c ≡ c + 0 = omega arith in
+    ap (λ y. line_of scenario seen b c f y ∷ []) same ∙ ap (λ n. line_of scenario seen b n f command ∷ []) here
+lines-push scenario seen b c (g ∷ finished) f [] command at = absurd (cc)
+lines-push scenario seen b c (g ∷ finished) f (x ∷ commands) command at =
+    let here : c + 1 + length finished ≡ c + suc (length finished) = omega arith in
+    ap (λ l. line_of scenario seen b c g x ∷ l)
+    (lines-push scenario seen b (c + 1) finished f commands command at ∙ ap (λ n. lines_from scenario seen b (c + 1) finished commands ++ line_of scenario seen b n f command ∷ []) here)
+
 -- the same of the places by recursion
 record Placed (n : ℕ) (s : Session) : Type 0 where
   finished : AllByRecursion (λ f. f.judged ≤ n) s.finished
@@ -45,7 +59,7 @@ PlacedAt n (Some s) = Placed n s
 
 -- acts leave them
 acted_on-placed : (n : ℕ) (facts : Facts) (p : Plan) (s : Session) → Placed n s → Placed n (acted_on facts p s)
-acted_on-placed n facts Done s placed = placed
+acted_on-placed n facts (Done told) s placed = placed
 acted_on-placed n facts (Fails error) s placed = placed
 acted_on-placed n facts (Absent name) s placed = placed
 acted_on-placed n facts NotBuilt s placed = placed

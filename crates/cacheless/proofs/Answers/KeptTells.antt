@@ -1,95 +1,144 @@
--- An answer made of the cached scans is the one made of the last scans. They may be kept as values of any type.
-use Rattle.std.proofs.Common.{◌≡◌, ◌∙◌, ℕ, Bool, true, false, Some, List, [], ◌∷◌, ◌||◌, cond, if◌then◌else◌, refl, sym, ap, ◌≤◌, length}
-use Rattle.std.specs.List.{AllByRecursion, find, list_any}
+-- What the code answers is the line of its command: the scans that it keeps for descriptors are the last ones.
+use Rattle.std.proofs.Common.{◌≡◌, ◌≤◌, ◌∙◌, ◌||◌, ◌⊎◌, inl, inr, ℕ, Bool, true, false, if◌then◌else◌, Some, None, List, [], ◌∷◌, cond, suc, refl, sym, ap, subst, length, drop, All, arith}
+use Rattle.std.specs.List.{AllByRecursion, find}
 use Rattle.std.specs.Option.{option_map_or}
+use Rattle.base_types.specs.Fields.{field_text, read_by}
+use Rattle.base_types.specs.declared.field.Field.TheVariants as fields
 use Rattle.base_types.specs.Scans.{same_scan, is_build_scan, build_scans}
 use Rattle.base_types.specs.declared.kind.Kind.TheVariants.{Table, Index}
-use Rattle.base_types.specs.declared.scan.Purpose.TheVariants as scans
 use Rattle.base_types.proofs.SameScan.{same_scan-true}
+use Rattle.std.proofs.lemmas.Bool.{and_parts}
 use Rattle.command_answers.specs.Answers.{answer_text}
-use Rattle.ddl_effect.specs.Plans.{Absent}
+use Rattle.ddl_effect.specs.Stages.{plan_at}
+use Rattle.history_model.specs.Lives.{last_event_of}
 use Rattle.history_model.specs.Read.{place_read, rows_read, is_usable}
-use Rattle.cacheless.specs.Types.{Oid, Kind, Row, Purpose, Command, Opening, Scenario, Entry}
+use Rattle.cacheless.specs.Types.{Oid, Kind, Field, Purpose, Command, Opening, Scenario, Entry}
+use Rattle.cacheless.specs.declared.kept_scan.KeptScan.{KeptScan}
+use Rattle.cacheless.specs.declared.progress.Progress.{Progress}
 use Rattle.cacheless.specs.Facts.{facts_of}
 use Rattle.cacheless.specs.Lines.{answer_judged, line_of}
-use Rattle.cacheless.specs.Owed.{unusable, builds_owed}
-use Rattle.cacheless.specs.Session.{Session, number_of}
-use Rattle.cacheless.specs.Settled.{finished_as}
-use Rattle.cacheless.specs.Told.{told}
-use Rattle.cacheless.proofs.Plans.SilentActs.{both_empty}
-use Rattle.cacheless.proofs.Answers.ToldAlike.{IsAlike, answer_told_by}
-use Rattle.cacheless.proofs.Answers.ToldAnswers.{HasComeOut, answer_told, line_told}
+use Rattle.cacheless.specs.Owed.{unusable, builds_owed, owed_of}
+use Rattle.cacheless.specs.OnCourse.{is_over, FollowsPlan}
+use Rattle.cacheless.specs.Played.{IsPlayed}
+use Rattle.cacheless.specs.Session.{Outcome, Badly, number_of, outcome_of}
+use Rattle.cacheless.specs.Settled.{finished_as, settled}
+use Rattle.cacheless.specs.State.{is_kept, rows_kept, place_kept, is_out, Rest, session_at}
+use Rattle.cacheless.specs.May.{has_failed, owes_nothing}
+use Rattle.cacheless.specs.Silently.{is_to_answer}
+use Rattle.cacheless.specs.Holds.{FactsFit, Holds}
+use Rattle.lock_modes.specs.Own.{clear_modes}
+use Rattle.cacheless.specs.Protected.{protects}
+use Rattle.cacheless.specs.Told.{told_field}
+use Rattle.cacheless.specs.Answering.{rows_held, place_held, told_at, IsToldText, KeptAt, PlaceFits}
+use Rattle.cacheless.proofs.Same.{owes_nothing_is}
+use Rattle.cacheless.proofs.HeldLocks.{settled-locks}
+use Rattle.cacheless.proofs.Resting.{kept_rows}
+use Rattle.cacheless.proofs.Plans.SilentActs.{both_empty, empty_list}
+use Rattle.cacheless.proofs.Allowed.SettledCourse.{HasSession}
+use Rattle.cacheless.proofs.Answers.ToldAlike.{IsAlike, AreAlike, answer_told_by}
+use Rattle.cacheless.proofs.Answers.ToldAnswers.{HasComeOut, has_come_out, answer_told, line_told}
 use Rattle.cacheless.proofs.Answers.ToldFields.{none_unusable}
 
--- how a kept scan is read
-pub record Keeps (K : Type 0) : Type 1 where
-  pub scan_of : K → Purpose
-  pub rows_of : K → List Row
-  pub place_of : K → ℕ
+-- a field is read by a scan for a descriptor
+reads_build : (field : Field) (rel : Oid) → is_build_scan (read_by field rel) ≡ true
+reads_build fields.Name rel = refl
+reads_build fields.Columns rel = refl
+reads_build fields.Defaults rel = refl
+reads_build fields.Statistics rel = refl
+reads_build fields.Fillfactor rel = refl
+reads_build fields.Constraints rel = refl
+reads_build fields.Referenced rel = refl
+reads_build fields.Indexes rel = refl
+reads_build fields.Triggers rel = refl
+reads_build fields.Of rel = refl
+reads_build fields.Valid rel = refl
 
--- the rows that are kept of a scan
-abbrev pub rows_kept : {K : Type 0} → Keeps K → List K → Purpose → List Row
-rows_kept keeps kept scan = option_map_or keeps.rows_of (find (λ k. same_scan (keeps.scan_of k) scan) kept) []
+-- so it is told by the scan that is kept
+pub field_held : (p : Progress) (rel : Oid) (kind : Kind) (field : Field) → told_field (rows_held p) (place_held p) p.locks.items rel kind field ≡ told_field (rows_kept p.kept) (place_kept p.kept) p.locks.items rel kind field
+field_held p rel kind field = λ i. record {
+  field = field;
+  value = field_text field rel (ap (λ t. if t then rows_kept p.kept (read_by field rel) else p.given.items) (reads_build field rel) i);
+  at = if protects (clear_modes p.locks.items rel) kind field then None else Some (ap (λ t. if t then place_kept p.kept (read_by field rel) else p.given_at) (reads_build field rel) i);
+}
 
--- the place of a scan for a descriptor that is kept; that of the scan of a name is kept apart
-abbrev pub place_kept : {K : Type 0} → Keeps K → List K → ℕ → Purpose → ℕ
-place_kept keeps kept named scan = if is_build_scan scan then option_map_or keeps.place_of (find (λ k. same_scan (keeps.scan_of k) scan) kept) 0 else named
-
--- the scans for descriptors that a backend may rely on are kept, each as its last such scan was
-pub record AreKept {K : Type 0} (keeps : Keeps K) (seen : List Entry) (b : ℕ) (kept : List K) : Type 0 where
-  pub usable : (scan : Purpose) → is_build_scan scan ≡ true → is_usable seen b scan ≡ list_any (λ k. same_scan (keeps.scan_of k) scan) kept
-  pub rows_are : AllByRecursion (λ k. keeps.rows_of k ≡ rows_read seen b (keeps.scan_of k)) kept
-  pub places_are : AllByRecursion (λ k. keeps.place_of k ≡ place_read seen b (keeps.scan_of k)) kept
-
--- what is found among them is so
-found_kept : {K X : Type 0} (scan_of : K → Purpose) (of : K → X) (first : X) (so : Purpose → X) (scan : Purpose) (kept : List K) → AllByRecursion (λ k. of k ≡ so (scan_of k)) kept → list_any (λ k. same_scan (scan_of k) scan) kept ≡ true
-    → option_map_or of (find (λ k. same_scan (scan_of k) scan) kept) first ≡ so scan
-found_kept scan_of of first so scan [] all has = absurd (cc has)
-found_kept {K} scan_of of first so scan (k ∷ kept) all has = by_first (same_scan (scan_of k) scan) refl has (found_kept scan_of of first so scan kept all.1)
+-- the place that is found of a scan is that of the last such scan
+kept_place : (places : Purpose → ℕ) (kept : List KeptScan) (scan : Purpose) → All (λ (k : KeptScan). places k.scan ≡ k.at) kept → is_kept kept scan ≡ true → places scan ≡ place_kept kept scan
+kept_place places [] scan at is = absurd (cc)
+kept_place places (k ∷ kept) scan at is = by_same (kept_place places kept scan (λ i d within. at (suc i) d (omega (arith, within)))) (same_scan k.scan scan) refl is
   where
-    by_first : (t : Bool) → same_scan (scan_of k) scan ≡ t → (t || list_any (λ j. same_scan (scan_of j) scan) kept) ≡ true → (list_any (λ j. same_scan (scan_of j) scan) kept ≡ true → option_map_or of (find (λ j. same_scan (scan_of j) scan) kept) first ≡ so scan)
-        → option_map_or of (cond t (Some k) (find (λ j. same_scan (scan_of j) scan) kept)) first ≡ so scan
-    by_first true is any more = all.0 ∙ ap so (same_scan-true (scan_of k) scan is)
-    by_first false not_it any more = more any
+    by_same : (is_kept kept scan ≡ true → places scan ≡ place_kept kept scan) → (t : Bool) → same_scan k.scan scan ≡ t → (t || is_kept kept scan) ≡ true → places scan ≡ option_map_or (λ k. k.at) (cond t (Some k) (find (λ k. same_scan k.scan scan) kept)) 0
+    by_same later true same any = ap places (sym (same_scan-true k.scan scan same)) ∙ at 0 k (omega arith)
+    by_same later false other any = later any
 
 -- a scan for a descriptor that is usable is told of alike
-kept_alike : {K : Type 0} (keeps : Keeps K) (seen : List Entry) (b : ℕ) (kept : List K) (named : ℕ) (scan : Purpose) → AreKept keeps seen b kept → is_build_scan scan ≡ true → is_usable seen b scan ≡ true
-    → IsAlike (rows_read seen b) (rows_kept keeps kept) (place_read seen b) (place_kept keeps kept named) scan
-kept_alike keeps seen b kept named scan are build usable = record {
-  rows_are = found_kept keeps.scan_of keeps.rows_of [] (rows_read seen b) scan kept are.rows_are has;
-  place_is = ap (λ t. if t then option_map_or keeps.place_of (find (λ k. same_scan (keeps.scan_of k) scan) kept) 0 else named) build ∙ found_kept keeps.scan_of keeps.place_of 0 (place_read seen b) scan kept are.places_are has;
+kept_alike : (seen : List Entry) (p : Progress) (scan : Purpose) → FactsFit (facts_of seen p.id) p → All (KeptAt seen p.id) p.kept → is_build_scan scan ≡ true → is_usable seen p.id scan ≡ true → IsAlike (rows_read seen p.id) (rows_held p) (place_read seen p.id) (place_held p) scan
+kept_alike seen p scan fits at build usable = record {
+  rows_are = ap (λ t. if t then rows_kept p.kept scan else p.given.items) build ∙ sym (kept_rows (rows_read seen p.id) p.kept scan fits.kept has);
+  place_is = ap (λ t. if t then place_kept p.kept scan else p.given_at) build ∙ sym (kept_place (place_read seen p.id) p.kept scan at has);
 }
   where
-    has : list_any (λ k. same_scan (keeps.scan_of k) scan) kept ≡ true
-    has = sym (are.usable scan build) ∙ usable
+    has : is_kept p.kept scan ≡ true
+    has = sym (fits.usable scan build) ∙ usable
 
+-- the scans of a descriptor are scans for one
 each_builds : (kind : Kind) (rel : Oid) → AllByRecursion (λ d. is_build_scan d ≡ true) (build_scans kind rel)
 each_builds Table rel = (refl, (refl, (refl, (refl, (refl, (refl, tt))))))
 each_builds Index rel = (refl, (refl, tt))
 
-all_alike : {K : Type 0} (keeps : Keeps K) (seen : List Entry) (b : ℕ) (kept : List K) (named : ℕ) (wanted : List Purpose) → AreKept keeps seen b kept → AllByRecursion (λ d. is_build_scan d ≡ true) wanted → AllByRecursion (λ d. is_usable seen b d ≡ true) wanted
-    → AllByRecursion (IsAlike (rows_read seen b) (rows_kept keeps kept) (place_read seen b) (place_kept keeps kept named)) wanted
-all_alike keeps seen b kept named [] are builds usable = tt
-all_alike keeps seen b kept named (scan ∷ wanted) are builds usable = (kept_alike keeps seen b kept named scan are builds.0 usable.0, all_alike keeps seen b kept named wanted are builds.1 usable.1)
+-- so are several
+all_alike : (seen : List Entry) (p : Progress) (wanted : List Purpose) → FactsFit (facts_of seen p.id) p → All (KeptAt seen p.id) p.kept → AllByRecursion (λ d. is_build_scan d ≡ true) wanted → AllByRecursion (λ d. is_usable seen p.id d ≡ true) wanted
+    → AllByRecursion (IsAlike (rows_read seen p.id) (rows_held p) (place_read seen p.id) (place_held p)) wanted
+all_alike seen p [] fits at builds usable = tt
+all_alike seen p (scan ∷ wanted) fits at builds usable = (kept_alike seen p scan fits at builds.0 usable.0, all_alike seen p wanted fits at builds.1 usable.1)
 
-opened_alike : {K : Type 0} (keeps : Keeps K) (seen : List Entry) (b : ℕ) (kept : List K) (named : ℕ) (opened : List Opening) → AreKept keeps seen b kept → builds_owed (facts_of seen b) opened ≡ []
-    → AllByRecursion (λ o. AllByRecursion (IsAlike (rows_read seen b) (rows_kept keeps kept) (place_read seen b) (place_kept keeps kept named)) (build_scans o.kind o.rel)) opened
-opened_alike keeps seen b kept named [] are none = tt
-opened_alike keeps seen b kept named (o ∷ opened) are none =
-    let both = both_empty (unusable (facts_of seen b) (build_scans o.kind o.rel)) (builds_owed (facts_of seen b) opened) none in
-    (all_alike keeps seen b kept named (build_scans o.kind o.rel) are (each_builds o.kind o.rel) (none_unusable (facts_of seen b) (build_scans o.kind o.rel) both.0), opened_alike keeps seen b kept named opened are both.1)
+-- and those of the opened descriptors
+opened_alike : (seen : List Entry) (p : Progress) (opened : List Opening) → FactsFit (facts_of seen p.id) p → All (KeptAt seen p.id) p.kept → builds_owed (facts_of seen p.id) opened ≡ []
+    → AreAlike (rows_read seen p.id) (rows_held p) (place_read seen p.id) (place_held p) opened
+opened_alike seen p [] fits at none = tt
+opened_alike seen p (o ∷ opened) fits at none =
+    let both = both_empty (unusable (facts_of seen p.id) (build_scans o.kind o.rel)) (builds_owed (facts_of seen p.id) opened) none in
+    (all_alike seen p (build_scans o.kind o.rel) fits at (each_builds o.kind o.rel) (none_unusable (facts_of seen p.id) (build_scans o.kind o.rel) both.0), opened_alike seen p opened fits at both.1)
 
 -- so a command that has come out answers what is told by the scans that are kept, and by the place of the scan of the name that it failed to find
-pub answer_kept : {K : Type 0} (keeps : Keeps K) (scenario : Scenario) (seen : List Entry) (b : ℕ) (s : Session) (command : Command) (kept : List K) (named : ℕ) → HasComeOut scenario seen b s command → AreKept keeps seen b kept
-    → ((name : List ℕ) → s.left ≡ Absent name → named ≡ place_read seen b (scans.RelName name)) → answer_judged scenario seen b (number_of s) (finished_as s) command s.refused ≡ told (rows_kept keeps kept) (place_kept keeps kept named) s command
-answer_kept keeps scenario seen b s command kept named come are absent = answer_told_by (rows_kept keeps kept) (place_kept keeps kept named) scenario seen b s command come (record {
-  opened = λ done. opened_alike keeps seen b kept named s.opened are (come.builds done);
-  absent = absent;
+pub answer_kept : (scenario : Scenario) (seen : List Entry) (p : Progress) (rest : Rest) (command : Command) → HasComeOut scenario seen p.id (session_at p rest) command → FactsFit (facts_of seen p.id) p → All (KeptAt seen p.id) p.kept
+    → PlaceFits seen p.id (plan_at p.exec) p.read p.given_at → answer_judged scenario seen p.id (number_of (session_at p rest)) (finished_as (session_at p rest)) command rest.refused ≡ told_at p
+answer_kept scenario seen p rest command come fits at place = answer_told_by (rows_held p) (place_held p) scenario seen p.id (session_at p rest) command come (record {
+  opened = λ well. opened_alike seen p p.opened fits at (come.builds well);
+  absent = λ name is. sym (subst (λ plan. PlaceFits seen p.id plan p.read p.given_at) is place);
 })
 
 -- and so says its line, where it is judged
-pub line_kept : {K : Type 0} (keeps : Keeps K) (scenario : Scenario) (seen : List Entry) (b : ℕ) (s : Session) (command : Command) (kept : List K) (named : ℕ) → HasComeOut scenario seen b s command → AreKept keeps seen b kept
-    → ((name : List ℕ) → s.left ≡ Absent name → named ≡ place_read seen b (scans.RelName name)) → length seen ≤ s.judged
-    → line_of scenario seen b (number_of s) (finished_as s) command ≡ record { backend = b; command = number_of s; text = answer_text (told (rows_kept keeps kept) (place_kept keeps kept named) s command) }
-line_kept keeps scenario seen b s command kept named come are absent judged = line_told scenario seen b s command come judged
-    ∙ ap (λ answer. record { backend = b; command = number_of s; text = answer_text answer }) (sym (answer_told scenario seen b s command come) ∙ answer_kept keeps scenario seen b s command kept named come are absent)
+pub told_line : (scenario : Scenario) (seen : List Entry) (p : Progress) (rest : Rest) (command : Command) (text : List ℕ) → HasComeOut scenario seen p.id (session_at p rest) command → FactsFit (facts_of seen p.id) p → All (KeptAt seen p.id) p.kept
+    → PlaceFits seen p.id (plan_at p.exec) p.read p.given_at → length seen ≤ rest.judged → IsToldText p text
+    → record { backend = p.id; command = number_of (session_at p rest); text = text } ≡ line_of scenario seen p.id (number_of (session_at p rest)) (finished_as (session_at p rest)) command
+told_line scenario seen p rest command text come fits at place judged told =
+    ap (λ t. record { backend = p.id; command = number_of (session_at p rest); text = t }) (told ∙ ap answer_text (sym (answer_kept scenario seen p rest command come fits at place) ∙ answer_told scenario seen p.id (session_at p rest) command come))
+    ∙ sym (line_told scenario seen p.id (session_at p rest) command come judged)
+
+-- the session of a history in which the code holds it
+pub session_held : (scenario : Scenario) (seen : List Entry) (p : Progress) → IsPlayed scenario seen → (holds : Holds scenario seen p) → HasSession scenario seen p.id (session_at p holds.rest).locks
+session_held scenario seen p played holds = record {
+  played = played;
+  session = settled (facts_of seen p.id) (drop p.finished p.commands) (session_at p holds.rest);
+  is = holds.is;
+  holds = settled-locks (facts_of seen p.id) (drop p.finished p.commands) (session_at p holds.rest);
+}
+
+failed_badly : (o : Outcome) → elim o as (λ x. Bool) [ Badly ↦ true | other ↦ false ] ≡ true → o ≡ Badly
+failed_badly Badly is = refl
+failed_badly o is = absurd (cc is)
+
+-- so what the code answers is the line of its command, once that is to be answered, and while nothing of it is taken back or released
+pub told_now : (scenario : Scenario) (seen : List Entry) (p : Progress) (command : Command) (text : List ℕ) → IsPlayed scenario seen → (holds : Holds scenario seen p) → FollowsPlan seen p.id (session_at p holds.rest) command → is_over (last_event_of seen p.id) (session_at p holds.rest) ≡ false → length seen ≤ holds.rest.judged
+    → All (KeptAt seen p.id) p.kept → PlaceFits seen p.id (plan_at p.exec) p.read p.given_at → is_to_answer command p ≡ true → IsToldText p text
+    → record { backend = p.id; command = number_of (session_at p holds.rest); text = text } ≡ line_of scenario seen p.id (number_of (session_at p holds.rest)) (finished_as (session_at p holds.rest)) command
+told_now scenario seen p command text played holds follows stands judged at place out told = told_line scenario seen p holds.rest command text
+    (has_come_out scenario seen p.id (session_at p holds.rest) command (session_held scenario seen p played holds) follows parts.0 stands (by_failed (has_failed p) refl parts.1))
+    holds.facts at place judged told
+  where
+    parts : (is_out p ≡ true) × ((has_failed p || owes_nothing command p) ≡ true)
+    parts = and_parts (is_out p) (has_failed p || owes_nothing command p) out
+
+    by_failed : (t : Bool) → has_failed p ≡ t → (t || owes_nothing command p) ≡ true → (outcome_of (plan_at p.exec) ≡ Badly) ⊎ (owed_of (facts_of seen p.id) command (session_at p holds.rest) ≡ [])
+    by_failed true failed any = inl (failed_badly (outcome_of (plan_at p.exec)) failed)
+    by_failed false going owes = inr (empty_list (owed_of (facts_of seen p.id) command (session_at p holds.rest)) (owes_nothing_is (facts_of seen p.id) command p holds.rest holds.facts ∙ owes))

@@ -5,7 +5,7 @@ use Rattle.std.proofs.lemmas.List.Folds.{list_any_at}
 use Rattle.base_types.specs.Scans.{same_scan, build_scans}
 use Rattle.base_types.specs.declared.row.Row.TheVariants as rows
 use Rattle.base_types.proofs.SameScan.{same_scan-itself}
-use Rattle.ddl_effect.specs.Plans.{Plan, Act, Do, Lookup, Open, Column, Read, Lock, Write}
+use Rattle.ddl_effect.specs.Plans.{Plan, Act, Do, Lookup, Open, Search, Read, Lock, Write}
 use Rattle.ddl_effect.specs.Commands.{plan_of, found}
 use Rattle.cacheless.specs.Runs.{runs}
 use Rattle.txn_blocks.specs.Blocks.{Blocks, refused_by}
@@ -29,7 +29,7 @@ of_one rel kind scan has = ap (λ t. t || false) (list_any_at (same_scan scan) (
 reads_open : (most : ℕ) (rel : Oid) (kind : Kind) (plan : Plan) → FollowsOpen most rel kind plan → ReadsOpened (record { rel = rel; kind = kind } ∷ []) plan
 reads_open most rel kind (Do (Lookup name mode) rest) follows = absurd follows
 reads_open most rel kind (Do (Open of as_kind) rest) follows = absurd follows
-reads_open most rel kind (Do (Column of name) rest) follows = λ given. reads_open (most - 1) rel kind (rest given) (follows.3 given)
+reads_open most rel kind (Do (Search scan) rest) follows = λ given. reads_open (most - 1) rel kind (rest given) (follows.3 given)
 reads_open most rel kind (Do (Read scan) rest) follows = (of_one rel kind scan follows.1, λ given. reads_open (most - 1) rel kind (rest given) (follows.2 given))
 reads_open most rel kind (Do (Lock of mode) rest) follows = absurd follows
 reads_open most rel kind (Do (Write draft) rest) follows = λ given. subst (ReadsOpened (record { rel = rel; kind = kind } ∷ [])) (sym (follows.3 given)) tt
@@ -40,7 +40,7 @@ reads_found mode rel kind (Do (Open of as_kind) rest) follows = λ given.
     subst (λ o. ReadsOpened (record { rel = o; kind = as_kind } ∷ []) (rest given)) (sym follows.0) (subst (λ k. ReadsOpened (record { rel = rel; kind = k } ∷ []) (rest given)) (sym follows.1)
     (subst (ReadsOpened (record { rel = rel; kind = kind } ∷ [])) (sym (follows.2 given)) (reads_open 3 rel kind (rest []) follows.3)))
 reads_found mode rel kind (Do (Lookup name as_mode) rest) follows = absurd follows
-reads_found mode rel kind (Do (Column of name) rest) follows = absurd follows
+reads_found mode rel kind (Do (Search scan) rest) follows = absurd follows
 reads_found mode rel kind (Do (Read scan) rest) follows = absurd follows
 reads_found mode rel kind (Do (Lock of as_mode) rest) follows = absurd follows
 reads_found mode rel kind (Do (Write draft) rest) follows = absurd follows
@@ -54,7 +54,7 @@ reads_order (Do (Lookup name mode) rest) follows = λ given. by_rows given (foll
     by_rows (rows.Class rel own kind fill ∷ more) is = subst (ReadsOpened []) (sym is) (reads_found mode rel kind (rest (plain_row rel kind)) (follows.1 rel kind))
     by_rows (row ∷ more) is = subst (ReadsOpened []) (sym is) tt
 reads_order (Do (Open of as_kind) rest) follows = absurd follows
-reads_order (Do (Column of name) rest) follows = absurd follows
+reads_order (Do (Search scan) rest) follows = absurd follows
 reads_order (Do (Read scan) rest) follows = absurd follows
 reads_order (Do (Lock of as_mode) rest) follows = absurd follows
 reads_order (Do (Write draft) rest) follows = λ given. subst (ReadsOpened []) (sym (follows.1 given)) tt
@@ -77,6 +77,6 @@ reads_after opened act rest given now plan reads pushed on = subst (λ o. ReadsO
     by_act (Read scan) all = subst (λ o. ReadsOpened o (rest given)) (sym (append-nil opened)) (all.1 given)
     by_act (Lookup name mode) all = all given
     by_act (Open rel kind) all = all given
-    by_act (Column rel name) all = all given
+    by_act (Search scan) all = all given
     by_act (Lock rel mode) all = all given
     by_act (Write draft) all = all given

@@ -6,17 +6,16 @@ use Rattle.base_types.specs.Fields.{field_text, fields_of, has_field, read_by}
 use Rattle.base_types.specs.Scans.{build_scans}
 use Rattle.base_types.specs.declared.field.Field.TheVariants as fields
 use Rattle.base_types.specs.declared.kind.Kind.TheVariants.{Table, Index}
-use Rattle.command_answers.specs.declared.answer.Answer.TheVariants as answers
 use Rattle.lock_modes.specs.Own.{clear_modes}
 use Rattle.history_model.specs.Read.{place_read, rows_read, is_usable}
 use Rattle.history_model.specs.Versions.{fresh_text}
 use Rattle.cacheless.specs.Types.{Oid, Kind, Field, Purpose, Shown, Opening, OwnLock, Scenario, Entry}
 use Rattle.cacheless.specs.Facts.{Facts, facts_of}
-use Rattle.cacheless.specs.Lines.{read_field, shown_field, shown_fields}
+use Rattle.cacheless.specs.Lines.{read_field, shown_field}
 use Rattle.cacheless.specs.Owed.{unusable, builds_owed}
 use Rattle.cacheless.specs.Protected.{protects, is_protected}
 use Rattle.cacheless.specs.Session.{Session}
-use Rattle.cacheless.specs.Told.{told_field, told_fields}
+use Rattle.cacheless.specs.Told.{told_field}
 use Rattle.cacheless.proofs.ProtectedFields.{protected_fresh}
 use Rattle.cacheless.proofs.Answers.ReadPlaces.{read_at_place}
 use Rattle.cacheless.proofs.Plans.SilentActs.{both_empty}
@@ -56,7 +55,7 @@ pub record CanTell (scenario : Scenario) (seen : List Entry) (b : ℕ) (locks : 
 
 -- a field of the relation: as it was read, and where it is protected, as it is now
 pub field_told : (scenario : Scenario) (seen : List Entry) (b : ℕ) (locks : List OwnLock) (o : Opening) (field : Field) → CanTell scenario seen b locks o → has_field o.kind field ≡ true
-    → shown_field scenario seen b o.rel o.kind field ≡ told_field (rows_read seen b) (place_read seen b) locks o field
+    → shown_field scenario seen b o.rel o.kind field ≡ told_field (rows_read seen b) (place_read seen b) locks o.rel o.kind field
 field_told scenario seen b locks o field can has =
     ap (λ t. elim t [ true ↦ record { field = field; value = fresh_text seen b o.rel field; at = None } | false ↦ read_field seen b o.rel field ]) guarded ∙ by_guard (protects (clear_modes locks o.rel) o.kind field) guarded
   where
@@ -86,11 +85,7 @@ map_same P f g same [] all = refl
 map_same P f g same (x ∷ xs) all = ap (λ y. y ∷ map f xs) (same x all.0) ∙ ap (λ ys. g x ∷ ys) (map_same P f g same xs all.1)
 
 -- all its fields
-pub fields_told : (scenario : Scenario) (seen : List Entry) (b : ℕ) (locks : List OwnLock) (o : Opening) → CanTell scenario seen b locks o → shown_fields scenario seen b o.rel o.kind None ≡ told_fields (rows_read seen b) (place_read seen b) locks None o
+pub fields_told : (scenario : Scenario) (seen : List Entry) (b : ℕ) (locks : List OwnLock) (o : Opening) → CanTell scenario seen b locks o
+    → map (shown_field scenario seen b o.rel o.kind) (fields_of o.kind) ≡ map (told_field (rows_read seen b) (place_read seen b) locks o.rel o.kind) (fields_of o.kind)
 fields_told scenario seen b locks o can =
-    ap (answers.Shown o.kind o.rel) (map_same (λ field. has_field o.kind field ≡ true) (shown_field scenario seen b o.rel o.kind) (told_field (rows_read seen b) (place_read seen b) locks o) (λ field own. field_told scenario seen b locks o field can own) (fields_of o.kind) (each_has o.kind))
-
--- or one that it has
-pub one_told : (scenario : Scenario) (seen : List Entry) (b : ℕ) (locks : List OwnLock) (o : Opening) (field : Field) → CanTell scenario seen b locks o → has_field o.kind field ≡ true
-    → shown_fields scenario seen b o.rel o.kind (Some field) ≡ told_fields (rows_read seen b) (place_read seen b) locks (Some field) o
-one_told scenario seen b locks o field can has = ap answers.One (field_told scenario seen b locks o field can has)
+    map_same (λ field. has_field o.kind field ≡ true) (shown_field scenario seen b o.rel o.kind) (told_field (rows_read seen b) (place_read seen b) locks o.rel o.kind) (λ field own. field_told scenario seen b locks o field can own) (fields_of o.kind) (each_has o.kind)

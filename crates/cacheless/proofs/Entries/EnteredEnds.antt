@@ -7,7 +7,8 @@ use Rattle.lock_modes.specs.Rooms.{Roomy}
 use Rattle.inval_messages.specs.Messages.{covers, is_spared}
 use Rattle.inval_messages.specs.Lists.{Written, lists_before, lists_from, cats_in, rels_in, sent_in}
 use Rattle.command_lists.specs.Lists.{Held, all_lists}
-use Rattle.ddl_effect.specs.Plans.{Plan, Absent, Do, Lookup, Column}
+use Rattle.ddl_effect.specs.declared.told.Told.TheVariants as tells
+use Rattle.ddl_effect.specs.Plans.{Plan, Done, Absent, Do, Lookup, Search}
 use Rattle.ddl_effect.specs.Stages.{plan_at}
 use Rattle.history_model.specs.Transactions.{begun, after_release}
 use Rattle.history_model.specs.Sent.{ends_transaction}
@@ -20,8 +21,8 @@ use Rattle.txn_blocks.specs.declared.transaction.RunningTransaction.{RunningTran
 use Rattle.cacheless.specs.declared.progress.Progress.{Progress}
 use Rattle.cacheless.specs.Facts.{Facts, facts_of}
 use Rattle.txn_blocks.specs.Transactions.{begun_own, ends_own, released_own}
-use Rattle.cacheless.specs.State.{running_of, lists_at, lists_left, is_kept, kept_spared, named_spared, is_absent, is_in_accept, locks_accepted}
-use Rattle.cacheless.specs.Holds.{ReadRight, NamedFit, FactsFit, Holds, Rests, with_own, HasEntered}
+use Rattle.cacheless.specs.State.{running_of, lists_at, lists_left, is_kept, kept_spared, named_spared, is_in_accept, locks_accepted}
+use Rattle.cacheless.specs.Holds.{ReadRight, NamedFit, FactsFit, Rests, HasEntered}
 use Rattle.cacheless.proofs.Entries.EnteredFetches.{is_kept-spared, all-spared}
 use Rattle.cacheless.proofs.Entries.Entering.{facts_after, noted_after, with_locks, own_entered, release_begun, ends_same, runs_begun, counts_stay}
 
@@ -133,8 +134,9 @@ name_gone old was from cats rels scan fits cats_are rels_are usable = ap (λ t. 
 named_gone : (old : List Entry) (was : Progress) (from : ℕ) (cats rels : List Message) (p : Plan) → FactsFit (facts_of old was.id) was → cats ≡ cats_in (lists_from from (lists_at was)) → rels ≡ rels_in (lists_from from (lists_at was))
     → NamedFit (facts_of old was.id) p was.given.items was.named → NamedFit (facts_after old was (events.Gone from)) p was.given.items (named_spared rels p (named_spared cats p was.named))
 named_gone old was from cats rels (Do (Lookup name mode) rest) fits cats_are rels_are fit = (fit.0, name_gone old was from cats rels (scans.RelName name) fits cats_are rels_are fit.1)
-named_gone old was from cats rels (Do (Column rel name) rest) fits cats_are rels_are fit = (fit.0, name_gone old was from cats rels (scans.AttName rel name) fits cats_are rels_are fit.1)
+named_gone old was from cats rels (Do (Search scan) rest) fits cats_are rels_are fit = (fit.0, name_gone old was from cats rels scan fits cats_are rels_are fit.1)
 named_gone old was from cats rels (Absent name) fits cats_are rels_are fit = (fit.0, name_gone old was from cats rels (scans.RelName name) fits cats_are rels_are fit.1)
+named_gone old was from cats rels (Done (tells.Regclass oid)) fits cats_are rels_are fit = (fit.0, name_gone old was from cats rels (scans.RelOid oid) fits cats_are rels_are fit.1)
 named_gone old was from cats rels p fits cats_are rels_are fit = fit
 
 pub gone_holds : (scenario : Scenario) (old : List Entry) (was : Progress) (from : ℕ) (cats rels : List Message) (lists : Held) (locks : Roomy OwnLock) (rests : Rests scenario old was)

@@ -1,5 +1,5 @@
 -- What a fetch of messages and a reset make of what the code holds.
-use Rattle.std.proofs.Common.{◌≡◌, ◌≤◌, ◌+◌, ◌∙◌, ◌==◌, ◌&&◌, ◌||◌, ℕ, Bool, true, false, Option, Some, List, [], ◌∷◌, refl, sym, ap, subst, length, slice_get, arith, All, cond, take, ◌-◌}
+use Rattle.std.proofs.Common.{◌≡◌, ◌≤◌, ◌+◌, ◌∙◌, ◌==◌, ◌&&◌, ◌||◌, ℕ, Bool, true, false, Option, Some, None, List, [], ◌∷◌, refl, sym, ap, subst, length, slice_get, arith, All, cond, take, ◌-◌}
 use Rattle.std.proofs.Math.Bool.{and-false, or-false, or-true}
 use Rattle.std.proofs.lemmas.List.Elements.{All-filter}
 use Rattle.base_types.specs.Scans.{same_scan}
@@ -8,7 +8,8 @@ use Rattle.base_types.proofs.SameScan.{same_scan-true}
 use Rattle.event_kinds.specs.declared.entry.Event.TheVariants as events
 use Rattle.inval_messages.specs.Messages.{is_spared}
 use Rattle.lock_modes.specs.Rooms.{Roomy}
-use Rattle.ddl_effect.specs.Plans.{Plan, Done, Fails, Absent, Do, NotBuilt, Lookup, Column}
+use Rattle.ddl_effect.specs.declared.told.Told.TheVariants as tells
+use Rattle.ddl_effect.specs.Plans.{Plan, Done, Fails, Absent, Do, NotBuilt, Lookup, Search}
 use Rattle.ddl_effect.specs.Stages.{plan_at, plan_again, altering_at, altering_again}
 use Rattle.ddl_effect.specs.declared.altering.Altering.{Altering}
 use Rattle.ddl_effect.specs.declared.altering.Altering.TheVariants as alters
@@ -27,12 +28,12 @@ use Rattle.cacheless.specs.Owed.{Owes, OwesLook, owed_after}
 use Rattle.cacheless.specs.Sessions.{resumed, placed_at, counted}
 use Rattle.cacheless.specs.Puts.{PutsOpened}
 use Rattle.txn_blocks.specs.Transactions.{begun_own}
-use Rattle.cacheless.specs.State.{owed_at, due_fetched, one_if, is_kept, kept_spared, named_spared, is_absent, is_full, is_in_accept, locks_accepted, Rest, rest_of, tally_at, session_at}
-use Rattle.cacheless.specs.Holds.{ReadRight, NamedFit, FactsFit, Holds, Rests, with_own, HasEntered}
+use Rattle.cacheless.specs.State.{owed_at, due_fetched, one_if, is_kept, kept_spared, named_spared, is_absent, ends_on_scan, is_full, is_in_accept, locks_accepted, Rest, rest_of, tally_at, session_at}
+use Rattle.cacheless.specs.Holds.{ReadRight, NamedFit, FactsFit, Rests, HasEntered}
 use Rattle.cacheless.proofs.Tests.{not_both}
 use Rattle.cacheless.proofs.Same.{full_same}
 use Rattle.cacheless.proofs.Written.Putting.{puts_again}
-use Rattle.cacheless.proofs.Entries.Entering.{facts_after, noted_after, rest_after, with_locks, own_entered, runs_begun}
+use Rattle.cacheless.proofs.Entries.Entering.{facts_after, noted_after, with_locks, own_entered, runs_begun}
 
 -- a scan is kept still where it was kept and no message covers it
 pub is_kept-spared : (messages : List Message) (kept : List KeptScan) (scan : Purpose) → is_kept (kept_spared messages kept) scan ≡ (is_spared scan messages && is_kept kept scan)
@@ -77,7 +78,7 @@ alters_same (alters.Missing name alteration) found = absurd (cc)
 alters_same stage found = refl
 
 pub again_same : (exec : Exec) → is_absent (plan_at exec) ≡ false → plan_again exec ≡ plan_at exec
-again_same (stages.Missing search) found = absurd (cc)
+again_same (stages.Missing finding) found = absurd (cc)
 again_same (stages.Altering altering) found = alters_same altering found
 again_same stage found = refl
 
@@ -92,14 +93,14 @@ found_again p s = s.found
 
 resumed_is : (p : Plan) (s : Session) → resumed p s ≡ record s { left = left_again p s; read = s.read || is_absent p; found = found_again p s }
 resumed_is (Absent name) s = λ i. record s { left = s.sought; read = sym (or-true s.read) i; found = take (length s.found - 1) s.found }
-resumed_is Done s = λ i. record s { read = sym (or-false s.read) i }
+resumed_is (Done told) s = λ i. record s { read = sym (or-false s.read) i }
 resumed_is (Fails error) s = λ i. record s { read = sym (or-false s.read) i }
 resumed_is (Do act rest) s = λ i. record s { read = sym (or-false s.read) i }
 resumed_is NotBuilt s = λ i. record s { read = sym (or-false s.read) i }
 
 left_is : (was : Progress) (rest : Rest) → (is_absent (plan_at was.exec) ≡ true → rest.sought ≡ plan_again was.exec) → (p : Plan) → plan_at was.exec ≡ p → left_again p (session_at was rest) ≡ plan_again was.exec
 left_is was rest sought (Absent name) at = sought (ap is_absent at)
-left_is was rest sought Done at = sym (again_same was.exec (ap is_absent at))
+left_is was rest sought (Done told) at = sym (again_same was.exec (ap is_absent at))
 left_is was rest sought (Fails error) at = sym (again_same was.exec (ap is_absent at))
 left_is was rest sought (Do act plan) at = sym (again_same was.exec (ap is_absent at))
 left_is was rest sought NotBuilt at = sym (again_same was.exec (ap is_absent at))
@@ -117,19 +118,19 @@ named_again facts given named name p is fit = absurd is
 
 -- what the scan of a name gave, by what is known of it after messages
 pub given_again : (facts : Facts) (was : Progress) (exec : Exec) (named : Plan → Bool) → plan_at exec ≡ plan_again was.exec
-    → ((p : Plan) → plan_at was.exec ≡ p → (was.read || is_absent p) ≡ true → NamedFit facts p was.given.items (named p))
-    → (was.read || is_absent (plan_at was.exec) || is_absent (plan_at exec)) ≡ true → NamedFit facts (plan_at exec) was.given.items (named (plan_at was.exec))
+    → ((p : Plan) → plan_at was.exec ≡ p → (was.read || ends_on_scan p) ≡ true → NamedFit facts p was.given.items (named p))
+    → (was.read || is_absent (plan_at was.exec) || ends_on_scan (plan_at exec)) ≡ true → NamedFit facts (plan_at exec) was.given.items (named (plan_at was.exec))
 given_again facts was exec named again fits is = by_plan (plan_at was.exec) refl
   where
-    read : (was.read || is_absent (plan_at was.exec)) ≡ true
-    read = sym (ap (λ t. was.read || is_absent (plan_at was.exec) || t) (ap is_absent again ∙ never_absent was.exec) ∙ or-false (was.read || is_absent (plan_at was.exec))) ∙ is
-
     stays : (p : Plan) → plan_at was.exec ≡ p → is_absent p ≡ false → NamedFit facts (plan_at exec) was.given.items (named p)
-    stays p at found = subst (λ q. NamedFit facts q was.given.items (named p)) (sym at ∙ sym (again_same was.exec (ap is_absent at ∙ found)) ∙ sym again) (fits p at (ap (λ q. was.read || is_absent q) (sym at) ∙ read))
+    stays p at found = subst (λ q. NamedFit facts q was.given.items (named p)) same (fits p at (ap (λ q. was.read || ends_on_scan q) same ∙ sym (ap (λ t. t || ends_on_scan (plan_at exec)) (ap (λ q. was.read || is_absent q) at ∙ ap (λ t. was.read || t) found ∙ or-false was.read)) ∙ is))
+      where
+        same : p ≡ plan_at exec
+        same = sym at ∙ sym (again_same was.exec (ap is_absent at ∙ found)) ∙ sym again
 
     by_plan : (p : Plan) → plan_at was.exec ≡ p → NamedFit facts (plan_at exec) was.given.items (named p)
     by_plan (Absent name) at = named_again facts was.given.items (named (Absent name)) name (plan_at exec) (subst (Seeks name) (sym again) (seeks_again was.exec name at)) (fits (Absent name) at (or-true was.read))
-    by_plan Done at = stays Done at refl
+    by_plan (Done told) at = stays (Done told) at refl
     by_plan (Fails error) at = stays (Fails error) at refl
     by_plan (Do act rest) at = stays (Do act rest) at refl
     by_plan NotBuilt at = stays NotBuilt at refl
@@ -144,6 +145,7 @@ fetched_first was count messages exec = record was {
   named = named_spared messages (plan_at was.exec) was.named;
   kept = kept_spared messages was.kept;
   tally = record was.tally { fetches = was.tally.fetches + 1 };
+  answer = None;
 }
 
 -- the state after the fetch
@@ -182,8 +184,9 @@ spared_after old was count messages scan are usable = ap (λ l. is_spared scan l
 named_after : (old : List Entry) (was : Progress) (count : ℕ) (messages : List Message) (p : Plan) → messages ≡ fetched_by old was.id count → NamedFit (facts_of old was.id) p was.given.items was.named
     → NamedFit (facts_after old was (events.Fetch count)) p was.given.items (named_spared messages p was.named)
 named_after old was count messages (Do (Lookup name mode) rest) are fit = (fit.0, spared_after old was count messages (scans.RelName name) are fit.1)
-named_after old was count messages (Do (Column rel name) rest) are fit = (fit.0, spared_after old was count messages (scans.AttName rel name) are fit.1)
+named_after old was count messages (Do (Search scan) rest) are fit = (fit.0, spared_after old was count messages scan are fit.1)
 named_after old was count messages (Absent name) are fit = (fit.0, spared_after old was count messages (scans.RelName name) are fit.1)
+named_after old was count messages (Done (tells.Regclass oid)) are fit = (fit.0, spared_after old was count messages (scans.RelOid oid) are fit.1)
 named_after old was count messages p are fit = tt
 
 pub fetch_holds : (scenario : Scenario) (old : List Entry) (was : Progress) (count : ℕ) (messages : List Message) (exec : Exec) (locks : Roomy OwnLock) (rests : Rests scenario old was) → messages ≡ fetched_by old was.id count → plan_at exec ≡ plan_again was.exec
@@ -222,7 +225,7 @@ fetch_holds scenario old was count messages exec locks rests are again items = o
       owed = owed_fetched count;
       usable = λ scan build. ap (λ l. is_spared scan l && (facts_of old was.id).usable scan) (sym are) ∙ ap (λ t. is_spared scan messages && t) (f.usable scan build) ∙ sym (is_kept-spared messages was.kept scan);
       kept = all-spared (ReadRight after.rows) messages was.kept (λ i d within. let k = f.kept i d within in record { build = k.build; rows_are = k.rows_are });
-      given = given_again after was exec (λ p. named_spared messages p was.named) again (λ p at read. named_after old was count messages p are (subst (λ q. NamedFit (facts_of old was.id) q was.given.items was.named) at (f.given (ap (λ q. was.read || is_absent q) at ∙ read))));
+      given = given_again after was exec (λ p. named_spared messages p was.named) again (λ p at read. named_after old was count messages p are (subst (λ q. NamedFit (facts_of old was.id) q was.given.items was.named) at (f.given (ap (λ q. was.read || ends_on_scan q) at ∙ read))));
     }
 
     s : Session
@@ -253,12 +256,14 @@ was_reset was exec kept = record was {
   named = false;
   kept = kept;
   tally = record was.tally { fetches = was.tally.fetches + 1 };
+  answer = None;
 }
 
 named_reset : (old : List Entry) (was : Progress) (p : Plan) → NamedFit (facts_of old was.id) p was.given.items was.named → NamedFit (facts_after old was events.FetchReset) p was.given.items false
 named_reset old was (Do (Lookup name mode) rest) fit = (fit.0, refl)
-named_reset old was (Do (Column rel name) rest) fit = (fit.0, refl)
+named_reset old was (Do (Search scan) rest) fit = (fit.0, refl)
 named_reset old was (Absent name) fit = (fit.0, refl)
+named_reset old was (Done (tells.Regclass oid)) fit = (fit.0, refl)
 named_reset old was p fit = tt
 
 pub reset_holds : (scenario : Scenario) (old : List Entry) (was : Progress) (exec : Exec) (locks : Roomy OwnLock) (rests : Rests scenario old was) → plan_at exec ≡ plan_again was.exec
@@ -273,7 +278,7 @@ reset_holds scenario old was exec locks rests again items = own_entered scenario
     owed = refl;
     usable = λ scan build. refl;
     kept = λ i d within. absurd (omega (arith, within));
-    given = given_again after was exec (λ p. false) again (λ p at read. named_reset old was p (subst (λ q. NamedFit (facts_of old was.id) q was.given.items was.named) at (f.given (ap (λ q. was.read || is_absent q) at ∙ read))));
+    given = given_again after was exec (λ p. false) again (λ p at read. named_reset old was p (subst (λ q. NamedFit (facts_of old was.id) q was.given.items was.named) at (f.given (ap (λ q. was.read || ends_on_scan q) at ∙ read))));
   };
   counts = let c = rests.holds.counts in record { looks = omega (arith, c.looks); scans = omega (arith, c.scans); grants = omega (arith, c.grants); fetches = omega (arith, c.fetches); full = omega (arith, c.full) };
   order = rests.holds.order;

@@ -24,7 +24,7 @@ use Rattle.cacheless.proofs.Entries.Entering.{facts_after, noted_after, with_loc
 
 -- the state after a lock
 abbrev pub granted : Progress → Roomy OwnLock → Progress
-granted was locks = record was { due = dues.Look; running = Some (begun_own (was.finished + 1) was.running); tally = record was.tally { grants = was.tally.grants + 1 }; locks = locks }
+granted was locks = record was { due = dues.Look; running = Some (begun_own (was.finished + 1) was.running); tally = record was.tally { grants = was.tally.grants + 1 }; locks = locks; answer = None }
 
 accepts_on : (s : Progress) (o : Option Command) → s.due ≡ dues.Look → is_in_accept s o ≡ true
 accepts_on s None due = ap (λ d. is_in_accept (record s { due = d }) None) due

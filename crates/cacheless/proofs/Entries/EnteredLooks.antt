@@ -7,6 +7,7 @@ use Rattle.event_kinds.specs.declared.entry.Event.TheVariants as events
 use Rattle.lock_modes.specs.Rooms.{Roomy}
 use Rattle.txn_blocks.specs.Blocks.{Blocks, no_block, refused_by}
 use Rattle.ddl_effect.specs.Commands.{plan_of}
+use Rattle.ddl_effect.specs.declared.told.Told.TheVariants as tells
 use Rattle.ddl_effect.specs.Plans.{Plan, Done, Fails, Absent, Do, NotBuilt, is_built}
 use Rattle.ddl_effect.specs.Stages.{plan_at}
 use Rattle.history_model.specs.Transactions.{begun}
@@ -19,14 +20,14 @@ use Rattle.cacheless.specs.Owed.{owed_after}
 use Rattle.cacheless.specs.Settled.{settled}
 use Rattle.cacheless.specs.Puts.{PutsOpened}
 use Rattle.txn_blocks.specs.Transactions.{begun_own}
-use Rattle.cacheless.specs.State.{owed_at, due_looked, is_absent, is_in_accept, locks_accepted, IsNew, Rest, tally_at, session_at}
-use Rattle.cacheless.specs.Holds.{FactsFit, CountsFit, Holds, Rests, HasNotStarted, entry_of, with_own, HasEntered, HasStarted}
+use Rattle.cacheless.specs.State.{ends_on_scan, owed_at, due_looked, is_absent, is_in_accept, locks_accepted, IsNew, Rest, tally_at, session_at}
+use Rattle.cacheless.specs.Holds.{FactsFit, CountsFit, Holds, Rests, HasNotStarted, entry_of, HasEntered, HasStarted}
 use Rattle.cacheless.proofs.Plans.ActOrder.{FollowsOrder, follows_order}
 use Rattle.cacheless.proofs.Reading.{facts_of-own, session_of-own}
 use Rattle.cacheless.proofs.Tests.{not_both}
 use Rattle.cacheless.proofs.Resting.{first_left}
 use Rattle.cacheless.proofs.Written.Putting.{puts_first}
-use Rattle.cacheless.proofs.Entries.Entering.{facts_after, with_locks, own_entered, runs_begun, counts_stay}
+use Rattle.cacheless.proofs.Entries.Entering.{with_locks, own_entered, runs_begun, counts_stay}
 
 owed_looked : (some_wait : Bool) → owed_after (Some (events.Look some_wait)) ≡ owed_at (due_looked some_wait)
 owed_looked true = refl
@@ -34,7 +35,7 @@ owed_looked false = refl
 
 -- the state after a look
 abbrev pub looked : Progress → Bool → Progress
-looked was some_wait = record was { due = due_looked some_wait; running = Some (begun_own (was.finished + 1) was.running); tally = record was.tally { looks = was.tally.looks + 1 } }
+looked was some_wait = record was { due = due_looked some_wait; running = Some (begun_own (was.finished + 1) was.running); tally = record was.tally { looks = was.tally.looks + 1 }; answer = None }
 
 pub look_holds : (scenario : Scenario) (old : List Entry) (was : Progress) (some_wait : Bool) (locks : Roomy OwnLock) (rests : Rests scenario old was)
     → locks.items ≡ locks_accepted (is_in_accept (looked was some_wait) (slice_get was.commands was.finished)) was.locks.items
@@ -73,21 +74,30 @@ stop_holds scenario old was locks rests items = own_entered scenario old was (st
   puts = rests.holds.puts;
 }) items
 
--- a command begins by no search that has found nothing
-absent_not : (p : Plan) → (is_built p ≡ true → FollowsOrder p) → is_absent p ≡ false
-absent_not (Absent name) follows = absurd (follows refl)
-absent_not Done follows = refl
-absent_not (Fails error) follows = refl
-absent_not (Do act rest) follows = refl
-absent_not NotBuilt follows = refl
+-- a command begins by no answer that rests on a scan
+end_not : (p : Plan) → (is_built p ≡ true → FollowsOrder p) → ends_on_scan p ≡ false
+end_not (Absent name) follows = absurd (follows refl)
+end_not (Done (tells.Regclass oid)) follows = absurd (follows refl)
+end_not (Done told) follows = refl
+end_not (Fails error) follows = refl
+end_not (Do act rest) follows = refl
+end_not NotBuilt follows = refl
+
+pub no_end : (blocks : Blocks) (o : Option Command) → ends_on_scan (plan_first blocks o) ≡ false
+no_end blocks None = refl
+no_end blocks (Some command) = by_blocks (refused_by blocks command)
+  where
+    by_blocks : (error : Option CommandError) → ends_on_scan (plan_admitted error command) ≡ false
+    by_blocks None = end_not (plan_of none_open command) (follows_order none_open command)
+    by_blocks (Some error) = refl
+
+-- so by no search that has found nothing
+there : (p : Plan) → ends_on_scan p ≡ false → is_absent p ≡ false
+there (Absent name) is = absurd (cc is)
+there p is = refl
 
 pub not_absent : (blocks : Blocks) (o : Option Command) → is_absent (plan_first blocks o) ≡ false
-not_absent blocks None = refl
-not_absent blocks (Some command) = by_blocks (refused_by blocks command)
-  where
-    by_blocks : (error : Option CommandError) → is_absent (plan_admitted error command) ≡ false
-    by_blocks None = absent_not (plan_of none_open command) (follows_order none_open command)
-    by_blocks (Some error) = refl
+not_absent blocks o = there (plan_first blocks o) (no_end blocks o)
 
 -- the state after the start
 abbrev pub started : Progress → Progress
@@ -107,7 +117,7 @@ start_holds scenario old was waits = record {
       ∙ ap (λ s. Some (settled after was.commands s)) same
       ∙ ap (λ n. Some (settled after (drop n was.commands) (session_at (started was) rest))) (sym new.finished)
       ∙ ap (λ f. Some (settled f (drop was.finished was.commands) (session_at (started was) rest))) (sym facts);
-  facts = subst (λ f. FactsFit f (started was)) (sym facts) (let f = waits.facts in record { running = refl; lists = f.lists; owed = refl; usable = f.usable; kept = f.kept; given = λ is. absurd (not_both (was.read || is_absent (plan_at was.exec)) is unread) });
+  facts = subst (λ f. FactsFit f (started was)) (sym facts) (let f = waits.facts in record { running = refl; lists = f.lists; owed = refl; usable = f.usable; kept = f.kept; given = λ is. absurd (not_both (was.read || ends_on_scan (plan_at was.exec)) is unread) });
   counts = subst (λ c. CountsFit c (length (old ++ e ∷ []))) (sym new.tally) (record { looks = omega arith; scans = omega arith; grants = omega arith; fetches = omega arith; full = omega arith });
   order = subst (AllByRecursion (λ list. list.command ≤ was.finished + 1)) (sym (ap all_lists new.lists)) tt;
   sought = λ is. absurd (not_both (is_absent (plan_at was.exec)) is found);
@@ -133,13 +143,13 @@ start_holds scenario old was waits = record {
     first = slice_get was.commands 0
 
     rest : Rest
-    rest = record { finished = []; refused = refused_first no_block first; found = []; sought = Done; judged = length old + 1; last = length old + 1 }
+    rest = record { finished = []; refused = refused_first no_block first; found = []; sought = Done tells.Ok; judged = length old + 1; last = length old + 1 }
 
     found : is_absent (plan_at was.exec) ≡ false
     found = ap is_absent new.plan ∙ not_absent no_block first
 
-    unread : (was.read || is_absent (plan_at was.exec)) ≡ false
-    unread = ap (λ t. t || is_absent (plan_at was.exec)) new.read ∙ found
+    unread : (was.read || ends_on_scan (plan_at was.exec)) ≡ false
+    unread = ap (λ t. t || ends_on_scan (plan_at was.exec)) new.read ∙ ap ends_on_scan new.plan ∙ no_end no_block first
 
     same : at_command no_block [] [] (length old + 1) first ≡ session_at (started was) rest
     same = λ i. record (session_at (started was) rest) {
@@ -178,4 +188,4 @@ start_starts scenario old was waits = record {
     first = slice_get was.commands 0
 
     rest : Rest
-    rest = record { finished = []; refused = refused_first no_block first; found = []; sought = Done; judged = length old + 1; last = length old + 1 }
+    rest = record { finished = []; refused = refused_first no_block first; found = []; sought = Done tells.Ok; judged = length old + 1; last = length old + 1 }

@@ -1,5 +1,5 @@
 -- What a scan makes of what the code holds.
-use Rattle.std.proofs.Common.{◌≡◌, ◌<◌, ◌+◌, ◌∙◌, ◌||◌, ℕ, Bool, true, false, not, Some, List, [], ◌∷◌, ◌++◌, refl, sym, ap, subst, length, slice_get, arith, All, get_or, cond, Vec, Global}
+use Rattle.std.proofs.Common.{◌≡◌, ◌<◌, ◌+◌, ◌∙◌, ◌||◌, ℕ, Bool, true, false, not, Some, None, List, [], ◌∷◌, ◌++◌, refl, sym, ap, subst, length, slice_get, arith, All, get_or, cond, Vec, Global}
 use Rattle.std.specs.List.{find, list_any, AllByRecursion}
 use Rattle.std.specs.Option.{option_map_or}
 use Rattle.std.proofs.lemmas.List.Folds.{list_any-append, list_any_at}
@@ -9,7 +9,8 @@ use Rattle.base_types.specs.declared.scan.Purpose.TheVariants as scans
 use Rattle.base_types.proofs.SameScan.{same_scan-true, same_scan-itself}
 use Rattle.event_kinds.specs.declared.entry.Event.TheVariants as events
 use Rattle.lock_modes.specs.Rooms.{Roomy}
-use Rattle.ddl_effect.specs.Plans.{Plan, Absent, Do, Lookup, Open, Column}
+use Rattle.ddl_effect.specs.declared.told.Told.TheVariants as tells
+use Rattle.ddl_effect.specs.Plans.{Plan, Done, Absent, Do, Lookup, Open, Search}
 use Rattle.ddl_effect.specs.Stages.{plan_at}
 use Rattle.history_model.specs.Read.{rows_by}
 use Rattle.history_model.specs.Transactions.{begun}
@@ -23,8 +24,9 @@ use Rattle.cacheless.specs.Sessions.{is_wanted}
 use Rattle.txn_blocks.specs.Transactions.{begun_own}
 use Rattle.cacheless.specs.State.{is_kept, is_in_accept, locks_accepted}
 use Rattle.cacheless.specs.May.{is_first_missing, is_next_of_act, is_next_at, has_failed}
-use Rattle.cacheless.specs.Holds.{ReadRight, NamedFit, FactsFit, Holds, Rests, with_own, HasEntered}
+use Rattle.cacheless.specs.Holds.{ReadRight, NamedFit, Rests, HasEntered}
 use Rattle.cacheless.proofs.Tests.{and_true, or_either, not_true}
+use Rattle.cacheless.proofs.ReadsBuilds.{ReadsBuilds, stage_reads}
 use Rattle.cacheless.proofs.Same.{builds_of}
 use Rattle.cacheless.proofs.Entries.Entering.{facts_after, noted_after, with_locks, own_entered, runs_begun}
 
@@ -50,18 +52,20 @@ opened_lacks kept scan (o ∷ opened) is = or_either (is_first_missing scan kept
 -- a scan that the next act lacks and that isn't of its name is one for a descriptor
 act_lacking : (s : Progress) (scan : Purpose) (p : Plan) → is_wanted scan p ≡ false → is_next_of_act scan s p ≡ true → IsLacking s.kept scan
 act_lacking s scan (Do (Lookup name mode) rest) other is = absurd (let both : true ≡ false = sym (and_true _ (same_scan scan (scans.RelName name)) is).1 ∙ other in cc)
-act_lacking s scan (Do (Column rel name) rest) other is = absurd (let both : true ≡ false = sym (and_true _ (same_scan scan (scans.AttName rel name)) is).1 ∙ other in cc)
+act_lacking s scan (Do (Search wanted) rest) other is = absurd (let both : true ≡ false = sym (and_true _ (same_scan scan wanted) is).1 ∙ other in cc)
 act_lacking s scan (Do (Open rel kind) rest) other is = first_lacks s.kept scan kind rel is
+act_lacking s scan (Done (tells.Regclass oid)) other is = absurd (let both : true ≡ false = sym (and_true _ (same_scan scan (scans.RelOid oid)) is).1 ∙ other in cc)
 act_lacking s scan p other is = absurd (cc)
 
 pub next_lacks : (s : Progress) (scan : Purpose) → is_wanted scan (plan_at s.exec) ≡ false → is_next_at scan s ≡ true → IsLacking s.kept scan
 next_lacks s scan other is = or_either _ _ (and_true (not (has_failed s)) _ is).1 (opened_lacks s.kept scan s.opened) (act_lacking s scan (plan_at s.exec) other)
 
--- the scan of a name is none of a descriptor's
-wanted_named : (scan : Purpose) (p : Plan) → is_wanted scan p ≡ true → is_build_scan scan ≡ false
-wanted_named scan (Do (Lookup name mode) rest) is = ap is_build_scan (same_scan-true scan (scans.RelName name) is)
-wanted_named scan (Do (Column rel name) rest) is = ap is_build_scan (same_scan-true scan (scans.AttName rel name) is)
-wanted_named scan p is = absurd (cc)
+-- the scan of a catalog cache is none of a descriptor's
+pub wanted_named : (scan : Purpose) (p : Plan) → ReadsBuilds p → is_wanted scan p ≡ true → is_build_scan scan ≡ false
+wanted_named scan (Do (Lookup name mode) rest) reads is = ap is_build_scan (same_scan-true scan (scans.RelName name) is)
+wanted_named scan (Do (Search wanted) rest) reads is = ap is_build_scan (same_scan-true scan wanted is) ∙ reads
+wanted_named scan (Done (tells.Regclass oid)) reads is = ap is_build_scan (same_scan-true scan (scans.RelOid oid) is)
+wanted_named scan p reads is = absurd (cc)
 
 no_build : (named build : Purpose) → is_build_scan named ≡ false → is_build_scan build ≡ true → same_scan named build ≡ false
 no_build named build other is = by_test (same_scan named build) refl
@@ -83,16 +87,17 @@ rows_by-others old b made scan count given other = ap (λ t. elim t [ true ↦ a
 rows_by-own : (old : List Entry) (b : ℕ) (made scan : Purpose) (count : ℕ) (given : List Row) → same_scan made scan ≡ true → rows_by old b scan (events.Scan made count) given ≡ answer_of old b made
 rows_by-own old b made scan count given is = ap (λ t. elim t [ true ↦ answer_of old b scan | false ↦ given ]) is ∙ ap (answer_of old b) (sym (same_scan-true made scan is))
 
--- the state after the scan of a name or a column
+-- the state after the scan of a catalog cache
 abbrev pub named_scan : Progress → Vec Row Global → ℕ → Progress
-named_scan was given at = record was { due = dues.Nothing; running = Some (begun_own (was.finished + 1) was.running); tally = record was.tally { scans = was.tally.scans + 1 }; read = true; named = true; given = given; given_at = at }
+named_scan was given at = record was { due = dues.Nothing; running = Some (begun_own (was.finished + 1) was.running); tally = record was.tally { scans = was.tally.scans + 1 }; read = true; named = true; given = given; given_at = at; answer = None }
 
 -- its rows are those that the act asks for
 wanted_fit : (old : List Entry) (was : Progress) (scan : Purpose) (count : ℕ) (given : List Row) (p : Plan) → is_wanted scan p ≡ true → given ≡ answer_of old was.id scan → NamedFit (facts_after old was (events.Scan scan count)) p given true
 wanted_fit old was scan count given (Do (Lookup name mode) rest) is are =
     (rows_by-own old was.id scan (scans.RelName name) count ((facts_of old was.id).rows (scans.RelName name)) is ∙ sym are, ap (λ t. t || (facts_of old was.id).usable (scans.RelName name)) is)
-wanted_fit old was scan count given (Do (Column rel name) rest) is are =
-    (rows_by-own old was.id scan (scans.AttName rel name) count ((facts_of old was.id).rows (scans.AttName rel name)) is ∙ sym are, ap (λ t. t || (facts_of old was.id).usable (scans.AttName rel name)) is)
+wanted_fit old was scan count given (Do (Search wanted) rest) is are = (rows_by-own old was.id scan wanted count ((facts_of old was.id).rows wanted) is ∙ sym are, ap (λ t. t || (facts_of old was.id).usable wanted) is)
+wanted_fit old was scan count given (Done (tells.Regclass oid)) is are =
+    (rows_by-own old was.id scan (scans.RelOid oid) count ((facts_of old was.id).rows (scans.RelOid oid)) is ∙ sym are, ap (λ t. t || (facts_of old was.id).usable (scans.RelOid oid)) is)
 wanted_fit old was scan count given p is are = absurd (cc)
 
 pub named_holds : (scenario : Scenario) (old : List Entry) (was : Progress) (scan : Purpose) (count : ℕ) (given : Vec Row Global) (at : ℕ) (locks : Roomy OwnLock) (rests : Rests scenario old was)
@@ -120,11 +125,11 @@ named_holds scenario old was scan count given at locks rests wanted are items = 
     event = events.Scan scan count
 
     named : is_build_scan scan ≡ false
-    named = wanted_named scan (plan_at was.exec) wanted
+    named = wanted_named scan (plan_at was.exec) (stage_reads was.exec) wanted
 
 -- the state after a scan for a descriptor
 abbrev pub built_scan : Progress → List KeptScan → Progress
-built_scan was kept = record was { due = dues.Nothing; running = Some (begun_own (was.finished + 1) was.running); tally = record was.tally { scans = was.tally.scans + 1 }; kept = kept }
+built_scan was kept = record was { due = dues.Nothing; running = Some (begun_own (was.finished + 1) was.running); tally = record was.tally { scans = was.tally.scans + 1 }; kept = kept; answer = None }
 
 name_as_before : (old : List Entry) (was : Progress) (scan named : Purpose) (count : ℕ) → is_build_scan scan ≡ true → is_build_scan named ≡ false → ((facts_of old was.id).rows named ≡ was.given.items) × ((facts_of old was.id).usable named ≡ was.named)
     → ((facts_after old was (events.Scan scan count)).rows named ≡ was.given.items) × ((facts_after old was (events.Scan scan count)).usable named ≡ was.named)
@@ -132,17 +137,19 @@ name_as_before old was scan named count build is fit =
     let other : same_scan scan named ≡ false = no_named scan named build is in
     (rows_by-others old was.id scan named count ((facts_of old was.id).rows named) other ∙ fit.0, ap (λ t. t || (facts_of old was.id).usable named) other ∙ fit.1)
 
--- what the scan of a name gave serves as before
-named_as_before : (old : List Entry) (was : Progress) (scan : Purpose) (count : ℕ) (p : Plan) → is_build_scan scan ≡ true → NamedFit (facts_of old was.id) p was.given.items was.named → NamedFit (facts_after old was (events.Scan scan count)) p was.given.items was.named
-named_as_before old was scan count (Do (Lookup name mode) rest) build fit = name_as_before old was scan (scans.RelName name) count build refl fit
-named_as_before old was scan count (Do (Column rel name) rest) build fit = name_as_before old was scan (scans.AttName rel name) count build refl fit
-named_as_before old was scan count (Absent name) build fit = name_as_before old was scan (scans.RelName name) count build refl fit
-named_as_before old was scan count p build fit = fit
+-- what the scan of a catalog cache gave serves as before
+named_as_before : (old : List Entry) (was : Progress) (scan : Purpose) (count : ℕ) (p : Plan) → ReadsBuilds p → is_build_scan scan ≡ true → NamedFit (facts_of old was.id) p was.given.items was.named → NamedFit (facts_after old was (events.Scan scan count)) p was.given.items was.named
+named_as_before old was scan count (Do (Lookup name mode) rest) reads build fit = name_as_before old was scan (scans.RelName name) count build refl fit
+named_as_before old was scan count (Do (Search wanted) rest) reads build fit = name_as_before old was scan wanted count build reads fit
+named_as_before old was scan count (Absent name) reads build fit = name_as_before old was scan (scans.RelName name) count build refl fit
+named_as_before old was scan count (Done (tells.Regclass oid)) reads build fit = name_as_before old was scan (scans.RelOid oid) count build refl fit
+named_as_before old was scan count p reads build fit = fit
 
-unwanted : (scan : Purpose) (p : Plan) → is_build_scan scan ≡ true → is_wanted scan p ≡ false
-unwanted scan (Do (Lookup name mode) rest) build = no_named scan (scans.RelName name) build refl
-unwanted scan (Do (Column rel name) rest) build = no_named scan (scans.AttName rel name) build refl
-unwanted scan p build = refl
+unwanted : (scan : Purpose) (p : Plan) → ReadsBuilds p → is_build_scan scan ≡ true → is_wanted scan p ≡ false
+unwanted scan (Do (Lookup name mode) rest) reads build = no_named scan (scans.RelName name) build refl
+unwanted scan (Do (Search wanted) rest) reads build = no_named scan wanted build reads
+unwanted scan (Done (tells.Regclass oid)) reads build = no_named scan (scans.RelOid oid) build refl
+unwanted scan p reads build = refl
 
 none_at : {X : Type 0} (p : X → Bool) (xs : List X) (i : ℕ) (d : X) → i < length xs → list_any p xs ≡ false → p (get_or xs i d) ≡ false
 none_at p xs i d within none = by_test (p (get_or xs i d)) refl
@@ -170,7 +177,7 @@ pub built_holds : (scenario : Scenario) (old : List Entry) (was : Progress) (sca
     → HasEntered scenario old was (events.Scan scan count) rests (with_locks (built_scan was kept) locks)
 built_holds scenario old was scan count given at kept locks rests lacking are pushed items = own_entered scenario old was (built_scan was kept) event locks rests (record { session = λ _ _ _ _ _ _. refl; finished = λ _. refl }) (record {
   moves = record { id = refl; commands = refl; finished = refl };
-  session = λ i. record (noted_after old was event rests.holds.rest) { read = ap (λ t. t || was.read) (unwanted scan (plan_at was.exec) lacking.1) i };
+  session = λ i. record (noted_after old was event rests.holds.rest) { read = ap (λ t. t || was.read) (unwanted scan (plan_at was.exec) (stage_reads was.exec) lacking.1) i };
   facts = let f = rests.holds.facts in record {
     running = ap (λ o. Some (begun (was.finished + 1) o)) f.running ∙ runs_begun (was.finished + 1) was.running;
     lists = f.lists;
@@ -183,7 +190,7 @@ built_holds scenario old was scan count given at kept locks rests lacking are pu
               (other_scan (get_or was.kept i d).scan scan (none_at (λ k. same_scan k.scan scan) was.kept i d within unkept)));
         })
         (record { build = lacking.1; rows_are = are ∙ sym (rows_by-own old was.id scan scan count ((facts_of old was.id).rows scan) (same_scan-itself scan)) }));
-    given = λ read. named_as_before old was scan count (plan_at was.exec) lacking.1 (f.given read);
+    given = λ read. named_as_before old was scan count (plan_at was.exec) (stage_reads was.exec) lacking.1 (f.given read);
   };
   counts = let c = rests.holds.counts in record { looks = omega (arith, c.looks); scans = omega (arith, c.scans); grants = omega (arith, c.grants); fetches = omega (arith, c.fetches); full = c.full };
   order = rests.holds.order;

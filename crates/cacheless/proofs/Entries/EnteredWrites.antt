@@ -10,7 +10,8 @@ use Rattle.inval_messages.specs.Lists.{Written, once_more}
 use Rattle.inval_messages.proofs.Parts.{ForCaches, ForDescriptors, cats_of-caches, rels_of-descriptors}
 use Rattle.command_lists.specs.Lists.{Held, all_lists, new_list, with_messages}
 use Rattle.command_lists.proofs.Writes.{with-changes}
-use Rattle.ddl_effect.specs.Plans.{Plan, Done, Fails, Absent, Do, NotBuilt, Lookup, Open, Column, Read, Lock, Write, after_act}
+use Rattle.ddl_effect.specs.declared.told.Told.TheVariants as tells
+use Rattle.ddl_effect.specs.Plans.{Plan, Done, Fails, Absent, Do, NotBuilt, Lookup, Open, Search, Read, Lock, Write, after_act}
 use Rattle.ddl_effect.specs.Stages.{plan_at, altering_at, want_of}
 use Rattle.ddl_effect.specs.declared.altering.Altering.{Altering}
 use Rattle.ddl_effect.specs.declared.altering.Altering.TheVariants as alters
@@ -31,8 +32,8 @@ use Rattle.cacheless.specs.Session.{Session}
 use Rattle.cacheless.specs.Sessions.{written}
 use Rattle.cacheless.specs.Puts.{PutsOpened}
 use Rattle.txn_blocks.specs.Transactions.{begun_own}
-use Rattle.cacheless.specs.State.{running_of, lists_at, is_kept, kept_spared, is_absent, is_in_accept, locks_accepted, locks_made, messages_in, Rest, rest_of, session_at}
-use Rattle.cacheless.specs.Holds.{ReadRight, FactsFit, Holds, Rests, with_own, HasEntered}
+use Rattle.cacheless.specs.State.{ends_on_scan, running_of, lists_at, kept_spared, is_absent, is_in_accept, locks_accepted, locks_made, messages_in, rest_of, session_at}
+use Rattle.cacheless.specs.Holds.{ReadRight, Rests, HasEntered}
 use Rattle.cacheless.proofs.Tests.{not_both}
 use Rattle.cacheless.proofs.Written.WrittenMessages.{any_once}
 use Rattle.cacheless.proofs.Entries.EnteredFetches.{is_kept-spared, all-spared}
@@ -71,12 +72,12 @@ spared_alike before b items scan = ap not (any_in_parts (covers scan) (cats_by b
     ∙ sym (list_any-append (covers scan) (flat_map (cats_by before b) items) (fold once_more [] (flat_map (rels_by before b) items)) ∙ ap (λ t. list_any (covers scan) (flat_map (cats_by before b) items) || t) (any_once (covers scan) [] (flat_map (rels_by before b) items))))
 
 -- a write is the last act of a command
-alters_done : (altering : Altering) (given : List Row) → want_of (altering_at altering) ≡ wants.Write → after_act given (altering_at altering) ≡ Done
+alters_done : (altering : Altering) (given : List Row) → want_of (altering_at altering) ≡ wants.Write → after_act given (altering_at altering) ≡ Done tells.Ok
 alters_done (alters.Inserting row) given is = refl
 alters_done (alters.Replacing deleted row) given is = refl
 alters_done stage given is = absurd (cc)
 
-pub done_written : (exec : Exec) (given : List Row) → want_of (plan_at exec) ≡ wants.Write → after_act given (plan_at exec) ≡ Done
+pub done_written : (exec : Exec) (given : List Row) → want_of (plan_at exec) ≡ wants.Write → after_act given (plan_at exec) ≡ Done tells.Ok
 done_written (stages.Writing draft) given is = refl
 done_written (stages.Altering altering) given is = alters_done altering given is
 done_written stage given is = absurd (cc)
@@ -86,10 +87,10 @@ written_is : (p : Plan) (s : Session) → want_of p ≡ wants.Write → written 
 written_is (Do (Write draft) rest) s is = refl
 written_is (Do (Lookup name mode) rest) s is = absurd (cc)
 written_is (Do (Open rel kind) rest) s is = absurd (cc)
-written_is (Do (Column rel name) rest) s is = absurd (cc)
+written_is (Do (Search scan) rest) s is = absurd (cc)
 written_is (Do (Read scan) rest) s is = absurd (cc)
 written_is (Do (Lock rel mode) rest) s is = absurd (cc)
-written_is Done s is = absurd (cc)
+written_is (Done told) s is = absurd (cc)
 written_is (Fails error) s is = absurd (cc)
 written_is (Absent name) s is = absurd (cc)
 written_is NotBuilt s is = absurd (cc)
@@ -105,6 +106,7 @@ wrote was xid kept lists exec locks = record was {
   lists = lists;
   kept = kept;
   locks = locks;
+  answer = None;
 }
 
 runs_written : (number : ℕ) (xid : Xid) (own : Option RunningTransaction) → Some (record (begun number (running_of own)) { xid = Some xid.0 }) ≡ running_of (Some (record (begun_own number own) { xid = Some xid }))
@@ -125,7 +127,7 @@ write_holds scenario old was xid items messages new_oids first lists exec locked
     owed = refl;
     usable = λ scan build. ap (λ t. t && (facts_of old was.id).usable scan) (sym (spared_alike old was.id items scan)) ∙ ap (λ l. is_spared scan l && (facts_of old was.id).usable scan) (sym are) ∙ ap (λ t. is_spared scan messages && t) (f.usable scan build) ∙ sym (is_kept-spared messages was.kept scan);
     kept = all-spared (ReadRight after.rows) messages was.kept (λ i d within. let k = f.kept i d within in record { build = k.build; rows_are = k.rows_are });
-    given = λ is. absurd (not_both (is_absent (plan_at exec)) is (ap is_absent done));
+    given = λ is. absurd (not_both (ends_on_scan (plan_at exec)) is (ap ends_on_scan done));
   };
   counts = counts_stay rests.holds.counts;
   order = subst (AllByRecursion (λ (list : Written). list.command ≤ was.finished + 1)) (sym listed)
@@ -147,7 +149,7 @@ write_holds scenario old was xid items messages new_oids first lists exec locked
     after : Facts
     after = facts_after old was event
 
-    done : plan_at exec ≡ Done
+    done : plan_at exec ≡ Done tells.Ok
     done = goes ∙ done_written was.exec [] wants_it
 
     listed : lists_at now ≡ lists_at was ++ written_by old was.id (was.finished + 1) items ∷ []

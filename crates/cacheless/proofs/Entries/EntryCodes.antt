@@ -1,5 +1,5 @@
 -- What the code makes of an entry, by what its calls gave.
-use Rattle.std.proofs.Common.{◌≡◌, ◌+◌, ◌∙◌, ◌||◌, ℕ, Bool, true, false, Some, Option, List, [], ◌∷◌, ◌++◌, sym, ap, subst, length, filter, nat_lt, slice_get, Vec, Global}
+use Rattle.std.proofs.Common.{◌≡◌, ◌+◌, ◌∙◌, ◌||◌, ℕ, Bool, true, false, None, Some, Option, List, [], ◌∷◌, ◌++◌, sym, ap, subst, length, filter, nat_lt, slice_get, Vec, Global}
 use Rattle.std.specs.List.{flat_map}
 use Rattle.event_kinds.specs.declared.entry.Event.TheVariants as events
 use Rattle.command_answers.specs.declared.error.CommandError.TheVariants as errors
@@ -32,7 +32,7 @@ use Rattle.cacheless.proofs.Entries.EnteredEnds.{shown, visible_holds, publish_h
 
 pub look_code : (was : Progress) (some_wait : Bool) (own : RunningTransaction) (due : Due) (locks : Roomy OwnLock) → own ≡ begun_own (was.finished + 1) was.running → due ≡ due_looked some_wait
     → locks.items ≡ locks_accepted (is_in_accept (record was { running = Some own; due = due; tally = record was.tally { looks = was.tally.looks + 1 } }) (slice_get was.commands was.finished)) was.locks.items
-    → (scenario : Scenario) (seen : List Entry) → (rests : Rests scenario seen was) → HasEntered scenario seen was (events.Look some_wait) rests (record was { due = due; running = Some own; tally = record was.tally { looks = was.tally.looks + 1 }; locks = locks })
+    → (scenario : Scenario) (seen : List Entry) → (rests : Rests scenario seen was) → HasEntered scenario seen was (events.Look some_wait) rests (record was { due = due; running = Some own; tally = record was.tally { looks = was.tally.looks + 1 }; locks = locks; answer = None })
 look_code was some_wait own due locks begins is items scenario seen rests =
     subst (HasEntered scenario seen was (events.Look some_wait) rests) (λ i. record (looked was some_wait) { due = sym is i; running = Some (sym begins i); locks = locks })
     (look_holds scenario seen was some_wait locks rests (items ∙ ap (λ d. locks_accepted (is_in_accept (record was { due = d; running = Some own }) (slice_get was.commands was.finished)) was.locks.items) is))
@@ -60,14 +60,14 @@ pub fetch_code : (was : Progress) (messages : List Message) (count : ℕ) (own :
     → kept ≡ kept_spared messages was.kept → named ≡ named_spared messages (plan_at was.exec) was.named → due ≡ due_fetched count → SearchesAgain (record was { running = Some own; kept = kept; named = named; due = due }) mid
     → full ≡ one_if (is_full count (fetched_once mid))
     → locks.items ≡ locks_accepted (is_in_accept (fetched_more mid full mid.locks) (slice_get mid.commands mid.finished)) mid.locks.items
-    → (scenario : Scenario) (seen : List Entry) → (rests : Rests scenario seen was) → messages ≡ fetched_by seen was.id (length messages) → HasEntered scenario seen was (events.Fetch (length messages)) rests (fetched_more mid full locks)
+    → (scenario : Scenario) (seen : List Entry) → (rests : Rests scenario seen was) → messages ≡ fetched_by seen was.id (length messages) → HasEntered scenario seen was (events.Fetch (length messages)) rests (record (fetched_more mid full locks) { answer = None })
 fetch_code was messages count own kept named due mid full locks counted begins keeps names dues again counts items scenario seen rests are = subst Goal (sym state) canonical counts items
   where
     n : ℕ
     n = length messages
 
     Goal : Progress → Type 0
-    Goal m = full ≡ one_if (is_full count (fetched_once m)) → locks.items ≡ locks_accepted (is_in_accept (fetched_more m full m.locks) (slice_get m.commands m.finished)) m.locks.items → HasEntered scenario seen was (events.Fetch n) rests (fetched_more m full locks)
+    Goal m = full ≡ one_if (is_full count (fetched_once m)) → locks.items ≡ locks_accepted (is_in_accept (fetched_more m full m.locks) (slice_get m.commands m.finished)) m.locks.items → HasEntered scenario seen was (events.Fetch n) rests (record (fetched_more m full locks) { answer = None })
 
     state : mid ≡ searched was n messages mid.exec
     state = again.is ∙ (λ i. record (searched was n messages mid.exec) { due = (dues ∙ ap due_fetched counted) i; running = Some (begins i); named = names i; kept = keeps i })
@@ -78,11 +78,11 @@ fetch_code was messages count own kept named due mid full locks counted begins k
 
 pub reset_code : (was : Progress) (own : RunningTransaction) (kept : List KeptScan) (mid : Progress) (locks : Roomy OwnLock) → own ≡ begun_own (was.finished + 1) was.running → kept ≡ [] → SearchesAgain (record was { running = Some own; kept = kept; named = false; due = dues.Nothing }) mid
     → locks.items ≡ locks_accepted (is_in_accept (fetched_once mid) (slice_get mid.commands mid.finished)) mid.locks.items
-    → (scenario : Scenario) (seen : List Entry) → (rests : Rests scenario seen was) → HasEntered scenario seen was events.FetchReset rests (record (fetched_once mid) { locks = locks })
+    → (scenario : Scenario) (seen : List Entry) → (rests : Rests scenario seen was) → HasEntered scenario seen was events.FetchReset rests (record (fetched_once mid) { locks = locks; answer = None })
 reset_code was own kept mid locks begins keeps again items scenario seen rests = subst Goal (sym state) (λ l. reset_holds scenario seen was mid.exec locks rests again.plan l) items
   where
     Goal : Progress → Type 0
-    Goal m = locks.items ≡ locks_accepted (is_in_accept (fetched_once m) (slice_get m.commands m.finished)) m.locks.items → HasEntered scenario seen was events.FetchReset rests (record (fetched_once m) { locks = locks })
+    Goal m = locks.items ≡ locks_accepted (is_in_accept (fetched_once m) (slice_get m.commands m.finished)) m.locks.items → HasEntered scenario seen was events.FetchReset rests (record (fetched_once m) { locks = locks; answer = None })
 
     canonical : Progress
     canonical = record was { exec = mid.exec; read = was.read || is_absent (plan_at was.exec); due = dues.Nothing; running = Some (begun_own (was.finished + 1) was.running); named = false; kept = [] }
@@ -92,7 +92,7 @@ reset_code was own kept mid locks begins keeps again items scenario seen rests =
 
 pub granted_code : (was : Progress) (rel : Oid) (mode : Mode) (own : RunningTransaction) (locks : Roomy OwnLock) → own ≡ begun_own (was.finished + 1) was.running
     → locks.items ≡ was.locks.items ++ record { rel = rel; mode = mode; command = was.finished + 1; clear = false } ∷ []
-    → (scenario : Scenario) (seen : List Entry) → (rests : Rests scenario seen was) → HasEntered scenario seen was (events.LockOk rel mode) rests (record was { due = dues.Look; running = Some own; tally = record was.tally { grants = was.tally.grants + 1 }; locks = locks })
+    → (scenario : Scenario) (seen : List Entry) → (rests : Rests scenario seen was) → HasEntered scenario seen was (events.LockOk rel mode) rests (record was { due = dues.Look; running = Some own; tally = record was.tally { grants = was.tally.grants + 1 }; locks = locks; answer = None })
 granted_code was rel mode own locks begins items scenario seen rests =
     subst (HasEntered scenario seen was (events.LockOk rel mode) rests) (λ i. record (granted was locks) { running = Some (sym begins i) }) (granted_holds scenario seen was rel mode locks rests items)
 
@@ -107,7 +107,7 @@ clash_code was now name clash error is fails scenario seen rests = subst (HasEnt
 pub named_code : (was : Progress) (scan : Purpose) (given : Vec Row Global) (at : ℕ) (own : RunningTransaction) (locks : Roomy OwnLock) → own ≡ begun_own (was.finished + 1) was.running → is_wanted scan (plan_at was.exec) ≡ true
     → locks.items ≡ locks_accepted (is_in_accept (record was { running = Some own; due = dues.Nothing }) (slice_get was.commands was.finished)) was.locks.items
     → (scenario : Scenario) (seen : List Entry) (count : ℕ) → (rests : Rests scenario seen was) → given.items ≡ answer_of seen was.id scan
-    → HasEntered scenario seen was (events.Scan scan count) rests (record was { due = dues.Nothing; running = Some own; tally = record was.tally { scans = was.tally.scans + 1 }; read = true; named = true; given = given; given_at = at; locks = locks })
+    → HasEntered scenario seen was (events.Scan scan count) rests (record was { due = dues.Nothing; running = Some own; tally = record was.tally { scans = was.tally.scans + 1 }; read = true; named = true; given = given; given_at = at; locks = locks; answer = None })
 named_code was scan given at own locks begins wanted items scenario seen count rests are =
     subst (HasEntered scenario seen was (events.Scan scan count) rests) (λ i. record (named_scan was given at) { running = Some (sym begins i); locks = locks }) (named_holds scenario seen was scan count given at locks rests wanted are items)
 
@@ -115,7 +115,7 @@ pub built_code : (was : Progress) (scan : Purpose) (rows : Vec Row Global) (give
     → given ≡ rows.items → kept ≡ was.kept ++ record { scan = scan; rows = given; at = at } ∷ []
     → locks.items ≡ locks_accepted (is_in_accept (record was { kept = kept; running = Some own; due = dues.Nothing }) (slice_get was.commands was.finished)) was.locks.items
     → (scenario : Scenario) (seen : List Entry) (count : ℕ) → (rests : Rests scenario seen was) → rows.items ≡ answer_of seen was.id scan
-    → HasEntered scenario seen was (events.Scan scan count) rests (record was { due = dues.Nothing; running = Some own; tally = record was.tally { scans = was.tally.scans + 1 }; kept = kept; locks = locks })
+    → HasEntered scenario seen was (events.Scan scan count) rests (record was { due = dues.Nothing; running = Some own; tally = record was.tally { scans = was.tally.scans + 1 }; kept = kept; locks = locks; answer = None })
 built_code was scan rows given at own kept locks begins other next same pushed items scenario seen count rests are =
     subst (HasEntered scenario seen was (events.Scan scan count) rests) (λ i. record (built_scan was kept) { running = Some (sym begins i); locks = locks })
     (built_holds scenario seen was scan count given at kept locks rests (next_lacks was scan other next) (same ∙ are) pushed items)
@@ -125,7 +125,7 @@ pub write_code : (was : Progress) (xid : Xid) (messages : List Message) (new_oid
     → kept ≡ kept_spared messages was.kept → plan_at exec ≡ after_act [] (plan_at was.exec) → opened_none ≡ [] → locked.items ≡ locks_written new_oids first (was.finished + 1) was.locks.items
     → locks.items ≡ locks_accepted (is_in_accept (record was { lists = lists; kept = kept; running = Some own; due = dues.Nothing; exec = exec; opened = opened_none; read = false; locks = locked }) (slice_get was.commands was.finished)) locked.items
     → (scenario : Scenario) (seen : List Entry) (items : List Item) → (rests : Rests scenario seen was) → messages ≡ messages_in seen was.id items → flat_map (locked_by (was.finished + 1)) items ≡ locks_made new_oids first (was.finished + 1)
-    → HasEntered scenario seen was (events.Write xid items) rests (record was { lists = lists; kept = kept; running = Some own; due = dues.Nothing; exec = exec; opened = opened_none; read = false; locks = locks })
+    → HasEntered scenario seen was (events.Write xid items) rests (record was { lists = lists; kept = kept; running = Some own; due = dues.Nothing; exec = exec; opened = opened_none; read = false; locks = locks; answer = None })
 write_code was xid messages new_oids first own lists kept exec opened_none locked locks begins wants_it pushed keeps goes none held accepts scenario seen items rests are makes =
     subst (HasEntered scenario seen was (events.Write xid items) rests) (λ i. record (wrote was xid (sym keeps i) lists exec locks) { running = Some (sym begins i); opened = sym none i })
     (write_holds scenario seen was xid items messages new_oids first lists exec locked locks rests wants_it are makes pushed goes held

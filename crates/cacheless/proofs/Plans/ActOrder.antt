@@ -15,9 +15,10 @@ use Rattle.base_types.specs.declared.mode.Mode.TheVariants.{AccessShare, ShareUp
 use Rattle.base_types.specs.declared.row.Row.TheVariants as rows
 use Rattle.base_types.specs.declared.scan.Purpose.TheVariants as scans
 use Rattle.command_answers.specs.declared.error.CommandError.TheVariants as errors
-use Rattle.ddl_effect.specs.Plans.{Plan, Done, Fails, Absent, NotBuilt, Do, Lookup, Open, Column, Read, Lock, Write, is_built}
+use Rattle.ddl_effect.specs.declared.told.Told.TheVariants as tells
+use Rattle.ddl_effect.specs.Plans.{Plan, Done, Fails, Absent, NotBuilt, Do, Lookup, Open, Search, Read, Lock, Write, is_built}
 use Rattle.ddl_effect.specs.Commands.{plan_of, found, looking_up, if_passes, if_no_column, first_twice, writing, opening, showing, showing_field, is_table, locking, new_table, altering, column_there, with_column, column_free, reading, changing, adding, add_column, dropping, drop_column, with_name, renaming, rename_column, targeting, set_statistics, filling, set_fillfactor}
-use Rattle.cacheless.specs.Types.{Oid, Mode, AccessExclusive, Kind, Row, Purpose, Command, CommandError, Draft, Opening}
+use Rattle.cacheless.specs.Types.{Oid, Mode, AccessExclusive, Kind, Row, Purpose, Command, CommandError, Draft, Opening, Told}
 use Rattle.cacheless.specs.ActsDone.{after_given, reached, made_first, made_in, opening_by, relation_by}
 use Rattle.cacheless.proofs.Plans.EffectAlong.{plain_row, GoesByRelation}
 
@@ -36,33 +37,51 @@ pub record IsRowsDraft (draft : Draft) : Type 0 where
   pub changes : List Change
   pub is : draft ≡ rows_draft changes
 
+-- what is told where the descriptor of a relation is open: of no other relation, and of no oid
+abbrev pub TellsOf : Oid → Kind → Told → Type 0
+TellsOf rel kind (tells.Relation of as_kind) = (of ≡ rel) × (as_kind ≡ kind)
+TellsOf rel kind (tells.Field of as_kind field) = (of ≡ rel) × (as_kind ≡ kind) × (has_field kind field ≡ true)
+TellsOf rel kind (tells.Regclass oid) = ⊥
+TellsOf rel kind told = ⊤
+
+-- what is told where none is open: of no relation's fields, and of no oid
+abbrev pub TellsOfNone : Told → Type 0
+TellsOfNone (tells.Relation rel kind) = ⊥
+TellsOfNone (tells.Field rel kind field) = ⊥
+TellsOfNone (tells.Regclass oid) = ⊥
+TellsOfNone told = ⊤
+
+-- the scan of a relation's column by its name
+abbrev pub IsOfColumn : Oid → Purpose → Type 0
+IsOfColumn rel scan = (name : List ℕ) × (scan ≡ scans.AttName rel name)
+
 -- a plan once the descriptor of a relation is open: at most so many acts come, which find columns of the relation, then a table, and read scans for its descriptor; and only the last one writes
 abbrev pub FollowsOpen : ℕ → Oid → Kind → Plan → Type 0
-FollowsOpen most rel kind Done = ⊤
+FollowsOpen most rel kind (Done told) = TellsOf rel kind told
 FollowsOpen most rel kind (Fails error) = ⊤
-FollowsOpen most rel kind (Do (Column of name) rest) = (0 < most) × (of ≡ rel) × (kind ≡ Table) × ((given : List Row) → FollowsOpen (most - 1) rel kind (rest given))
+FollowsOpen most rel kind (Do (Search scan) rest) = (0 < most) × IsOfColumn rel scan × (kind ≡ Table) × ((given : List Row) → FollowsOpen (most - 1) rel kind (rest given))
 FollowsOpen most rel kind (Do (Read scan) rest) = (0 < most) × Contains (build_scans kind rel) scan × ((given : List Row) → FollowsOpen (most - 1) rel kind (rest given))
-FollowsOpen most rel kind (Do (Write draft) rest) = (0 < most) × IsRowsDraft draft × (kind ≡ Table) × ((given : List Row) → rest given ≡ Done)
+FollowsOpen most rel kind (Do (Write draft) rest) = (0 < most) × IsRowsDraft draft × (kind ≡ Table) × ((given : List Row) → rest given ≡ Done tells.Ok)
 FollowsOpen most rel kind plan = ⊥
 
 -- a plan once a descriptor is open under a lock of this mode: unless it is over, no two backends may hold the mode
 abbrev pub OpensUnder : Mode → Plan → Type 0
-OpensUnder mode Done = ⊤
+OpensUnder mode (Done told) = ⊤
 OpensUnder mode plan = conflicts mode mode ≡ true
 
 -- a plan once a relation is found and locked in this mode: it opens its descriptor, or is over
 abbrev pub FollowsFound : Mode → Oid → Kind → Plan → Type 0
-FollowsFound mode rel kind Done = ⊤
+FollowsFound mode rel kind (Done told) = TellsOfNone told
 FollowsFound mode rel kind (Fails error) = ⊤
 FollowsFound mode rel kind (Do (Open of as_kind) rest) = (of ≡ rel) × (as_kind ≡ kind) × ((given : List Row) → rest given ≡ rest []) × FollowsOpen 3 rel kind (rest []) × OpensUnder mode (rest [])
 FollowsFound mode rel kind plan = ⊥
 
 -- a plan from its beginning: it looks up a relation, whose rows decide by the relation and its kind alone, or it writes a new table, or is over
 abbrev pub FollowsOrder : Plan → Type 0
-FollowsOrder Done = ⊤
+FollowsOrder (Done told) = TellsOfNone told
 FollowsOrder (Fails error) = ⊤
 FollowsOrder (Do (Lookup name mode) rest) = ((given : List Row) → rest given ≡ found name (λ rel kind. rest (plain_row rel kind)) given) × ((rel : Oid) (kind : Kind) → FollowsFound mode rel kind (rest (plain_row rel kind)))
-FollowsOrder (Do (Write draft) rest) = IsTableDraft draft × ((given : List Row) → rest given ≡ Done)
+FollowsOrder (Do (Write draft) rest) = IsTableDraft draft × ((given : List Row) → rest given ≡ Done tells.Ok)
 FollowsOrder plan = ⊥
 
 -- the same where a lookup may have found no relation
@@ -79,7 +98,7 @@ found_opening : (mode : Mode) (rel : Oid) (kind : Kind) (plan : Plan) → Follow
 found_opening mode rel kind plan follows under = (refl, refl, λ given. refl, follows, under)
 
 opens_under : (mode : Mode) (plan : Plan) → conflicts mode mode ≡ true → OpensUnder mode plan
-opens_under mode Done excludes = tt
+opens_under mode (Done told) excludes = tt
 opens_under mode plan excludes = excludes
 
 found_altering : (name : List ℕ) (mode : Mode) (further : Oid → Plan) → conflicts mode mode ≡ true → ((rel : Oid) → FollowsOpen 3 rel Table (further rel)) → (rel : Oid) (kind : Kind) → FollowsFound mode rel kind (altering name further rel kind)
@@ -123,7 +142,7 @@ open_adding most rel passes changes some = open_if_passes most rel Table passes 
 open_add_column : (column : List ℕ) (col_type : ColType) (rel : Oid) → FollowsOpen 3 rel Table (add_column column col_type rel)
 open_add_column column col_type rel = (
   omega arith,
-  refl,
+  (column, refl),
   refl,
   open_free 2 rel Table column (reading (scans.Attribute rel) (adding rel column col_type))
       (omega arith, (1, omega arith, refl), λ given. open_adding 1 rel (nat_lt (length given) MOST_COLUMNS) (Insert (rows.Att rel (length given + 1) column col_type (negsuc 0) true) ∷ []) (omega arith)),
@@ -132,7 +151,7 @@ open_add_column column col_type rel = (
 open_drop_column : (column : List ℕ) (rel : Oid) → FollowsOpen 3 rel Table (drop_column column rel)
 open_drop_column column rel = (
   omega arith,
-  refl,
+  (column, refl),
   refl,
   open_there 2 rel Table column (λ row. reading (scans.AttrDef rel) (dropping row))
       (λ row. (omega arith, (2, omega arith, refl), λ given. (omega arith, record { changes = _; is = refl }, refl, λ wrote. refl))),
@@ -141,15 +160,15 @@ open_drop_column column rel = (
 open_rename_column : (column to : List ℕ) (rel : Oid) → FollowsOpen 3 rel Table (rename_column column to rel)
 open_rename_column column to rel = (
   omega arith,
-  refl,
+  (column, refl),
   refl,
   open_there 2 rel Table column (renaming to rel)
-      (λ row. (omega arith, refl, refl, open_free 1 rel Table to (changing (Replace (with_name to row) ∷ [])) (open_changing 1 rel (Replace (with_name to row) ∷ []) (omega arith)))),
+      (λ row. (omega arith, (to, refl), refl, open_free 1 rel Table to (changing (Replace (with_name to row) ∷ [])) (open_changing 1 rel (Replace (with_name to row) ∷ []) (omega arith)))),
 )
 
 open_set_statistics : (column : List ℕ) (stat : ℤ) (rel : Oid) → FollowsOpen 3 rel Table (set_statistics column stat rel)
 open_set_statistics column stat rel = open_if_passes 3 rel Table (not (int_lt stat (negsuc 0))) (errors.OutOfRange stat) (with_column rel column (targeting stat))
-    (omega arith, refl, refl, open_there 2 rel Table column (targeting stat) (λ row. (omega arith, record { changes = _; is = refl }, refl, λ wrote. refl)))
+    (omega arith, (column, refl), refl, open_there 2 rel Table column (targeting stat) (λ row. (omega arith, record { changes = _; is = refl }, refl, λ wrote. refl)))
 
 open_set_fillfactor : (fill : ℕ) (rel : Oid) → FollowsOpen 3 rel Table (set_fillfactor fill rel)
 open_set_fillfactor fill rel = open_if_passes 3 rel Table (nat_le 10 fill && nat_le fill 100) (errors.OutOfRange (pos fill)) (reading (scans.Class rel) (filling fill))
@@ -160,10 +179,14 @@ pub follows_order : (held : List Oid) (command : Command) → is_built (plan_of 
 follows_order held commands.Begin built = tt
 follows_order held commands.Commit built = tt
 follows_order held commands.Rollback built = tt
-follows_order held (commands.Show name None) built = order_looking_up name AccessShare showing (λ rel kind. found_opening AccessShare rel kind Done tt tt)
+follows_order held (commands.Show name None) built = order_looking_up name AccessShare (showing None) (λ rel kind. found_opening AccessShare rel kind (Done (tells.Relation rel kind)) (refl, refl) tt)
 follows_order held (commands.Show name (Some field)) built = order_looking_up name AccessShare (showing_field name field)
-    (λ rel kind. found_if_passes AccessShare rel kind (has_field kind field) (errors.NoField name field) (opening rel kind Done) (found_opening AccessShare rel kind Done tt tt))
-follows_order held (commands.LockTable name mode) built = order_looking_up name mode (locking name) (λ rel kind. found_if_passes mode rel kind (is_table kind) (errors.NotTable name) Done tt)
+    (λ rel kind. by_test rel kind (has_field kind field) refl)
+  where
+    by_test : (rel : Oid) (kind : Kind) (t : Bool) → has_field kind field ≡ t → FollowsFound AccessShare rel kind (if_passes t (errors.NoField name field) (showing (Some field) rel kind))
+    by_test rel kind true has = found_opening AccessShare rel kind (Done (tells.Field rel kind field)) (refl, refl, has) tt
+    by_test rel kind false has = tt
+follows_order held (commands.LockTable name mode) built = order_looking_up name mode (locking name) (λ rel kind. found_if_passes mode rel kind (is_table kind) (errors.NotTable name) (Done tells.Ok) tt)
 follows_order held (commands.CreateTable name columns) built = order_creating (nat_le (length columns) MOST_COLUMNS) (first_twice [] (map (λ (c : NewColumn). c.name) columns)) name columns
 follows_order held (commands.AddColumn name column col_type) built = order_altering name AccessExclusive (add_column column col_type) refl (open_add_column column col_type)
 follows_order held (commands.DropColumn name column) built = order_altering name AccessExclusive (drop_column column) refl (open_drop_column column)
@@ -174,31 +197,31 @@ follows_order held command built = absurd (cc)
 
 -- it goes on by relations alone
 goes_open : (most : ℕ) (rel : Oid) (kind : Kind) (plan : Plan) → FollowsOpen most rel kind plan → GoesByRelation plan
-goes_open most rel kind Done follows = tt
+goes_open most rel kind (Done told) follows = tt
 goes_open most rel kind (Fails error) follows = tt
 goes_open most rel kind (Absent name) follows = absurd follows
 goes_open most rel kind NotBuilt follows = absurd follows
 goes_open most rel kind (Do (Lookup name mode) rest) follows = absurd follows
 goes_open most rel kind (Do (Open of as_kind) rest) follows = absurd follows
-goes_open most rel kind (Do (Column of name) rest) follows = λ given. goes_open (most - 1) rel kind (rest given) (follows.3 given)
+goes_open most rel kind (Do (Search scan) rest) follows = λ given. goes_open (most - 1) rel kind (rest given) (follows.3 given)
 goes_open most rel kind (Do (Read scan) rest) follows = λ given. goes_open (most - 1) rel kind (rest given) (follows.2 given)
 goes_open most rel kind (Do (Lock of mode) rest) follows = absurd follows
 goes_open most rel kind (Do (Write draft) rest) follows = tt
 
 goes_found : (mode : Mode) (rel : Oid) (kind : Kind) (plan : Plan) → FollowsFound mode rel kind plan → GoesByRelation plan
-goes_found mode rel kind Done follows = tt
+goes_found mode rel kind (Done told) follows = tt
 goes_found mode rel kind (Fails error) follows = tt
 goes_found mode rel kind (Do (Open of as_kind) rest) follows = (follows.2, λ given. subst GoesByRelation (sym (follows.2 given)) (goes_open 3 rel kind (rest []) follows.3))
 goes_found mode rel kind (Absent name) follows = absurd follows
 goes_found mode rel kind NotBuilt follows = absurd follows
 goes_found mode rel kind (Do (Lookup name as_mode) rest) follows = absurd follows
-goes_found mode rel kind (Do (Column of name) rest) follows = absurd follows
+goes_found mode rel kind (Do (Search scan) rest) follows = absurd follows
 goes_found mode rel kind (Do (Read scan) rest) follows = absurd follows
 goes_found mode rel kind (Do (Lock of as_mode) rest) follows = absurd follows
 goes_found mode rel kind (Do (Write draft) rest) follows = absurd follows
 
 pub goes_order : (plan : Plan) → FollowsOrder plan → GoesByRelation plan
-goes_order Done follows = tt
+goes_order (Done told) follows = tt
 goes_order (Fails error) follows = tt
 goes_order (Do (Lookup name mode) rest) follows = (follows.0, λ given. by_rows given (follows.0 given))
   where
@@ -210,7 +233,7 @@ goes_order (Do (Write draft) rest) follows = tt
 goes_order (Absent name) follows = absurd follows
 goes_order NotBuilt follows = absurd follows
 goes_order (Do (Open of as_kind) rest) follows = absurd follows
-goes_order (Do (Column of name) rest) follows = absurd follows
+goes_order (Do (Search scan) rest) follows = absurd follows
 goes_order (Do (Read scan) rest) follows = absurd follows
 goes_order (Do (Lock of mode) rest) follows = absurd follows
 
@@ -248,13 +271,13 @@ stays_more rel kind given gave plan more unfound unopened = record {
 
 pub stays_open : (most : ℕ) (rel : Oid) (kind : Kind) (gave : List (List Row)) (plan : Plan) → FollowsOpen most rel kind plan → StaysOpen rel kind gave plan
 stays_open most rel kind [] plan follows = record { unfound = refl; unopened = refl; most = most; follows = follows }
-stays_open most rel kind (given ∷ gave) Done follows = stays_more rel kind given gave Done (stays_open most rel kind gave Done tt) refl refl
+stays_open most rel kind (given ∷ gave) (Done told) follows = stays_more rel kind given gave (Done told) (stays_open most rel kind gave (Done told) follows) refl refl
 stays_open most rel kind (given ∷ gave) (Fails error) follows = stays_more rel kind given gave (Fails error) (stays_open most rel kind gave (Fails error) tt) refl refl
 stays_open most rel kind (given ∷ gave) (Absent name) follows = absurd follows
 stays_open most rel kind (given ∷ gave) NotBuilt follows = absurd follows
 stays_open most rel kind (given ∷ gave) (Do (Lookup name mode) rest) follows = absurd follows
 stays_open most rel kind (given ∷ gave) (Do (Open of as_kind) rest) follows = absurd follows
-stays_open most rel kind (given ∷ gave) (Do (Column of name) rest) follows = stays_more rel kind given gave (Do (Column of name) rest) (stays_open (most - 1) rel kind gave (rest given) (follows.3 given)) refl refl
+stays_open most rel kind (given ∷ gave) (Do (Search scan) rest) follows = stays_more rel kind given gave (Do (Search scan) rest) (stays_open (most - 1) rel kind gave (rest given) (follows.3 given)) refl refl
 stays_open most rel kind (given ∷ gave) (Do (Read scan) rest) follows = stays_more rel kind given gave (Do (Read scan) rest) (stays_open (most - 1) rel kind gave (rest given) (follows.2 given)) refl refl
 stays_open most rel kind (given ∷ gave) (Do (Lock of mode) rest) follows = absurd follows
 stays_open most rel kind (given ∷ gave) (Do (Write draft) rest) follows = stays_more rel kind given gave (Do (Write draft) rest) (stays_open most rel kind gave (Do (Write draft) rest) follows) refl refl
@@ -275,14 +298,14 @@ come_open rel kind of as_kind gave plan same_rel same_kind stays =
 
 come_found : (mode : Mode) (rel : Oid) (kind : Kind) (gave : List (List Row)) (plan : Plan) → FollowsFound mode rel kind plan → HasCome (record { rel = rel; kind = kind } ∷ made_in relation_by gave plan) (made_in opening_by gave plan) (reached gave plan)
 come_found mode rel kind [] plan follows = (mode, follows)
-come_found mode rel kind (given ∷ gave) Done follows = come_found mode rel kind gave Done tt
+come_found mode rel kind (given ∷ gave) (Done told) follows = come_found mode rel kind gave (Done told) follows
 come_found mode rel kind (given ∷ gave) (Fails error) follows = come_found mode rel kind gave (Fails error) tt
 come_found mode rel kind (given ∷ gave) (Do (Open of as_kind) rest) follows = come_open rel kind of as_kind gave (rest given) follows.0 follows.1
     (stays_open 3 rel kind gave (rest given) (subst (FollowsOpen 3 rel kind) (sym (follows.2 given)) follows.3))
 come_found mode rel kind (given ∷ gave) (Absent name) follows = absurd follows
 come_found mode rel kind (given ∷ gave) NotBuilt follows = absurd follows
 come_found mode rel kind (given ∷ gave) (Do (Lookup name as_mode) rest) follows = absurd follows
-come_found mode rel kind (given ∷ gave) (Do (Column of name) rest) follows = absurd follows
+come_found mode rel kind (given ∷ gave) (Do (Search scan) rest) follows = absurd follows
 come_found mode rel kind (given ∷ gave) (Do (Read scan) rest) follows = absurd follows
 come_found mode rel kind (given ∷ gave) (Do (Lock of as_mode) rest) follows = absurd follows
 come_found mode rel kind (given ∷ gave) (Do (Write draft) rest) follows = absurd follows
@@ -311,14 +334,14 @@ unfound plan follows = follows
 -- how far any acts bring a plan
 pub has_come : (gave : List (List Row)) (plan : Plan) → FollowsOrder plan → HasCome (made_in relation_by gave plan) (made_in opening_by gave plan) (reached gave plan)
 has_come [] plan follows = unfound plan follows
-has_come (given ∷ gave) Done follows = has_come gave Done tt
+has_come (given ∷ gave) (Done told) follows = has_come gave (Done told) follows
 has_come (given ∷ gave) (Fails error) follows = has_come gave (Fails error) tt
 has_come (given ∷ gave) (Do (Lookup name mode) rest) follows = come_lookup name mode rest given gave follows
 has_come (given ∷ gave) (Do (Write draft) rest) follows = has_come gave (Do (Write draft) rest) follows
 has_come (given ∷ gave) (Absent name) follows = absurd follows
 has_come (given ∷ gave) NotBuilt follows = absurd follows
 has_come (given ∷ gave) (Do (Open of as_kind) rest) follows = absurd follows
-has_come (given ∷ gave) (Do (Column of name) rest) follows = absurd follows
+has_come (given ∷ gave) (Do (Search scan) rest) follows = absurd follows
 has_come (given ∷ gave) (Do (Read scan) rest) follows = absurd follows
 has_come (given ∷ gave) (Do (Lock of mode) rest) follows = absurd follows
 
@@ -336,16 +359,17 @@ at_opening (relation ∷ []) [] rel kind rest come = (λ i. record { rel = sym c
 at_opening (relation ∷ []) (one ∷ []) rel kind rest come = absurd come.follows
 at_opening relations opened rel kind rest come = absurd come
 
--- a column is of the relation found, which is a table, and its descriptor is open
-pub at_column : (relations opened : List Opening) (rel : Oid) (name : List ℕ) (rest : List Row → Plan) → HasCome relations opened (Do (Column rel name) rest)
-    → (relations ≡ record { rel = rel; kind = Table } ∷ []) × (opened ≡ record { rel = rel; kind = Table } ∷ [])
-at_column [] [] rel name rest come = absurd come
-at_column (relation ∷ []) [] rel name rest come = absurd come.1
-at_column (relation ∷ []) (one ∷ []) rel name rest come = (λ i. is i ∷ [], ap (λ o. o ∷ []) (come.same ∙ is))
-  where
-    is : relation ≡ record { rel = rel; kind = Table }
-    is = λ i. record { rel = sym come.follows.1 i; kind = come.follows.2 i }
-at_column relations opened rel name rest come = absurd come
+-- a catalog cache is searched for a column of the relation found, which is a table, and its descriptor is open
+pub record SearchesColumn (relations : List Opening) (scan : Purpose) : Type 0 where
+  pub rel : Oid
+  pub found_is : relations ≡ record { rel = rel; kind = Table } ∷ []
+  pub of : IsOfColumn rel scan
+
+pub at_search : (relations opened : List Opening) (scan : Purpose) (rest : List Row → Plan) → HasCome relations opened (Do (Search scan) rest) → SearchesColumn relations scan
+at_search [] [] scan rest come = absurd come
+at_search (relation ∷ []) [] scan rest come = absurd come.1
+at_search (relation ∷ []) (one ∷ []) scan rest come = record { rel = relation.rel; found_is = λ i. record { rel = relation.rel; kind = come.follows.2 i } ∷ []; of = come.follows.1 }
+at_search relations opened scan rest come = absurd come
 
 -- rows are read of one of the scans for the descriptor that is open
 pub record ReadsOpen (relations opened : List Opening) (scan : Purpose) : Type 0 where
@@ -375,7 +399,7 @@ pub record WritesRows (relations opened : List Opening) (draft : Draft) : Type 0
   pub rows_are : IsRowsDraft draft
 
 pub at_write : (relations opened : List Opening) (draft : Draft) (rest : List Row → Plan) → HasCome relations opened (Do (Write draft) rest)
-    → ((given : List Row) → rest given ≡ Done) × (WritesTable relations opened draft ⊎ WritesRows relations opened draft)
+    → ((given : List Row) → rest given ≡ Done tells.Ok) × (WritesTable relations opened draft ⊎ WritesRows relations opened draft)
 at_write [] [] draft rest come = (come.1, inl (record { unfound = refl; unopened = refl; table = come.0 }))
 at_write (relation ∷ []) [] draft rest come = absurd come.1
 at_write (relation ∷ []) (one ∷ []) draft rest come = (come.follows.3, inr (record { rel = relation.rel; found_is = λ i. is i ∷ []; opened_is = ap (λ o. o ∷ []) (come.same ∙ is); rows_are = come.follows.1 }))
@@ -383,3 +407,32 @@ at_write (relation ∷ []) (one ∷ []) draft rest come = (come.follows.3, inr (
     is : relation ≡ record { rel = relation.rel; kind = Table }
     is = λ i. record { rel = relation.rel; kind = come.follows.2 i }
 at_write relations opened draft rest come = absurd come
+
+-- of a relation only what is open is told, a field only where the relation has it, and nothing of an oid
+abbrev pub TellsOpen : List Opening → Told → Type 0
+TellsOpen opened (tells.Relation rel kind) = opened ≡ record { rel = rel; kind = kind } ∷ []
+TellsOpen opened (tells.Field rel kind field) = (opened ≡ record { rel = rel; kind = kind } ∷ []) × (has_field kind field ≡ true)
+TellsOpen opened (tells.Regclass oid) = ⊥
+TellsOpen opened told = ⊤
+
+tells_none : (told : Told) → TellsOfNone told → TellsOpen [] told
+tells_none (tells.Relation rel kind) none = absurd none
+tells_none (tells.Field rel kind field) none = absurd none
+tells_none (tells.Regclass oid) none = absurd none
+tells_none told none = tt
+
+-- so it is with the answer of a plan that is done
+pub at_end : (relations opened : List Opening) (told : Told) → HasCome relations opened (Done told) → TellsOpen opened told
+at_end [] [] told come = tells_none told come
+at_end (relation ∷ []) [] told come = tells_none told come.1
+at_end (relation ∷ []) (one ∷ []) told come = by_told told come.follows
+  where
+    is : (rel : Oid) (kind : Kind) → rel ≡ relation.rel → kind ≡ relation.kind → one ∷ [] ≡ record { rel = rel; kind = kind } ∷ []
+    is rel kind same_rel same_kind = ap (λ o. o ∷ []) (come.same ∙ (λ i. record { rel = sym same_rel i; kind = sym same_kind i }))
+
+    by_told : (t : Told) → TellsOf relation.rel relation.kind t → TellsOpen (one ∷ []) t
+    by_told (tells.Relation rel kind) of = is rel kind of.0 of.1
+    by_told (tells.Field rel kind field) of = (is rel kind of.0 of.1, ap (λ k. has_field k field) of.1 ∙ of.2)
+    by_told (tells.Regclass oid) of = absurd of
+    by_told t of = tt
+at_end relations opened told come = absurd come

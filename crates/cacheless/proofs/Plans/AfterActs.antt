@@ -1,7 +1,7 @@
 -- What a plan is after an act that is done: a lookup is the first act, and only after it may a plan fail to find a relation.
 use Rattle.std.proofs.Common.{◌≡◌, ◌∙◌, ◌-◌, ℕ, true, false, None, List, [], ◌∷◌, refl, sym, ap, subst}
 use Rattle.base_types.specs.declared.row.Row.TheVariants as rows
-use Rattle.ddl_effect.specs.Plans.{Plan, Done, Fails, Absent, NotBuilt, Do, Lookup, Open, Column, Read, Lock, Write}
+use Rattle.ddl_effect.specs.Plans.{Plan, Done, Fails, Absent, NotBuilt, Do, Lookup, Open, Search, Read, Lock, Write}
 use Rattle.ddl_effect.specs.Commands.{found}
 use Rattle.cacheless.specs.Types.{Oid, Mode, Kind, Purpose, Row, Opening}
 use Rattle.cacheless.specs.Settled.{class_oid}
@@ -31,11 +31,11 @@ after_opening (relation ∷ []) [] rel kind rest come = open_there 3 relation.re
 after_opening (relation ∷ []) (one ∷ []) rel kind rest come = absurd come.follows
 after_opening relations opened rel kind rest come = absurd come
 
-pub after_column : (relations opened : List Opening) (rel : Oid) (name : List ℕ) (rest : List Row → Plan) (given : List Row) → HasCome relations opened (Do (Column rel name) rest) → is_absent (rest given) ≡ false
-after_column [] [] rel name rest given come = absurd come
-after_column (relation ∷ []) [] rel name rest given come = absurd come.1
-after_column (relation ∷ []) (one ∷ []) rel name rest given come = open_there (come.most - 1) relation.rel relation.kind (rest given) (come.follows.3 given)
-after_column relations opened rel name rest given come = absurd come
+pub after_search : (relations opened : List Opening) (scan : Purpose) (rest : List Row → Plan) (given : List Row) → HasCome relations opened (Do (Search scan) rest) → is_absent (rest given) ≡ false
+after_search [] [] scan rest given come = absurd come
+after_search (relation ∷ []) [] scan rest given come = absurd come.1
+after_search (relation ∷ []) (one ∷ []) scan rest given come = open_there (come.most - 1) relation.rel relation.kind (rest given) (come.follows.3 given)
+after_search relations opened scan rest given come = absurd come
 
 pub after_reading : (relations opened : List Opening) (scan : Purpose) (rest : List Row → Plan) (given : List Row) → HasCome relations opened (Do (Read scan) rest) → is_absent (rest given) ≡ false
 after_reading [] [] scan rest given come = absurd come
@@ -87,13 +87,13 @@ lookup_once own as_mode more given gave name mode rest follows on = by_rows give
 -- so a lookup that comes next is the first act
 pub lookup_first : (gave : List (List Row)) (plan : Plan) (name : List ℕ) (mode : Mode) (rest : List Row → Plan) → FollowsOrder plan → reached gave plan ≡ Do (Lookup name mode) rest → gave ≡ []
 lookup_first [] plan name mode rest follows on = refl
-lookup_first (given ∷ gave) Done name mode rest follows on = absurd (none_reached gave Done (Lookup name mode) rest refl on)
+lookup_first (given ∷ gave) (Done told) name mode rest follows on = absurd (none_reached gave (Done told) (Lookup name mode) rest refl on)
 lookup_first (given ∷ gave) (Fails error) name mode rest follows on = absurd (none_reached gave (Fails error) (Lookup name mode) rest refl on)
 lookup_first (given ∷ gave) (Do (Lookup own as_mode) more) name mode rest follows on = absurd (lookup_once own as_mode more given gave name mode rest follows on)
 lookup_first (given ∷ gave) (Do (Write draft) more) name mode rest follows on = absurd (let both : false ≡ true = ap goes_past (sym (write_stays gave draft more) ∙ on) in cc both)
 lookup_first (given ∷ gave) (Absent own) name mode rest follows on = absurd follows
 lookup_first (given ∷ gave) NotBuilt name mode rest follows on = absurd follows
 lookup_first (given ∷ gave) (Do (Open rel kind) more) name mode rest follows on = absurd follows
-lookup_first (given ∷ gave) (Do (Column rel of) more) name mode rest follows on = absurd follows
+lookup_first (given ∷ gave) (Do (Search scan) more) name mode rest follows on = absurd follows
 lookup_first (given ∷ gave) (Do (Read scan) more) name mode rest follows on = absurd follows
 lookup_first (given ∷ gave) (Do (Lock rel as_mode) more) name mode rest follows on = absurd follows

@@ -2,7 +2,7 @@
 use Rattle.std.proofs.Common.{◌≡◌, ◌∙◌, ℕ, Option, None, List, [], ◌∷◌, ◌++◌, refl, sym, ap}
 use Rattle.std.specs.Prelude.{⊤}
 use Rattle.base_types.specs.declared.row.Row.TheVariants as rows
-use Rattle.ddl_effect.specs.Plans.{Plan, Done, Fails, Absent, NotBuilt, Do, Lookup, Open, Column, Read, Lock, Write}
+use Rattle.ddl_effect.specs.Plans.{Plan, Done, Fails, Absent, NotBuilt, Do, Lookup, Open, Search, Read, Lock, Write}
 use Rattle.ddl_effect.specs.Commands.{found}
 use Rattle.ddl_effect.specs.Effects.{effect_at, row_found}
 use Rattle.cacheless.specs.Types.{Oid, Mode, Kind, Row, Purpose}
@@ -18,19 +18,19 @@ abbrev pub GoesByRelation : Plan → Type 0
 GoesByRelation (Do (Lookup name mode) rest) = ((given : List Row) → rest given ≡ found name (λ rel kind. rest (plain_row rel kind)) given) × ((given : List Row) → GoesByRelation (rest given))
 GoesByRelation (Do (Open rel kind) rest) = ((given : List Row) → rest given ≡ rest []) × ((given : List Row) → GoesByRelation (rest given))
 GoesByRelation (Do (Lock rel mode) rest) = ((given : List Row) → rest given ≡ rest []) × ((given : List Row) → GoesByRelation (rest given))
-GoesByRelation (Do (Column rel name) rest) = (given : List Row) → GoesByRelation (rest given)
+GoesByRelation (Do (Search scan) rest) = (given : List Row) → GoesByRelation (rest given)
 GoesByRelation (Do (Read scan) rest) = (given : List Row) → GoesByRelation (rest given)
 GoesByRelation plan = ⊤
 
 -- it does so after an act
 pub goes_after : (given : List Row) (plan : Plan) → GoesByRelation plan → GoesByRelation (after_given given plan)
-goes_after given Done goes = tt
+goes_after given (Done told) goes = tt
 goes_after given (Fails error) goes = tt
 goes_after given (Absent name) goes = tt
 goes_after given NotBuilt goes = tt
 goes_after given (Do (Lookup name mode) rest) goes = goes.1 given
 goes_after given (Do (Open rel kind) rest) goes = goes.1 given
-goes_after given (Do (Column rel name) rest) goes = goes given
+goes_after given (Do (Search scan) rest) goes = goes given
 goes_after given (Do (Read scan) rest) goes = goes given
 goes_after given (Do (Lock rel mode) rest) goes = goes.1 given
 goes_after given (Do (Write draft) rest) goes = tt
@@ -42,7 +42,7 @@ goes_reached (given ∷ gave) plan goes = goes_reached gave (after_given given p
 
 -- a lookup's rows come to what the row of their relation comes to
 row_still : (now : Purpose → List Row) (name : List ℕ) (mode : Mode) (rest : List Row → Plan) (given : List Row) → ((given : List Row) → rest given ≡ found name (λ rel kind. rest (plain_row rel kind)) given)
-    → IsStill now (Lookup name mode) given → rest (row_found now (class_oid given)) ≡ rest given
+    → IsStill now (Lookup name mode) rest given → rest (row_found now (class_oid given)) ≡ rest given
 row_still now name mode rest [] goes still = refl
 row_still now name mode rest (rows.Class rel own kind fill ∷ more) goes still = ap rest still.are ∙ goes (rows.Class rel still.name kind still.fill ∷ still.more) ∙ sym (goes (rows.Class rel own kind fill ∷ more))
 row_still now name mode rest (row ∷ more) goes still = goes [] ∙ sym (goes (row ∷ more))
@@ -56,13 +56,13 @@ effect_along now plan (given ∷ gave) later goes still = by_plan plan goes stil
     by_plan : (p : Plan) → GoesByRelation p → IsFirstStill now p given
         → effect_at now (made_in found_by gave (after_given given p) ++ later) (after_given given p) ≡ effect_at now later (reached gave (after_given given p))
         → effect_at now ((made_first found_by given p ++ made_in found_by gave (after_given given p)) ++ later) p ≡ effect_at now later (reached gave (after_given given p))
-    by_plan Done by is same = same
+    by_plan (Done told) by is same = same
     by_plan (Fails error) by is same = same
     by_plan (Absent name) by is same = same
     by_plan NotBuilt by is same = same
     by_plan (Do (Lookup name mode) rest) by is same = ap (effect_at now (made_in found_by gave (rest given) ++ later)) (row_still now name mode rest given by.0 is) ∙ same
     by_plan (Do (Open rel kind) rest) by is same = ap (effect_at now (made_in found_by gave (rest given) ++ later)) (sym (by.0 given)) ∙ same
-    by_plan (Do (Column rel name) rest) by is same = ap (λ l. effect_at now (made_in found_by gave (rest given) ++ later) (rest l)) is ∙ same
-    by_plan (Do (Read scan) rest) by is same = ap (λ l. effect_at now (made_in found_by gave (rest given) ++ later) (rest l)) is ∙ same
+    by_plan (Do (Search scan) rest) by is same = sym (is now (made_in found_by gave (rest given) ++ later)) ∙ same
+    by_plan (Do (Read scan) rest) by is same = sym (is now (made_in found_by gave (rest given) ++ later)) ∙ same
     by_plan (Do (Lock rel mode) rest) by is same = ap (effect_at now (made_in found_by gave (rest given) ++ later)) (sym (by.0 given)) ∙ same
     by_plan (Do (Write draft) rest) by is same = same

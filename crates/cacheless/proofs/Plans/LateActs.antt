@@ -4,7 +4,7 @@ use Rattle.std.specs.List.{AllByRecursion}
 use Rattle.std.proofs.lemmas.List.{map-append}
 use Rattle.base_types.specs.Modes.{conflicts}
 use Rattle.base_types.specs.declared.row.Row.TheVariants as rows
-use Rattle.ddl_effect.specs.Plans.{Plan, Act, Done, Fails, Absent, NotBuilt, Do, Lookup, Open, Column, Read, Lock, Write}
+use Rattle.ddl_effect.specs.Plans.{Plan, Act, Done, Fails, Absent, NotBuilt, Do, Lookup, Open, Search, Read, Lock, Write}
 use Rattle.ddl_effect.specs.Commands.{found}
 use Rattle.cacheless.specs.Types.{Oid, Mode, Kind, Row, Opening}
 use Rattle.cacheless.specs.ActsDone.{LockedRelation, locked_relation_by, after_given, reached, made_first, made_in, relation_by}
@@ -49,7 +49,7 @@ abbrev pub IsAlone : LockedRelation → Type 0
 IsAlone o = conflicts o.mode o.mode ≡ true
 
 under_alone : (mode : Mode) (gave : List (List Row)) (plan : Plan) (act : Act) (rest : List Row → Plan) → OpensUnder mode plan → reached gave plan ≡ Do act rest → conflicts mode mode ≡ true
-under_alone mode gave Done act rest under on = absurd (none_reached gave Done act rest refl on)
+under_alone mode gave (Done told) act rest under on = absurd (none_reached gave (Done told) act rest refl on)
 under_alone mode gave (Fails error) act rest under on = under
 under_alone mode gave (Absent name) act rest under on = under
 under_alone mode gave NotBuilt act rest under on = under
@@ -66,11 +66,11 @@ found_alone mode rel kind [] plan act rest follows on late = absurd (none_late (
         by_act : (a : Act) → comes_late a ≡ true → FollowsFound mode rel kind (Do a rest) → ⊥
         by_act (Lookup name as_mode) is follow = cc is
         by_act (Open of as_kind) is follow = cc is
-        by_act (Column of name) is follow = follow
+        by_act (Search scan) is follow = follow
         by_act (Read scan) is follow = follow
         by_act (Lock of as_mode) is follow = follow
         by_act (Write draft) is follow = follow
-found_alone mode rel kind (given ∷ gave) Done act rest follows on late = absurd (none_reached gave Done act rest refl on)
+found_alone mode rel kind (given ∷ gave) (Done told) act rest follows on late = absurd (none_reached gave (Done told) act rest refl on)
 found_alone mode rel kind (given ∷ gave) (Fails error) act rest follows on late = absurd (none_reached gave (Fails error) act rest refl on)
 found_alone mode rel kind (given ∷ gave) (Do (Open of as_kind) more) act rest follows on late = (
   under_alone mode gave (more []) act rest follows.4 (ap (reached gave) (sym (follows.2 given)) ∙ on),
@@ -79,7 +79,7 @@ found_alone mode rel kind (given ∷ gave) (Do (Open of as_kind) more) act rest 
 found_alone mode rel kind (given ∷ gave) (Absent name) act rest follows on late = absurd follows
 found_alone mode rel kind (given ∷ gave) NotBuilt act rest follows on late = absurd follows
 found_alone mode rel kind (given ∷ gave) (Do (Lookup name as_mode) more) act rest follows on late = absurd follows
-found_alone mode rel kind (given ∷ gave) (Do (Column of name) more) act rest follows on late = absurd follows
+found_alone mode rel kind (given ∷ gave) (Do (Search scan) more) act rest follows on late = absurd follows
 found_alone mode rel kind (given ∷ gave) (Do (Read scan) more) act rest follows on late = absurd follows
 found_alone mode rel kind (given ∷ gave) (Do (Lock of as_mode) more) act rest follows on late = absurd follows
 found_alone mode rel kind (given ∷ gave) (Do (Write draft) more) act rest follows on late = absurd follows
@@ -98,13 +98,13 @@ lookup_alone name mode more given gave act rest follows on late = by_rows given 
 -- where such an act is next, no two backends may hold the lock of the relation found
 pub late_alone : (gave : List (List Row)) (plan : Plan) (act : Act) (rest : List Row → Plan) → FollowsOrder plan → reached gave plan ≡ Do act rest → comes_late act ≡ true → AllByRecursion IsAlone (made_in locked_relation_by gave plan)
 late_alone [] plan act rest follows on late = tt
-late_alone (given ∷ gave) Done act rest follows on late = absurd (none_reached gave Done act rest refl on)
+late_alone (given ∷ gave) (Done told) act rest follows on late = absurd (none_reached gave (Done told) act rest refl on)
 late_alone (given ∷ gave) (Fails error) act rest follows on late = absurd (none_reached gave (Fails error) act rest refl on)
 late_alone (given ∷ gave) (Do (Lookup name mode) more) act rest follows on late = lookup_alone name mode more given gave act rest follows on late
 late_alone (given ∷ gave) (Do (Write draft) more) act rest follows on late = late_alone gave (Do (Write draft) more) act rest follows on late
 late_alone (given ∷ gave) (Absent name) act rest follows on late = absurd follows
 late_alone (given ∷ gave) NotBuilt act rest follows on late = absurd follows
 late_alone (given ∷ gave) (Do (Open of as_kind) more) act rest follows on late = absurd follows
-late_alone (given ∷ gave) (Do (Column of name) more) act rest follows on late = absurd follows
+late_alone (given ∷ gave) (Do (Search scan) more) act rest follows on late = absurd follows
 late_alone (given ∷ gave) (Do (Read scan) more) act rest follows on late = absurd follows
 late_alone (given ∷ gave) (Do (Lock of mode) more) act rest follows on late = absurd follows

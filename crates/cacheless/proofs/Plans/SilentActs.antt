@@ -6,14 +6,16 @@ use Rattle.base_types.specs.declared.kind.Kind.TheVariants.{Table}
 use Rattle.base_types.specs.declared.row.Row.TheVariants as rows
 use Rattle.base_types.specs.declared.scan.Purpose.TheVariants as scans
 use Rattle.lock_modes.specs.Own.{has_lock, cleared}
-use Rattle.ddl_effect.specs.Plans.{Act, Lookup, Open, Column, Read, Lock, Write, Plan, Done, Fails, Absent, NotBuilt, Do}
+use Rattle.ddl_effect.specs.declared.told.Told.TheVariants as tells
+use Rattle.ddl_effect.specs.Plans.{Act, Lookup, Open, Search, Read, Lock, Write, Plan, Done, Fails, Absent, NotBuilt, Do}
 use Rattle.ddl_effect.specs.Commands.{plan_of}
+use Rattle.ddl_effect.specs.Effects.{effect_at}
 use Rattle.history_model.specs.Read.{rows_read}
 use Rattle.history_model.specs.Versions.{answer_of}
 use Rattle.history_model.specs.Writes.{is_empty}
 use Rattle.history_model.proofs.Every.{every-append}
 use Rattle.cacheless.specs.Types.{Mode, Row, Purpose, Scenario, Command, CommandError, OwnLock, Entry}
-use Rattle.cacheless.specs.ActsDone.{after_given, reached, made_in, made_first, opening_by, relation_by, locked_relation_by, IsHeld, IsFirstStill}
+use Rattle.cacheless.specs.ActsDone.{after_given, reached, made_in, made_first, opening_by, relation_by, locked_relation_by, IsHeld, ComeAlike, IsFirstStill}
 use Rattle.cacheless.specs.Facts.{Facts, facts_of}
 use Rattle.cacheless.specs.OnCourse.{is_absent, OnItsWay, Way, Begun, Wrote, Unbuilt, Over, GaveNow, IsFirstSeen, NamedFits, WasSought, FollowsPlan}
 use Rattle.cacheless.specs.Owed.{builds_owed, act_owed}
@@ -21,8 +23,8 @@ use Rattle.cacheless.specs.Played.{IsPlayed}
 use Rattle.cacheless.specs.Session.{Session, none_open, outcome_of, is_settled}
 use Rattle.cacheless.specs.Sessions.{session_of}
 use Rattle.cacheless.specs.Settled.{class_oid, if_locked, looked_up, gives, opened_by, found_by, act_done, done_here}
-use Rattle.cacheless.proofs.Plans.ActOrder.{HasCome, ReadsOpen, FollowsOrder, follows_order, has_come, at_lookup, at_column, at_read}
-use Rattle.cacheless.proofs.Plans.AfterActs.{IsUnfound, after_opening, after_column, after_reading, after_lookup, lookup_first, no_lock, opening_alike}
+use Rattle.cacheless.proofs.Plans.ActOrder.{HasCome, ReadsOpen, FollowsOrder, follows_order, has_come, at_lookup, SearchesColumn, at_search, at_read}
+use Rattle.cacheless.proofs.Plans.AfterActs.{IsUnfound, after_opening, after_search, after_reading, after_lookup, lookup_first, no_lock, opening_alike}
 use Rattle.cacheless.proofs.Plans.AloneLocks.{late_answers, session_holds}
 use Rattle.cacheless.proofs.Plans.StillAfter.{still-push}
 use Rattle.cacheless.proofs.Plans.Ways.{acts, none_reached, reached-push, made_in-push}
@@ -49,7 +51,7 @@ on_its_way seen b s command act rest follows at = by_way (follows.way (unrefused
   where
     by_way : Way seen b s command → OnItsWay seen b s command
     by_way (Begun way) = way
-    by_way (Wrote w) = absurd (let both : Do act rest ≡ Done = sym at ∙ w.plan in cc both)
+    by_way (Wrote w) = absurd (let both : Do act rest ≡ Done tells.Ok = sym at ∙ w.plan in cc both)
     by_way (Unbuilt w) = absurd (let both : Do act rest ≡ NotBuilt = sym at ∙ w.plan in cc both)
     by_way (Over w) = absurd (let both : false ≡ true = ap (λ p. is_settled (outcome_of p)) (sym at) ∙ w.out in cc both)
 
@@ -80,9 +82,9 @@ pub record HoldsClear (scenario : Scenario) (seen : List Entry) (b : ℕ) (locks
   pub clear : map cleared locks ≡ locks
 
 -- what a lookup gave that is done here
-lookup_gave : (scenario : Scenario) (seen : List Entry) (b : ℕ) (locks : List OwnLock) (name : List ℕ) (mode : Mode) (given : List Row) → HoldsClear scenario seen b locks → IsFirstSeen seen b given → looked_up locks mode given ≡ Some given → GaveNow seen b (Lookup name mode) given
-lookup_gave scenario seen b locks name mode [] holds sees gave = record { locked = tt; still = tt }
-lookup_gave scenario seen b locks name mode (rows.Class rel own kind fill ∷ more) holds sees gave = record {
+lookup_gave : (scenario : Scenario) (seen : List Entry) (b : ℕ) (locks : List OwnLock) (name : List ℕ) (mode : Mode) (given : List Row) → HoldsClear scenario seen b locks → IsFirstSeen seen b given → looked_up locks mode given ≡ Some given → (rest : List Row → Plan) → GaveNow seen b (Lookup name mode) rest given
+lookup_gave scenario seen b locks name mode [] holds sees gave rest = record { locked = tt; still = tt }
+lookup_gave scenario seen b locks name mode (rows.Class rel own kind fill ∷ more) holds sees gave rest = record {
   locked = (session_holds scenario seen b holds.session holds.played.sound holds.is rel mode ∙ ap (λ l. has_lock l rel mode) holds.holds ∙ by_lock (has_lock locks rel mode) gave, tt);
   still = record { name = sees.name; fill = sees.fill; more = []; are = sees.row };
 }
@@ -90,7 +92,7 @@ lookup_gave scenario seen b locks name mode (rows.Class rel own kind fill ∷ mo
     by_lock : (t : Bool) → if_locked t (rows.Class rel own kind fill ∷ more) ≡ Some (rows.Class rel own kind fill ∷ more) → t ≡ true
     by_lock true is = refl
     by_lock false is = absurd (cc is)
-lookup_gave scenario seen b locks name mode (row ∷ more) holds sees gave = record { locked = tt; still = tt }
+lookup_gave scenario seen b locks name mode (row ∷ more) holds sees gave rest = record { locked = tt; still = tt }
 
 -- a lookup gives the rows of its scan
 gives_rows : (locks : List OwnLock) (mode : Mode) (read given : List Row) → looked_up locks mode read ≡ Some given → read ≡ given
@@ -120,12 +122,16 @@ passes_it : (facts : Facts) (locks : List OwnLock) (act : Act) (rest : List Row 
 passes_it facts locks (Write draft) rest given gave = absurd (cc gave)
 passes_it facts locks act rest given gave = refl
 
+-- where a scan gave the rows of now, the rest of a plan makes of them the same
+alike_now : (now : Purpose → List Row) (scan : Purpose) (rest : List Row → Plan) (given : List Row) → now scan ≡ given → ComeAlike (rest given) (rest (now scan))
+alike_now now scan rest given is = λ rows found. ap (λ l. effect_at rows found (rest l)) (sym is)
+
 -- what an act gave that is done here is so
 act_gave : (scenario : Scenario) (seen : List Entry) (b : ℕ) (s : Session) (command : Command) (act : Act) (rest : List Row → Plan) (given : List Row) → HoldsClear scenario seen b s.locks → (way : OnItsWay seen b s command) → s.left ≡ Do act rest → NamedFits seen b (Do act rest) s.read
-    → IsDoneHere (facts_of seen b) s act rest given → GaveNow seen b act given
+    → IsDoneHere (facts_of seen b) s act rest given → GaveNow seen b act rest given
 act_gave scenario seen b s command (Lookup name mode) rest given holds way at named done =
-    subst (GaveNow seen b (Lookup name mode)) same
-    (lookup_gave scenario seen b s.locks name mode (rows_read seen b (scans.RelName name)) holds (subst (NamedFits seen b (Do (Lookup name mode) rest)) read named) (done.gave ∙ ap Some (sym same)))
+    subst (GaveNow seen b (Lookup name mode) rest) same
+    (lookup_gave scenario seen b s.locks name mode (rows_read seen b (scans.RelName name)) holds (subst (NamedFits seen b (Do (Lookup name mode) rest)) read named) (done.gave ∙ ap Some (sym same)) rest)
   where
     same : rows_read seen b (scans.RelName name) ≡ given
     same = gives_rows s.locks mode (rows_read seen b (scans.RelName name)) given done.gave
@@ -133,19 +139,19 @@ act_gave scenario seen b s command (Lookup name mode) rest given holds way at na
     read : s.read ≡ true
     read = (and_parts s.read _ (made_already _ (scans.RelName name) done.owed)).0
 act_gave scenario seen b s command (Open rel kind) rest given holds way at named done = record { locked = tt; still = tt }
-act_gave scenario seen b s command (Column rel name) rest given holds way at named done = record { locked = tt; still = late ∙ gave }
+act_gave scenario seen b s command (Search scan) rest given holds way at named done = record { locked = tt; still = alike_now (answer_of seen b) scan rest given (late ∙ gave) }
   where
-    come : HasCome (made_in relation_by way.gave (plan_of none_open command)) (made_in opening_by way.gave (plan_of none_open command)) (Do (Column rel name) rest)
-    come = its_place seen b s command (Column rel name) rest way at
+    column : SearchesColumn (made_in relation_by way.gave (plan_of none_open command)) scan
+    column = at_search _ (made_in opening_by way.gave (plan_of none_open command)) scan rest (its_place seen b s command (Search scan) rest way at)
 
-    gave : rows_read seen b (scans.AttName rel name) ≡ given
-    gave = let is : Some (rows_read seen b (scans.AttName rel name)) ≡ Some given = done.gave in cc is
+    gave : rows_read seen b scan ≡ given
+    gave = let is : Some (rows_read seen b scan) ≡ Some given = done.gave in cc is
 
-    late : answer_of seen b (scans.AttName rel name) ≡ rows_read seen b (scans.AttName rel name)
-    late = late_answers scenario seen b holds.session way.gave (plan_of none_open command) (Column rel name) rest (record { rel = rel; kind = Table }) (scans.AttName rel name) holds.played.sound holds.played.plays holds.is
-        (subst (λ l. map cleared l ≡ l) (sym holds.holds) holds.clear) (its_order seen b s command way) way.holds (sym way.plan ∙ at) refl (at_column _ _ rel name rest come).0 (inl (name, refl))
-        (and_parts s.read _ (made_already _ (scans.AttName rel name) done.owed)).1
-act_gave scenario seen b s command (Read scan) rest given holds way at named done = record { locked = tt; still = late ∙ gave }
+    late : answer_of seen b scan ≡ rows_read seen b scan
+    late = late_answers scenario seen b holds.session way.gave (plan_of none_open command) (Search scan) rest (record { rel = column.rel; kind = Table }) scan holds.played.sound holds.played.plays holds.is
+        (subst (λ l. map cleared l ≡ l) (sym holds.holds) holds.clear) (its_order seen b s command way) way.holds (sym way.plan ∙ at) refl column.found_is (inl column.of)
+        (and_parts s.read _ (made_already _ scan done.owed)).1
+act_gave scenario seen b s command (Read scan) rest given holds way at named done = record { locked = tt; still = alike_now (answer_of seen b) scan rest given (late ∙ gave) }
   where
     come : HasCome (made_in relation_by way.gave (plan_of none_open command)) (made_in opening_by way.gave (plan_of none_open command)) (Do (Read scan) rest)
     come = its_place seen b s command (Read scan) rest way at
@@ -164,7 +170,7 @@ act_gave scenario seen b s command (Lock rel mode) rest given holds way at named
 act_gave scenario seen b s command (Write draft) rest given holds way at named done = absurd (let no : None ≡ Some given = done.gave in cc no)
 
 -- one more act on the way of a command
-pub way-act : (seen : List Entry) (b : ℕ) (s : Session) (command : Command) (act : Act) (rest : List Row → Plan) (given : List Row) → s.left ≡ Do act rest → after_given given (Do act rest) ≡ rest given → GaveNow seen b act given
+pub way-act : (seen : List Entry) (b : ℕ) (s : Session) (command : Command) (act : Act) (rest : List Row → Plan) (given : List Row) → s.left ≡ Do act rest → after_given given (Do act rest) ≡ rest given → GaveNow seen b act rest given
     → OnItsWay seen b s command → OnItsWay seen b (act_done act given (rest given) s) command
 way-act seen b s command act rest given at passes now way = record {
   gave = way.gave ++ given ∷ [];
@@ -221,8 +227,8 @@ there_or_fails seen b s command (Lookup name mode) rest given way at done absent
 there_or_fails seen b s command (Open rel kind) rest given way at done absent =
     let come = its_place seen b s command (Open rel kind) rest way at in
     absurd (let both : true ≡ false = sym absent ∙ ap is_absent (opening_alike _ _ rel kind rest given come) ∙ after_opening _ _ rel kind rest come in cc both)
-there_or_fails seen b s command (Column rel name) rest given way at done absent =
-    absurd (let both : true ≡ false = sym absent ∙ after_column _ _ rel name rest given (its_place seen b s command (Column rel name) rest way at) in cc both)
+there_or_fails seen b s command (Search scan) rest given way at done absent =
+    absurd (let both : true ≡ false = sym absent ∙ after_search _ _ scan rest given (its_place seen b s command (Search scan) rest way at) in cc both)
 there_or_fails seen b s command (Read scan) rest given way at done absent =
     absurd (let both : true ≡ false = sym absent ∙ after_reading _ _ scan rest given (its_place seen b s command (Read scan) rest way at) in cc both)
 there_or_fails seen b s command (Lock rel mode) rest given way at done absent = absurd (no_lock _ _ rel mode rest (its_place seen b s command (Lock rel mode) rest way at))
@@ -239,13 +245,13 @@ act_follows scenario seen b s command act rest given holds at done follows = rec
   way = λ none. Begun (way-act seen b s command act rest given at (passes_it (facts_of seen b) s.locks act rest given done.gave) gave way);
   named = by_test (is_absent (rest given)) refl;
   sought = λ name is. was_sought name is (there_or_fails seen b s command act rest given way at done (absent_name name (rest given) is));
-  plain = λ none. absurd (none_reached way.gave (plan_of none_open command) act rest (ap acts none) (sym way.plan ∙ at));
+  plain = λ told none. absurd (none_reached way.gave (plan_of none_open command) act rest (ap acts none) (sym way.plan ∙ at));
 }
   where
     way : OnItsWay seen b s command
     way = on_its_way seen b s command act rest follows at
 
-    gave : GaveNow seen b act given
+    gave : GaveNow seen b act rest given
     gave = act_gave scenario seen b s command act rest given holds way at (subst (λ p. NamedFits seen b p s.read) at follows.named) done
 
     by_test : (t : Bool) → is_absent (rest given) ≡ t → NamedFits seen b (rest given) false

@@ -1,31 +1,35 @@
 -- What acts gave is so still later, if the rows of the relation found stay.
-use Rattle.std.proofs.Common.{◌≡◌, ◌∙◌, ◌-◌, ◌⊎◌, inl, inr, ℕ, true, false, List, [], ◌∷◌, ◌++◌, Contains, refl, sym, ap, subst}
+use Rattle.std.proofs.Common.{◌≡◌, ◌-◌, ◌⊎◌, inl, inr, ℕ, true, false, List, [], ◌∷◌, ◌++◌, Contains, refl, sym, subst}
 use Rattle.std.specs.List.{AllByRecursion}
 use Rattle.base_types.specs.Modes.{conflicts}
 use Rattle.base_types.specs.Scans.{build_scans}
 use Rattle.base_types.specs.declared.row.Row.TheVariants as rows
 use Rattle.base_types.specs.declared.scan.Purpose.TheVariants as scans
-use Rattle.ddl_effect.specs.Plans.{Plan, Done, Fails, Absent, NotBuilt, Do, Lookup, Open, Column, Read, Lock, Write}
+use Rattle.ddl_effect.specs.Plans.{Plan, Done, Fails, Absent, NotBuilt, Do, Lookup, Open, Search, Read, Lock, Write}
 use Rattle.ddl_effect.specs.Commands.{found}
 use Rattle.history_model.proofs.Every.{every-append}
 use Rattle.cacheless.specs.Types.{Oid, Mode, Kind, Row, Purpose, Opening}
-use Rattle.cacheless.specs.ActsDone.{LockedRelation, locked_relation_by, after_given, reached, made_first, made_in, relation_by, BeginWith, IsStill, IsFirstStill, AreStill}
+use Rattle.cacheless.specs.ActsDone.{LockedRelation, locked_relation_by, after_given, reached, made_first, made_in, relation_by, BeginWith, ComeAlike, IsStill, IsFirstStill, AreStill}
 use Rattle.cacheless.proofs.Plans.EffectAlong.{plain_row}
 use Rattle.cacheless.proofs.Plans.Ways.{acts}
-use Rattle.cacheless.proofs.Plans.ActOrder.{OpensUnder, FollowsOpen, FollowsFound, FollowsOrder}
+use Rattle.cacheless.proofs.Plans.ActOrder.{IsOfColumn, OpensUnder, FollowsOpen, FollowsFound, FollowsOrder}
 
 -- a scan for a column of a relation, or for its descriptor
 abbrev pub IsOf : Oid → Kind → Purpose → Type 0
-IsOf rel kind scan = ((name : List ℕ) × (scan ≡ scans.AttName rel name)) ⊎ Contains (build_scans kind rel) scan
+IsOf rel kind scan = IsOfColumn rel scan ⊎ Contains (build_scans kind rel) scan
 
 -- a relation stays found, and under a lock that no two backends may hold all its rows stay
 pub record RowsStay (now later : Purpose → List Row) (o : LockedRelation) : Type 0 where
   pub relation : BeginWith o.rel o.kind (now (scans.Class o.rel)) → BeginWith o.rel o.kind (later (scans.Class o.rel))
   pub rows_of : conflicts o.mode o.mode ≡ true → (scan : Purpose) → IsOf o.rel o.kind scan → later scan ≡ now scan
 
+-- where the rows of a scan stay, the rest of a plan makes of them what it made
+alike_later : (now later : Purpose → List Row) (scan : Purpose) (rest : List Row → Plan) (given : List Row) → later scan ≡ now scan → ComeAlike (rest given) (rest (now scan)) → ComeAlike (rest given) (rest (later scan))
+alike_later now later scan rest given same alike = subst (λ l. ComeAlike (rest given) (rest l)) (sym same) alike
+
 still_over : (later : Purpose → List Row) (gave : List (List Row)) (plan : Plan) → acts plan ≡ false → AreStill later plan gave
 still_over later [] plan over = tt
-still_over later (given ∷ gave) Done over = (tt, still_over later gave Done refl)
+still_over later (given ∷ gave) (Done told) over = (tt, still_over later gave (Done told) refl)
 still_over later (given ∷ gave) (Fails error) over = (tt, still_over later gave (Fails error) refl)
 still_over later (given ∷ gave) (Absent name) over = (tt, still_over later gave (Absent name) refl)
 still_over later (given ∷ gave) NotBuilt over = (tt, still_over later gave NotBuilt refl)
@@ -34,22 +38,22 @@ still_over later (given ∷ gave) (Do act rest) over = absurd (cc over)
 still_open : (now later : Purpose → List Row) (most : ℕ) (rel : Oid) (kind : Kind) (gave : List (List Row)) (plan : Plan) → ((scan : Purpose) → IsOf rel kind scan → later scan ≡ now scan) → FollowsOpen most rel kind plan → AreStill now plan gave
     → AreStill later plan gave
 still_open now later most rel kind [] plan stays follows still = tt
-still_open now later most rel kind (given ∷ gave) Done stays follows still = still_over later (given ∷ gave) Done refl
+still_open now later most rel kind (given ∷ gave) (Done told) stays follows still = still_over later (given ∷ gave) (Done told) refl
 still_open now later most rel kind (given ∷ gave) (Fails error) stays follows still = still_over later (given ∷ gave) (Fails error) refl
 still_open now later most rel kind (given ∷ gave) (Absent name) stays follows still = absurd follows
 still_open now later most rel kind (given ∷ gave) NotBuilt stays follows still = absurd follows
 still_open now later most rel kind (given ∷ gave) (Do (Lookup name mode) rest) stays follows still = absurd follows
 still_open now later most rel kind (given ∷ gave) (Do (Open of as_kind) rest) stays follows still = absurd follows
-still_open now later most rel kind (given ∷ gave) (Do (Column of name) rest) stays follows still =
-    (stays (scans.AttName of name) (inl (name, ap (λ o. scans.AttName o name) follows.1)) ∙ still.0, still_open now later (most - 1) rel kind gave (rest given) stays (follows.3 given) still.1)
+still_open now later most rel kind (given ∷ gave) (Do (Search scan) rest) stays follows still =
+    (alike_later now later scan rest given (stays scan (inl follows.1)) still.0, still_open now later (most - 1) rel kind gave (rest given) stays (follows.3 given) still.1)
 still_open now later most rel kind (given ∷ gave) (Do (Read scan) rest) stays follows still =
-    (stays scan (inr follows.1) ∙ still.0, still_open now later (most - 1) rel kind gave (rest given) stays (follows.2 given) still.1)
+    (alike_later now later scan rest given (stays scan (inr follows.1)) still.0, still_open now later (most - 1) rel kind gave (rest given) stays (follows.2 given) still.1)
 still_open now later most rel kind (given ∷ gave) (Do (Lock of mode) rest) stays follows still = absurd follows
 still_open now later most rel kind (given ∷ gave) (Do (Write draft) rest) stays follows still = (tt, still_open now later most rel kind gave (Do (Write draft) rest) stays follows still.1)
 
 -- under a lock that no two backends may hold, or where nothing comes after the opening
 still_under : (now later : Purpose → List Row) (o : LockedRelation) (gave : List (List Row)) (plan : Plan) → RowsStay now later o → FollowsOpen 3 o.rel o.kind plan → OpensUnder o.mode plan → AreStill now plan gave → AreStill later plan gave
-still_under now later o gave Done stays follows under still = still_over later gave Done refl
+still_under now later o gave (Done told) stays follows under still = still_over later gave (Done told) refl
 still_under now later o gave (Fails error) stays follows under still = still_over later gave (Fails error) refl
 still_under now later o gave (Absent name) stays follows under still = absurd follows
 still_under now later o gave NotBuilt stays follows under still = absurd follows
@@ -57,27 +61,27 @@ still_under now later o gave (Do act rest) stays follows under still = still_ope
 
 still_found : (now later : Purpose → List Row) (o : LockedRelation) (gave : List (List Row)) (plan : Plan) → RowsStay now later o → FollowsFound o.mode o.rel o.kind plan → AreStill now plan gave → AreStill later plan gave
 still_found now later o [] plan stays follows still = tt
-still_found now later o (given ∷ gave) Done stays follows still = still_over later (given ∷ gave) Done refl
+still_found now later o (given ∷ gave) (Done told) stays follows still = still_over later (given ∷ gave) (Done told) refl
 still_found now later o (given ∷ gave) (Fails error) stays follows still = still_over later (given ∷ gave) (Fails error) refl
 still_found now later o (given ∷ gave) (Do (Open of as_kind) rest) stays follows still =
     (tt, subst (λ p. AreStill later p gave) (sym (follows.2 given)) (still_under now later o gave (rest []) stays follows.3 follows.4 (subst (λ p. AreStill now p gave) (follows.2 given) still.1)))
 still_found now later o (given ∷ gave) (Absent name) stays follows still = absurd follows
 still_found now later o (given ∷ gave) NotBuilt stays follows still = absurd follows
 still_found now later o (given ∷ gave) (Do (Lookup name mode) rest) stays follows still = absurd follows
-still_found now later o (given ∷ gave) (Do (Column of name) rest) stays follows still = absurd follows
+still_found now later o (given ∷ gave) (Do (Search scan) rest) stays follows still = absurd follows
 still_found now later o (given ∷ gave) (Do (Read scan) rest) stays follows still = absurd follows
 still_found now later o (given ∷ gave) (Do (Lock of mode) rest) stays follows still = absurd follows
 still_found now later o (given ∷ gave) (Do (Write draft) rest) stays follows still = absurd follows
 
 still_lookup : (now later : Purpose → List Row) (name : List ℕ) (mode : Mode) (rest : List Row → Plan) (given : List Row) (gave : List (List Row)) → FollowsOrder (Do (Lookup name mode) rest)
-    → AllByRecursion (RowsStay now later) (locked_relation_by (Lookup name mode) given ++ made_in locked_relation_by gave (rest given)) → IsStill now (Lookup name mode) given → AreStill now (rest given) gave → IsStill later (Lookup name mode) given × AreStill later (rest given) gave
+    → AllByRecursion (RowsStay now later) (locked_relation_by (Lookup name mode) given ++ made_in locked_relation_by gave (rest given)) → IsStill now (Lookup name mode) rest given → AreStill now (rest given) gave → IsStill later (Lookup name mode) rest given × AreStill later (rest given) gave
 still_lookup now later name mode rest given gave follows = by_rows given (follows.0 given)
   where
     absent : (l : List Row) → rest l ≡ Absent name → AreStill later (rest l) gave
     absent l is = subst (λ p. AreStill later p gave) (sym is) (still_over later gave (Absent name) refl)
 
     by_rows : (l : List Row) → rest l ≡ found name (λ rel kind. rest (plain_row rel kind)) l → AllByRecursion (RowsStay now later) (locked_relation_by (Lookup name mode) l ++ made_in locked_relation_by gave (rest l))
-        → IsStill now (Lookup name mode) l → AreStill now (rest l) gave → IsStill later (Lookup name mode) l × AreStill later (rest l) gave
+        → IsStill now (Lookup name mode) rest l → AreStill now (rest l) gave → IsStill later (Lookup name mode) rest l × AreStill later (rest l) gave
     by_rows [] is stay first still = (tt, absent [] is)
     by_rows (rows.Class rel own kind fill ∷ more) is stay first still = (
       stay.0.relation first,
@@ -89,14 +93,14 @@ still_lookup now later name mode rest given gave follows = by_rows given (follow
 -- what a command's acts gave is so still later, where each relation found stays
 pub still_after : (now later : Purpose → List Row) (gave : List (List Row)) (plan : Plan) → FollowsOrder plan → AllByRecursion (RowsStay now later) (made_in locked_relation_by gave plan) → AreStill now plan gave → AreStill later plan gave
 still_after now later [] plan follows stay still = tt
-still_after now later (given ∷ gave) Done follows stay still = still_over later (given ∷ gave) Done refl
+still_after now later (given ∷ gave) (Done told) follows stay still = still_over later (given ∷ gave) (Done told) refl
 still_after now later (given ∷ gave) (Fails error) follows stay still = still_over later (given ∷ gave) (Fails error) refl
 still_after now later (given ∷ gave) (Do (Lookup name mode) rest) follows stay still = still_lookup now later name mode rest given gave follows stay still.0 still.1
 still_after now later (given ∷ gave) (Do (Write draft) rest) follows stay still = (tt, still_after now later gave (Do (Write draft) rest) follows stay still.1)
 still_after now later (given ∷ gave) (Absent name) follows stay still = absurd follows
 still_after now later (given ∷ gave) NotBuilt follows stay still = absurd follows
 still_after now later (given ∷ gave) (Do (Open of as_kind) rest) follows stay still = absurd follows
-still_after now later (given ∷ gave) (Do (Column of name) rest) follows stay still = absurd follows
+still_after now later (given ∷ gave) (Do (Search scan) rest) follows stay still = absurd follows
 still_after now later (given ∷ gave) (Do (Read scan) rest) follows stay still = absurd follows
 still_after now later (given ∷ gave) (Do (Lock of mode) rest) follows stay still = absurd follows
 
@@ -114,7 +118,7 @@ first_found_still now [] (Do (Lookup name mode) rest) still = tt
 first_found_still now (rows.Class rel own kind fill ∷ more) (Do (Lookup name mode) rest) still = (still, tt)
 first_found_still now (row ∷ more) (Do (Lookup name mode) rest) still = tt
 first_found_still now given (Do (Open rel kind) rest) still = tt
-first_found_still now given (Do (Column rel name) rest) still = tt
+first_found_still now given (Do (Search scan) rest) still = tt
 first_found_still now given (Do (Read scan) rest) still = tt
 first_found_still now given (Do (Lock rel mode) rest) still = tt
 first_found_still now given (Do (Write draft) rest) still = tt

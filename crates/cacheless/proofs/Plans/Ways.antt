@@ -1,7 +1,7 @@
 -- The way of a plan: one more act, a plan without an act, and a write, which is not passed.
 use Rattle.std.proofs.Common.{◌≡◌, ◌∙◌, Bool, true, false, List, [], ◌∷◌, ◌++◌, refl, sym, ap, subst, append_assoc, append-nil}
 use Rattle.std.specs.Prelude.{⊤}
-use Rattle.ddl_effect.specs.Plans.{Act, Plan, Done, Fails, Absent, NotBuilt, Do, Lookup, Open, Column, Read, Lock, Write}
+use Rattle.ddl_effect.specs.Plans.{Act, Plan, Done, Fails, Absent, NotBuilt, Do, Lookup, Open, Search, Read, Lock, Write}
 use Rattle.cacheless.specs.Types.{Row, Draft}
 use Rattle.cacheless.specs.ActsDone.{after_given, reached, made_first, made_in}
 
@@ -59,13 +59,13 @@ never_reaches [] plan draft rest never is = subst NeverWrites is never
 never_reaches (given ∷ gave) plan draft rest never is = never_reaches gave (after_given given plan) draft rest (by_plan plan never) is
   where
     by_plan : (p : Plan) → NeverWrites p → NeverWrites (after_given given p)
-    by_plan Done none = tt
+    by_plan (Done told) none = tt
     by_plan (Fails error) none = tt
     by_plan (Absent name) none = tt
     by_plan NotBuilt none = tt
     by_plan (Do (Lookup name mode) more) none = none given
     by_plan (Do (Open rel kind) more) none = none given
-    by_plan (Do (Column rel name) more) none = none given
+    by_plan (Do (Search scan) more) none = none given
     by_plan (Do (Read scan) more) none = none given
     by_plan (Do (Lock rel mode) more) none = none given
     by_plan (Do (Write draft') more) none = absurd none

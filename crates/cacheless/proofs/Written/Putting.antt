@@ -18,15 +18,16 @@ use Rattle.command_answers.specs.declared.error.CommandError.TheVariants as erro
 use Rattle.ddl_effect.specs.declared.alteration.Alteration.TheVariants as alterations
 use Rattle.ddl_effect.specs.declared.altering.Altering.TheVariants as alters
 use Rattle.ddl_effect.specs.declared.exec.Exec.TheVariants as stages
-use Rattle.ddl_effect.specs.declared.search.Search.TheVariants as searches
+use Rattle.ddl_effect.specs.declared.finding.Finding.TheVariants as findings
+use Rattle.ddl_effect.specs.declared.told.Told.TheVariants as tells
 use Rattle.txn_blocks.specs.Blocks.{Blocks, refused_by}
 use Rattle.ddl_effect.specs.Drawing.{drawn_oid}
 use Rattle.ddl_effect.specs.Plans.{Plan, Done}
-use Rattle.ddl_effect.specs.Commands.{plan_of, found, if_passes, if_no_column, first_twice, writing, opening, is_table, new_column, new_table, altering, column_there, with_column, column_free, reading, changing, adding, as_dropped, deleting, is_default_of, column_number, dropping, with_name, renaming, with_stat, most_stat, targeting, with_fill, filling}
+use Rattle.ddl_effect.specs.Commands.{plan_of, found, if_passes, if_no_column, first_twice, writing, opening, searching, showing, telling_columns, telling_column, is_table, new_column, new_table, altering, column_there, with_column, column_free, reading, changing, adding, as_dropped, deleting, is_default_of, column_number, dropping, with_name, renaming, with_stat, most_stat, targeting, with_fill, filling}
 use Rattle.ddl_effect.specs.Stages.{plan_at, plan_again, altering_at, altering_again, altered, name_sought, plan_found}
 use Rattle.ddl_effect.specs.declared.alteration.Alteration.{Alteration}
 use Rattle.ddl_effect.specs.declared.altering.Altering.{Altering}
-use Rattle.ddl_effect.specs.declared.search.Search.{Search}
+use Rattle.ddl_effect.specs.declared.finding.Finding.{Finding}
 use Rattle.cacheless.specs.Types.{Oid, Kind, Row, Purpose, Command, CommandError, Exec, Opening}
 use Rattle.history_model.proofs.Asking.{oid_eq}
 use Rattle.cacheless.specs.Puts.{is_opened, PutOpened, AreGivenBy, PutsOpened}
@@ -116,25 +117,32 @@ opened_last opened rel kind = list_any-append (λ o. same_oid o.rel rel) opened 
 puts_altering : (opened : List Opening) (name : List ℕ) (alteration : Alteration) (rel : Oid) (kind : Kind) → PutsOpened opened (altering name (altered alteration) rel kind)
 puts_altering opened name alteration rel kind = puts_if_passes opened (is_table kind) (errors.NotTable name) (opening rel kind (altered alteration rel)) (λ given. puts_altered (opened ++ record { rel = rel; kind = kind } ∷ []) alteration rel (opened_last opened rel kind))
 
--- a search for a relation, and what comes after it
-puts_found_by : (opened : List Opening) (search : Search) (rel : Oid) (kind : Kind) → PutsOpened opened (plan_found search rel kind)
-puts_found_by opened (searches.Show name) rel kind = λ given. tt
-puts_found_by opened (searches.ShowField name field) rel kind = puts_if_passes opened (has_field kind field) (errors.NoField name field) (opening rel kind Done) (λ given. tt)
-puts_found_by opened (searches.LockTable name mode) rel kind = puts_if_passes opened (is_table kind) (errors.NotTable name) Done tt
+-- a command that finds a relation first
+puts_told : (opened : List Opening) (column : List ℕ) (given : List Row) → PutsOpened opened (telling_column column given)
+puts_told opened column [] = tt
+puts_told opened column (rows.Att rel num own col_type stat live ∷ more) = tt
+puts_told opened column (row ∷ more) = tt
 
-pub puts_searching : (opened : List Opening) (search : Search) → PutsOpened opened (plan_at (stages.Finding search))
-puts_searching opened search = puts_found opened (name_sought search) (plan_found search) (puts_found_by opened search)
+puts_found_by : (opened : List Opening) (finding : Finding) (rel : Oid) (kind : Kind) → PutsOpened opened (plan_found finding rel kind)
+puts_found_by opened (findings.Show name) rel kind = λ given. tt
+puts_found_by opened (findings.ShowField name field) rel kind = puts_if_passes opened (has_field kind field) (errors.NoField name field) (showing (Some field) rel kind) (λ given. tt)
+puts_found_by opened (findings.LockTable name mode) rel kind = puts_if_passes opened (is_table kind) (errors.NotTable name) (Done tells.Ok) tt
+puts_found_by opened (findings.Columns name) rel kind = puts_if_passes opened (is_table kind) (errors.NotTable name) (searching (scans.AttList rel) telling_columns) (λ given asked. tt)
+puts_found_by opened (findings.Column name column) rel kind = puts_if_passes opened (is_table kind) (errors.NotTable name) (searching (scans.AttName rel column) (telling_column column)) (λ given asked. puts_told opened column given)
+
+pub puts_sought : (opened : List Opening) (finding : Finding) → PutsOpened opened (plan_at (stages.Finding finding))
+puts_sought opened finding = puts_found opened (name_sought finding) (plan_found finding) (puts_found_by opened finding)
 
 pub puts_finding : (opened : List Opening) (name : List ℕ) (alteration : Alteration) → PutsOpened opened (altering_at (alters.Finding name alteration))
 puts_finding opened name alteration = puts_found opened name (altering name (altered alteration)) (puts_altering opened name alteration)
 
--- so does a command whose search is made anew
+-- so does a command whose lookup is made anew
 alters_again : (opened : List Opening) (altering : Altering) → PutsOpened opened (altering_at altering) → PutsOpened opened (altering_again altering)
 alters_again opened (alters.Missing name alteration) puts = puts_finding opened name alteration
 alters_again opened stage puts = puts
 
 pub puts_again : (opened : List Opening) (exec : Exec) → PutsOpened opened (plan_at exec) → PutsOpened opened (plan_again exec)
-puts_again opened (stages.Missing search) puts = puts_searching opened search
+puts_again opened (stages.Missing finding) puts = puts_sought opened finding
 puts_again opened (stages.Altering altering) puts = alters_again opened altering puts
 puts_again opened stage puts = puts
 
@@ -149,9 +157,9 @@ puts_creating opened name columns true (Some column) = tt
 puts_creating opened name columns true None = ((tt, puts_columns opened (enumerate_from 1 columns)), λ given. tt)
 
 puts_plan : (opened : List Opening) (command : Command) → PutsOpened opened (plan_of none_open command)
-puts_plan opened (commands.Show name None) = puts_searching opened (searches.Show name)
-puts_plan opened (commands.Show name (Some field)) = puts_searching opened (searches.ShowField name field)
-puts_plan opened (commands.LockTable name mode) = puts_searching opened (searches.LockTable name mode)
+puts_plan opened (commands.Show name None) = puts_sought opened (findings.Show name)
+puts_plan opened (commands.Show name (Some field)) = puts_sought opened (findings.ShowField name field)
+puts_plan opened (commands.LockTable name mode) = puts_sought opened (findings.LockTable name mode)
 puts_plan opened (commands.CreateTable name columns) = puts_creating opened name columns (nat_le (length columns) MOST_COLUMNS) (first_twice [] (map (λ c. c.name) columns))
 puts_plan opened (commands.AddColumn name column col_type) = puts_finding opened name (alterations.AddColumn column col_type)
 puts_plan opened (commands.DropColumn name column) = puts_finding opened name (alterations.DropColumn column)

@@ -10,8 +10,9 @@ use Rattle.base_types.specs.declared.dropped.TheConstants.{MOST_COLUMNS}
 use Rattle.base_types.specs.declared.mode.Mode.TheVariants.{AccessShare, AccessExclusive}
 use Rattle.base_types.specs.declared.row.Row.TheVariants as rows
 use Rattle.command_answers.specs.declared.error.CommandError.TheVariants as errors
+use Rattle.ddl_effect.specs.declared.told.Told.TheVariants as tells
 use Rattle.ddl_effect.specs.Plans.{Plan, Do, Done, Write}
-use Rattle.ddl_effect.specs.Commands.{plan_of, looking_up, if_passes, if_no_column, first_twice, writing, showing, showing_field, opening, is_table, locking, new_table}
+use Rattle.ddl_effect.specs.Commands.{plan_of, looking_up, if_passes, if_no_column, first_twice, writing, showing, showing_field, is_table, locking, new_table}
 use Rattle.cacheless.specs.Runs.{runs}
 use Rattle.history_model.specs.Drawn.{next_oid}
 use Rattle.history_model.specs.Names.{new_names}
@@ -78,20 +79,20 @@ write_finds_none [] draft rest = refl
 write_finds_none (given ∷ gave) draft rest = write_finds_none gave draft rest
 
 creates_finds_none : (gave : List (List Row)) (passes : Bool) (twice : Option (List ℕ)) (draft : Draft) → made_in relation_by gave (if_passes passes errors.TooManyColumns (if_no_column twice (writing draft))) ≡ []
-creates_finds_none gave true None draft = write_finds_none gave draft (λ given. Done)
+creates_finds_none gave true None draft = write_finds_none gave draft (λ given. Done tells.Ok)
 creates_finds_none gave true (Some name) draft = made_in-over relation_by gave _ refl
 creates_finds_none gave false twice draft = made_in-over relation_by gave _ refl
 
 -- a command that found a relation and is about to write alters it
 alters : (command : Command) (gave : List (List Row)) (draft : Draft) (rest : List Row → Plan) (o : Opening) → runs command ≡ true → reached gave (plan_of none_open command) ≡ Do (Write draft) rest → made_in relation_by gave (plan_of none_open command) ≡ o ∷ [] → IsAlteration command
-alters commands.Begin gave draft rest o built on one = absurd (none_reached gave Done (Write draft) rest refl on)
-alters commands.Commit gave draft rest o built on one = absurd (none_reached gave Done (Write draft) rest refl on)
-alters commands.Rollback gave draft rest o built on one = absurd (none_reached gave Done (Write draft) rest refl on)
-alters (commands.Show name None) gave draft rest o built on one = absurd (never_reaches gave (looking_up name AccessShare showing) draft rest (lookup_never name AccessShare showing (λ rel kind given. tt)) on)
+alters commands.Begin gave draft rest o built on one = absurd (none_reached gave (Done tells.Ok) (Write draft) rest refl on)
+alters commands.Commit gave draft rest o built on one = absurd (none_reached gave (Done tells.Commit) (Write draft) rest refl on)
+alters commands.Rollback gave draft rest o built on one = absurd (none_reached gave (Done tells.Ok) (Write draft) rest refl on)
+alters (commands.Show name None) gave draft rest o built on one = absurd (never_reaches gave (looking_up name AccessShare (showing None)) draft rest (lookup_never name AccessShare (showing None) (λ rel kind given. tt)) on)
 alters (commands.Show name (Some field)) gave draft rest o built on one =
-    absurd (never_reaches gave (looking_up name AccessShare (showing_field name field)) draft rest (lookup_never name AccessShare (showing_field name field) (λ rel kind. passes_never (has_field kind field) (errors.NoField name field) (opening rel kind Done) (λ given. tt))) on)
+    absurd (never_reaches gave (looking_up name AccessShare (showing_field name field)) draft rest (lookup_never name AccessShare (showing_field name field) (λ rel kind. passes_never (has_field kind field) (errors.NoField name field) (showing (Some field) rel kind) (λ given. tt))) on)
 alters (commands.LockTable name mode) gave draft rest o built on one =
-    absurd (never_reaches gave (looking_up name mode (locking name)) draft rest (lookup_never name mode (locking name) (λ rel kind. passes_never (is_table kind) (errors.NotTable name) Done tt)) on)
+    absurd (never_reaches gave (looking_up name mode (locking name)) draft rest (lookup_never name mode (locking name) (λ rel kind. passes_never (is_table kind) (errors.NotTable name) (Done tells.Ok) tt)) on)
 alters (commands.CreateTable name columns) gave draft rest o built on one =
     absurd (let no : [] ≡ o ∷ [] = sym (creates_finds_none gave (nat_le (length columns) MOST_COLUMNS) (first_twice [] (map (λ (c : NewColumn). c.name) columns)) (new_table name columns)) ∙ one in cc no)
 alters (commands.AddColumn name column col_type) gave draft rest o built on one = tt

@@ -1,8 +1,8 @@
 -- Each write of an allowed history changes something.
-use Rattle.std.proofs.Common.{◌≡◌, ◌<◌, ◌∙◌, ℕ, Option, Some, None, List, [], ◌∷◌, ◌++◌, refl, sym, ap, subst, length, slice_get}
+use Rattle.std.proofs.Common.{◌≡◌, ◌<◌, ◌∙◌, ℕ, Option, Some, None, List, [], refl, sym, subst, length, slice_get}
 use Rattle.event_kinds.specs.Entries.{HasChange}
 use Rattle.event_kinds.specs.declared.entry.Event.TheVariants as events
-use Rattle.ddl_effect.specs.Plans.{Lookup, Open, Column, Read, Lock, Write, Plan, Done, Fails, Absent, NotBuilt, Do}
+use Rattle.ddl_effect.specs.Plans.{Lookup, Open, Search, Read, Lock, Write, Plan, Done, Fails, Absent, NotBuilt, Do}
 use Rattle.ddl_effect.specs.Commands.{commands_of}
 use Rattle.history_model.specs.Drawn.{next_oid}
 use Rattle.history_model.specs.Legal.{MayFollow, IsLegal}
@@ -32,10 +32,10 @@ write_some history b s command items sound tables follows writes = by_plan s.lef
         subst (λ l. 0 < length l) (sym are) (write_fits history b (number_of s) (facts_of history b) command way.gave draft rest sound tables way.runs way.holds (sym way.plan ∙ at)).some
     by_plan (Do (Lookup name mode) rest) at are = absurd are
     by_plan (Do (Open rel kind) rest) at are = absurd are
-    by_plan (Do (Column rel name) rest) at are = absurd are
+    by_plan (Do (Search scan) rest) at are = absurd are
     by_plan (Do (Read scan) rest) at are = absurd are
     by_plan (Do (Lock rel mode) rest) at are = absurd are
-    by_plan Done at are = absurd are
+    by_plan (Done told) at are = absurd are
     by_plan (Fails error) at are = absurd are
     by_plan (Absent name) at are = absurd are
     by_plan NotBuilt at are = absurd are

@@ -1,5 +1,5 @@
--- What an alteration writes, while what its acts gave is so still.
-use Rattle.std.proofs.Common.{◌≡◌, ◌∙◌, ◌+◌, ℕ, ℤ, Bool, true, false, List, [], ◌∷◌, ◌++◌, ◌&&◌, inl, inr, ◌⊎◌, refl, sym, ap, subst, length, nat_le, nat_lt, not, int_lt, negsuc, pos}
+-- What an alteration writes, by the rows of now, while what its acts gave is so still.
+use Rattle.std.proofs.Common.{◌≡◌, ◌∙◌, ◌+◌, ℕ, ℤ, Bool, true, false, Option, List, [], ◌∷◌, ◌++◌, ◌&&◌, inl, inr, ◌⊎◌, refl, sym, ap, subst, length, nat_le, nat_lt, not, int_lt, negsuc, pos}
 use Rattle.std.specs.Prelude.{⊤}
 use Rattle.std.specs.Int.{int_min}
 use Rattle.std.specs.List.{find}
@@ -13,98 +13,81 @@ use Rattle.base_types.specs.declared.mode.Mode.TheVariants.{ShareUpdateExclusive
 use Rattle.base_types.specs.declared.row.Row.TheVariants as rows
 use Rattle.base_types.specs.declared.scan.Purpose.TheVariants as scans
 use Rattle.command_answers.specs.declared.error.CommandError.TheVariants as errors
-use Rattle.ddl_effect.specs.Plans.{Plan, Done, Fails, Absent, Do, Write}
-use Rattle.ddl_effect.specs.Effects.{no_changes}
-use Rattle.ddl_effect.specs.Commands.{plan_of, looking_up, if_passes, altering, with_column, without_column, reading, changing, adding, add_column, is_default_of, column_number, deleting, as_dropped, dropping, drop_column, with_name, renaming, rename_column, most_stat, with_stat, targeting, set_statistics, with_fill, filling, set_fillfactor}
+use Rattle.ddl_effect.specs.Plans.{Plan, Fails, Absent, Do, Write}
+use Rattle.ddl_effect.specs.Effects.{Effect, Writes, effect_at, no_changes}
+use Rattle.ddl_effect.specs.Commands.{plan_of, found as found_rows, looking_up, if_passes, altering, column_there, with_column, column_free, without_column, reading, changing, adding, add_column, is_default_of, column_number, deleting, as_dropped, dropping, drop_column, with_name, renaming, rename_column, most_stat, with_stat, targeting, set_statistics, with_fill, filling, set_fillfactor}
 use Rattle.cacheless.specs.Types.{Oid, Mode, AccessExclusive, Row, Purpose, Command, CommandError, Draft, Opening}
 use Rattle.cacheless.specs.ActsDone.{reached, made_in, opening_by, relation_by, BeginWith, AreStill}
-use Rattle.cacheless.proofs.Plans.Ways.{goes_past, none_reached, write_stays}
-use Rattle.cacheless.proofs.Plans.ActOrder.{rows_draft, FollowsOrder, follows_order, HasCome, has_come, at_write, WritesTable, WritesRows}
+use Rattle.cacheless.specs.Settled.{found_by}
+use Rattle.cacheless.proofs.Plans.EffectAlong.{GoesByRelation, effect_along}
+use Rattle.cacheless.proofs.Plans.Ways.{goes_past, none_reached}
+use Rattle.cacheless.proofs.Plans.ActOrder.{rows_draft, FollowsOrder, follows_order, goes_by_relation, HasCome, has_come, at_write, WritesTable, WritesRows}
 
--- what the write that comes next writes
-abbrev next_draft : Plan → Draft
-next_draft (Do (Write draft) rest) = draft
-next_draft plan = no_changes
+abbrev written_in : Effect → Draft
+written_in (Writes draft) = draft
+written_in effect = no_changes
 
-draft_is : (gave : List (List Row)) (written draft : Draft) (first rest : List Row → Plan) → reached gave (Do (Write written) first) ≡ Do (Write draft) rest → draft ≡ written
-draft_is gave written draft first rest on = ap next_draft (sym on ∙ write_stays gave written first)
+-- what a plan comes to that is about to write
+draft_is : (written draft : Draft) → Writes written ≡ Writes draft → draft ≡ written
+draft_is written draft comes = ap written_in (sym comes)
 
--- a test on the way has passed
-passed : (gave : List (List Row)) (passes : Bool) (error : CommandError) (plan : Plan) (draft : Draft) (rest : List Row → Plan) → reached gave (if_passes passes error plan) ≡ Do (Write draft) rest
-    → (passes ≡ true) × (if_passes passes error plan ≡ plan)
-passed gave true error plan draft rest on = (refl, refl)
-passed gave false error plan draft rest on = absurd (none_reached gave (Fails error) (Write draft) rest refl on)
+-- a test has passed
+passed : (now : Purpose → List Row) (found : List (Option Oid)) (passes : Bool) (error : CommandError) (plan : Plan) (draft : Draft) → effect_at now found (if_passes passes error plan) ≡ Writes draft → (passes ≡ true) × (effect_at now found plan ≡ Writes draft)
+passed now found true error plan draft comes = (refl, comes)
+passed now found false error plan draft comes = absurd (cc comes)
 
--- on the way to a write a column was there
-record ColumnThere (now : Purpose → List Row) (rel : Oid) (column : List ℕ) (further : Row → Plan) (draft : Draft) (rest : List Row → Plan) : Type 0 where
+-- a column is there
+record ColumnThere (now : Purpose → List Row) (found : List (Option Oid)) (rel : Oid) (column : List ℕ) (further : Row → Plan) (draft : Draft) : Type 0 where
   row : Row
   more : List Row
   there : now (scans.AttName rel column) ≡ row ∷ more
-  gave : List (List Row)
-  still : AreStill now (further row) gave
-  on : reached gave (further row) ≡ Do (Write draft) rest
+  comes : effect_at now found (further row) ≡ Writes draft
 
-column_was_there : (now : Purpose → List Row) (rel : Oid) (column : List ℕ) (further : Row → Plan) (gave : List (List Row)) (draft : Draft) (rest : List Row → Plan)
-    → AreStill now (with_column rel column further) gave → reached gave (with_column rel column further) ≡ Do (Write draft) rest → ColumnThere now rel column further draft rest
-column_was_there now rel column further [] draft rest still on = absurd (let no : true ≡ false = ap goes_past on in cc no)
-column_was_there now rel column further ([] ∷ gave) draft rest still on = absurd (none_reached gave (Fails (errors.NoColumn column)) (Write draft) rest refl on)
-column_was_there now rel column further ((row ∷ more) ∷ gave) draft rest still on = record { row = row; more = more; there = still.0; gave = gave; still = still.1; on = on }
+column_is_there : (now : Purpose → List Row) (found : List (Option Oid)) (rel : Oid) (column : List ℕ) (further : Row → Plan) (draft : Draft) → effect_at now found (with_column rel column further) ≡ Writes draft → ColumnThere now found rel column further draft
+column_is_there now found rel column further draft comes = by_rows (now (scans.AttName rel column)) refl comes
+  where
+    by_rows : (given : List Row) → now (scans.AttName rel column) ≡ given → effect_at now found (column_there column further given) ≡ Writes draft → ColumnThere now found rel column further draft
+    by_rows [] is to = absurd (cc to)
+    by_rows (row ∷ more) is to = record { row = row; more = more; there = is; comes = to }
 
--- or there was none
-record ColumnFree (now : Purpose → List Row) (rel : Oid) (column : List ℕ) (plan : Plan) (draft : Draft) (rest : List Row → Plan) : Type 0 where
-  free : now (scans.AttName rel column) ≡ []
-  gave : List (List Row)
-  still : AreStill now plan gave
-  on : reached gave plan ≡ Do (Write draft) rest
+-- or there is none
+column_is_free : (now : Purpose → List Row) (found : List (Option Oid)) (rel : Oid) (column : List ℕ) (plan : Plan) (draft : Draft) → effect_at now found (without_column rel column plan) ≡ Writes draft
+    → (now (scans.AttName rel column) ≡ []) × (effect_at now found plan ≡ Writes draft)
+column_is_free now found rel column plan draft comes = by_rows (now (scans.AttName rel column)) refl comes
+  where
+    by_rows : (given : List Row) → now (scans.AttName rel column) ≡ given → effect_at now found (column_free column plan given) ≡ Writes draft → (now (scans.AttName rel column) ≡ []) × (effect_at now found plan ≡ Writes draft)
+    by_rows [] is to = (is, to)
+    by_rows (row ∷ more) is to = absurd (cc to)
 
-column_was_free : (now : Purpose → List Row) (rel : Oid) (column : List ℕ) (plan : Plan) (gave : List (List Row)) (draft : Draft) (rest : List Row → Plan)
-    → AreStill now (without_column rel column plan) gave → reached gave (without_column rel column plan) ≡ Do (Write draft) rest → ColumnFree now rel column plan draft rest
-column_was_free now rel column plan [] draft rest still on = absurd (let no : true ≡ false = ap goes_past on in cc no)
-column_was_free now rel column plan ([] ∷ gave) draft rest still on = record { free = still.0; gave = gave; still = still.1; on = on }
-column_was_free now rel column plan ((row ∷ more) ∷ gave) draft rest still on = absurd (none_reached gave (Fails (errors.ColumnExists column)) (Write draft) rest refl on)
-
--- or rows were read
-record RowsRead (now : Purpose → List Row) (scan : Purpose) (further : List Row → Plan) (draft : Draft) (rest : List Row → Plan) : Type 0 where
-  gave : List (List Row)
-  still : AreStill now (further (now scan)) gave
-  on : reached gave (further (now scan)) ≡ Do (Write draft) rest
-
-rows_were_read : (now : Purpose → List Row) (scan : Purpose) (further : List Row → Plan) (gave : List (List Row)) (draft : Draft) (rest : List Row → Plan)
-    → AreStill now (reading scan further) gave → reached gave (reading scan further) ≡ Do (Write draft) rest → RowsRead now scan further draft rest
-rows_were_read now scan further [] draft rest still on = absurd (let no : true ≡ false = ap goes_past on in cc no)
-rows_were_read now scan further (given ∷ gave) draft rest still on = record {
-  gave = gave;
-  still = subst (λ l. AreStill now (further l) gave) (sym still.0) still.1;
-  on = ap (λ l. reached gave (further l)) still.0 ∙ on;
-}
-
--- or a table was found and its descriptor opened
-record TableFound (now : Purpose → List Row) (relations : List Opening) (further : Oid → Plan) (draft : Draft) (rest : List Row → Plan) : Type 0 where
+-- or a table was found, and what comes after its opening is about to write
+record TableFound (now : Purpose → List Row) (relations : List Opening) (further : Oid → Plan) (draft : Draft) : Type 0 where
   rel : Oid
   others : List Opening
   first : relations ≡ record { rel = rel; kind = Table } ∷ others
   begins : BeginWith rel Table (now (scans.Class rel))
-  gave : List (List Row)
-  still : AreStill now (further rel) gave
-  on : reached gave (further rel) ≡ Do (Write draft) rest
+  found : List (Option Oid)
+  comes : effect_at now found (further rel) ≡ Writes draft
 
-table_was_found : (now : Purpose → List Row) (name : List ℕ) (mode : Mode) (further : Oid → Plan) (gave : List (List Row)) (draft : Draft) (rest : List Row → Plan)
+table_was_found : (now : Purpose → List Row) (name : List ℕ) (mode : Mode) (further : Oid → Plan) (gave : List (List Row)) (draft : Draft) (rest : List Row → Plan) → GoesByRelation (looking_up name mode (altering name further))
     → AreStill now (looking_up name mode (altering name further)) gave → reached gave (looking_up name mode (altering name further)) ≡ Do (Write draft) rest
-    → TableFound now (made_in relation_by gave (looking_up name mode (altering name further))) further draft rest
-table_was_found now name mode further [] draft rest still on = absurd (let no : true ≡ false = ap goes_past on in cc no)
-table_was_found now name mode further ([] ∷ gave) draft rest still on = absurd (none_reached gave (Absent name) (Write draft) rest refl on)
-table_was_found now name mode further ((rows.Class rel own Table fill ∷ more) ∷ []) draft rest still on = absurd (let no : true ≡ false = ap goes_past on in cc no)
-table_was_found now name mode further ((rows.Class rel own Table fill ∷ more) ∷ opened ∷ gave) draft rest still on = record {
+    → TableFound now (made_in relation_by gave (looking_up name mode (altering name further))) further draft
+table_was_found now name mode further [] draft rest goes still on = absurd (let no : true ≡ false = ap goes_past on in cc no)
+table_was_found now name mode further ([] ∷ gave) draft rest goes still on = absurd (none_reached gave (Absent name) (Write draft) rest refl on)
+table_was_found now name mode further ((rows.Class rel own Table fill ∷ more) ∷ []) draft rest goes still on = absurd (let no : true ≡ false = ap goes_past on in cc no)
+table_was_found now name mode further ((rows.Class rel own Table fill ∷ more) ∷ opened ∷ gave) draft rest goes still on = record {
   rel = rel;
   others = made_in relation_by gave (further rel);
   first = refl;
   begins = still.0;
-  gave = gave;
-  still = still.1.1;
-  on = on;
+  found = later;
+  comes = sym (ap (λ l. effect_at now later (found_rows name (altering name further) l)) still.0.are)
+      ∙ effect_along now (looking_up name mode (altering name further)) ((rows.Class rel own Table fill ∷ more) ∷ opened ∷ gave) [] goes still ∙ ap (effect_at now []) on;
 }
-table_was_found now name mode further ((rows.Class rel own Index fill ∷ more) ∷ gave) draft rest still on = absurd (none_reached gave (Fails (errors.NotTable name)) (Write draft) rest refl on)
-table_was_found now name mode further ((row ∷ more) ∷ gave) draft rest still on = absurd (none_reached gave (Absent name) (Write draft) rest refl on)
+  where
+    later : List (Option Oid)
+    later = made_in found_by gave (further rel) ++ []
+table_was_found now name mode further ((rows.Class rel own Index fill ∷ more) ∷ gave) draft rest goes still on = absurd (none_reached gave (Fails (errors.NotTable name)) (Write draft) rest refl on)
+table_was_found now name mode further ((row ∷ more) ∷ gave) draft rest goes still on = absurd (none_reached gave (Absent name) (Write draft) rest refl on)
 
 abbrev others_of : List Opening → List Opening
 others_of [] = []
@@ -182,17 +165,16 @@ adds_column : (now : Purpose → List Row) (held : List Oid) (name column : List
     → AreStill now (plan_of held (commands.AddColumn name column col_type)) gave → reached gave (plan_of held (commands.AddColumn name column col_type)) ≡ Do (Write draft) rest
     → AddsColumn now (made_in relation_by gave (plan_of held (commands.AddColumn name column col_type))) column col_type draft
 adds_column now held name column col_type gave draft rest still on =
-    let table = table_was_found now name AccessExclusive (add_column column col_type) gave draft rest still on in
-    let free = column_was_free now table.rel column (reading (scans.Attribute table.rel) (adding table.rel column col_type)) table.gave draft rest table.still table.on in
-    let read = rows_were_read now (scans.Attribute table.rel) (adding table.rel column col_type) free.gave draft rest free.still free.on in
-    let test = passed read.gave (nat_lt (length (now (scans.Attribute table.rel))) MOST_COLUMNS) errors.TooManyColumns (changing (added table.rel)) draft rest read.on in
+    let table = table_was_found now name AccessExclusive (add_column column col_type) gave draft rest (goes_by_relation held (commands.AddColumn name column col_type) refl) still on in
+    let free = column_is_free now table.found table.rel column (reading (scans.Attribute table.rel) (adding table.rel column col_type)) draft table.comes in
+    let test = passed now table.found (nat_lt (length (now (scans.Attribute table.rel))) MOST_COLUMNS) errors.TooManyColumns (changing (added table.rel)) draft free.1 in
     record {
       rel = table.rel;
       found_is = only_one gave plan draft rest (record { rel = table.rel; kind = Table }) table.others (follows_order held (commands.AddColumn name column col_type) refl) on table.first;
       begins = table.begins;
-      free = free.free;
+      free = free.0;
       few = test.0;
-      is = draft_is read.gave (rows_draft (added table.rel)) draft (λ given. Done) rest (ap (reached read.gave) (sym test.1) ∙ read.on);
+      is = draft_is (rows_draft (added table.rel)) draft test.1;
     }
   where
     plan : Plan
@@ -205,9 +187,8 @@ drops_column : (now : Purpose → List Row) (held : List Oid) (name column : Lis
     → AreStill now (plan_of held (commands.DropColumn name column)) gave → reached gave (plan_of held (commands.DropColumn name column)) ≡ Do (Write draft) rest
     → DropsColumn now (made_in relation_by gave (plan_of held (commands.DropColumn name column))) column draft
 drops_column now held name column gave draft rest still on =
-    let table = table_was_found now name AccessExclusive (drop_column column) gave draft rest still on in
-    let there = column_was_there now table.rel column (λ row. reading (scans.AttrDef table.rel) (dropping row)) table.gave draft rest table.still table.on in
-    let read = rows_were_read now (scans.AttrDef table.rel) (dropping there.row) there.gave draft rest there.still there.on in
+    let table = table_was_found now name AccessExclusive (drop_column column) gave draft rest (goes_by_relation held (commands.DropColumn name column) refl) still on in
+    let there = column_is_there now table.found table.rel column (λ row. reading (scans.AttrDef table.rel) (dropping row)) draft table.comes in
     record {
       rel = table.rel;
       found_is = only_one gave (plan_of held (commands.DropColumn name column)) draft rest (record { rel = table.rel; kind = Table }) table.others (follows_order held (commands.DropColumn name column) refl) on table.first;
@@ -215,16 +196,16 @@ drops_column now held name column gave draft rest still on =
       row = there.row;
       more = there.more;
       there = there.there;
-      is = draft_is read.gave (rows_draft (deleting (find (is_default_of (column_number there.row)) (now (scans.AttrDef table.rel))) ++ Replace (as_dropped there.row) ∷ [])) draft (λ given. Done) rest read.on;
+      is = draft_is (rows_draft (deleting (find (is_default_of (column_number there.row)) (now (scans.AttrDef table.rel))) ++ Replace (as_dropped there.row) ∷ [])) draft there.comes;
     }
 
 renames_column : (now : Purpose → List Row) (held : List Oid) (name column to : List ℕ) (gave : List (List Row)) (draft : Draft) (rest : List Row → Plan)
     → AreStill now (plan_of held (commands.RenameColumn name column to)) gave → reached gave (plan_of held (commands.RenameColumn name column to)) ≡ Do (Write draft) rest
     → RenamesColumn now (made_in relation_by gave (plan_of held (commands.RenameColumn name column to))) column to draft
 renames_column now held name column to gave draft rest still on =
-    let table = table_was_found now name AccessExclusive (rename_column column to) gave draft rest still on in
-    let there = column_was_there now table.rel column (renaming to table.rel) table.gave draft rest table.still table.on in
-    let free = column_was_free now table.rel to (changing (Replace (with_name to there.row) ∷ [])) there.gave draft rest there.still there.on in
+    let table = table_was_found now name AccessExclusive (rename_column column to) gave draft rest (goes_by_relation held (commands.RenameColumn name column to) refl) still on in
+    let there = column_is_there now table.found table.rel column (renaming to table.rel) draft table.comes in
+    let free = column_is_free now table.found table.rel to (changing (Replace (with_name to there.row) ∷ [])) draft there.comes in
     record {
       rel = table.rel;
       found_is = only_one gave (plan_of held (commands.RenameColumn name column to)) draft rest (record { rel = table.rel; kind = Table }) table.others (follows_order held (commands.RenameColumn name column to) refl) on table.first;
@@ -232,8 +213,8 @@ renames_column now held name column to gave draft rest still on =
       row = there.row;
       more = there.more;
       there = there.there;
-      free = free.free;
-      is = draft_is free.gave (rows_draft (Replace (with_name to there.row) ∷ [])) draft (λ given. Done) rest free.on;
+      free = free.0;
+      is = draft_is (rows_draft (Replace (with_name to there.row) ∷ [])) draft free.1;
     }
 
 not_true : (t : Bool) → not t ≡ true → t ≡ false
@@ -244,9 +225,9 @@ sets_statistics : (now : Purpose → List Row) (held : List Oid) (name column : 
     → AreStill now (plan_of held (commands.SetStatistics name column stat)) gave → reached gave (plan_of held (commands.SetStatistics name column stat)) ≡ Do (Write draft) rest
     → SetsStatistics now (made_in relation_by gave (plan_of held (commands.SetStatistics name column stat))) column stat draft
 sets_statistics now held name column stat gave draft rest still on =
-    let table = table_was_found now name ShareUpdateExclusive (set_statistics column stat) gave draft rest still on in
-    let test = passed table.gave (not (int_lt stat (negsuc 0))) (errors.OutOfRange stat) (with_column table.rel column (targeting stat)) draft rest table.on in
-    let there = column_was_there now table.rel column (targeting stat) table.gave draft rest (subst (λ p. AreStill now p table.gave) test.1 table.still) (ap (reached table.gave) (sym test.1) ∙ table.on) in
+    let table = table_was_found now name ShareUpdateExclusive (set_statistics column stat) gave draft rest (goes_by_relation held (commands.SetStatistics name column stat) refl) still on in
+    let test = passed now table.found (not (int_lt stat (negsuc 0))) (errors.OutOfRange stat) (with_column table.rel column (targeting stat)) draft table.comes in
+    let there = column_is_there now table.found table.rel column (targeting stat) draft test.1 in
     record {
       rel = table.rel;
       found_is = only_one gave (plan_of held (commands.SetStatistics name column stat)) draft rest (record { rel = table.rel; kind = Table }) table.others (follows_order held (commands.SetStatistics name column stat) refl) on table.first;
@@ -255,23 +236,22 @@ sets_statistics now held name column stat gave draft rest still on =
       row = there.row;
       more = there.more;
       there = there.there;
-      is = draft_is there.gave (rows_draft (Replace (with_stat (int_min stat most_stat) there.row) ∷ [])) draft (λ given. Done) rest there.on;
+      is = draft_is (rows_draft (Replace (with_stat (int_min stat most_stat) there.row) ∷ [])) draft there.comes;
     }
 
 sets_fillfactor : (now : Purpose → List Row) (held : List Oid) (name : List ℕ) (fill : ℕ) (gave : List (List Row)) (draft : Draft) (rest : List Row → Plan)
     → AreStill now (plan_of held (commands.SetFillfactor name fill)) gave → reached gave (plan_of held (commands.SetFillfactor name fill)) ≡ Do (Write draft) rest
     → SetsFillfactor now (made_in relation_by gave (plan_of held (commands.SetFillfactor name fill))) fill draft
 sets_fillfactor now held name fill gave draft rest still on =
-    let table = table_was_found now name ShareUpdateExclusive (set_fillfactor fill) gave draft rest still on in
-    let test = passed table.gave (nat_le 10 fill && nat_le fill 100) (errors.OutOfRange (pos fill)) (reading (scans.Class table.rel) (filling fill)) draft rest table.on in
-    let read = rows_were_read now (scans.Class table.rel) (filling fill) table.gave draft rest (subst (λ p. AreStill now p table.gave) test.1 table.still) (ap (reached table.gave) (sym test.1) ∙ table.on) in
+    let table = table_was_found now name ShareUpdateExclusive (set_fillfactor fill) gave draft rest (goes_by_relation held (commands.SetFillfactor name fill) refl) still on in
+    let test = passed now table.found (nat_le 10 fill && nat_le fill 100) (errors.OutOfRange (pos fill)) (reading (scans.Class table.rel) (filling fill)) draft table.comes in
     record {
       rel = table.rel;
       found_is = only_one gave (plan_of held (commands.SetFillfactor name fill)) draft rest (record { rel = table.rel; kind = Table }) table.others (follows_order held (commands.SetFillfactor name fill) refl) on table.first;
       begins = table.begins;
       in_range = test.0;
-      is = draft_is read.gave (rows_draft (Replace (with_fill fill (rows.Class table.rel table.begins.name Table table.begins.fill)) ∷ [])) draft (λ given. Done) rest
-          (ap (λ l. reached read.gave (filling fill l)) (sym table.begins.are) ∙ read.on);
+      is = draft_is (rows_draft (Replace (with_fill fill (rows.Class table.rel table.begins.name Table table.begins.fill)) ∷ [])) draft
+          (sym (ap (λ l. effect_at now table.found (filling fill l)) table.begins.are) ∙ test.1);
     }
 
 -- each alteration writes what it has to by the rows of now

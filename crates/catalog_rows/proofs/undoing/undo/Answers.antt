@@ -21,3 +21,6 @@ returns-clause-current c =
 pub returns-clause-slots : goal.returns-clause-slots
 returns-clause-slots c =
     back_all c.args.xid c.args.from c.args.lists.now c.own.result.now c.args.slots.now c.take_back.new.slots (c.own.ensures ∙ ap (λ touched. own_at touched c.args.xid.0) c.deref.ensures.value) c.requires.indexed c.take_back.ensures.settles
+
+pub returns-clause-whole : goal.returns-clause-whole
+returns-clause-whole c = c.take_back.ensures.whole ∙ ap (λ t. c.args.lists.now.indexes.whole || t) c.has_committed.ensures

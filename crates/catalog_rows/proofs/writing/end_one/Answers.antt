@@ -9,5 +9,5 @@ use Rattle.catalog_rows.proofs.writing.end_one.Goals as goal
 pub returns-in-Some : goal.returns-in-Some
 returns-in-Some c =
     let step = slot_changed (end_if (is_ended c.args.committed.now c.args.stamp c.args.change.now) c.args.stamp) in
-    settles_at step (ended_twice c.args.committed.now c.args.stamp c.args.change.now) c.args.number c.in-Some.at c.args.slots.now c.ended.result c.in-Some.ensures.0 c.in-Some.ensures.1
-    (c.ended.ensures ∙ ap step (c.index-slots-at.is ∙ get_or_default c.args.slots.now c.in-Some.at c.index-slots-at.result None c.in-Some.ensures.1))
+    settles_at step (ended_twice c.args.committed.now c.args.stamp c.args.change.now) c.args.number c.in-Some.at c.args.slots.now c.end_in.new.slot c.in-Some.ensures.0 c.in-Some.ensures.1
+    (c.end_in.ensures ∙ ap step (get_or_default c.args.slots.now c.in-Some.at c.index-slots-at.result None c.in-Some.ensures.1))

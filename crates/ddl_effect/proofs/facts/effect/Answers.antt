@@ -1,8 +1,9 @@
-use Rattle.std.proofs.Common.{◌≡◌, ◌∙◌, List, ap, sym, rules}
+use Rattle.std.proofs.Common.{◌≡◌, ◌<◌, ◌∙◌, List, ap, sym, rules}
 use Rattle.ddl_effect.specs.Types.{Row, Purpose}
 use Rattle.base_types.specs.Scans.{scan_of}
 use Rattle.ddl_effect.specs.Effects.{effect_of, given_for}
-use Rattle.ddl_effect.specs.Stages.{plan_at, want_of}
+use Rattle.ddl_effect.specs.Plans.{after_act}
+use Rattle.ddl_effect.specs.Stages.{plan_at, want_of, acts_left}
 use Rattle.ddl_effect.proofs.Driven.{acts_some, effect_of-after}
 use Rattle.ddl_effect.proofs.facts.effect.Goals as goal
 
@@ -11,9 +12,12 @@ acts-preserved c =
     let rows : Purpose → List Row = λ scan. scan_of scan c.args.facts.now.rows in
     let found : c.in-Ok-rows_for.rows.items ≡ given_for rows c.in_default-next.want = search rules in
     let given : c.deref.result.now ≡ given_for rows (want_of (plan_at c.acts.exec)) = c.deref.ensures.value ∙ found ∙ ap (given_for rows) (sym c.in_default-next.want-is ∙ c.next.ensures) in
-    ap (effect_of rows) c.give.ensures.plan
+    let went : plan_at c.give.new.self ≡ after_act c.deref.result.now (plan_at c.acts.exec) = search rules in
+    ap (effect_of rows) went
     ∙ effect_of-after rows (plan_at c.acts.exec) c.deref.result.now (λ writes. c.in_default-next.not-Write (c.next.ensures ∙ writes)) given
     ∙ c.acts.invariant
 
 pub acts-smaller : goal.acts-smaller
-acts-smaller c = c.give.ensures.less (acts_some c.acts.exec (λ is. c.in_default-next.not-Done (c.next.ensures ∙ is)) (λ error is. c.in_default-next.not-Fails error (c.next.ensures ∙ is)) (λ name is. c.in_default-next.not-Absent name (c.next.ensures ∙ is)))
+acts-smaller c =
+    let less : 0 < acts_left c.acts.exec → acts_left c.give.new.self < acts_left c.acts.exec = search rules in
+    less (acts_some c.acts.exec (λ scan is. c.in_default-next.not-Done scan (c.next.ensures ∙ is)) (λ error is. c.in_default-next.not-Fails error (c.next.ensures ∙ is)) (λ name is. c.in_default-next.not-Absent name (c.next.ensures ∙ is)))

@@ -5,4 +5,4 @@ pub start-requires-clause-call : goal.start-requires-clause-call
 start-requires-clause-call g c = join_call _ _ c.args.self.now c.requires.before
 
 pub returns-clause-enters : goal.returns-clause-enters
-returns-clause-enters g c = join_enters _ _ _ _ _ c.args.self.now _ c.requires.before c.requires.played (c.enter_start.ensures.holds _ _ c.requires.before.waits) c.enter_start.ensures.kept c.start.ensures.appends
+returns-clause-enters g c = join_enters _ _ _ _ _ c.args.self.now _ c.requires.before c.requires.played (c.enter_start.ensures.holds _ _ c.requires.before.waits) c.enter_start.ensures.kept c.enter_start.ensures.answer c.start.ensures.appends

@@ -1,9 +1,12 @@
 use Rattle.std.proofs.Common.{◌∙◌, sym, refl, inl, inr}
-use Rattle.backend_core.proofs.Choosing.NextActs.{open_next, read_none, fails_none}
+use Rattle.backend_core.proofs.Choosing.NextActs.{search_next, open_next, read_none, fails_none}
 use Rattle.backend_core.proofs.backend.Backend.next_of_want.Goals as goal
 
 pub next_of_build-requires : goal.next_of_build-requires
 next_of_build-requires c = record { next = open_next c.args.self.now.progress _ c.requires.still c.requires.free c.requires.whole _ _ _ (c.requires.want ∙ c.in-Open.is) (sym c.first_missing.ensures ∙ c.in-Some.is) }
+
+pub next_of_name-requires : goal.next_of_name-requires
+next_of_name-requires c = record { next = search_next c.args.self.now.progress _ c.requires.still c.requires.free c.requires.whole _ (c.requires.want ∙ c.in-Search.is) }
 
 pub unreachable-requires-in-Read : goal.unreachable-requires-in-Read
 unreachable-requires-in-Read c = elim c.in-Read.is [

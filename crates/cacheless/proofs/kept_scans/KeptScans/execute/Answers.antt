@@ -1,22 +1,17 @@
-use Rattle.std.proofs.Common.{◌∙◌, ◌+◌, ◌-◌, ◌^◌, rules, not, min, length, sym, ap}
-use Rattle.std.specs.List.{list_any}
-use Rattle.std.proofs.lemmas.Fn.{filter_same}
-use Rattle.inval_messages.specs.Messages.{covers}
+use Rattle.std.proofs.Common.{◌<◌, ◌∙◌, take, sym, ap, subst}
+use Rattle.std.specs.List.{AllByRecursion}
 use Rattle.cacheless.specs.State.{kept_spared}
-use Rattle.cacheless.proofs.KeptByRelation.{spares_all, index_spared}
+use Rattle.cacheless.proofs.KeptByRelation.{spares_whole, spares_front, index_spared}
 use Rattle.cacheless.proofs.kept_scans.KeptScans.execute.Goals as goal
 
-pub returns-then-not-tell_of_any : goal.returns-then-not-tell_of_any
-returns-then-not-tell_of_any c =
-    sym c.self.view_is ∙ sym (spares_all c.self.inside.starts c.self.inside.gone c.self.inside.scans.items c.args.messages.now c.self.invariant.found (sym c.tell_of_any.ensures ∙ c.if-not-tell_of_any.true))
-    ∙ ap (kept_spared c.args.messages.now) c.self.view_is
+pub returns-in_default : goal.returns-in_default
+returns-in_default c =
+    sym c.self.view_is ∙ sym (spares_whole c.self.inside.starts c.self.inside.scans.items c.args.messages.now c.in_default.ensures c.self.invariant.found) ∙ ap (kept_spared c.args.messages.now) c.self.view_is
+
+pub spare_from-requires-clause-before : goal.spare_from-requires-clause-before
+spare_from-requires-clause-before c =
+    spares_front c.self.inside.starts c.in-Some.start c.self.inside.scans.items c.since_place-place.result c.args.messages.now c.in-Some.ensures c.self.invariant.found
+    (subst (λ kept. AllByRecursion (λ k. k.at < c.in-Some.start) (take c.since_place-place.result kept)) c.as_slice.ensures.value c.since_place-place.ensures.earlier)
 
 pub invariant_of-self : goal.invariant_of-self
-invariant_of-self c =
-    index_spared c.self.inside.starts c.forget.new.starts c.self.inside.gone _ c.self.inside.scans.items c.retain.new.self.items c.args.messages.now c.forget.ensures c.self.invariant
-    (filter_same _ (λ k. not (list_any (covers k.scan) c.args.messages.now)) _ (λ x b f' k. search rules) _ _ c.retain.ensures.filtered)
-    (c.saturating_add-self-inside.ensures ∙ ap (λ n. min (c.self.inside.gone + n) (2 ^ 64 - 1))
-    (c.saturating_sub.ensures ∙ ap (λ n. n - c.count-left.result) (c.count-before.ensures ∙ ap length c.as_slice.ensures.value) ∙ ap (λ n. length c.self.inside.scans.items - n) (c.count-left.ensures ∙ ap length c.as_slice-2.ensures.value)))
-
-pub returns : goal.returns
-returns c = filter_same _ (λ k. not (list_any (covers k.scan) c.args.messages.now)) _ (λ x b f' k. search rules) _ _ c.retain.ensures.filtered ∙ ap (kept_spared c.args.messages.now) c.self.view_is
+invariant_of-self c = index_spared c.self.inside.starts c.forget.new.starts c.self.inside.sorted c.self.inside.scans.items c.spare_from.new.scans.items c.args.messages.now c.forget.ensures c.self.invariant c.spare_from.ensures

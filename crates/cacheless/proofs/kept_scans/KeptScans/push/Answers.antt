@@ -1,19 +1,22 @@
-use Rattle.std.proofs.Common.{◌≡◌, true, ◌∙◌, length, is_some, nat_eq, sym, ap, subst}
-use Rattle.std.specs.HashMap.{get}
-use Rattle.cacheless.specs.KeptByRelation.{IsIndex}
-use Rattle.cacheless.proofs.KeptByRelation.{started, index_more}
+use Rattle.std.proofs.Common.{◌≡◌, ◌&&◌, ◌-◌, ◌∙◌, true, nat_le, slice_get, List, length, sym, ap, subst}
+use Rattle.std.specs.Option.{option_map_or}
+use Rattle.cacheless.specs.declared.kept_scan.KeptScan.{KeptScan}
+use Rattle.cacheless.specs.KeptByRelation.{starts_by, IsIndex}
+use Rattle.cacheless.proofs.KeptByRelation.{index_started, index_more}
 use Rattle.cacheless.proofs.kept_scans.KeptScans.push.Goals as goal
 
 pub invariant_of-self : goal.invariant_of-self
-invariant_of-self c = started c.self.inside.starts c.note_start.new.starts c.self.inside.gone _ _ c.self.inside.scans.items c.self.invariant c.note_start.ensures.starts (c.count.ensures ∙ ap length c.as_slice.ensures.value) c.saturating_add-start.ensures
+invariant_of-self c = index_started c.self.inside.starts c.note_start.new.starts c.self.inside.sorted c.self.inside.scans.items c.note_start.ensures.stay c.self.invariant
 
 pub invariant_of-self-in_err-push : goal.invariant_of-self-in_err-push
 invariant_of-self-in_err-push c =
-    subst (IsIndex c.note_start.new.starts c.self.inside.gone) (sym c.in_err-push.ensures.items)
-    (started c.self.inside.starts c.note_start.new.starts c.self.inside.gone _ _ c.self.inside.scans.items c.self.invariant c.note_start.ensures.starts (c.count.ensures ∙ ap length c.as_slice.ensures.value) c.saturating_add-start.ensures)
+    subst (IsIndex c.note_start.new.starts c.self.inside.sorted) (sym c.in_err-push.ensures.items)
+    (index_started c.self.inside.starts c.note_start.new.starts c.self.inside.sorted c.self.inside.scans.items c.note_start.ensures.stay c.self.invariant)
 
 pub invariant_of-self-2 : goal.invariant_of-self-2
 invariant_of-self-2 c =
-    index_more c.note_start.new.starts c.self.inside.gone c.self.inside.scans.items c.push.new.self.items c.args.made
-    (started c.self.inside.starts c.note_start.new.starts c.self.inside.gone _ _ c.self.inside.scans.items c.self.invariant c.note_start.ensures.starts (c.count.ensures ∙ ap length c.as_slice.ensures.value) c.saturating_add-start.ensures) c.requires
-    (subst (λ n. is_some (get nat_eq c.note_start.new.starts n) ≡ true) c.relation_of-rel.ensures c.in_ok-note_start.ensures.ok) c.in_ok-push.ensures.items
+    subst (IsIndex c.note_start.new.starts (c.self.inside.sorted && c.comes_last-next.result)) (sym c.in_ok-push.ensures.items)
+    (index_more c.note_start.new.starts c.self.inside.sorted c.comes_last-next.result c.self.inside.scans.items c.args.made
+    (index_started c.self.inside.starts c.note_start.new.starts c.self.inside.sorted c.self.inside.scans.items c.note_start.ensures.stay c.self.invariant) c.requires
+    (subst (λ n. starts_by c.note_start.new.starts n c.args.made.at ≡ true) c.relation_of.ensures c.in_ok-note_start.ensures.ok)
+    (c.comes_last-next.ensures ∙ ap (λ (l : List KeptScan). option_map_or (λ k. nat_le k.at c.args.made.at) (slice_get l (length l - 1)) true) c.as_slice.ensures.value))

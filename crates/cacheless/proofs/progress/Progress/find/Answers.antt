@@ -8,9 +8,10 @@ use Rattle.cacheless.proofs.progress.Progress.find.Goals as goal
 
 pub returns-clause-acts : goal.returns-clause-acts
 returns-clause-acts c = acted_keeps c.args.self.now _ _ _ c.requires.acts c.next-want.ensures
-    (c.give.ensures.plan ∙ ap (λ l. after_act l (plan_at c.args.self.now.exec)) (c.rows_for.ensures ∙ (λ i. rows_for c.next-want.result (c.as_slice.ensures.value i) c.args.self.now.kept)))
-    c.give.ensures.again
+    (c.in_ok-give.ensures.plan ∙ ap (λ l. after_act l (plan_at c.args.self.now.exec)) (c.rows_for.ensures ∙ (λ i. rows_for c.next-want.result (c.as_slice.ensures.value i) c.args.self.now.kept)))
+    c.in_ok-give.ensures.again
+    c.in_ok-give.ensures.oid
     (sym (ap (λ l. c.args.self.now.opened ++ l) (ap opened_for c.next-want.ensures ∙ c.requires.other) ∙ append-nil c.args.self.now.opened))
 
 pub returns-clause-less : goal.returns-clause-less
-returns-clause-less c = omega (arith, c.give.ensures.less (act_is_left c.args.self.now c.requires.acts))
+returns-clause-less c = omega (arith, c.in_ok-give.ensures.less (act_is_left c.args.self.now c.requires.acts))

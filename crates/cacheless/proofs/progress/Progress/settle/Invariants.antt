@@ -1,12 +1,15 @@
 use Rattle.std.proofs.Common.{◌≡◌, List}
 use Rattle.cacheless.specs.Types.{Scenario, Entry}
+use Rattle.cacheless.specs.Answering.{PlacesFit}
 use Rattle.cacheless.specs.Silently.{left_of}
 use Rattle.cacheless.specs.Holds.{Holds}
+use Rattle.cacheless.specs.Telling.{TellsNow, HasGoneOn}
 use Rattle.cacheless.proofs.progress.Progress.settle.Given as goal
 
 abbrev pub invariant-settling : goal.invariant-settling
 invariant-settling l = record {
   holds : (scenario : Scenario) (seen : List Entry) → Holds scenario seen l.fn.self → Holds scenario seen l.self;
+  goes : (scenario : Scenario) (seen : List Entry) (held : Holds scenario seen l.fn.self) → TellsNow scenario seen l.fn.self held → PlacesFit seen l.fn.self → HasGoneOn scenario seen l.fn.self held l.fn.lines l.self l.lines;
   kept : l.self.kept ≡ l.fn.self.kept;
   given_at : l.self.given_at ≡ l.fn.self.given_at;
   same : l.self.commands ≡ l.fn.self.commands;

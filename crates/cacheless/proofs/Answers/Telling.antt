@@ -1,0 +1,319 @@
+-- What a backend answers without an entry is what the history says.
+use Rattle.std.proofs.Common.{◌≡◌, ◌≤◌, ◌+◌, ◌∙◌, ◌&&◌, ◌||◌, ℕ, Bool, true, false, Option, Some, None, List, [], ◌∷◌, ◌++◌, refl, sym, ap, subst, length, drop, slice_get, is_some, is_none, unwrap_or, All, arith}
+use Rattle.std.specs.Option.{option_map}
+use Rattle.std.proofs.Math.Bool.{or-true}
+use Rattle.std.proofs.lemmas.Bool.{both_ways, and_parts}
+use Rattle.ddl_effect.specs.Commands.{commands_of}
+use Rattle.base_types.specs.declared.scan.Purpose.TheVariants as scans
+use Rattle.event_kinds.specs.declared.entry.Event.TheVariants as events
+use Rattle.ddl_effect.specs.Plans.{Plan, Act, Absent, Do, Lookup, Open, Search, Read, Lock, Write}
+use Rattle.ddl_effect.specs.Stages.{plan_at}
+use Rattle.txn_blocks.specs.Blocks.{Blocks}
+use Rattle.history_model.specs.Lives.{last_event_of}
+use Rattle.cacheless.specs.Types.{Row, Command, Scenario, Entry, Event, Line}
+use Rattle.cacheless.specs.declared.progress.Progress.{Progress}
+use Rattle.cacheless.specs.Answering.{IsToldText, KeptAt, PlaceFits, PlacesFit}
+use Rattle.cacheless.specs.Facts.{facts_of}
+use Rattle.cacheless.specs.Holds.{Holds, HasActed, HasPassed}
+use Rattle.cacheless.specs.Lines.{line_of, lines_from}
+use Rattle.cacheless.specs.OnCourse.{is_absent, is_over, OnItsWay, EntersCourse}
+use Rattle.cacheless.specs.Session.{Session, number_of, first_of, outcome_of, is_settled, plan_first}
+use Rattle.cacheless.specs.Settled.{act_done, blocks_after, finished_as, next_session}
+use Rattle.cacheless.specs.May.{has_failed, owes_nothing}
+use Rattle.cacheless.specs.Silently.{acts_on, is_ends, is_finished_at, is_to_answer, is_to_answer_at, Answers, Finishes, IsSettled, HasAnswered, IsLineOf}
+use Rattle.cacheless.specs.State.{is_out, end_at, session_at}
+use Rattle.cacheless.specs.Telling.{AreLines, IsJudgedHere, TellsNow, HasGoneOn}
+use Rattle.cacheless.proofs.Plans.ActOrder.{at_lookup}
+use Rattle.cacheless.proofs.Plans.AfterActs.{IsUnfound, after_lookup, after_opening, opening_alike, after_search, after_reading, no_lock}
+use Rattle.cacheless.proofs.Plans.SilentActs.{on_its_way, its_place, made_already, IsDoneHere, is_done_here}
+use Rattle.cacheless.proofs.Entries.EnteredLooks.{not_absent}
+use Rattle.cacheless.proofs.Tests.{both_true}
+use Rattle.cacheless.proofs.Resting.{first_left, left_command}
+use Rattle.cacheless.proofs.Allowed.SettledCourse.{act_enters, finish_enters}
+use Rattle.cacheless.proofs.Answers.JudgedLines.{lines-push}
+use Rattle.cacheless.proofs.Answers.KeptTells.{session_held, told_now}
+
+-- a command that is to be answered is, where none is left
+answered_if : (s : Progress) (command : Command) → (is_none s.answer && is_to_answer command s) ≡ false → is_to_answer command s ≡ true → is_some s.answer ≡ true
+answered_if s command none asked = by_answer s.answer (sym (ap (λ t. is_none s.answer && t) asked) ∙ none)
+  where
+    by_answer : (o : Option (List ℕ)) → (is_none o && true) ≡ false → is_some o ≡ true
+    by_answer None is = absurd (cc is)
+    by_answer (Some text) is = refl
+
+answered_at_rest : (s : Progress) (command : Command) → slice_get s.commands s.finished ≡ Some command → (is_none s.answer && is_to_answer command s) ≡ false → is_to_answer_at s ≡ true → is_some s.answer ≡ true
+answered_at_rest s command at none asked = answered_if s command none (sym (ap (λ o. elim o as (λ x. Bool) [ Some c ↦ is_to_answer c s | None ↦ false ]) at) ∙ asked)
+
+-- a command that is finished is to be answered
+finished_asks : (s : Progress) (command : Command) → is_finished_at command s ≡ true → is_to_answer command s ≡ true
+finished_asks s command finished = both_true (is_out s) (has_failed s || owes_nothing command s) (and_parts (is_out s) _ parts.0).0 (ap (λ t. has_failed s || t) parts.1 ∙ or-true (has_failed s))
+  where
+    parts : ((is_out s && (s.ended || is_ends (end_at s command))) ≡ true) × (owes_nothing command s ≡ true)
+    parts = and_parts (is_out s && (s.ended || is_ends (end_at s command))) (owes_nothing command s) finished
+
+-- so it passes over a command that is finished
+pub finishes : (s : Progress) (command : Command) → slice_get s.commands s.finished ≡ Some command → (is_none s.answer && is_to_answer command s) ≡ false → is_finished_at command s ≡ true → Finishes s
+finishes s command at none finished = record { command = command; at = at; finished = finished; answered = answered_if s command none (finished_asks s command finished) }
+
+-- and rests where there is nothing to do
+pub settled_now : (s : Progress) (command : Command) → slice_get s.commands s.finished ≡ Some command → acts_on command s ≡ false → (is_none s.answer && is_to_answer command s) ≡ false → is_finished_at command s ≡ false → IsSettled s
+settled_now s command at stays none going = record {
+  still = λ other here. subst (λ c. (acts_on c s ≡ false) × (is_finished_at c s ≡ false)) (let both : Some command ≡ Some other = sym at ∙ here in cc both) (stays, going);
+  answered = answered_at_rest s command at none;
+}
+
+-- the running command is that of the session
+at_finished : (scenario : Scenario) (seen : List Entry) (s : Progress) (holds : Holds scenario seen s) → slice_get (commands_of scenario s.id) (length (session_at s holds.rest).finished) ≡ slice_get s.commands s.finished
+at_finished scenario seen s holds = ap (slice_get (commands_of scenario s.id)) holds.count ∙ ap (λ l. slice_get l s.finished) (sym holds.commands)
+
+-- the last entry is over as it was
+over_same : (last : Option Event) (s later : Session) → later.ended ≡ s.ended → is_over last later ≡ is_over last s
+over_same (Some (events.Gone from)) s later same = refl
+over_same last s later same = same
+
+-- a plan that has read nothing rests on no place
+pub place_first : (seen : List Entry) (b : ℕ) (plan : Plan) (at : ℕ) → is_absent plan ≡ false → PlaceFits seen b plan false at
+place_first seen b (Absent name) at there = absurd (cc there)
+place_first seen b (Do (Lookup name mode) rest) at there = tt
+place_first seen b plan at there = tt
+
+-- the place of a lookup that found no relation is that of its scan
+place_absent : (seen : List Entry) (b : ℕ) (s : Session) (command : Command) (act : Act) (rest : List Row → Plan) (given : List Row) (at : ℕ) → (way : OnItsWay seen b s command) → s.left ≡ Do act rest → IsDoneHere (facts_of seen b) s act rest given → PlaceFits seen b s.left s.read at → is_absent (rest given) ≡ true → PlaceFits seen b (rest given) false at
+place_absent seen b s command (Lookup name mode) rest given at way left done fits absent = subst (λ p. PlaceFits seen b p false at) (sym unfound.is)
+    (subst (λ t. PlaceFits seen b (Do (Lookup name mode) rest) t at) (and_parts s.read _ (made_already _ (scans.RelName name) done.owed)).0 (subst (λ p. PlaceFits seen b p s.read at) left fits))
+  where
+    unfound : IsUnfound name (rest given) given
+    unfound = after_lookup name mode rest given (at_lookup _ _ name mode rest (its_place seen b s command (Lookup name mode) rest way left)).2 absent
+place_absent seen b s command (Open rel kind) rest given at way left done fits absent = let come = its_place seen b s command (Open rel kind) rest way left in
+    absurd (both_ways _ (ap is_absent (opening_alike _ _ rel kind rest given come) ∙ after_opening _ _ rel kind rest come) absent)
+place_absent seen b s command (Search scan) rest given at way left done fits absent = absurd (both_ways _ (after_search _ _ scan rest given (its_place seen b s command (Search scan) rest way left)) absent)
+place_absent seen b s command (Read scan) rest given at way left done fits absent = absurd (both_ways _ (after_reading _ _ scan rest given (its_place seen b s command (Read scan) rest way left)) absent)
+place_absent seen b s command (Lock rel mode) rest given at way left done fits absent = absurd (no_lock _ _ rel mode rest (its_place seen b s command (Lock rel mode) rest way left))
+place_absent seen b s command (Write draft) rest given at way left done fits absent = absurd (let no : None ≡ Some given = done.gave in cc no)
+
+-- a command whose next act is done hasn't come out
+unsettled : (scenario : Scenario) (seen : List Entry) (was p : Progress) (held : Holds scenario seen was) (acted : HasActed scenario seen was held p) → is_settled (outcome_of (plan_at was.exec)) ≡ false
+unsettled scenario seen was p held acted = ap (λ x. is_settled (outcome_of x)) acted.left
+
+-- an act leaves the places
+pub act_places : (scenario : Scenario) (seen : List Entry) (was p : Progress) (held : Holds scenario seen was) → EntersCourse scenario seen was.id (session_at was held.rest) → (acted : HasActed scenario seen was held p) → p.kept ≡ was.kept → p.given_at ≡ was.given_at → PlacesFit seen was → PlacesFit seen p
+act_places scenario seen was p held course acted kept given_at places = record {
+  kept = subst (λ b. All (KeptAt seen b) p.kept) (sym acted.moves.id) (subst (All (KeptAt seen was.id)) (sym kept) places.kept);
+  given_at = subst (λ b. PlaceFits seen b (plan_at p.exec) p.read p.given_at) (sym acted.moves.id) (subst (λ n. PlaceFits seen was.id (plan_at p.exec) p.read n) (sym given_at)
+      (subst (λ (x : Session). PlaceFits seen was.id x.left x.read was.given_at) (sym acted.session) (place (is_absent (acted.further acted.given)) refl)));
+}
+  where
+    s : Session
+    s = session_at was held.rest
+
+    place : (t : Bool) → is_absent (acted.further acted.given) ≡ t → PlaceFits seen was.id (acted.further acted.given) false was.given_at
+    place false there = place_first seen was.id (acted.further acted.given) was.given_at there
+    place true absent = place_absent seen was.id s acted.command acted.act acted.further acted.given was.given_at
+        (on_its_way seen was.id s acted.command acted.act acted.further (course.follows acted.command (at_finished scenario seen was held ∙ acted.at)) acted.left) acted.left
+        (is_done_here (facts_of seen was.id) s acted.act acted.further acted.given acted.gives) places.given_at absent
+
+-- after an act the code tells what the history says
+pub act_tells : (scenario : Scenario) (seen : List Entry) (was p : Progress) (held : Holds scenario seen was) → TellsNow scenario seen was held → (acted : HasActed scenario seen was held p) → p.answer ≡ was.answer → TellsNow scenario seen p acted.holds
+act_tells scenario seen was p held now acted same = record {
+  played = now.played;
+  course = subst (λ b. EntersCourse scenario seen b (session_at p acted.holds.rest)) (sym acted.moves.id) (subst (EntersCourse scenario seen was.id) (sym acted.session)
+      (act_enters scenario seen was.id s acted.command acted.act acted.further acted.given (session_held scenario seen was now.played held) (at_finished scenario seen was held ∙ acted.at) acted.free acted.left acted.gives now.course));
+  tells = record {
+    answer = λ text command told at. absurd (both_ways _ going (now.tells.out (ap (λ o. is_some o) (sym same ∙ told))));
+    out = λ some. absurd (both_ways _ going (now.tells.out (ap (λ o. is_some o) (sym same) ∙ some)));
+  };
+  here = λ command at none. let h = now.here command (sym same_command ∙ at) (ap (λ o. is_some o) (sym same) ∙ none) in record {
+    judged = subst (λ (x : Session). length seen ≤ x.judged) (sym acted.session) h.judged;
+    stands = (λ i. is_over (last_event_of seen (acted.moves.id i)) (acted.session i)) ∙ over_same (last_event_of seen was.id) s (act_done acted.act acted.given (acted.further acted.given) s) refl ∙ h.stands;
+  };
+  last = subst (λ (x : Session). length seen ≤ x.last) (sym acted.session) now.last;
+  back = λ from command gone at. absurd (both_ways _ going (now.back from acted.command (ap (last_event_of seen) (sym acted.moves.id) ∙ gone) acted.at).out);
+}
+  where
+    s : Session
+    s = session_at was held.rest
+
+    same_command : slice_get p.commands p.finished ≡ slice_get was.commands was.finished
+    same_command = ap (λ l. slice_get l p.finished) acted.moves.commands ∙ ap (slice_get was.commands) acted.moves.finished
+
+    going : is_settled (outcome_of s.left) ≡ false
+    going = unsettled scenario seen was p held acted
+
+-- and it passes over no command
+pub act_lines : (scenario : Scenario) (seen : List Entry) (was p : Progress) (held : Holds scenario seen was) (acted : HasActed scenario seen was held p) (lines : List Line) → AreLines scenario seen was (session_at was held.rest) lines → AreLines scenario seen p (session_at p acted.holds.rest) lines
+act_lines scenario seen was p held acted lines are = are ∙ (λ i. lines_from scenario seen (sym acted.moves.id i) 1 (sym acted.session i).finished (sym acted.moves.commands i))
+
+-- a command that is answered
+abbrev pub with_answer : Progress → List ℕ → Progress
+with_answer s text = record s { answer = Some text }
+
+-- what is held is held with the answer
+pub answer_holds : (scenario : Scenario) (seen : List Entry) (s : Progress) (text : List ℕ) → Holds scenario seen s → Holds scenario seen (with_answer s text)
+answer_holds scenario seen s text holds = record {
+  number = holds.number;
+  commands = holds.commands;
+  few = holds.few;
+  most = holds.most;
+  rest = holds.rest;
+  count = holds.count;
+  is = holds.is;
+  facts = let f = holds.facts in record { running = f.running; lists = f.lists; owed = f.owed; usable = f.usable; kept = f.kept; given = f.given };
+  counts = holds.counts;
+  order = holds.order;
+  sought = holds.sought;
+  puts = holds.puts;
+}
+
+-- what the code answers is the line of its command
+pub answered_line : (scenario : Scenario) (seen : List Entry) (s : Progress) (command : Command) (text : List ℕ) (holds : Holds scenario seen s) → TellsNow scenario seen s holds → PlacesFit seen s → slice_get s.commands s.finished ≡ Some command → is_to_answer command s ≡ true → s.answer ≡ None → IsToldText s text
+    → record { backend = s.id; command = number_of (session_at s holds.rest); text = text } ≡ line_of scenario seen s.id (number_of (session_at s holds.rest)) (finished_as (session_at s holds.rest)) command
+answered_line scenario seen s command text holds now places at out none told = told_now scenario seen s command text now.played holds (now.course.follows command (at_finished scenario seen s holds ∙ at)) here.stands here.judged places.kept places.given_at out told
+  where
+    here : IsJudgedHere seen s.id (session_at s holds.rest)
+    here = now.here command at (ap (λ o. is_some o) none)
+
+-- so with its answer the code tells what the history says
+pub answer_tells : (scenario : Scenario) (seen : List Entry) (s : Progress) (command : Command) (text : List ℕ) (holds : Holds scenario seen s) → TellsNow scenario seen s holds → PlacesFit seen s → slice_get s.commands s.finished ≡ Some command → is_to_answer command s ≡ true → s.answer ≡ None → IsToldText s text
+    → TellsNow scenario seen (with_answer s text) (answer_holds scenario seen s text holds)
+unfolding answer_holds
+answer_tells scenario seen s command text holds now places at out none told = record {
+  played = now.played;
+  course = now.course;
+  tells = record {
+    answer = λ other c is here. let one : text ≡ other = cc is in let it : command ≡ c = (let both : Some command ≡ Some c = sym at ∙ here in cc both) in
+        (λ i. record { backend = s.id; command = number_of session; text = sym one i }) ∙ answered_line scenario seen s command text holds now places at out none told ∙ ap (line_of scenario seen s.id (number_of session) (finished_as session)) it;
+    out = λ some. (and_parts (is_settled (outcome_of (plan_at s.exec))) _ out).0;
+  };
+  here = λ c here unanswered. absurd (cc unanswered);
+  last = now.last;
+  back = now.back;
+}
+  where
+    session : Session
+    session = session_at s holds.rest
+
+-- what is held is held by a command that is answered
+pub answered_holds : (scenario : Scenario) (seen : List Entry) (was p : Progress) → HasAnswered was p → Holds scenario seen was → Holds scenario seen p
+answered_holds scenario seen was p has holds = subst (Holds scenario seen) (sym has.is) (answer_holds scenario seen was has.text holds)
+
+-- the places are as they were
+pub answer_places : (seen : List Entry) (s : Progress) (text : List ℕ) → PlacesFit seen s → PlacesFit seen (with_answer s text)
+answer_places seen s text places = record { kept = places.kept; given_at = places.given_at }
+
+-- the passing to the next command leaves the places
+pub pass_places : (scenario : Scenario) (seen : List Entry) (was p : Progress) (held : Holds scenario seen was) (passed : HasPassed scenario seen was held p) → p.kept ≡ was.kept → PlacesFit seen was → PlacesFit seen p
+pass_places scenario seen was p held passed kept places = record {
+  kept = subst (λ b. All (KeptAt seen b) p.kept) (sym passed.id) (subst (All (KeptAt seen was.id)) (sym kept) places.kept);
+  given_at = subst (λ (x : Session). PlaceFits seen p.id x.left x.read p.given_at) (sym passed.session) (place_first seen p.id (plan_first blocks next) p.given_at (not_absent blocks next));
+}
+  where
+    next : Option Command
+    next = slice_get was.commands (was.finished + 1)
+
+    blocks : Blocks
+    blocks = blocks_after passed.command (session_at was held.rest)
+
+-- after it the code tells what the history says
+pub pass_tells : (scenario : Scenario) (seen : List Entry) (was p : Progress) (held : Holds scenario seen was) → TellsNow scenario seen was held → (passed : HasPassed scenario seen was held p) → p.answer ≡ None → TellsNow scenario seen p passed.holds
+pass_tells scenario seen was p held now passed none = record {
+  played = now.played;
+  course = subst (λ b. EntersCourse scenario seen b (session_at p passed.holds.rest)) (sym passed.id) (subst (EntersCourse scenario seen was.id) (sym session)
+      (finish_enters scenario seen was.id s passed.command rest left passed.over now.course));
+  tells = record {
+    answer = λ text command told at. absurd (let both : None ≡ Some text = sym none ∙ told in cc both);
+    out = λ some. absurd (both_ways _ (ap (λ o. is_some o) none) some);
+  };
+  here = λ command at unanswered. record {
+    judged = subst (λ (x : Session). length seen ≤ x.judged) (sym passed.session) now.last;
+    stands = (λ i. is_over (last_event_of seen (passed.id i)) (passed.session i)) ∙ begins_over (last_event_of seen was.id) refl;
+  };
+  last = subst (λ (x : Session). length seen ≤ x.last) (sym passed.session) now.last;
+  back = λ from command gone at. absurd (never from (ap (last_event_of seen) (sym passed.id) ∙ gone));
+}
+  where
+    s : Session
+    s = session_at was held.rest
+
+    next : Option Command
+    next = slice_get was.commands (was.finished + 1)
+
+    rest : List Command
+    rest = drop (was.finished + 1) was.commands
+
+    left : passed.command ∷ rest ≡ drop (length s.finished) (commands_of scenario was.id)
+    left = sym (left_command was passed.command passed.at) ∙ ap (drop was.finished) held.commands ∙ ap (λ n. drop n (commands_of scenario was.id)) (sym held.count)
+
+    session : session_at p passed.holds.rest ≡ next_session passed.command (first_of rest) s
+    session = passed.session ∙ ap (λ o. next_session passed.command o s) (sym (first_left was.commands (was.finished + 1)))
+
+    never : (from : ℕ) → last_event_of seen was.id ≡ Some (events.Gone from) → ⊥
+    never from gone = both_ways _ (now.back from passed.command gone passed.at).going passed.over
+
+    begins_over : (last : Option Event) → last_event_of seen was.id ≡ last → is_over last (next_session passed.command next s) ≡ false
+    begins_over (Some (events.Gone from)) is = absurd (never from is)
+    begins_over last is = refl
+
+-- the line of the command that it passes over is that of the history
+pub pass_lines : (scenario : Scenario) (seen : List Entry) (was p : Progress) (held : Holds scenario seen was) → TellsNow scenario seen was held → (passed : HasPassed scenario seen was held p) (lines : List Line) (line : Line) → IsLineOf was line
+    → AreLines scenario seen was (session_at was held.rest) lines → AreLines scenario seen p (session_at p passed.holds.rest) (lines ++ line ∷ [])
+pass_lines scenario seen was p held now passed lines line says are = ap (λ l. l ++ line ∷ []) are
+    ∙ ap (λ (x : Line). lines_from scenario seen was.id 1 s.finished was.commands ++ x ∷ []) (line_is was.answer refl says)
+    ∙ sym (lines-push scenario seen was.id 1 s.finished (finished_as s) was.commands passed.command (ap (slice_get was.commands) held.count ∙ passed.at))
+    ∙ (λ i. lines_from scenario seen (sym passed.id i) 1 (sym passed.session i).finished (sym passed.commands i))
+  where
+    s : Session
+    s = session_at was held.rest
+
+    number_same : number_of s ≡ was.finished + 1
+    number_same = ap (λ n. n + 1) held.count
+
+    line_is : (o : Option (List ℕ)) → was.answer ≡ o → option_map (λ text. record { backend = was.id; command = was.finished + 1; text = text }) o ≡ Some line → line ≡ line_of scenario seen was.id (1 + length s.finished) (finished_as s) passed.command
+    line_is None is said = absurd (cc said)
+    line_is (Some text) is said = sym (ap (λ o. unwrap_or o line) said) ∙ (λ i. record { backend = was.id; command = sym number_same i; text = text }) ∙ now.tells.answer text passed.command is passed.at
+        ∙ ap (λ n. line_of scenario seen was.id n (finished_as s) passed.command) (let n : number_of s ≡ 1 + length s.finished = omega arith in n)
+
+-- each of these goes on
+pub act_goes : (scenario : Scenario) (seen : List Entry) (was p : Progress) (held : Holds scenario seen was) (lines : List Line) → HasActed scenario seen was held p → p.kept ≡ was.kept → p.given_at ≡ was.given_at → p.answer ≡ was.answer → TellsNow scenario seen was held → PlacesFit seen was → HasGoneOn scenario seen was held lines p lines
+act_goes scenario seen was p held lines acted kept given_at same now places = record {
+  holds = acted.holds;
+  tells = act_tells scenario seen was p held now acted same;
+  places = act_places scenario seen was p held now.course acted kept given_at places;
+  id = acted.moves.id;
+  lines_are = act_lines scenario seen was p held acted lines;
+}
+
+pub answer_goes : (scenario : Scenario) (seen : List Entry) (was p : Progress) (held : Holds scenario seen was) (lines : List Line) → Answers was → HasAnswered was p → TellsNow scenario seen was held → PlacesFit seen was → HasGoneOn scenario seen was held lines p lines
+unfolding answer_holds
+answer_goes scenario seen was p held lines asked has now places = subst (λ x. HasGoneOn scenario seen was held lines x lines) (sym has.is) goes
+  where
+    goes : HasGoneOn scenario seen was held lines (with_answer was has.text) lines
+    goes = record {
+      holds = answer_holds scenario seen was has.text held;
+      tells = answer_tells scenario seen was asked.command has.text held now places asked.at asked.out asked.none has.told;
+      places = answer_places seen was has.text places;
+      id = refl;
+      lines_are = λ are. are;
+    }
+
+pub pass_goes : (scenario : Scenario) (seen : List Entry) (was p : Progress) (held : Holds scenario seen was) (lines after : List Line) (line : Line) → HasPassed scenario seen was held p → p.kept ≡ was.kept → p.answer ≡ None → IsLineOf was line → after ≡ lines ++ line ∷ [] → TellsNow scenario seen was held → PlacesFit seen was → HasGoneOn scenario seen was held lines p after
+pass_goes scenario seen was p held lines after line passed kept none says pushed now places = record {
+  holds = passed.holds;
+  tells = pass_tells scenario seen was p held now passed none;
+  places = pass_places scenario seen was p held passed kept places;
+  id = passed.id;
+  lines_are = λ are. pushed ∙ pass_lines scenario seen was p held now passed lines line says are;
+}
+
+-- nothing done is nothing changed
+pub none_goes : (scenario : Scenario) (seen : List Entry) (s : Progress) (held : Holds scenario seen s) (lines : List Line) → TellsNow scenario seen s held → PlacesFit seen s → HasGoneOn scenario seen s held lines s lines
+none_goes scenario seen s held lines now places = record { holds = held; tells = now; places = places; id = refl; lines_are = λ are. are }
+
+-- one after another
+pub goes_further : (scenario : Scenario) (seen : List Entry) (was mid p : Progress) (held : Holds scenario seen was) (before between lines : List Line) (goes : HasGoneOn scenario seen was held before mid between) → HasGoneOn scenario seen mid goes.holds between p lines → HasGoneOn scenario seen was held before p lines
+goes_further scenario seen was mid p held before between lines goes further = record {
+  holds = further.holds;
+  tells = further.tells;
+  places = further.places;
+  id = further.id ∙ goes.id;
+  lines_are = λ are. further.lines_are (goes.lines_are are);
+}

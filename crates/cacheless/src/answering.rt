@@ -1,0 +1,180 @@
+// What the running command answers, by the scans that are kept and the locks.
+
+ghost use Rattle.std.specs.Prelude.{◌≡◌, None, Some, IfOk, true, map};
+ghost use Rattle.lock_modes.specs.Own.{clear_modes};
+ghost use Rattle.command_answers.specs.declared.answer.Answer.TheVariants as answers;
+ghost use Rattle.base_types.specs.Fields.{fields_of as all_fields};
+ghost use Rattle.cacheless.specs.Lines.{name_in, commit_answer};
+ghost use Rattle.cacheless.specs.Protected.{protects};
+ghost use Rattle.cacheless.specs.State.{rows_kept, place_kept};
+ghost use Rattle.cacheless.specs.Told.{told_field, told_well};
+ghost use Rattle.cacheless.specs.Answering.{rows_held, place_held};
+
+use crate::{KeptScans, Progress};
+use base_types::{
+    Field, Kind, Listed, Name, NoMemory, Oid, Row, field_text, fields_of, read_by, writers,
+};
+use command_answers::{Answer, Column, CommandError, Shown, answer_text};
+use ddl_effect::{Told, Want};
+use event_kinds::LineText;
+use lock_modes::OwnLocks;
+use std::alloc::Global;
+
+impl Progress {
+    ghost use Rattle.cacheless.specs.State.{is_out as has_come_out};
+    ghost use Rattle.cacheless.specs.Answering.{told_at, IsToldText};
+
+    // The text of what its command answers, worked out of the scans that it keeps and of its locks.
+    pub(crate) fn told_text(&self, alloc: Global) -> Result<LineText, NoMemory>
+        requires out { has_come_out self.now ≡ true }
+        ensures { IfOk result (IsToldText self.now) }
+    {
+        let told = self.told(alloc)?;
+        let mut text = Vec::new(alloc);
+        answer_text(&told, &mut text)?;
+        Ok(LineText::new(text))
+    }
+
+    // What its command answers.
+    fn told(&self, alloc: Global) -> Result<Answer, NoMemory>
+        requires { has_come_out self.now ≡ true }
+        ensures { IfOk result (λ answer. answer ≡ told_at self.now) }
+    {
+        match self.exec.next() {
+            Want::Fails(error) => Ok(Answer::Error(error)),
+            Want::Absent(name) => Ok(Answer::Error(CommandError::NoRelation {
+                name,
+                at: self.given_at,
+            })),
+            Want::Done(_) => match self.exec.told() {
+                Some(told) => self.told_by(alloc, told),
+                None => Ok(Answer::Ok),
+            },
+            _ => unreachable!(),
+        }
+    }
+
+    // What a command answers that came out well, by what it tells.
+    fn told_by(&self, alloc: Global, told: &Told) -> Result<Answer, NoMemory>
+        ensures { IfOk result (λ answer. answer ≡ told_well (rows_held self.now) (place_held self.now) self.now.locks.items self.now.blocks.block told.now) }
+    {
+        match told {
+            Told::Ok => Ok(Answer::Ok),
+            Told::Relation { rel, kind } => {
+                shown_all(alloc, &self.kept, &self.locks, *rel, *kind)
+            }
+            Told::Field { rel, kind, field } => {
+                shown_one(alloc, &self.kept, &self.locks, *rel, *kind, *field)
+            }
+            Told::Columns(columns) => Ok(Answer::Columns(copied(alloc, columns.as_slice())?)),
+            Told::Column { num, col_type } => Ok(Answer::Column {
+                num: *num,
+                col_type: *col_type,
+            }),
+            Told::Regclass(oid) => Ok(Answer::Regclass {
+                rel: *oid,
+                name: name_of(self.given.as_slice()),
+                at: self.given_at,
+            }),
+            Told::Commit => Ok(self.told_commit()),
+        }
+    }
+
+    // What a commit answers.
+    fn told_commit(&self) -> Answer
+        ensures { result ≡ commit_answer self.now.blocks.block }
+    {
+        if self.blocks.is_failed() {
+            Answer::RolledBack
+        } else {
+            Answer::Ok
+        }
+    }
+}
+
+// A copy of columns.
+fn copied(alloc: Global, columns: &[Column]) -> Result<Listed<Column>, NoMemory>
+    ensures { IfOk result (λ copy. copy ≡ columns.now) }
+{
+    Ok(Listed::from_vec(columns.to_vec(alloc)?))
+}
+
+// The name of a relation, by its row.
+fn name_of(rows: &[Row]) -> Option<Name>
+    ensures { result ≡ name_in rows.now }
+{
+    match rows.first() {
+        Some(Row::Class { name, .. }) => Some(*name),
+        _ => None,
+    }
+}
+
+// All fields of a relation.
+fn shown_all(
+    alloc: Global,
+    kept: &KeptScans,
+    locks: &OwnLocks,
+    rel: Oid,
+    kind: Kind,
+) -> Result<Answer, NoMemory>
+    ensures { IfOk result (λ answer. answer ≡ answers.Shown kind rel (map (told_field (rows_kept kept.now) (place_kept kept.now) locks.now.items rel kind) (all_fields kind))) }
+{
+    let mut fields = Listed::new(alloc);
+    for field in fields_of(kind) {
+        fields.push(shown_field(alloc, kept, locks, rel, kind, *field)?)?;
+    }
+    Ok(Answer::Shown { kind, rel, fields })
+}
+
+// One of its fields.
+fn shown_one(
+    alloc: Global,
+    kept: &KeptScans,
+    locks: &OwnLocks,
+    rel: Oid,
+    kind: Kind,
+    field: Field,
+) -> Result<Answer, NoMemory>
+    ensures { IfOk result (λ answer. answer ≡ answers.One (told_field (rows_kept kept.now) (place_kept kept.now) locks.now.items rel kind field)) }
+{
+    let shown = shown_field(alloc, kept, locks, rel, kind, field)?;
+    Ok(Answer::One(shown))
+}
+
+// A field of a relation.
+fn shown_field(
+    alloc: Global,
+    kept: &KeptScans,
+    locks: &OwnLocks,
+    rel: Oid,
+    kind: Kind,
+    field: Field,
+) -> Result<Shown, NoMemory>
+    ensures { IfOk result (λ shown. shown ≡ told_field (rows_kept kept.now) (place_kept kept.now) locks.now.items rel kind field) }
+{
+    let scan = read_by(field, rel);
+    let found = kept.find(&scan);
+    let rows: &[Row] = match found {
+        Some(k) => k.rows.as_slice(),
+        None => &[],
+    };
+    Ok(Shown {
+        field,
+        value: LineText::new(field_text(alloc, field, rel, rows)?),
+        at: if is_protected(locks, rel, kind, field) {
+            None
+        } else {
+            Some(found.map_or(0, |k| k.at))
+        },
+    })
+}
+
+// Whether the locks keep all others from changing the field.
+fn is_protected(locks: &OwnLocks, rel: Oid, kind: Kind, field: Field) -> bool
+    ensures { result ≡ protects (clear_modes locks.now.items rel) kind field }
+{
+    writers(kind, field)
+        .as_slice()
+        .iter()
+        .all(|writer| locks.keeps_out(rel, *writer))
+}
