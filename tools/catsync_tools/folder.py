@@ -59,19 +59,26 @@ def remove_left(user):
 
 
 def remove(folder):
-    """Removes a folder that was left. What goes on writing into it lets it be until the next time."""
+    """Removes a folder that was left. An initdb that goes on in it ends once its files are gone; what still writes into the
+    folder after PATIENCE lets it be until the next time.
+    """
     data = os.path.join(folder, "data")
-    end_server(data)
-    shutil.rmtree(data, ignore_errors=True)
+    until = time.monotonic() + PATIENCE
+    while os.path.exists(data) and time.monotonic() < until:
+        end_server(data)
+        shutil.rmtree(data, ignore_errors=True)
+        time.sleep(0.05)
     if not os.path.exists(data):
         shutil.rmtree(folder, ignore_errors=True)
 
 
 def end_server(data):
-    """Ends the server that runs in a folder, if one does: its process is there at home."""
+    """Ends the server that runs in a folder, if one does, or a single process of initdb's, whose number has a minus sign: it
+    is there at home.
+    """
     try:
         with open(os.path.join(data, "postmaster.pid")) as file:
-            process = int(file.readline())
+            process = abs(int(file.readline()))
         home = "/proc/%d/cwd" % process
         if os.path.samefile(home, data):
             os.kill(process, signal.SIGQUIT)

@@ -2,19 +2,16 @@
 use Rattle.std.proofs.Common.{◌≡◌, ◌+◌, ◌∙◌, ◌&&◌, Bool, true, false, Option, Some, None, Result, Ok, Err, OnOk, List, [], ◌∷◌, ◌++◌, refl, sym, ap, subst, length, slice_get, All, ℕ, arith}
 use Rattle.std.proofs.lemmas.Bool.{both_ways, and_parts}
 use Rattle.ddl_effect.specs.Commands.{commands_of}
-use Rattle.ddl_effect.specs.Stages.{plan_at}
 use Rattle.history_model.specs.Lives.{life_of}
 use Rattle.cacheless.specs.Facts.{facts_of}
 use Rattle.cacheless.specs.Holds.{Holds, HasActed, HasPassed}
 use Rattle.cacheless.specs.OnCourse.{EntersCourse}
 use Rattle.cacheless.specs.Runs.{runs}
 use Rattle.cacheless.specs.Answering.{IsToldText}
-use Rattle.cacheless.specs.Lines.{line_of}
-use Rattle.cacheless.specs.Session.{Session, number_of, outcome_of, is_settled}
-use Rattle.cacheless.specs.Settled.{finished_as}
+use Rattle.cacheless.specs.Session.{Session, outcome_of, is_settled}
 use Rattle.cacheless.specs.Silently.{is_to_answer, IsSettled, Answers, HasAnswered, IsLineOf}
 use Rattle.cacheless.specs.State.{session_at}
-use Rattle.cacheless.proofs.Answers.Telling.{act_places, act_tells, act_lines, with_answer, answered_line, answer_places, pass_places, pass_tells, pass_lines}
+use Rattle.cacheless.proofs.Answers.Telling.{act_places, act_tells, act_lines, with_answer, answer_holds, answer_tells, answer_places, pass_places, pass_tells, pass_lines}
 use Rattle.backend_core.specs.Types.{Command, Scenario, Entry, Line, Progress, Backend}
 use Rattle.backend_core.specs.Agrees.{command_at, AgreesNow, GoesOn, AwaitsEntry}
 use Rattle.backend_core.specs.Fits.{Fits}
@@ -65,43 +62,17 @@ act_goes was p (Err e) acted kept given_at same = tt
 -- it works out what its command answers
 answer_agrees : (scenario : Scenario) (seen : List Entry) (s : Backend) (command : Command) (text : List ℕ) → AgreesNow scenario seen s → command_at s ≡ Some command → is_to_answer command s.progress ≡ true → s.progress.answer ≡ None → IsToldText s.progress text
     → AgreesNow scenario seen (record s { progress = with_answer s.progress text })
-answer_agrees scenario seen s command text now at out none told = record {
+unfolding answer_holds
+answer_agrees scenario seen s command text now at asked none told = record {
   keeps = let k = now.keeps in record { alive = k.alive; life = record { last = k.life.last; alive = k.life.alive; most = k.life.most }; built = k.built; places = answer_places seen s.progress text k.places };
-  holds = let h = now.holds in record {
-    number = h.number;
-    commands = h.commands;
-    few = h.few;
-    most = h.most;
-    rest = h.rest;
-    count = h.count;
-    is = h.is;
-    facts = let f = h.facts in record { running = f.running; lists = f.lists; owed = f.owed; usable = f.usable; kept = f.kept; given = f.given };
-    counts = h.counts;
-    order = h.order;
-    sought = h.sought;
-    puts = h.puts;
-  };
+  holds = answer_holds scenario seen s.progress text now.holds;
   fits = now.fits;
-  tells = record {
-    played = now.tells.played;
-    course = now.tells.course;
-    tells = record {
-      answer = λ other c is here. let one : text ≡ other = cc is in let it : command ≡ c = (let both : Some command ≡ Some c = sym at ∙ here in cc both) in
-          (λ i. record { backend = s.progress.id; command = number_of session; text = sym one i }) ∙ answered_line scenario seen s.progress command text now.holds now.tells now.keeps.places at out none told ∙ ap (line_of scenario seen s.progress.id (number_of session) (finished_as session)) it;
-      out = λ some. (and_parts (is_settled (outcome_of (plan_at s.progress.exec))) _ out).0;
-    };
-    here = λ c here unanswered. absurd (cc unanswered);
-    last = now.tells.last;
-    back = now.tells.back;
-  };
+  tells = answer_tells scenario seen s.progress command text now.holds now.tells now.keeps.places at asked none told;
   lines = now.lines;
 }
-  where
-    session : Session
-    session = session_at s.progress now.holds.rest
 
 pub answer_goes : {E : Type 0} (was : Backend) (p : Progress) (result : Result (Unit {0}) E) → Answers was.progress → OnOk result (HasAnswered was.progress p) → OnOk result ((scenario : Scenario) (seen : List Entry) → AgreesNow scenario seen was → GoesOn scenario seen was (record was { progress = p }))
-answer_goes was p (Ok x) asked has = λ scenario seen now. subst (λ x. GoesOn scenario seen was (record was { progress = x })) (sym has.is) (record { agrees = answer_agrees scenario seen was asked.command has.text now asked.at asked.out asked.none has.told; id = refl })
+answer_goes was p (Ok x) asked has = λ scenario seen now. subst (λ x. GoesOn scenario seen was (record was { progress = x })) (sym has.is) (record { agrees = answer_agrees scenario seen was asked.command has.text now asked.at asked.asked asked.none has.told; id = refl })
 answer_goes was p (Err e) asked has = tt
 
 -- it passes to its next command

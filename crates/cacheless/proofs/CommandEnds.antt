@@ -11,7 +11,7 @@ use Rattle.txn_blocks.specs.declared.transaction.RunningTransaction.{RunningTran
 use Rattle.cacheless.specs.declared.progress.Progress.{Progress}
 use Rattle.cacheless.specs.Facts.{Facts}
 use Rattle.cacheless.specs.Session.{Outcome, Well as CameWell, Badly, Unsettled, outcome_of}
-use Rattle.cacheless.specs.Ends.{End, Ends, Commits, TakesBack, end_of_all, end_of_block, end_well, end_badly, end_of, end_left, next_of_end}
+use Rattle.cacheless.specs.Ends.{End, Ends, Commits, TakesBack, end_of_all, end_of_block, end_well, end_badly, end_of}
 use Rattle.cacheless.specs.State.{running_of, end_of_running, end_in_block, end_in_well, end_in_badly, end_at, Rest, session_at}
 
 -- the end of the running transaction as a whole
@@ -54,12 +54,6 @@ end_same facts command s r running count = by_outcome (outcome_of (plan_at s.exe
     by_outcome CameWell = end_well-same facts command s r running count
     by_outcome Badly = ap (λ n. elim s.blocked [ true ↦ Ends | false ↦ TakesBack (innermost (n + 1) s.blocks.levels) ]) count
     by_outcome Unsettled = refl
-
--- what is left of that end, which isn't made
-pub left_same : (facts : Facts) (command : Command) (s : Progress) (r : Rest) → facts.running ≡ running_of s.running → length r.finished ≡ s.finished → s.ended ≡ false
-    → end_left facts command (session_at s r) ≡ next_of_end facts (end_at s command)
-left_same facts command s r running count going =
-    ap (λ t. elim t [ true ↦ None | false ↦ next_of_end facts (end_of facts command (session_at s r)) ]) going ∙ ap (next_of_end facts) (end_same facts command s r running count)
 
 -- after the last command none is left
 pub left_none : {X : Type 0} (xs : List X) (n : ℕ) → slice_get xs n ≡ None → drop n xs ≡ []

@@ -78,7 +78,7 @@ pub record Acts (s : Progress) : Type 0 where
 pub record Answers (s : Progress) : Type 0 where
   pub command : Command
   pub at : slice_get s.commands s.finished ≡ Some command
-  pub out : is_to_answer command s ≡ true
+  pub asked : is_to_answer command s ≡ true
   pub none : s.answer ≡ None
 
 -- a command that is finished, and is answered

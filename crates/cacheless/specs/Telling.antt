@@ -19,7 +19,7 @@ abbrev pub AnswerFits : Scenario → List Entry → Progress → Session → Typ
 AnswerFits scenario seen s session = (text : List ℕ) (command : Command) → s.answer ≡ Some text → slice_get s.commands s.finished ≡ Some command
     → record { backend = s.id; command = number_of session; text = text } ≡ line_of scenario seen s.id (number_of session) (finished_as session) command
 
--- and it has come out then
+-- it is so, and a command that is answered has come out
 pub record Tells (scenario : Scenario) (seen : List Entry) (s : Progress) (session : Session) : Type 0 where
   pub answer : AnswerFits scenario seen s session
   pub out : is_some s.answer ≡ true → is_settled (outcome_of session.left) ≡ true
@@ -38,7 +38,7 @@ pub record IsOnItsEnd (facts : Facts) (command : Command) (session : Session) : 
   pub out : is_settled (outcome_of session.left) ≡ true
   pub going : is_finished facts command session ≡ false
 
--- a backend whose last entry is the history's last, before it has gone on without entries, or on the way: taking back is followed by the release
+-- a backend whose last entry is the history's last, before it has gone on without entries, or on the way: after taking back, the end of its command isn't whole
 pub record TellsNow (scenario : Scenario) (seen : List Entry) (s : Progress) (holds : Holds scenario seen s) : Type 0 where
   pub played : IsPlayed scenario seen
   pub course : EntersCourse scenario seen s.id (session_at s holds.rest)

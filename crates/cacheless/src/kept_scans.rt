@@ -53,13 +53,6 @@ impl KeptScans {
         }
     }
 
-    /// The scans in the order of their entries.
-    pub fn as_slice(&self) -> &[KeptScan]
-        ensures { result.now ≡ self.now }
-    {
-        self.scans.as_slice()
-    }
-
     /// The scans without some at the start that aren't of the relation of this number.
     pub fn of(&self, rel: u32) -> &[KeptScan]
         ensures { IsPartFor rel self.now result.now }

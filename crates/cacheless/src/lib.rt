@@ -12,13 +12,13 @@
 //! Protected, Lines, Schedule, Output. The worked examples hold of them by computation (proofs/).
 //! ActsDone, how far a command is by the rows that its acts gave, is for the proofs, here and above.
 //!
-//! A [`Progress`] is what these folds give of one backend, kept up to date entry by entry, and no more:
-//! its session, its running transaction and the messages of its writes, what its last entry asks for,
-//! and the scans that serve. [`Progress::may_play`] is exactly what the definitions allow next, a call
-//! `enter_..` takes any entry that the backend may leave, whoever chose it, and [`Progress::settle`]
-//! goes on as far as no entry is needed: it does acts, works out what a command answers that has come out,
-//! and gives the lines of the commands that it passes over. Whoever makes entries (a backend of the
-//! program) and whoever reads them (a judge of a given history) go by the same calls:
+//! A [`Progress`] is what these folds give of one backend, kept up to date entry by entry: its session,
+//! its running transaction and the messages of its writes, what its last entry asks for, the scans that
+//! serve, and what its command answers, once that is worked out. [`Progress::may_play`] is exactly what
+//! the definitions allow next, and a call `enter_..` takes any entry that the backend may leave, whoever
+//! chose it. What needs no entry (an act, the answer of a command that has come out, the passage to the
+//! next command, which gives the line) a backend of the program does one by one, as
+//! [`Progress::silent`] says; who reads a given history lets [`Progress::settle`] do all of it:
 //!
 //! ```text
 //! let mut backend = Progress::new(alloc, 1, commands)?;
@@ -34,8 +34,8 @@
 //! The promise is in specs/Holds.antt: before an entry the code `Rests` in a history, after it `Holds`
 //! the session of the longer one, after `settle` it rests again. The history stands in the contracts
 //! alone. specs/State has what the code holds in the definitions' words, May what may come next by
-//! these, Silently what is done without an entry, Answering what a command answers by them, Telling when
-//! that is its line.
+//! these, Silently what is done without an entry, Answering what a command answers by them. The promise
+//! of what it answers is in Telling: that is the command's line.
 #![tactic(auto)]
 
 mod answering;

@@ -53,9 +53,9 @@ impl Counts {
     }
 }
 
-/// How far a backend is in its commands: what the definitions' session and the facts of its own
-/// entries hold of it. It changes by the calls of this crate; what uses it may put another form of the
-/// same plan in its place.
+/// How far a backend is in its commands: what the definitions' session and the facts of its own entries
+/// hold of it, and what its command answers, once that is worked out. It changes by the calls of this
+/// crate; what uses it may put another form of the same plan in its place.
 #[derive(Drop)]
 pub struct Progress {
     pub id: u32,

@@ -1,6 +1,6 @@
 // What a backend does without an entry.
 
-ghost use Rattle.std.specs.Prelude.{◌≡◌, ◌≤◌, ◌<◌, ◌&&◌, [], None, true, All, OnOk, IfOk, is_none, is_some, slice_get, length};
+ghost use Rattle.std.specs.Prelude.{◌≡◌, ◌≤◌, ◌<◌, ◌&&◌, [], None, true, All, OnOk, OnErr, IfOk, is_none, is_some, slice_get, length};
 ghost use Rattle.ddl_effect.specs.Stages.{plan_at, want_of};
 ghost use Rattle.cacheless.specs.Runs.{runs};
 ghost use Rattle.cacheless.specs.State.{blocks_passed, rows_kept as kept_rows};
@@ -180,6 +180,7 @@ impl Progress {
         requires answers { Answers self.old }
         ensures answers { OnOk result (HasAnswered self.old self.new) }
         ensures less { OnOk result (left_of self.new < left_of self.old) }
+        ensures err { OnErr result (self.new ≡ self.old) }
     {
         self.answer = Some(self.told_text(alloc)?);
         Ok(())

@@ -1,4 +1,4 @@
-ghost use Rattle.std.specs.Prelude.{◌≡◌, ◌<◌, ℕ, List, true, [], IfOk, OnOk, MatchOption};
+ghost use Rattle.std.specs.Prelude.{◌≡◌, ◌<◌, ℕ, List, true, [], IfOk, OnOk, OnErr, MatchOption};
 ghost use Rattle.std.specs.List.{filter_map};
 ghost use Rattle.ddl_effect.specs.Plans.{Absent, Done, is_built, after_act, told_rests_on};
 ghost use Rattle.ddl_effect.specs.Commands.{plan_of, found as found_rows, live_column as column_live, telling_columns, telling_column, regclass_of, told_fields, writing};
@@ -124,7 +124,7 @@ impl Exec {
         }
     }
 
-    /// What it answers, where it has done what it says and there is more to tell than that.
+    /// What it answers, once it has done what it says; nothing stands for [`Told::Ok`].
     pub fn told(&self) -> Option<&Told>
         ensures { MatchOption result (told_of (plan_at self.now) ≡ Told.Ok) (λ told. told_of (plan_at self.now) ≡ told.now) }
     {
@@ -135,12 +135,13 @@ impl Exec {
     }
 
     /// What it wanted was done, and gave these rows: those of the scan on which the act rests. Out of
-    /// memory, it may not be used any more.
+    /// memory, nothing changes.
     pub fn give(&mut self, alloc: Global, rows: &[Row]) -> Result<(), NoMemory>
         ensures plan { OnOk result (plan_at self.new ≡ after_act rows.now (plan_at self.old)) }
         ensures less { OnOk result (0 < acts_left self.old → acts_left self.new < acts_left self.old) }
         ensures oid { OnOk result ((oid : Oid) → 0 < acts_left self.old → plan_at self.new ≡ Done (Told.Regclass oid) → plan_at self.old ≡ regclass_of oid) }
         ensures again { OnOk result ((name : List ℕ) → 0 < acts_left self.old → plan_at self.new ≡ Absent name → plan_again self.new ≡ plan_at self.old) }
+        ensures err { OnErr result (self.new ≡ self.old) }
     {
         let next = match self {
             Exec::Finding(finding) => found(*finding, rows),

@@ -148,7 +148,7 @@ abbrev pub with_answer : Progress → List ℕ → Progress
 with_answer s text = record s { answer = Some text }
 
 -- what is held is held with the answer
-pub answer_holds : (scenario : Scenario) (seen : List Entry) (s : Progress) (text : List ℕ) → Holds scenario seen s → Holds scenario seen (with_answer s text)
+unfoldable pub answer_holds : (scenario : Scenario) (seen : List Entry) (s : Progress) (text : List ℕ) → Holds scenario seen s → Holds scenario seen (with_answer s text)
 answer_holds scenario seen s text holds = record {
   number = holds.number;
   commands = holds.commands;
@@ -289,7 +289,7 @@ answer_goes scenario seen was p held lines asked has now places = subst (λ x. H
     goes : HasGoneOn scenario seen was held lines (with_answer was has.text) lines
     goes = record {
       holds = answer_holds scenario seen was has.text held;
-      tells = answer_tells scenario seen was asked.command has.text held now places asked.at asked.out asked.none has.told;
+      tells = answer_tells scenario seen was asked.command has.text held now places asked.at asked.asked asked.none has.told;
       places = answer_places seen was has.text places;
       id = refl;
       lines_are = λ are. are;
