@@ -30,7 +30,7 @@ from play_random import Player, event_of                                        
 
 HERE = os.path.dirname(os.path.abspath(__file__))
 FOUND = re.search(r"--stage (\d+)", os.environ.get("CATSYNC_ORACLE_FLAGS", ""))
-STAGE = staged.Stage(int(FOUND.group(1)) if FOUND else 6)
+STAGE = staged.Stage(int(FOUND.group(1)) if FOUND else 7)
 MODES = ("as", "rs", "rx", "su", "sh", "sr", "ex", "ax")
 PURPOSES = ("reloid", "attlist", "class", "attribute", "attrdef", "constraint", "index", "trigger", "indexrow")
 fuzz_scripts.SIZES["least"] = (1, 3, 1, 3)
@@ -165,7 +165,7 @@ class Asker:
     def __init__(self, case):
         self.case, self.history = case, case.checker.history
         self.relations = list(range(16384, self.history.next_oid + 1))
-        self.names = sorted(set(re.findall(r"(?:table|show) ([a-z_]\w*)", case.text)))[:6] or ["t"]
+        self.names = sorted(set(re.findall(r"(?:table|show|: columns?) ([a-z_]\w*)", case.text)))[:6] or ["t"]
 
     def entries(self, b):
         """All of a backend's."""

@@ -25,7 +25,7 @@ from testing import TOOLS, TOP, call, content_of
 
 from catsync_tools.faults import Fault
 from catsync_tools.layout import Span
-from catsync_tools.matching import check_script
+from catsync_tools.matching import answer_can_be_of, check_script
 from catsync_tools.messages import COLUMNS, NAMES, OIDS, Row, hash_of, messages_of
 from catsync_tools.outputs import read_output
 from catsync_tools.picture import picture_of, script_of
@@ -185,13 +185,16 @@ class Pictures(unittest.TestCase):
                 self.assertEqual(titles, message_pairs(lines))
 
     def test_bars(self):
-        """There is a bar for each transaction, for each lock, and for each descriptor of which a scan was made."""
+        """There is a bar for each transaction, for each lock, for each descriptor of which a scan was made, and for each other
+        scan."""
         for path in OUTPUTS:
             with self.subTest(path):
                 drawn, lines, _ = self.drawn(path)
                 self.assertEqual(len(drawn.all("transaction")), transactions(lines))
                 self.assertEqual(len(drawn.all("lock")), grants(lines))
                 self.assertEqual(len(drawn.all("build")), sum(" scan class " in line for line in lines))
+                self.assertEqual(len(drawn.all("kept")), len(re.findall(
+                    " scan (?:class|relname|reloid|attname|attlist) ", " ".join(lines))))
 
     def test_marks_of_what_serves(self):
         """There is a mark for each command that is served, in the row by which it had what it needed."""
@@ -220,7 +223,7 @@ class Pictures(unittest.TestCase):
         """A picture of few lanes is no wider than is wanted, and no text and no item of the legend lies beyond its edge."""
         for path in OUTPUTS:
             data = content_of(path)
-            for width in (700, 1340):
+            for width in (740, 1340):
                 with self.subTest((path, width)):
                     output = read_output(data)
                     root = ElementTree.fromstring(picture_of(output, False, Span(1, len(output.entries)), width=width))
@@ -294,10 +297,10 @@ class Brief(unittest.TestCase):
         path = os.path.join(TOP, "examples", "columns_protected.output")
         steps = steps_of(read_output(content_of(path)).entries, True)
         self.assertEqual([(step.first, step.last) for step in steps][:20], [
-            (1, 1), (2, 2), (3, 4), (5, 5), (6, 6), (7, 7), (8, 8), (9, 10), (11, 12), (13, 14), (15, 26), (27, 27), (28, 29),
-            (30, 31), (32, 33), (34, 45), (46, 47), (48, 48), (49, 49), (50, 50)])
+            (1, 1), (2, 2), (3, 4), (5, 5), (6, 6), (7, 7), (8, 8), (9, 10), (11, 12), (13, 14), (15, 26), (27, 28), (29, 30),
+            (31, 32), (33, 44), (45, 46), (47, 47), (48, 48), (49, 49), (50, 50)])
         self.assertEqual([step.text for step in steps][9:12], [
-            "h 1 3 lock 16384 as ok", "h 1 3 scan class, attribute, attrdef, constraint, index, trigger 16384", "h 1 4 look no"])
+            "h 1 3 lock 16384 as ok", "h 1 3 scan class, attribute, attrdef, constraint, index, trigger 16384", "h 2 1 fetch 5"])
 
     def test_same_bars(self):
         """A brief picture has the same bars and arrows, and its rows have the texts of steps."""
@@ -369,21 +372,47 @@ class Stories(unittest.TestCase):
     # Of what is kept: backend, first scan, last scan, out of date from, end, why it ends, and entries where it serves.
     KEPT = {
         "columns_protected": [
-            (1, 16, 26, 49, 56, "a message", [54]), (2, 35, 45, None, 48, "an own write", []),
-            (1, 59, 69, None, 77, "the stop", [75])],
-        "second_show": [(1, 15, 25, None, 27, "the stop", []), (2, 35, 45, None, 53, "the stop", [51])],
-        "serves_until_fetched": [(1, 9, 19, None, 27, "a message", [21]), (1, 33, 43, None, 45, "the stop", [])],
-        "rolled_back": [(1, 9, 19, None, 20, "an own write taken back", []), (2, 45, 55, None, 57, "the stop", [])],
-        "reset_inside_build": [(2, 15, None, None, 27, "a reset", []), (2, 29, 39, None, 41, "the stop", [])],
+            (1, 12, 12, None, 69, "the stop", [53, 55, 67]), (1, 16, 26, 48, 55, "a message", []),
+            (2, 30, 30, None, 52, "the stop", []), (2, 34, 44, None, 47, "an own write", []),
+            (2, 46, 46, None, 47, "an own write", []), (1, 57, 67, None, 69, "the stop", [67])],
+        "second_show": [
+            (1, 11, 11, None, 27, "the stop", []), (1, 15, 25, None, 27, "the stop", []), (2, 31, 31, None, 51, "the stop", [48]),
+            (2, 35, 45, None, 51, "the stop", [49])],
+        "serves_until_fetched": [
+            (1, 5, 5, None, 25, "a message", [19]), (1, 9, 19, None, 25, "a message", [19]), (1, 27, 27, None, 43, "the stop", []),
+            (1, 31, 41, None, 43, "the stop", [])],
+        "rolled_back": [
+            (1, 5, 5, None, 20, "an own write taken back", []), (1, 9, 19, None, 20, "an own write taken back", []),
+            (2, 24, 24, 33, 39, "a message", []), (1, 29, 29, None, 32, "an own write", []), (2, 41, 41, None, 57, "the stop", []),
+            (2, 45, 55, None, 57, "the stop", [])],
+        "reset_inside_build": [
+            (2, 11, 11, None, 27, "a reset", []), (2, 15, None, None, 27, "a reset", []), (2, 29, 39, None, 41, "the stop", [])],
         "build_starts_over": [
-            (2, 15, None, None, 45, "a message", []), (1, 24, 34, None, 37, "an own write", []),
+            (2, 11, 11, None, 59, "the stop", []), (2, 15, None, None, 45, "a message", []), (1, 20, 20, None, 42, "the stop", []),
+            (1, 24, 34, None, 37, "an own write", []), (1, 36, 36, None, 37, "an own write", []),
             (2, 47, 57, None, 59, "the stop", [])],
-        "early_end": [(2, 16, None, None, None, "", [])],
+        "early_end": [(2, 12, 12, None, None, "", []), (2, 16, None, None, None, "", [])],
+        "negative_entry": [
+            (1, 4, 4, 11, 19, "a message", [10, 13]), (1, 21, 21, None, 37, "the stop", []), (1, 25, 35, None, 37, "the stop", [])],
+        "one_hash": [
+            (2, 18, 18, None, 61, "a message", []), (2, 22, 32, None, 71, "the stop", [65]), (2, 36, 36, None, 71, "the stop", [68]),
+            (2, 40, 50, None, 71, "the stop", [69]), (2, 63, 63, None, 71, "the stop", [])],
+        "list_of_columns": [
+            (2, 11, 11, None, 100, "the stop", [18, 24, 54, 60, 89, 95]), (2, 15, 15, 48, 53, "a message", [26]),
+            (2, 21, 21, None, 100, "the stop", [62]), (1, 30, 30, None, 86, "the stop", [65]),
+            (1, 34, 44, None, 47, "an own write", []), (1, 46, 46, None, 47, "an own write", []),
+            (2, 57, 57, 82, 88, "a message", []), (1, 68, 78, None, 81, "an own write", []),
+            (1, 80, 80, None, 81, "an own write", []), (2, 92, 92, None, 100, "the stop", []),
+            (2, 98, 98, None, 100, "the stop", [])],
+        "regclass": [
+            (1, 4, 4, None, 7, "an own write", []), (1, 15, 15, None, 29, "the stop", [28]),
+            (1, 20, 20, None, 21, "an own write taken back", []), (1, 25, 25, None, 29, "the stop", [])],
         "names": [
             (2, 4, 4, None, 55, "the stop", [17]), (2, 21, 21, None, 55, "the stop", [28, 34, 36, 40]),
             (2, 25, 25, None, 55, "the stop", [33]), (2, 31, 31, None, 55, "the stop", [31]),
             (2, 33, 33, None, 55, "the stop", [33]), (2, 43, 53, None, 55, "the stop", []),
-            (1, 62, 72, None, 75, "an own write", [])],
+            (1, 58, 58, None, 80, "the stop", []), (1, 62, 72, None, 75, "an own write", []),
+            (1, 74, 74, None, 75, "an own write", [])],
     }
 
     def test_kept(self):
@@ -422,34 +451,48 @@ class Sentences(unittest.TestCase):
     SAID = {
         ("columns_protected", 14): "Backend 1 looks for messages after the grant at 13, and none waits. With that the lock of "
                                    "13 is clear.",
-        ("columns_protected", 48): "Backend 2 writes as transaction 2: it replaces 1 row of pg_attribute. Its commit has to send "
-                                   "2 messages, for the column a of t and the descriptor of t. The descriptor of t, built at 35 "
-                                   "to 45, is stale.",
-        ("columns_protected", 49): "Backend 2 commits transaction 2: from here on all others see what it wrote at 48. Its 2 "
+        ("columns_protected", 26): "Backend 1 scans pg_trigger for the triggers of t, scan 6 of 6 for its descriptor: 0 rows. The "
+                                   "descriptor is built, and kept from here on.",
+        ("columns_protected", 47): "Backend 2 writes as transaction 2: it replaces 1 row of pg_attribute. Its commit has to send "
+                                   "2 messages, for the column a of t and the descriptor of t. The descriptor of t (built at 34 "
+                                   "to 44) and the column a of t (read at 46) are stale.",
+        ("columns_protected", 48): "Backend 2 commits transaction 2: from here on all others see what it wrote at 47. Its 2 "
                                    "messages aren't sent yet, so nothing tells backend 1 that the descriptor of t, built at 16 "
                                    "to 26, is out of date.",
-        ("columns_protected", 54): "Backend 1 looks the name t up in pg_class: it is relation 16384. It asks for no lock on "
-                                   "that, as it holds AccessShare since 13, clear. The descriptor of t, built at 16 to 26, "
-                                   "serves command 4 without a scan, out of date as it is since 49.",
-        ("columns_protected", 56): "Backend 1 fetches the 2 messages of 50 and 51: the descriptor of t, built at 16 to 26, is "
-                                   "stale.",
-        ("columns_protected", 59): "Backend 1 scans pg_class for t, scan 1 of 6 for its descriptor: 1 row. The last one, built "
-                                   "at 16 to 26, is stale since 56.",
+        ("columns_protected", 53): "Backend 1 is granted RowShare on t, on which no other backend has a lock. The name t, read at "
+                                   "12, serves command 4 without a scan.",
+        ("columns_protected", 55): "Backend 1 fetches the 2 messages of 49 and 50: the descriptor of t, built at 16 to 26, is "
+                                   "stale. With that the lock of 53 is clear. The name t, read at 12, serves command 5 without a "
+                                   "scan.",
+        ("columns_protected", 57): "Backend 1 scans pg_class for t, scan 1 of 6 for its descriptor: 1 row. The last one, built "
+                                   "at 16 to 26, is stale since 55.",
+        ("sleepers", 103): "Backend 3 looks the name t up in pg_class: it is relation 16384. The name t, read at 30, is stale "
+                           "since 100. It asks for no lock on that, as it holds AccessShare since 31, clear.",
+        ("negative_entry", 12): "Backend 1 looks for messages at the start of a transaction, and none waits. The absence of the "
+                                "name orders, read at 4, is out of date since 11: transaction 1 has yet to send its messages.",
+        ("negative_entry", 13): "Backend 1 ends its transaction, which wrote nothing; it has no lock to release. The absence of "
+                                "the name orders, read at 4, serves command 3 without a scan, out of date as it is since 11.",
+        ("negative_entry", 21): "Backend 1 looks the name orders up in pg_class: it is relation 16384. The absence of the name "
+                                "orders, read at 4, is stale since 19.",
+        ("list_of_columns", 57): "Backend 2 scans pg_attribute for all columns of t by name: 2 rows. The list of columns of t, "
+                                 "read at 15, is stale since 53.",
+        ("regclass", 28): "Backend 1 ends its transaction, which wrote nothing; it has no lock to release. The oid 16384, read "
+                          "at 15, serves command 9 without a scan.",
         ("two_backends", 9): "Backend 2 is refused AccessShare on t: backend 1 holds AccessExclusive since 3, and the two "
                              "conflict.",
         ("two_backends", 13): "Backend 1 ends its committed transaction 1, and releases AccessExclusive on t (since 3).",
         ("two_creators", 6): "Backend 2 is refused its write: transaction 1 of backend 1, which still runs, has the name t in "
                              "use since 3.",
         ("two_creators", 19): "Backend 1 is refused its write: t (16385) has the name t, since 11.",
-        ("absent_name", 11): "Backend 2 looks the name orders up in pg_class: no relation has it, as what backend 1 wrote at 8 "
+        ("absent_name", 13): "Backend 3 looks the name orders up in pg_class: no relation has it, as what backend 1 wrote at 9 "
                              "isn't visible yet.",
         ("reset_inside_build", 27): "Backend 2 has lost messages: of the 70 that waited the queue keeps only the last ones. So it "
-                                    "resets: it drops all that it keeps, and is past all messages. The build of t, which began "
-                                    "at 15, starts over.",
+                                    "resets: it drops all that it keeps, and is past all messages. The name t, read at 11, is "
+                                    "stale. The build of t, which began at 15, starts over.",
         ("messages_in_parts", 14): "Backend 2 looks for messages again, since 13 took as many as a fetch can: 44 messages wait, "
                                    "of 7, 8 and 9.",
-        ("serves_until_fetched", 27): "Backend 1 fetches its own 4 messages of 23 and 24: the descriptor of t, built at 9 to 19, "
-                                      "is stale.",
+        ("serves_until_fetched", 25): "Backend 1 fetches its own 4 messages of 21 and 22: the name t (read at 5) and the "
+                                      "descriptor of t (built at 9 to 19) are stale.",
         ("nothing_to_find", 14): "Backend 3 joins the queue of messages, past all that were published before: it has read "
                                  "nothing that they could be for.",
     }
@@ -574,14 +617,14 @@ class Pages(unittest.TestCase):
         """What a backend keeps, in words, before and after it is out of date, and once it is told."""
         path = os.path.join(TOP, "examples", "columns_protected.output")
         output = read_output(content_of(path))
-        things = data_of(picture_of(output, True, Span(1, 77), script_of(path[:-7] + ".script", output)))["things"]
+        things = data_of(picture_of(output, True, Span(1, 69), script_of(path[:-7] + ".script", output)))["things"]
         found = [(thing[1], plain(thing[4])) for thing in things if thing[0] == 1 and thing[2] <= 54 < (thing[3] or 99)]
         self.assertEqual(found, [
-            (0, "show t columns \u2192 columns a:int4 b:text"), (1, "since 9"),
-            (2, "AccessShare on t since 13, clear since 14"),
-            (3, "descriptor of t, built at 16 to 26, out of date since 49")])
+            (0, "lock table t in row share mode"), (1, "since 9"), (2, "AccessShare on t since 13, clear since 14"),
+            (2, "RowShare on t since 53, not clear yet"), (3, "name t, read at 12"),
+            (3, "descriptor of t, built at 16 to 26, out of date since 48")])
         self.assertEqual([thing[2:4] for thing in things if thing[0] == 1 and thing[1] == 3],
-                         [[16, 26], [26, 49], [49, 56], [59, 69], [69, 77]])
+                         [[12, 69], [16, 26], [26, 48], [48, 55], [57, 67], [67, 69]])
 
 
 PRESSED = """<script>
@@ -595,7 +638,7 @@ for (const key of ['ArrowDown', 'j', 'ArrowRight', 'ArrowUp', 'k', 'ArrowLeft', 
   press(key);
 press('J', true);
 press('ArrowUp', true);
-document.getElementById('entry54').dispatchEvent(new MouseEvent('click', {bubbles: true}));
+document.getElementById('entry53').dispatchEvent(new MouseEvent('click', {bubbles: true}));
 seen.push(document.body.dataset.entry);
 const shown = [...document.querySelectorAll('#state .backend')].map(box => box.innerText.replace(/\\s+/g, ' ')).join(' | ');
 document.title = seen.join(' ') + ' / ' + document.querySelector('#entry p').innerText + ' / ' + shown;
@@ -646,11 +689,11 @@ class Browser(unittest.TestCase):
         """Each key goes where it says; a click selects; and the panel shows the entry and what holds after it."""
         title = self.title("columns_protected", PRESSED, "1280,800")
         seen, sentence, shown = title.split(" / ")
-        self.assertEqual(seen.split(), "1 2 3 4 3 2 1 1 11 1 77 77 1 28 1 54".split())
-        self.assertTrue(sentence.endswith("serves command 4 without a scan, out of date as it is since 49."), sentence)
-        self.assertEqual(shown, "backend 1 command show t columns \u2192 columns a:int4 b:text transaction since 9 locks "
-                         "AccessShare on t since 13, clear since 14 waits 2, for t keeps descriptor of t, built at 16 to 26, "
-                         "out of date since 49 | backend 2 has stopped")
+        self.assertEqual(seen.split(), "1 2 3 4 3 2 1 1 11 1 69 69 1 27 1 53".split())
+        self.assertTrue(sentence.endswith("The name t, read at 12, serves command 4 without a scan."), sentence)
+        self.assertEqual(shown, "backend 1 command lock table t in row share mode transaction since 9 locks AccessShare on t "
+                         "since 13, clear since 14 RowShare on t since 53, not clear yet waits 2, for t keeps name t, read at 12 "
+                         "descriptor of t, built at 16 to 26, out of date since 48 | backend 2 has stopped")
 
 
 HEAD = "h 1 0 start\nh 1 1 look no\n"
@@ -764,6 +807,16 @@ class FaultyOutputs(unittest.TestCase):
                 self.assertIn(old, given)
                 with self.assertRaisesRegex(Fault, "^other: .*" + said):
                     check_script("other", read_source(given.replace(old, new, 1).encode()), output)
+
+    def test_answers_of_commands(self):
+        """Which answers a command can have."""
+        for command, text, expected in (
+                ("columns t", "columns a:int4", True), ("columns t", "ok", False), ("column t a", "column 1 int4", True),
+                ("column t a", "columns a:int4", False), ("regclass 16384", "regclass t as of 4", True),
+                ("regclass 16384", "error 25P02 the transaction block has failed", True), ("begin", "column 1 int4", False),
+                ("show t columns", "columns a:int4", True), ("show t name", "columns a:int4", False)):
+            with self.subTest((command, text)):
+                self.assertEqual(answer_can_be_of(command.split(" "), text), expected)
 
     def test_closed_streams(self):
         """A standard stream that is closed is a fault too."""

@@ -23,7 +23,7 @@ from catsync_tools.folder import Folder
 from catsync_tools.postgres import Server, folder_of_programs
 from catsync_tools.program import Program
 from catsync_tools.sources import read_source
-from catsync_tools.sql import Answer, Shown, statement_of
+from catsync_tools.sql import Answer, Listed, Regclass, Shown, statement_of
 
 HAS_SERVER = folder_of_programs() is not None
 SCRIPTS = int(os.environ.get("CATSYNC_SERVER_SCRIPTS", "20"))
@@ -36,8 +36,10 @@ MODES = ("access share", "row share", "row exclusive", "share update exclusive",
          "access exclusive")
 FIELDS = ("name", "columns", "defaults", "statistics", "fillfactor", "constraints", "referenced", "indexes", "triggers", "of",
           "valid")
+OIDS = ("16384", "16385", "16386", "16387", "16999")
 COMMANDS = (
     (10, "begin"), (8, "commit"), (4, "rollback"), (10, "show T"), (10, "show T FIELD"), (10, "lock table T in MODE mode"),
+    (5, "columns T"), (5, "column T C"), (5, "regclass OID"),
     (9, "create table T (COLUMNS)"), (7, "alter table T add column C TYPE"), (6, "alter table T drop column C"),
     (6, "alter table T rename column C to C"), (7, "alter table T alter column C set statistics STAT"),
     (6, "alter table T set (fillfactor = FILL)"))
@@ -48,7 +50,7 @@ def random_command(draw, columns):
     text = draw.choices([form for _, form in COMMANDS], [weight for weight, _ in COMMANDS])[0]
     if "COLUMNS" in text:
         text = text.replace("COLUMNS", ", ".join("C TYPE" for _ in range(draw.randint(0, 4))))
-    choices = {"T": TABLES, "C": columns, "TYPE": TYPES, "MODE": MODES, "FIELD": FIELDS,
+    choices = {"T": TABLES, "C": columns, "TYPE": TYPES, "MODE": MODES, "FIELD": FIELDS, "OID": OIDS,
                "FILL": ("0", "9", "10", "50", "100", "101"),
                "STAT": ("-2", "-1", "0", "1", "100", "9999", "10000", "10001", "999999999")}
     words = text.replace("(", "( ").replace(")", " )").replace(",", " ,").split(" ")
@@ -83,6 +85,7 @@ class Statements(unittest.TestCase):
         for command, statement in (
                 ("BEGIN;", "begin"), ("commit", "commit"), ("rollback ;", "rollback"),
                 ("show t", Shown("t", None)), ("show t statistics", Shown("t", "statistics")),
+                ("columns t;", Listed("t", None)), ("column T a", Listed("t", "a")), ("regclass 016384", Regclass(16384)),
                 ("lock table order in SHARE row exclusive mode", 'lock table "order" in share row exclusive mode'),
                 ("create table t(a int4,b text);", 'create table "t" ("a" int4, "b" text)'),
                 ("create table t ()", 'create table "t" ()'),

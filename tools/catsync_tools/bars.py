@@ -197,8 +197,9 @@ def kept_label(kept: Kept, x, taken, top, bottom, is_hatched):
         texts = ["descriptor %d %s" % (kept.rel, kept.name), "descriptor %s" % (kept.name or kept.rel),
                  kept.name or str(kept.rel)]
     else:
-        word = {"relname": "name", "reloid": "oid", "attname": "column", "attlist": "columns"}[kept.datum[0]]
-        texts = [("no " if kept.is_absent else "") + "%s %s" % (word, kept.datum[-1])]
+        word = {"relname": "name", "reloid": "oid", "attname": "column", "attlist": "columns of"}[kept.datum[0]]
+        of_what = kept.name if word == "columns of" and kept.name else kept.datum[-1]
+        texts = [("no " if kept.is_absent else "") + "%s %s" % (word, of_what)]
     return label(x, top, bottom, [text.strip() for text in texts], KEPT_BROWN, taken, is_hatched)
 
 

@@ -106,25 +106,32 @@ def compare(source, program, server, order: Optional[List[Command]] = None) -> L
     if order is None:
         order = order_of(commands, program.run(counted_script(source, lambda: program)).steps)
     run = runner.with_turns(serial_turns(runner, order))
+    made: Dict[Command, List[Tuple[str, str]]] = {}
+    for backend, number, text in run.steps:
+        made.setdefault((backend, number), []).extend(re.findall(r"\+class\(([0-9]+),([^,]+),r,", text))
     here = {(int(words[1]), int(words[2])): PLACE.sub("", words[3]) for words in (
         line.split(" ", 3) for line in run.answers)}
-    there = answers_of(server, order, statements)
+    there = answers_of(server, order, statements, made)
     pairs = Pairs()
     return [Compared(command, commands[command], here[command], there[command],
                      differences(here[command], there[command], pairs)) for command in order]
 
 
-def answers_of(server, order: List[Command], statements) -> Dict[Command, Answer]:
-    """What a server answers to these commands in this order, in a database of its own."""
+def answers_of(server, order: List[Command], statements, made) -> Dict[Command, Answer]:
+    """What a server answers to these commands in this order, in a database of its own; `made` has the oids and names of the
+    tables that commands have made here."""
     database = server.new_database()
     last = {backend: number for backend, number in sorted(order)}
     sessions: Dict[int, Asked] = {}
+    oids: Dict[int, int] = {}
     found = {}
     try:
         for backend, number in order:
             if backend not in sessions:
-                sessions[backend] = Asked(server.session(database))
-            found[backend, number] = sessions[backend].ask(statements[backend, number])
+                sessions[backend] = Asked(server.session(database), oids)
+            answer = found[backend, number] = sessions[backend].ask(statements[backend, number])
+            for oid, name in made.get((backend, number), ()) if not answer.text.startswith("error ") else ():
+                oids[int(oid)] = sessions[backend].oid_of(name)
             if number == last[backend]:
                 sessions.pop(backend).end()
     finally:

@@ -2,10 +2,8 @@
 
 A backend keeps a scan from when it is made until a message that covers it reaches the backend: one that it fetches, a reset
 in place of those that it has lost, one of its own write, or one of a write that it takes back. A descriptor is kept with its
-scans. In between it gets out of date where another's transaction becomes visible that changes what the scan would give.
-
-Entries and lists of the catalog caches are known by what they save: a lock without a scan for the name, or the answer that
-a name is absent as of an earlier command's scan. No command of today saves one, as each lookup scans for its name.
+scans; every other scan is an entry or a list of a catalog cache, also one that gave no row. In between it gets out of date
+where another's transaction becomes visible that changes what the scan would give.
 """
 from typing import Dict, List, NamedTuple, Optional, Set, Tuple
 
@@ -44,11 +42,6 @@ class Kept:
     def is_descriptor(self):
         """Whether it is a descriptor."""
         return self.datum is None
-
-    @property
-    def is_known(self):
-        """Whether the history shows that it is kept."""
-        return self.is_descriptor or bool(self.serves)
 
     def finish(self, number):
         """Its last scan is made."""
@@ -140,7 +133,7 @@ class Caches:
             return kept
         if kept or datum in cache.scans:
             self.end(entry, kept or cache.scans[datum].kept, READ_AGAIN)
-        kept = Kept(entry, datum, rel, name, not rows)
+        kept = Kept(entry, datum, rel, name, not rows and datum[0] != "attlist")
         self.all.append(kept)
         if kept.is_descriptor:
             cache.descriptors[rel] = kept
@@ -192,10 +185,6 @@ class Caches:
         for kept in found:
             kept.outdated = entry.number
         return found
-
-    def known(self) -> List[Kept]:
-        """What the history shows to be kept."""
-        return [kept for kept in self.all if kept.is_known]
 
 
 def served_by(cache: Cache, rel, command) -> Tuple[Optional[Kept], Optional[Kept]]:

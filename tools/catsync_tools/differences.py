@@ -9,18 +9,21 @@ from .program import TOP
 from .sql import tokens_of
 
 PROFILE = os.path.join(TOP, "docs", "PROFILE.md")
-_TABLE = re.compile("(?:show|(?:create|alter|lock) table) ([a-z_][a-z0-9_]*)")
+_TABLE = re.compile("(?:show|columns?|(?:create|alter|lock) table) ([a-z_][a-z0-9_]*)")
+_FOUND = re.compile("regclass ([a-z_][a-z0-9_]*)")
+_REGCLASS = re.compile("regclass 0*([0-9]+)")
 SYSTEM_COLUMNS = "ctid|xmin|xmax|cmin|cmax|tableoid"
 
 
 class Known(NamedTuple):
     """A difference that is meant: which part of an answer differs, what the command, the answer here and that of the server
-    are like, and by which words docs/PROFILE.md says so."""
+    are like, by which words docs/PROFILE.md says so, and whether it is one only in a block."""
     part: str
     command: str
     here: str
     server: str
     words: str
+    is_in_block: bool = False
 
 
 KNOWN = (
@@ -28,6 +31,8 @@ KNOWN = (
     Known("warning", ".* set statistics .*", ".*", "22023 lowering .*", "lowered to 10,000"),
     Known("answer", r".*\b(%s)\b.*" % SYSTEM_COLUMNS, "ok", "error (42701|0A000) .*", "names of system columns"),
     Known("error", r".*\b(%s)\b.*" % SYSTEM_COLUMNS, "error 42.*", "error (0A000|42701) .*", "names of system columns"),
+    Known("answer", ".*", "error 42P01 .*", "(?!error ).*", "a name cached as absent is told as absent", True),
+    Known("error", ".*", "error 42P01 .*", "error .*", "a name cached as absent is told as absent", True),
 )
 
 
@@ -49,11 +54,11 @@ def profile():
     return " ".join(read_file(PROFILE).decode("utf-8", "replace").lower().split())
 
 
-def words_of(compared: Compared, part, text):
-    """The words in a text that name a difference, or None."""
+def words_of(compared: Compared, part, text, is_in_block):
+    """The words in a text that name a difference of a command in a block, or outside one, or None."""
     for known in KNOWN:
         servers = compared.server.warnings if part == "warning" else [compared.server.text]
-        if (known.part == part and re.fullmatch(known.command, tokens_of(compared.text))
+        if (known.part == part and is_in_block >= known.is_in_block and re.fullmatch(known.command, tokens_of(compared.text))
                 and re.fullmatch(known.here, compared.here) and known.words.lower() in text
                 and all(re.fullmatch(known.server, server) for server in servers)):
             return known.words
@@ -74,17 +79,23 @@ def is_done_in_one(compared: Compared):
 
 class Effects:
     """What may not be the same in the two since a command was done in one of them alone, each with that command: the table
-    that it names; where it is in a block, which has failed in one then, the block, and all tables that the block names."""
+    that it names; where it is in a block, which has failed in one then, the block, and all tables that the block names. And an
+    oid that a block asks for before a table has it: the server was asked for one that no table gets."""
 
     def __init__(self):
         self.tables: Dict[str, str] = {}
         self.blocks: Dict[int, str] = {}
+        self.oids: Dict[int, Dict[str, str]] = {}
         self.open: Dict[int, Set[str]] = {}     # of each session with a block: the tables that it has named
 
     def cause(self, compared: Compared, part):
-        """The command from which a difference may follow. Warnings tell of blocks and not of tables."""
-        block = self.blocks.get(compared.command[0])
-        return block or (None if part == "warning" else self.tables.get(table_of(compared.text)))
+        """The command from which a difference may follow. Warnings tell of blocks and not of tables; a `regclass` is about
+        the table that it finds here."""
+        block, found = self.blocks.get(compared.command[0]), _FOUND.fullmatch(compared.here)
+        table = found.group(1) if found else table_of(compared.text)
+        asked = _REGCLASS.fullmatch(tokens_of(compared.text))
+        oid = self.oids.get(compared.command[0], {}).get(asked.group(1)) if asked else None
+        return block or (None if part == "warning" else self.tables.get(table) or oid)
 
     def take(self, compared: Compared):
         """One more command."""
@@ -93,6 +104,9 @@ class Effects:
             self.open.setdefault(backend, set())
         tables = self.open.get(backend, set())
         tables |= {table} - {None}
+        asked = _REGCLASS.fullmatch(text)
+        if asked and backend in self.open and compared.here.endswith(" none"):
+            self.oids.setdefault(backend, {}).setdefault(asked.group(1), "%d.%d" % compared.command)
         if is_done_in_one(compared):
             first = self.cause(compared, "answer") or "%d.%d" % compared.command
             for name in tables | {table} - {None}:
@@ -102,13 +116,15 @@ class Effects:
         if text in ("commit", "rollback"):
             self.open.pop(backend, None)
             self.blocks.pop(backend, None)
+            self.oids.pop(backend, None)
 
 
 def all_differences(all_compared: List[Compared], text) -> List[List[Difference]]:
     """The differences of each command, and what each may follow from."""
     found, effects = [], Effects()
     for compared in all_compared:
-        found.append([Difference(part, words_of(compared, part, text), effects.cause(compared, part))
+        is_in_block = compared.command[0] in effects.open
+        found.append([Difference(part, words_of(compared, part, text, is_in_block), effects.cause(compared, part))
                       for part in compared.differences])
         effects.take(compared)
     return found

@@ -8,6 +8,7 @@ MODES = {"access share": "as", "row share": "rs", "row exclusive": "rx", "share 
          "share row exclusive": "sr", "exclusive": "ex", "access exclusive": "ax"}
 NAMED = {"class": (1,), "att": (2, 3)}      # of a row that is new, the columns that its command has
 OF_NO_COMMAND = ("gone", "release", "stop")
+ANSWERED_BY_WORD = ("columns", "column", "regclass")
 
 
 def check_script(path, source, output):
@@ -57,9 +58,12 @@ def named_by(event):
 
 
 def answer_can_be_of(words, text):
-    """Whether a command with these words can be answered so: only `show` has fields, and those that were asked for."""
+    """Whether a command with these words can be answered so: only `show` has fields, and those that were asked for; and three
+    commands begin their answers with their own word."""
     if text.startswith("error "):
         return True
+    if words[0] in ANSWERED_BY_WORD:
+        return text.startswith(words[0] + " ")
     if words[0] != "show":
         return text in ("ok", "rolled back")
     fields = [field.split(" ")[0] for field in text.split("; ")]

@@ -1,6 +1,6 @@
 """A script's commands as a PostgreSQL server takes them, and its replies as `catsync walk` writes answers."""
 import re
-from typing import List, NamedTuple, Optional
+from typing import Dict, List, NamedTuple, Optional
 
 from .faults import Fault
 from .session import Reply, Session
@@ -26,12 +26,16 @@ FORMS = [(re.compile(pattern), sql) for pattern, sql in (
 _TABLE = re.compile(r"create table %s \( (?:(.*) )?\)" % _NAME)
 _COLUMN = re.compile("%s ([a-z0-9]+)" % _NAME)
 _SHOW = re.compile("show %s(?: (%s))?" % (_NAME, "|".join(FIELDS + OTHER_FIELDS)))
+_LISTED = re.compile("(?:columns %s|column %s %s)" % (_NAME, _NAME, _NAME))
+_REGCLASS = re.compile("regclass ([0-9]+)")
+NO_OID = 2 ** 32 - 1    # which no relation of a new database has
 
 # Each field of the table `T`, as one row with one value.
+_COLUMNS_OF = ("from pg_attribute join pg_type on pg_type.oid = atttypid where attrelid = T and attnum > 0 and not "
+               "attisdropped")
 QUERIES = {
     "name": "select relname from pg_class where oid = T",
-    "columns": "select string_agg(concat_ws(':', attname, typname), ' ' order by attnum) from pg_attribute join pg_type on "
-               "pg_type.oid = atttypid where attrelid = T and attnum > 0 and not attisdropped",
+    "columns": "select string_agg(concat_ws(':', attname, typname), ' ' order by attnum) " + _COLUMNS_OF,
     "defaults": "select string_agg(concat_ws('=', adnum, pg_get_expr(adbin, adrelid)), ' ' order by adnum) from pg_attrdef "
                 "where adrelid = T",
     "statistics": "select string_agg(concat_ws(':', attnum, coalesce(attstattarget, -1)), ' ' order by attnum) from "
@@ -48,10 +52,25 @@ QUERIES = {
 }
 
 
+LIST = "select string_agg(concat_ws(':', attname, typname), ' ' order by attname) " + _COLUMNS_OF
+COLUMN = "select concat_ws(' ', attnum, typname) " + _COLUMNS_OF + " and attname = '%s'"
+
+
 class Shown(NamedTuple):
     """A `show` of a table, or of a field of it."""
     table: str
     field: Optional[str]
+
+
+class Listed(NamedTuple):
+    """A `columns` of a table, or a `column` of it."""
+    table: str
+    column: Optional[str]
+
+
+class Regclass(NamedTuple):
+    """A `regclass` of an oid here."""
+    oid: int
 
 
 class Answer(NamedTuple):
@@ -67,11 +86,16 @@ def tokens_of(command):
 
 
 def statement_of(command):
-    """A command as SQL, or as a `Shown`; None where the server isn't asked for it yet."""
+    """A command as SQL, or as what shows something; None where the server isn't asked for it yet."""
     text = tokens_of(command)
     shown, table = _SHOW.fullmatch(text), _TABLE.fullmatch(text)
+    listed, regclass = _LISTED.fullmatch(text), _REGCLASS.fullmatch(text)
     if shown:
         return Shown(shown.group(1), shown.group(2))
+    if listed:
+        return Listed(listed.group(1) or listed.group(2), listed.group(3))
+    if regclass:
+        return Regclass(int(regclass.group(1)))
     if table:
         columns = [_COLUMN.fullmatch(column) for column in (table.group(2) or "").split(" , ") if column]
         if None in columns:
@@ -85,16 +109,18 @@ def statement_of(command):
 
 
 class Asked:
-    """A session that is asked for commands of a script."""
+    """A session that is asked for commands of a script. `oids` has which oids here are which in the server."""
 
-    def __init__(self, session: Session):
-        self.session = session
+    def __init__(self, session: Session, oids: Dict[int, int]):
+        self.session, self.oids = session, oids
         self.in_block = False
 
     def ask(self, statement):
         """The answer to a command."""
-        if isinstance(statement, Shown):
+        if isinstance(statement, (Shown, Listed)):
             return self.show(statement)
+        if isinstance(statement, Regclass):
+            return self.name_of(statement.oid)
         reply = self.session.ask(statement)
         if statement in ("begin", "commit", "rollback"):
             self.in_block = statement == "begin"
@@ -102,32 +128,51 @@ class Asked:
             return Answer("rolled back", warnings_of(reply))
         return answer_of(reply, "ok")
 
-    def show(self, shown: Shown):
-        """The answer to a `show`: a lock as it takes one, and then what the catalogs say. Outside a block it is a
+    def show(self, shown):
+        """The answer to what shows a table: a lock as it takes one, and then what the catalogs say. Outside a block it is a
         transaction of its own."""
         if not self.in_block:
             self.session.ask("begin")
         reply = self.session.ask('lock table "%s" in access share mode' % shown.table)
-        text = ""
-        if not reply.error and shown.field in OTHER_FIELDS:
-            reply = self.session.ask("do $$ begin raise exception using errcode = '42809', message = "
-                                     "'a table has no field %s'; end $$" % shown.field)
-        elif not reply.error:
-            text = self.fields(shown)
+        text = None if reply.error else self.listed(shown) if isinstance(shown, Listed) else self.fields(shown)
+        if text is None and not reply.error:
+            lacks = ("42703", "column %s" % shown.column) if isinstance(shown, Listed) else ("42809", "field %s" % shown.field)
+            reply = self.session.ask("do $$ begin raise exception using errcode = '%s', message = 'a table has no %s'; "
+                                     "end $$" % lacks)
         if not self.in_block:
             self.session.ask("rollback")
         return answer_of(reply, text)
 
     def fields(self, shown: Shown):
-        """The values of the fields that are asked for."""
-        table = "'\"%s\"'::regclass" % shown.table
+        """The values of the fields that are asked for, or None where a table has no such field."""
+        if shown.field in OTHER_FIELDS:
+            return None
         if shown.field:
-            return "%s %s" % (shown.field, self.value(QUERIES[shown.field].replace("= T", "= " + table)))
-        values = [(field, self.value(QUERIES[field].replace("= T", "= " + table))) for field in FIELDS]
-        return "; ".join("%s %s" % pair for pair in [("table", self.value("select %s::oid" % table))] + values)
+            return "%s %s" % (shown.field, self.value(QUERIES[shown.field], shown.table))
+        values = [(field, self.value(QUERIES[field], shown.table)) for field in FIELDS]
+        return "; ".join("%s %s" % pair for pair in [("table", str(self.oid_of(shown.table)))] + values)
 
-    def value(self, query):
-        """The only value of a query, or `-`."""
+    def listed(self, listed: Listed):
+        """The columns of a table, or one of them, or None where there is no such column."""
+        if not listed.column:
+            return "columns " + self.value(LIST, listed.table)
+        column = self.value(COLUMN.replace("%s", listed.column), listed.table)
+        return None if column == "-" else "column " + column
+
+    def name_of(self, oid):
+        """The answer to a `regclass`: of an oid here that no table of the server has, as of none."""
+        there = self.oids.get(oid, NO_OID)
+        reply = self.session.ask("select %d::regclass::text" % there)
+        name = (reply.rows[0][0] or "").strip('"') if reply.rows else ""
+        return answer_of(reply, "regclass %d none" % oid if name == str(there) else "regclass " + name)
+
+    def oid_of(self, table):
+        """The oid of a table in the server."""
+        return int(self.value("select T::oid", table))
+
+    def value(self, query, table):
+        """The only value of a query about a table, or `-`."""
+        query = re.sub(r"\bT\b", "'\"%s\"'::regclass" % table, query)
         reply = self.session.ask(query)
         if reply.error:
             raise Fault("the server: %s: %s" % (reply.error[1], query))

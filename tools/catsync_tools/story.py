@@ -347,4 +347,4 @@ def story_of(output):
     model.uses.finish_all(model)
     refusals = [facts.refusal for facts in model.facts if facts.refusal]
     return Story(output.entries, model.facts, [life for _, life in sorted(model.lives.all.items())], answers,
-                 model.transactions.all, model.locks.all, model.caches.known(), model.log, refusals, model.names)
+                 model.transactions.all, model.locks.all, model.caches.all, model.log, refusals, model.names)

@@ -2,14 +2,17 @@
 descriptor, or a name, serves a command that makes no scan for it.
 
 An answer tells that its command opened a descriptor: one that shows fields, and an error of a column or of another part of
-the relation. A command that writes has opened the descriptor of the relation that it changes. A command without an answer
-and without a write (`lock table`, or one that the history doesn't finish) isn't said to open any.
+the relation; but not where the command scans for a list of columns, as `columns` does, or where a column is missing under the
+lock that `column` asks for. A command that writes has opened the descriptor of the relation that it changes, and looked up
+the columns. A command without an answer and without a write (`lock table`, or one that the history doesn't finish) isn't said
+to open any.
 """
 import re
 from bisect import bisect_left, bisect_right
 from typing import Dict, List, Optional
 
 from .caches import Kept, Served, served_by
+from .rows import key_of
 
 SHOWN = re.compile(r"(?:table|index) ([0-9]+);")
 FIELDS = ("name", "columns", "defaults", "statistics", "fillfactor", "constraints", "referenced", "indexes", "triggers",
@@ -17,7 +20,10 @@ FIELDS = ("name", "columns", "defaults", "statistics", "fillfactor", "constraint
 ERRORS_INSIDE = ("22023", "0A000", "2BP01", "42701", "42703", "42704", "42710", "54011")
 ABSENT = re.compile(r"error [0-9A-Z]+ .* does not exist as of ([0-9]+)")
 OF_OID = re.compile(r"regclass .* as of ([0-9]+)")
+READ_AT = re.compile(r" as of ([0-9]+)")
+NO_COLUMN = re.compile(r"error 42703 column (\S+) does not exist")
 PASSED = ("start", "look", "fetch", "fetch reset", "unlock")
+NUMBER, NAME, TYPE, LIVE = 1, 2, 3, 5       # of a row of pg_attribute
 
 
 def opens(answer):
@@ -35,6 +41,12 @@ def changes_known(event):
     return any(change.catalog not in ("class", "att", "ind") or change.columns[0] not in new for change in changes)
 
 
+def columns_by(rows, part):
+    """The live columns among rows of pg_attribute, by their names or their numbers."""
+    rows = sorted(rows, key=lambda row: int(row.columns[part]) if part == NUMBER else row.columns[part])
+    return ["%s:%s" % (row.columns[NAME], row.columns[TYPE]) for row in rows if row.columns[LIVE] == "l"]
+
+
 def note(kept: Kept, facts, command):
     """What is kept serves a command by what its backend had at an entry."""
     kept.serves.append(Served(facts.entry.number, command))
@@ -42,10 +54,11 @@ def note(kept: Kept, facts, command):
 
 
 class Course:
-    """How far a command is: the relation that it has found, whether by a scan for a name, and whether it has gone on."""
+    """How far a command is: the relation that it has found, whether by a scan for a name, and whether it has gone on; and the
+    facts of its backend's last entry before it, if there is one."""
 
-    def __init__(self, command):
-        self.command = command
+    def __init__(self, command, before=None):
+        self.command, self.before = command, before
         self.rel: Optional[int] = None
         self.by_scan = self.is_over = False
 
@@ -59,12 +72,18 @@ class Uses:
                          if entry.event.kind == "write" and changes_known(entry.event)}
         self.shown: Dict[tuple, int] = {}
         self.scanned: Dict[tuple, int] = {}
+        self.missing: Dict[tuple, str] = {}
         for answer in output.answers:
             place = (answer.backend, answer.command)
             for pattern, numbers in ((SHOWN, self.shown), (ABSENT, self.scanned), (OF_OID, self.scanned)):
                 found = pattern.match(answer.text)
                 if found:
                     numbers[place] = int(found.group(1))
+            read, no_column = READ_AT.search(answer.text), NO_COLUMN.fullmatch(answer.text)
+            if read and answer.text.split(" ")[0] in FIELDS and int(read.group(1)) <= len(output.entries):
+                self.shown[place] = output.entries[int(read.group(1)) - 1].event.parts.get("rel")
+            if no_column:
+                self.missing[place] = no_column.group(1)
         self.columns = {(answer.backend, answer.command): answer.text.split(" ") for answer in output.answers
                         if re.match("columns? ", answer.text)}
         self.answered: Dict[int, List[int]] = {}
@@ -78,19 +97,45 @@ class Uses:
         course = self.courses.get(entry.backend)
         if course is None or course.command != entry.command:
             self.finish(model, entry.backend, last, entry.command)
-            course = self.courses[entry.backend] = Course(entry.command)
-        kind, parts = entry.event
+            course = self.courses[entry.backend] = Course(entry.command, last)
+        (kind, parts), place = entry.event, (entry.backend, entry.command)
         if kind == "scan" and parts["purpose"] == "relname":
             course.rel, course.by_scan = model.rows.named(entry.backend, parts["name"]), True
             course.is_over = False
         elif kind in ("lock ok", "lock held"):
             course.rel = parts["rel"]
+            if parts["mode"] == "as" and place in self.missing:
+                self.opening.discard(place)
             if not course.by_scan:
                 self.serve(model, course, facts, names=True)
         elif kind not in PASSED and not course.is_over:
             course.is_over = True
-            if (entry.backend, entry.command) in self.opening:
-                self.serve(model, course, last)
+            self.go_on(model, course, entry, last)
+        if kind == "write":
+            self.serve_written(model, entry, last)
+
+    def go_on(self, model, course, entry, last):
+        """A command has found its relation, and makes this entry; what serves it by the entry before. One that asked for no
+        lock found the relation before its first entry."""
+        kind, parts = entry.event
+        if kind == "scan":
+            if parts["purpose"] == "attlist":
+                self.opening.discard((entry.backend, entry.command))
+            if course.rel is None and course.before and parts["purpose"] != "reloid":
+                course.rel = parts["rel"]
+                self.serve(model, course, course.before, names=True)
+        if self.opened(model, (entry.backend, entry.command)):
+            self.serve(model, course, last)
+
+    def serve_written(self, model, entry, last):
+        """A write changes columns by names that its command looked up, in entries of earlier commands."""
+        scans = model.caches.cache(entry.backend).scans
+        for change in (change for change in entry.event.parts["changes"] if change.catalog == "att" and change.sign in "+="):
+            old = model.rows.seen(model.rows.by_key.get(key_of("att", change.columns), ()), entry.backend)
+            for name in dict.fromkeys([version.row.columns[NAME] for version in old] + [change.columns[NAME]]):
+                scanned = scans.get(("attname", int(change.columns[0]), name))
+                if scanned and scanned.kept.command != entry.command:
+                    note(scanned.kept, last, entry.command)
 
     def finish(self, model, backend, last, command):
         """The backend's commands below one are finished, with its last entry or without any."""
@@ -100,10 +145,11 @@ class Uses:
             place = (backend, number)
             if own.rel is None:
                 own.rel = self.shown.get(place)
-            if place in self.opening and not own.is_over:
+            if not own.is_over and self.opened(model, place):
                 self.serve(model, own, last)
             self.serve_by_place(model, place, last)
             self.serve_columns(model, place, last)
+            self.serve_missing(model, own, place, last)
 
     def finished(self, backend, first, command):
         """A command of a backend, and the later ones below another that have an answer; those between that have neither an
@@ -125,15 +171,40 @@ class Uses:
             if kept and all(served.command != course.command for served in kept.serves):
                 note(kept, facts, course.command)
 
+    def opened(self, model, place):
+        """Whether a command opened a descriptor; one that shows a list by name, which isn't by number, didn't."""
+        return place in self.opening and not self.lists(model, place)
+
+    def lists(self, model, place):
+        """What its backend keeps of lists that an answer shows, and no descriptor would, since that has columns by number."""
+        words = self.columns.get(place, [""])
+        if words[0] != "columns":
+            return []
+        return [scanned.kept for datum, scanned in model.caches.cache(place[0]).scans.items() if datum[0] == "attlist"
+                and words[1:] == columns_by(scanned.rows, NAME) != columns_by(scanned.rows, NUMBER)]
+
     def serve_columns(self, model, place, facts):
         """An answer shows columns or a column, and the only list or entry that can have it is of an earlier command."""
         words = self.columns.get(place)
         if not words:
             return
-        purpose, cache = "attlist" if words[0] == "columns" else "attname", model.caches.cache(place[0])
-        found = [scanned.kept for datum, scanned in cache.scans.items() if datum[0] == purpose and (
-            datum[1] not in cache.descriptors if purpose == "attlist"
-            else [(row.columns[1], row.columns[3]) for row in scanned.rows] == [tuple(words[1:])])]
+        cache = model.caches.cache(place[0])
+        if words[0] == "columns":
+            found = self.lists(model, place) or [scanned.kept for datum, scanned in cache.scans.items()
+                                                 if datum[0] == "attlist" and datum[1] not in cache.descriptors]
+        else:
+            found = [scanned.kept for datum, scanned in cache.scans.items() if datum[0] == "attname"
+                     and [(row.columns[NUMBER], row.columns[TYPE]) for row in scanned.rows] == [tuple(words[1:])]]
+        if len(found) == 1 and found[0].command != place[1]:
+            note(found[0], facts, place[1])
+
+    def serve_missing(self, model, course, place, facts):
+        """A column is missing by an entry of an earlier command, where only one can be meant."""
+        if place not in self.missing:
+            return
+        found = [scanned.kept for datum, scanned in model.caches.cache(place[0]).scans.items()
+                 if datum[0] == "attname" and datum[2] == self.missing[place] and not scanned.rows
+                 and course.rel in (None, datum[1])]
         if len(found) == 1 and found[0].command != place[1]:
             note(found[0], facts, place[1])
 

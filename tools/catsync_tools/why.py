@@ -70,11 +70,21 @@ class Why:
 
     def kept(self, kept: Kept, number=None, whose="the"):
         """What is kept, with its entries; a descriptor as it is at an entry, or, if none is given, at its end."""
+        return "%s, %s" % (self.named(kept, whose), self.made(kept, number))
+
+    def made(self, kept: Kept, number=None):
+        """By which entries something is kept."""
         if not kept.is_descriptor:
-            return "%s, read at %s" % (self.named(kept, whose), at(kept.first))
+            return "read at " + at(kept.first)
         if kept.built is None or (number is not None and number < kept.built):
-            return "%s, in the midst of its build since %s" % (self.named(kept, whose), at(kept.first))
-        return "%s, built at %s to %s" % (self.named(kept, whose), at(kept.first), at(kept.built))
+            return "in the midst of its build since " + at(kept.first)
+        return "built at %s to %s" % (at(kept.first), at(kept.built))
+
+    def all_kept(self, all_kept: List[Kept], number=None):
+        """One or several things that are kept, with their entries, before a verb."""
+        if len(all_kept) == 1:
+            return self.kept(all_kept[0], number) + ","
+        return listed("%s (%s)" % (self.named(kept), self.made(kept, number)) for kept in all_kept)
 
     def named(self, kept: Kept, whose="the"):
         """What is kept."""
@@ -129,11 +139,10 @@ class Why:
 
     def stale(self, facts: Facts):
         """What the backend keeps no more."""
-        known = [kept for kept in facts.stale if kept.is_known]
-        whole, builds = [kept for kept in known if kept.built], [kept for kept in known if not kept.built]
+        whole, builds = [kept for kept in facts.stale if kept.built], [kept for kept in facts.stale if not kept.built]
         texts = []
         if whole:
-            texts.append("%s, %s stale" % (listed(self.kept(kept) for kept in whole), verb(whole, "is", "are")))
+            texts.append("%s %s stale" % (self.all_kept(whole), verb(whole, "is", "are")))
         if builds:
             texts.append("the build of %s starts over" % listed(
                 "%s, which began at %s," % (self.story.called(kept.rel, kept.name), at(kept.first)) for kept in builds))
@@ -145,7 +154,8 @@ class Why:
         found = [kept for kept in self.outdated.get(facts.entry.backend, ())
                  if kept.outdated < number and (kept.last is None or kept.last > number)]
         return ["%s, is out of date since %s: transaction %d has yet to send its messages" % (
-            self.kept(kept, number, "its"), at(kept.outdated), kept.outdated_by.xid) for kept in found]
+            self.kept(kept, number, "the" if kept.is_absent else "its"), at(kept.outdated), kept.outdated_by.xid)
+                for kept in found]
 
     # The kinds of entries: what the backend does, and more sentences.
 
@@ -189,10 +199,8 @@ class Why:
     def fetch_reset(self, facts, parts):
         """What it has lost, and what it drops."""
         lost = sum(len(batch.messages) for batch in facts.batches)
-        known = [kept for kept in facts.stale if kept.is_known]
         return ["has lost messages: of the %d that waited the queue keeps only the last ones. So it resets: it drops all "
-                "that it keeps, and is past all messages" % lost] + (
-                    self.stale(facts) if known else ["it kept nothing"])
+                "that it keeps, and is past all messages" % lost] + (self.stale(facts) or ["it kept nothing"])
 
     def lock_ok(self, facts, parts):
         """What others hold beside it."""
@@ -223,13 +231,14 @@ class Why:
         kept, rows = facts.kept, counted(parts["rows"], "row")
         scanned = SCANNED[parts["purpose"]] % dict(parts, called=self.story.called(parts["rel"], facts.kept.name))
         if not kept.is_descriptor:
-            return ["scans %s: %s" % (scanned, rows)]
+            return ["scans %s: %s" % (scanned, rows)] + self.reason_to_scan(kept)
         scans = INDEX_SCANS if parts["purpose"] == "indexrow" else TABLE_SCANS
         texts = ["scans %s, scan %d of %d for its descriptor: %s" % (
             scanned, scans.index(parts["purpose"]) + 1, len(scans), rows)]
         if kept.built == facts.entry.number:
             texts.append("the descriptor is built, and kept from here on" + (
-                ", though some of it is out of date since " + at(kept.outdated) if kept.outdated else ""))
+                ", though some of it is out of date since " + at(kept.outdated)
+                if kept.outdated and kept.outdated < facts.entry.number else ""))
         return texts + (self.reason_to_build(kept) if kept.first == facts.entry.number else [])
 
     def reason_to_build(self, kept: Kept):
@@ -241,14 +250,19 @@ class Why:
             return ["the build that began at %s was given up at %s" % (at(last.first), at(last.last))]
         return ["the last one, built at %s to %s, is stale since %s" % (at(last.first), at(last.built), at(last.last))]
 
+    def reason_to_scan(self, kept: Kept):
+        """What became of the last entry or list of this key, if there was one."""
+        last = self.earlier.get(kept)
+        return ["%s, is stale since %s" % (self.kept(last), at(last.last))] if last and last.last != kept.first else []
+
     def scan_of_name(self, facts, parts):
         """The relation that a name means, or why there is none."""
-        first = "looks the name %s up in pg_class: " % parts["name"]
+        first, reason = "looks the name %s up in pg_class: " % parts["name"], self.reason_to_scan(facts.kept)
         if facts.rows:
-            return [first + "it is relation %s" % facts.rows[0].columns[0]] + self.no_lock(facts)
+            return [first + "it is relation %s" % facts.rows[0].columns[0]] + reason + self.no_lock(facts)
         unseen = ["what backend %d wrote at %s isn't visible yet" % (version.transaction.backend, at(version.entry))
                   for version in facts.unseen]
-        return [first + "no relation has it" + (", as " + listed(unseen) if unseen else "")]
+        return [first + "no relation has it" + (", as " + listed(unseen) if unseen else "")] + reason
 
     def no_lock(self, facts: Facts):
         """Why the relation that was found isn't locked: the backend holds locks that are clear, and asks for none."""
@@ -292,13 +306,12 @@ class Why:
         transaction = facts.transaction
         texts = ["commits transaction %d: from here on all others see what it wrote at %s" % (
             parts["xid"], all_at(write.entry for write in transaction.writes))]
-        known = [kept for kept in facts.outdated if kept.is_known]
-        count = len(transaction.messages)
-        if known:
-            return texts + ["its %s sent yet, so nothing tells backend %s that %s, %s out of date" % (
+        outdated, count = facts.outdated, len(transaction.messages)
+        if outdated:
+            return texts + ["its %s sent yet, so nothing tells backend %s that %s %s out of date" % (
                 "message isn't" if count == 1 else "%d messages aren't" % count,
-                listed(str(backend) for backend in sorted({kept.backend for kept in known})),
-                listed(self.kept(kept, facts.entry.number) for kept in known), verb(known, "is", "are"))]
+                listed(str(backend) for backend in sorted({kept.backend for kept in outdated})),
+                self.all_kept(outdated, facts.entry.number), verb(outdated, "is", "are"))]
         return texts + ["%s to be sent" % ("1 message is" if count == 1 else "%d messages are" % count)]
 
     def publish(self, facts, parts):

@@ -2,7 +2,7 @@
 use Rattle.std.proofs.Common.{◌≡◌, ◌∙◌, ◌||◌, ℕ, Bool, true, false, Some, List, [], ◌∷◌, All, refl, sym, ap, subst, take}
 use Rattle.std.specs.List.{AllByRecursion}
 use Rattle.std.proofs.lemmas.List.Elements.{All-nil, All-from_recursion, recursion_from_All}
-use Rattle.base_types.specs.Scans.{same_scan, is_build_scan}
+use Rattle.base_types.specs.Scans.{same_scan}
 use Rattle.base_types.proofs.SameScan.{same_scan-itself}
 use Rattle.history_model.specs.Orderly.{IsSound}
 use Rattle.history_model.specs.Read.{is_usable, rows_read}
@@ -36,10 +36,10 @@ kept_coherent seen b k sound usable fits right = record {
 }
 
 -- all that is kept, where just what is usable is
-pub all_coherent : (seen : List Entry) (b : ℕ) (kept : List KeptScan) → IsSound seen → ((scan : Purpose) → is_build_scan scan ≡ true → is_usable seen b scan ≡ is_kept kept scan) → All (ReadRight (rows_read seen b)) kept → All (KeptAt seen b) kept
+pub all_coherent : (seen : List Entry) (b : ℕ) (kept : List KeptScan) → IsSound seen → ((scan : Purpose) → is_usable seen b scan ≡ is_kept kept scan) → All (ReadRight (rows_read seen b)) kept → All (KeptAt seen b) kept
     → All (IsCoherentScan seen b) kept
 all_coherent seen b kept sound usable right at = All-from_recursion (IsCoherentScan seen b) kept (every-weaker Held (IsCoherentScan seen b)
-    (λ k held. kept_coherent seen b k sound (usable k.scan held.1.1.build ∙ held.0) held.1.0 held.1.1) kept
+    (λ k held. kept_coherent seen b k sound (usable k.scan ∙ held.0) held.1.0 held.1.1) kept
     (every-both (λ k. is_kept kept k.scan ≡ true) (λ k. KeptAt seen b k × ReadRight (rows_read seen b) k) kept (each_kept kept)
     (every-both (KeptAt seen b) (ReadRight (rows_read seen b)) kept (recursion_from_All (KeptAt seen b) kept at) (recursion_from_All (ReadRight (rows_read seen b)) kept right))))
   where

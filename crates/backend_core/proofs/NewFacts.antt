@@ -1,15 +1,12 @@
 -- The facts of a backend before its first entry.
-use Rattle.std.proofs.Common.{◌∙◌, ◌||◌, ℕ, List, [], sym, ap, subst, All, slice_get}
+use Rattle.std.proofs.Common.{ℕ, List, [], sym, ap, subst, All}
 use Rattle.std.proofs.lemmas.Bool.{both_ways}
 use Rattle.std.proofs.lemmas.List.Elements.{All-nil}
 use Rattle.command_lists.specs.Lists.{all_lists}
-use Rattle.txn_blocks.specs.Blocks.{no_block}
-use Rattle.ddl_effect.specs.Stages.{plan_at}
 use Rattle.history_model.specs.Read.{rows_read}
 use Rattle.cacheless.specs.Facts.{facts_of}
 use Rattle.cacheless.specs.Holds.{ReadRight, FactsFit}
-use Rattle.cacheless.specs.State.{owed_at, running_of, is_kept, ends_on_scan, IsNew}
-use Rattle.cacheless.proofs.Entries.EnteredLooks.{no_end}
+use Rattle.cacheless.specs.State.{owed_at, running_of, is_kept, IsNew}
 use Rattle.backend_core.specs.Types.{Command, Progress}
 
 -- what a new backend holds are the facts of one that has no entry
@@ -18,7 +15,7 @@ facts_none b commands p new = record {
   running = sym (ap running_of new.running);
   lists = sym (ap all_lists new.lists);
   owed = sym (ap owed_at new.due);
-  usable = λ scan is. sym (ap (λ k. is_kept k scan) new.kept);
+  usable = λ scan. sym (ap (λ k. is_kept k scan) new.kept);
   kept = subst (All (ReadRight (rows_read [] b))) (sym new.kept) (All-nil (ReadRight (rows_read [] b)));
-  given = λ is. absurd (both_ways _ (ap (λ t. t || ends_on_scan (plan_at p.exec)) new.read ∙ ap ends_on_scan new.plan ∙ no_end no_block (slice_get commands 0)) is);
+  given = λ is. absurd (both_ways _ new.granted is);
 }

@@ -1,12 +1,9 @@
 -- Another backend's entry changes nothing of where a backend is.
-use Rattle.std.proofs.Common.{◌≡◌, ◌∙◌, ◌==◌, ℕ, Bool, true, false, Option, Some, None, List, [], ◌∷◌, ◌++◌, sym, ap, subst, drop, All, get_or, refl}
+use Rattle.std.proofs.Common.{◌≡◌, ◌∙◌, ◌==◌, ℕ, false, Option, Some, None, List, [], ◌∷◌, ◌++◌, sym, ap, subst, drop, All, get_or, refl}
 use Rattle.std.specs.Option.{option_map_or}
 use Rattle.base_types.specs.Scenario.{Scenario}
-use Rattle.base_types.specs.declared.scan.Purpose.TheVariants as scans
-use Rattle.ddl_effect.specs.Plans.{Plan, Absent, Do, Lookup}
-use Rattle.ddl_effect.specs.Stages.{plan_at}
 use Rattle.ddl_effect.specs.Commands.{commands_of}
-use Rattle.history_model.proofs.Reading.{life_of-other, place_read-other}
+use Rattle.history_model.proofs.Reading.{life_of-other, last_event_of-other, place_read-other}
 use Rattle.cacheless.specs.Lines.{lines_from, lines_of_backend}
 use Rattle.cacheless.specs.Session.{Session}
 use Rattle.cacheless.specs.Sessions.{session_of}
@@ -17,21 +14,13 @@ use Rattle.cacheless.proofs.Reading.{facts_of-other, session_of-other}
 use Rattle.cacheless.proofs.Allowed.StaysOnCourse.{has_written-other}
 use Rattle.backend_core.specs.Types.{Entry, KeptScan, Life, Backend}
 use Rattle.backend_core.specs.declared.life.Life.TheVariants as lives
-use Rattle.backend_core.specs.Agrees.{KeptAt, PlaceFits, command_at, AwaitsEntry, HasNotJoined, HasLeft, Stands}
+use Rattle.backend_core.specs.Agrees.{KeptAt, command_at, AwaitsEntry, HasNotJoined, HasLeft, Stands}
 use Rattle.backend_core.specs.Fits.{Fits}
 use Rattle.backend_core.proofs.Own.{waiting, waiting_is}
 
 -- the places of the scans that are kept
 kept-other : (history : List Entry) (e : Entry) (b : ℕ) (kept : List KeptScan) → (e.backend == b) ≡ false → All (KeptAt history b) kept → All (KeptAt (history ++ e ∷ []) b) kept
 kept-other history e b kept other fits = λ i d within. place_read-other history e b (get_or kept i d).scan other ∙ fits i d within
-
--- that of a lookup's scan
-place-other : (history : List Entry) (e : Entry) (b : ℕ) (plan : Plan) (read : Bool) (at : ℕ) → (e.backend == b) ≡ false → PlaceFits history b plan read at → PlaceFits (history ++ e ∷ []) b plan read at
-place-other history e b (Do (Lookup name mode) rest) true at other fits = place_read-other history e b (scans.RelName name) other ∙ fits
-place-other history e b (Do (Lookup name mode) rest) false at other fits = tt
-place-other history e b (Do act rest) read at other fits = tt
-place-other history e b (Absent name) read at other fits = place_read-other history e b (scans.RelName name) other ∙ fits
-place-other history e b plan read at other fits = tt
 
 awaits-other : (scenario : Scenario) (seen : List Entry) (e : Entry) (s : Backend) → (e.backend == s.progress.id) ≡ false → AwaitsEntry scenario seen s → AwaitsEntry scenario (seen ++ e ∷ []) s
 awaits-other scenario seen e s other waits = record {
@@ -41,7 +30,7 @@ awaits-other scenario seen e s other waits = record {
     built = k.built;
     places = record {
       kept = kept-other seen e s.progress.id s.progress.kept other k.places.kept;
-      given_at = place-other seen e s.progress.id (plan_at s.progress.exec) s.progress.read s.progress.given_at other k.places.given_at;
+      absent = λ name missed whole. k.places.absent name missed (record { untaken = λ from gone. whole.untaken from (last_event_of-other seen e s.progress.id other ∙ gone); going = whole.going });
     };
   };
   rests = record {

@@ -49,7 +49,7 @@ pub waiting_course : (scenario : Scenario) (seen : List Entry) (s : Backend) (wa
 waiting_course scenario seen s waits courses = subst (CourseOf scenario seen s.progress.id) (waiting_is scenario seen s waits) (courses s.progress.id)
 
 -- the running command is that of the session
-at_session : (scenario : Scenario) (seen : List Entry) (s : Backend) (waits : AwaitsEntry scenario seen s) → slice_get (commands_of scenario s.progress.id) (length (waiting waits).finished) ≡ command_at s
+pub at_session : (scenario : Scenario) (seen : List Entry) (s : Backend) (waits : AwaitsEntry scenario seen s) → slice_get (commands_of scenario s.progress.id) (length (waiting waits).finished) ≡ command_at s
 at_session scenario seen s waits = ap (slice_get (commands_of scenario s.progress.id)) waits.rests.holds.count ∙ ap (λ l. slice_get l s.progress.finished) (sym waits.rests.holds.commands)
 
 -- it does what its plan says, and hasn't made its release
@@ -103,7 +103,7 @@ appended_makes scenario old new had has e next suits appends = record {
 pub own_makes : (scenario : Scenario) (old new : List Entry) (had has : ℕ → ℕ) (was : Backend) (event : Event) (waits : AwaitsEntry scenario old was) → IsPlayed scenario old → AllOnCourse scenario old → OwnEntry scenario old was event waits
     → Appends old new had has (entry_of was.progress.id (was.progress.finished + 1) event) → MakesEntry scenario old new had has was.progress.id
 own_makes scenario old new had has was event waits played courses own appends = appended_makes scenario old new had has e next (record {
-  needed = plays_needed scenario old e courses next;
+  needed = plays_needed scenario old e next;
   truly = own.truly;
   tables = (next_keeps scenario old e played courses next).1;
   queue = own.queue;
@@ -121,7 +121,7 @@ pub data KeepsAnswer (was now : Progress) (event : Event) : Type 0 where
   Inside : ends_command event ≡ false → now.answer ≡ None → KeepsAnswer was now event
 
 -- an entry of an end leaves the plan
-pub end_left : (event : Event) (s : Session) → ends_command event ≡ true → (noted event s).left ≡ s.left
+end_left : (event : Event) (s : Session) → ends_command event ≡ true → (noted event s).left ≡ s.left
 end_left (events.Visible xid) s is = refl
 end_left (events.Publish count) s is = refl
 end_left (events.Release from) s is = refl

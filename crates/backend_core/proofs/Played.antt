@@ -7,7 +7,7 @@ use Rattle.cacheless.specs.Plays.{IsNext}
 use Rattle.cacheless.specs.TableWrites.{WritesTables}
 use Rattle.cacheless.specs.MayEnter.{MayEnter}
 use Rattle.backend_core.specs.Types.{Scenario, Entry}
-use Rattle.backend_core.specs.Agrees.{IsPlayed}
+use Rattle.backend_core.specs.Agrees.{AreSpelled, IsPlayed}
 
 -- one more entry
 pub IsPlayed-more : (scenario : Scenario) (history : List Entry) (e : Entry) → IsPlayed scenario history → MayEnter scenario history e → IsPlayed scenario (history ++ e ∷ [])
@@ -15,12 +15,14 @@ IsPlayed-more scenario history e played may = record {
   sound = EachEntry-more MayComeNext history e played.sound may.comes;
   plays = EachEntry-more (IsNext scenario) history e played.plays may.next;
   tables = EachEntry-more WritesTables history e played.tables may.suits.tables;
+  spelled = played.spelled;
 }
 
--- a history of which each entry was one that might be made
-pub entered_played : (scenario : Scenario) (history : List Entry) → EachEntry (MayEnter scenario) history → IsPlayed scenario history
-entered_played scenario history entered = record {
+-- a history of which each entry was one that might be made by the commands of a script
+pub entered_played : (scenario : Scenario) (history : List Entry) → AreSpelled scenario → EachEntry (MayEnter scenario) history → IsPlayed scenario history
+entered_played scenario history spelled entered = record {
   sound = EachEntry-weaker (MayEnter scenario) MayComeNext (λ before e may. may.comes) history entered;
   plays = EachEntry-weaker (MayEnter scenario) (IsNext scenario) (λ before e may. may.next) history entered;
   tables = EachEntry-weaker (MayEnter scenario) WritesTables (λ before e may. may.suits.tables) history entered;
+  spelled = spelled;
 }

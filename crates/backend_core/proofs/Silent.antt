@@ -26,13 +26,13 @@ acts_going scenario seen b s command course at unsettled = by_ended s.ended refl
     by_ended true is = absurd (both_ways _ unsettled (and_parts (is_settled (outcome_of s.left)) _ (and_parts (is_settled (outcome_of s.left) && _) _ (course.ends command at is)).0).0)
 
 -- it does an act
-act_agrees : (scenario : Scenario) (seen : List Entry) (was : Backend) (p : Progress) (now : AgreesNow scenario seen was) → HasActed scenario seen was.progress now.holds p → p.kept ≡ was.progress.kept → p.given_at ≡ was.progress.given_at → p.answer ≡ was.progress.answer → AgreesNow scenario seen (record was { progress = p })
-act_agrees scenario seen was p now acted kept given_at same = record {
+act_agrees : (scenario : Scenario) (seen : List Entry) (was : Backend) (p : Progress) (now : AgreesNow scenario seen was) → HasActed scenario seen was.progress now.holds p → p.kept ≡ was.progress.kept → p.answer ≡ was.progress.answer → AgreesNow scenario seen (record was { progress = p })
+act_agrees scenario seen was p now acted kept same = record {
   keeps = record {
     alive = now.keeps.alive;
     life = record { last = now.keeps.life.last; alive = ap (life_of seen) acted.moves.id ∙ now.keeps.life.alive; most = omega (arith, now.keeps.life.most, acted.moves.finished) };
     built = subst (All (λ c. runs c ≡ true)) (sym acted.moves.commands) now.keeps.built;
-    places = act_places scenario seen was.progress p now.holds now.tells.course acted kept given_at now.keeps.places;
+    places = act_places scenario seen was.progress p now.holds now.tells.course acted kept now.keeps.places;
   };
   holds = acted.holds;
   fits = subst (λ f. Fits f (slice_get p.commands p.finished) (session_at p acted.holds.rest) was.looked was.looked_to_build) (sym (ap (facts_of seen) acted.moves.id))
@@ -54,10 +54,10 @@ act_agrees scenario seen was p now acted kept given_at same = record {
         (ap (slice_get (commands_of scenario was.progress.id)) now.holds.count ∙ ap (λ l. slice_get l was.progress.finished) (sym now.holds.commands) ∙ acted.at) (ap (λ x. is_settled (outcome_of x)) acted.left)
 
 -- the same of a call that may have been refused memory
-pub act_goes : {E : Type 0} (was : Backend) (p : Progress) (result : Result (Unit {0}) E) → OnOk result ((scenario : Scenario) (seen : List Entry) (held : Holds scenario seen was.progress) → HasActed scenario seen was.progress held p) → OnOk result (p.kept ≡ was.progress.kept) → OnOk result (p.given_at ≡ was.progress.given_at) → OnOk result (p.answer ≡ was.progress.answer)
+pub act_goes : {E : Type 0} (was : Backend) (p : Progress) (result : Result (Unit {0}) E) → OnOk result ((scenario : Scenario) (seen : List Entry) (held : Holds scenario seen was.progress) → HasActed scenario seen was.progress held p) → OnOk result (p.kept ≡ was.progress.kept) → OnOk result (p.answer ≡ was.progress.answer)
     → OnOk result ((scenario : Scenario) (seen : List Entry) → AgreesNow scenario seen was → GoesOn scenario seen was (record was { progress = p }))
-act_goes was p (Ok x) acted kept given_at same = λ scenario seen now. record { agrees = act_agrees scenario seen was p now (acted scenario seen now.holds) kept given_at same; id = (acted scenario seen now.holds).moves.id }
-act_goes was p (Err e) acted kept given_at same = tt
+act_goes was p (Ok x) acted kept same = λ scenario seen now. record { agrees = act_agrees scenario seen was p now (acted scenario seen now.holds) kept same; id = (acted scenario seen now.holds).moves.id }
+act_goes was p (Err e) acted kept same = tt
 
 -- it works out what its command answers
 answer_agrees : (scenario : Scenario) (seen : List Entry) (s : Backend) (command : Command) (text : List ℕ) → AgreesNow scenario seen s → command_at s ≡ Some command → is_to_answer command s.progress ≡ true → s.progress.answer ≡ None → IsToldText s.progress text

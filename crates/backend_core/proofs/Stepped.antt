@@ -5,7 +5,7 @@ use Rattle.backend_core.specs.declared.life.Life.TheVariants as lives
 use Rattle.history_model.specs.Legal.{IsLegal}
 use Rattle.cacheless.specs.Plays.{Plays}
 use Rattle.cacheless.proofs.Allowed.AllowedHistories.{plays_on_course}
-use Rattle.backend_core.specs.Agrees.{IsPlayed, AwaitsEntry, HasNotJoined, HasLeft, Stands, IsReady}
+use Rattle.backend_core.specs.Agrees.{AreSpelled, IsPlayed, AwaitsEntry, HasNotJoined, HasLeft, Stands, IsReady}
 use Rattle.backend_core.specs.Steps.{MakesEntry, Enters, Steps, IsRefused, After}
 use Rattle.backend_core.proofs.Coherent.{stands_coherent}
 use Rattle.backend_core.proofs.Played.{IsPlayed-more}
@@ -18,12 +18,12 @@ makes_played scenario old new had has b played makes = subst (IsPlayed scenario)
 pub awaits_stands : (scenario : Scenario) (seen : List Entry) (s : Backend) → AwaitsEntry scenario seen s → Stands scenario seen s
 awaits_stands scenario seen s waits = subst (λ life. elim life as (λ x. Type 0) [ lives.Unstarted ↦ HasNotJoined scenario seen s | lives.Alive ↦ AwaitsEntry scenario seen s | lives.Stopped ↦ HasLeft scenario seen s ]) (sym waits.keeps.alive) waits
 
--- a backend that stands in a legal and played history, has joined and hasn't left may make an entry
-pub is_ready : (scenario : Scenario) (seen : List Entry) (s : Backend) → Stands scenario seen s → s.life ≡ lives.Alive → IsLegal seen → Plays scenario seen → IsReady scenario seen s
-is_ready scenario seen s stands alive legal plays = record {
+-- a backend that stands in a legal history, played by the commands of a script, has joined and hasn't left may make an entry
+pub is_ready : (scenario : Scenario) (seen : List Entry) (s : Backend) → Stands scenario seen s → s.life ≡ lives.Alive → AreSpelled scenario → IsLegal seen → Plays scenario seen → IsReady scenario seen s
+is_ready scenario seen s stands alive spelled legal plays = record {
   waits = subst (λ life. elim life as (λ x. Type 0) [ lives.Unstarted ↦ HasNotJoined scenario seen s | lives.Alive ↦ AwaitsEntry scenario seen s | lives.Stopped ↦ HasLeft scenario seen s ]) alive stands;
-  played = (plays_on_course scenario seen legal plays).0;
-  course = (plays_on_course scenario seen legal plays).1;
+  played = (plays_on_course scenario seen spelled legal plays).0;
+  course = (plays_on_course scenario seen spelled legal plays).1;
 }
 
 -- an entry, after which it went on until it waits, is a step

@@ -2,12 +2,12 @@
 use Rattle.std.specs.Prelude.{◌≡◌, ◌≤◌, ◌+◌, ℕ, true, false, Option, None, List, [], slice_get, is_some, All}
 use Rattle.history_model.specs.Lives.{Life, Unstarted, Alive, Stopped, life_of}
 use Rattle.history_model.specs.Writes.{has_written}
-pub use Rattle.cacheless.specs.Answering.{KeptAt, PlaceFits, PlacesFit}
+pub use Rattle.cacheless.specs.Answering.{KeptAt, IsWhole, KeepsAbsent, PlacesFit}
 use Rattle.cacheless.specs.Facts.{facts_of}
 use Rattle.cacheless.specs.Holds.{Holds, Rests, HasNotStarted}
 use Rattle.cacheless.specs.Lines.{lines_of_backend}
 use Rattle.cacheless.specs.OnCourse.{AllOnCourse}
-pub use Rattle.cacheless.specs.Played.{IsPlayed}
+pub use Rattle.cacheless.specs.Played.{AreSpelled, IsPlayed}
 use Rattle.cacheless.specs.Runs.{runs}
 use Rattle.cacheless.specs.Sessions.{session_of}
 use Rattle.cacheless.specs.Silently.{is_to_answer_at}

@@ -1,5 +1,5 @@
 -- What the program's choice says of a backend, beside how far it is.
-use Rattle.std.specs.Prelude.{Bool, true, false, Option, Some, None, List, ◌∷◌, ◌&&◌, not, is_some}
+use Rattle.std.specs.Prelude.{Bool, true, false, Option, Some, None, List, ◌&&◌, not, is_some}
 use Rattle.std.specs.Option.{option_map_or}
 use Rattle.std.specs.List.{find, list_any}
 use Rattle.base_types.specs.Scans.{build_scans}
@@ -23,9 +23,9 @@ abbrev pub is_looked_for : Bool → Backend → Bool
 is_looked_for true s = s.looked_to_build
 is_looked_for false s = s.looked
 
--- the relation that a lookup's rows name, if it isn't locked in the mode
-abbrev pub unlocked_of : List OwnLock → Mode → List Row → Option Oid
-unlocked_of locks mode (rows.Class oid name kind fill ∷ more) = elim (has_lock locks oid mode) [ true ↦ None | false ↦ Some oid ]
+-- the relation of the row that a lookup found, if it isn't locked in the mode
+abbrev pub unlocked_of : List OwnLock → Mode → Option Row → Option Oid
+unlocked_of locks mode (Some (rows.Class oid name kind fill)) = elim (has_lock locks oid mode) [ true ↦ None | false ↦ Some oid ]
 unlocked_of locks mode given = None
 
 -- the relation of the descriptor that is to be opened

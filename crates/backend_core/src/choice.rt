@@ -5,7 +5,7 @@ ghost use Rattle.std.specs.Prelude.{◌≡◌, ◌≤◌, None, Some, true, fals
 ghost use Rattle.ddl_effect.specs.Stages.{plan_at, want_of};
 ghost use Rattle.cacheless.specs.OpenedReads.{ReadsOpened};
 ghost use Rattle.cacheless.specs.Silently.{IsAtRest};
-ghost use Rattle.cacheless.specs.State.{is_out};
+ghost use Rattle.cacheless.specs.State.{is_out, row_sought};
 ghost use Rattle.cacheless.specs.May.{has_failed, lacks_opened, lacks_any};
 ghost use Rattle.backend_core.specs.Words.{build_first, unlocked_of};
 ghost use Rattle.backend_core.specs.Steps.{IsNextOf, IsFree, IsScanNext, ComesOfBack, ComesOfCommit};
@@ -175,19 +175,19 @@ impl Backend {
         if !self.progress.owes_nothing(command) {
             return self.next_of_name(Purpose::RelName(name));
         }
-        match self.unlocked(mode) {
+        match self.unlocked(name, mode) {
             Some(rel) => Next::Lock { rel, mode },
             None => unreachable!(),
         }
     }
 
-    // The relation that the lookup's rows name, if it isn't locked in the mode.
-    fn unlocked(&self, mode: Mode) -> Option<Oid>
-        ensures { result ≡ unlocked_of self.now.progress.locks.items mode self.now.progress.given.items }
+    // The relation that a lookup of the name finds, if it isn't locked in the mode.
+    fn unlocked(&self, name: Name, mode: Mode) -> Option<Oid>
+        ensures { result ≡ unlocked_of self.now.progress.locks.items mode (row_sought self.now.progress name) }
     {
-        match self.progress.given.first() {
-            Some(Row::Class { oid, .. }) if self.progress.locks.state(*oid, mode).is_none() => {
-                Some(*oid)
+        match self.progress.row_sought(name) {
+            Some(Row::Class { oid, .. }) if self.progress.locks.state(oid, mode).is_none() => {
+                Some(oid)
             }
             _ => None,
         }

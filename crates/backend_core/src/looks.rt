@@ -79,7 +79,6 @@ impl Backend {
         ensures holds { (scenario : Scenario) (seen : List Entry) → (rests : Rests scenario seen self.old.progress) → messages.now ≡ fetched_by seen self.old.progress.id (length messages.now) → HasEntered scenario seen self.old.progress (events.Fetch (length messages.now)) rests self.new.progress }
         ensures is { self.new ≡ record self.old { progress = self.new.progress; looked_to_build = self.old.looked_to_build && not (marks_build self.old.progress messages.now) } }
         ensures kept { self.new.progress.kept ≡ kept_spared messages.now self.old.progress.kept }
-        ensures given_at { self.new.progress.given_at ≡ self.old.progress.given_at }
         ensures answer { self.new.progress.answer ≡ None }
     {
         let marked = self.is_marked(messages);
@@ -96,7 +95,6 @@ impl Backend {
         ensures holds { (scenario : Scenario) (seen : List Entry) → (rests : Rests scenario seen self.old.progress) → HasEntered scenario seen self.old.progress events.FetchReset rests self.new.progress }
         ensures is { self.new ≡ record self.old { progress = self.new.progress; looked_to_build = self.old.looked_to_build && not (has_begun self.old.progress) } }
         ensures kept { self.new.progress.kept ≡ [] }
-        ensures given_at { self.new.progress.given_at ≡ self.old.progress.given_at }
         ensures answer { self.new.progress.answer ≡ None }
     {
         let marked = self.has_begun_build();

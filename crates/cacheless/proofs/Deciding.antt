@@ -30,20 +30,19 @@ use Rattle.cacheless.specs.declared.kept_scan.KeptScan.{KeptScan}
 use Rattle.txn_blocks.specs.declared.transaction.RunningTransaction.{RunningTransaction}
 use Rattle.cacheless.specs.declared.progress.Progress.{Progress}
 use Rattle.cacheless.specs.Facts.{Facts, facts_of}
-use Rattle.cacheless.specs.Locks.{is_locked}
 use Rattle.cacheless.specs.Session.{Badly, outcome_of}
 use Rattle.cacheless.specs.Owed.{Owes, owed_after, owed_of}
 use Rattle.cacheless.specs.Ends.{End, Ends, Commits, TakesBack, xid_of, next_sent, next_of_commit, next_of_taking_back, next_of_end}
 use Rattle.cacheless.specs.Plays.{IsLock, drafted, IsWrite, names_of, IsClash, IsEnd, IsLastEnd, MayPlay, MayPlayLast, MayPlayIn}
 use Rattle.cacheless.specs.Puts.{is_opened, PutOpened, PutsOpened}
 use Rattle.cacheless.specs.Settled.{class_oid}
-use Rattle.cacheless.specs.State.{owed_at, owed_first, running_of, is_visible_at, published_at, xid_at, unsent_at, has_write_since, is_kept, missing, builds_missing, act_missing, scans_missing, end_of_running, end_at, Rest, session_at}
+use Rattle.cacheless.specs.State.{owed_at, owed_first, running_of, is_visible_at, published_at, xid_at, unsent_at, has_write_since, is_kept, row_sought, missing, builds_missing, act_missing, scans_missing, end_of_running, end_at, Rest, session_at}
 use Rattle.cacheless.specs.May.{may_look_at, is_next_at, has_looked_at, lacks_any, owes_nothing, names_relation, is_lock_at, is_write_at, names_by, is_clash_at, releases, shows, publishes, takes_back, is_next_sent, is_next_of_commit, is_next_of_back, is_next_of_end, owes_no_end, may_end_at, may_play_at, may_end_last, may_last_at, may_play_now}
 use Rattle.cacheless.specs.Holds.{FactsFit, Holds}
 use Rattle.cacheless.proofs.Tests.{and_true, empty_is, right_none}
 use Rattle.cacheless.proofs.Same.{look_same, looked_same, next_same, lacks_any_is, owes_nothing_is}
 use Rattle.cacheless.proofs.CommandEnds.{end_same, end_of_all-same}
-use Rattle.cacheless.proofs.Resting.{kept_rows, cond_none, read_made, named_made}
+use Rattle.cacheless.proofs.Resting.{kept_rows, sought_same, lacks_none}
 use Rattle.cacheless.proofs.SameRows.{both_decide, decided_by, oid_decides, items_decide}
 
 by_path : {a b : Bool} → a ≡ b → Decides b (a ≡ true)
@@ -76,7 +75,7 @@ mode_again modes.AccessExclusive = refl
 mode_decides : (a b : Mode) → Decides (same_mode a b) (a ≡ b)
 mode_decides a b = (λ is. sym (mode_again a) ∙ ap mode_with (eqb-true (mode_number a) (mode_number b) is) ∙ mode_again b, λ is. eq-eqb (mode_number a) (mode_number b) (ap mode_number is))
 
-named_decides : (rel : Oid) (given : List Row) → Decides (names_relation rel given) (class_oid given ≡ Some rel)
+named_decides : (rel : Oid) (given : List Row) → Decides (names_relation rel (slice_get given 0)) (class_oid given ≡ Some rel)
 named_decides rel [] = never (λ is. absurd (cc))
 named_decides rel (rows.Class oid name kind fill ∷ more) = decided_by (same_oid rel oid) (oid_decides rel oid) (λ is. ap Some (sym is)) (λ is. sym (ap (λ o. unwrap_or o rel) is))
 named_decides rel (row ∷ more) = never (λ is. absurd (cc))
@@ -84,13 +83,10 @@ named_decides rel (row ∷ more) = never (λ is. absurd (cc))
 -- a lock
 lock_decides : (facts : Facts) (s : Progress) (p : Plan) (rel : Oid) (mode : Mode) → FactsFit facts s → plan_at s.exec ≡ p → scans_missing s ≡ [] → Decides (is_lock_at s p rel mode) (IsLock facts p rel mode)
 lock_decides facts s (Do (Lookup name wanted) rest) rel mode fits at none =
-    both_decide (names_relation rel s.given.items) (same_mode mode wanted) (subst (λ l. Decides (names_relation rel s.given.items) (class_oid l ≡ Some rel)) (sym given) (named_decides rel s.given.items)) (mode_decides mode wanted)
+    both_decide (names_relation rel (row_sought s name)) (same_mode mode wanted) (subst (λ o. Decides (names_relation rel o) (class_oid (facts.rows (scans.RelName name)) ≡ Some rel)) found (named_decides rel (facts.rows (scans.RelName name)))) (mode_decides mode wanted)
   where
-    read : s.read ≡ true
-    read = read_made s.read (s.named || is_locked s.locks.items wanted s.given.items) (scans.RelName name) (right_none (builds_missing s.kept s.opened) _ (ap (λ p. elim (outcome_of p) as (λ x. List Purpose) [ Badly ↦ [] | other ↦ builds_missing s.kept s.opened ++ act_missing s p ]) (sym at) ∙ none))
-
-    given : facts.rows (scans.RelName name) ≡ s.given.items
-    given = (named_made facts s (Do (Lookup name wanted) rest) fits at read).0
+    found : slice_get (facts.rows (scans.RelName name)) 0 ≡ row_sought s name
+    found = sought_same facts s name wanted rest fits at (right_none (builds_missing s.kept s.opened) (act_missing s (Do (Lookup name wanted) rest)) (lacks_none s (Lookup name wanted) rest at none))
 lock_decides facts s (Do (Lock other wanted) rest) rel mode fits at none = both_decide (same_oid rel other) (same_mode mode wanted) (oid_decides rel other) (mode_decides mode wanted)
 lock_decides facts s p rel mode fits at none = never (λ is. is)
 

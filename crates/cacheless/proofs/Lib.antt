@@ -3,7 +3,10 @@ pub mod Settling
 pub mod Plans
 pub mod Successors
 pub mod StillSeen
+pub mod NamedSeen
 pub mod NumberedColumns
+pub mod NamedColumns
+pub mod ColumnAnswers
 pub mod Written
 pub mod HeldLocks
 pub mod Allowed
@@ -21,4 +24,4 @@ pub mod Passing
 pub mod Matching
 pub mod SameRows
 pub mod Deciding
-pub mod KeptByRelation
+pub mod KeptStarts

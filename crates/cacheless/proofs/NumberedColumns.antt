@@ -78,7 +78,7 @@ lasting_by history b c (events.Gone from) old =
     stamps-gone (Lasts (history ++ entry_of b c (events.Gone from) ∷ [])) (Lasts (history ++ entry_of b c (events.Gone from) ∷ [])) (is_back history b from) (λ s row is h. h) (versions_of history) old
 lasting_by history b c event old = old
 
-lasting_more : (history : List Entry) (e : Entry) → Ordered history × AllByRecursion (OfStamps (Lasts history)) (versions_of history) → MayComeNext history e → Ordered (history ++ e ∷ []) × AllByRecursion (OfStamps (Lasts (history ++ e ∷ []))) (versions_of (history ++ e ∷ []))
+pub lasting_more : (history : List Entry) (e : Entry) → Ordered history × AllByRecursion (OfStamps (Lasts history)) (versions_of history) → MayComeNext history e → Ordered (history ++ e ∷ []) × AllByRecursion (OfStamps (Lasts (history ++ e ∷ []))) (versions_of (history ++ e ∷ []))
 lasting_more history e k comes = (
   Ordered-more history e k.0 comes,
   subst (AllByRecursion (OfStamps (Lasts (history ++ e ∷ [])))) (sym (versions-more history e)) (lasting_by history e.backend e.command e.event
@@ -149,12 +149,12 @@ first_then history s t u (inl was) next = inl was
 first_then history s t u (inr same) (inl was) = inl (subst (λ x. is_committed history x ≡ true) (sym same.0) was)
 first_then history s t u (inr same) (inr also) = inr (same.0 ∙ also.0, omega (arith, same.1, also.1))
 
-first_on : (history : List Entry) (e : Entry) (s t : Stamp) → GoesFirst history s t → GoesFirst (history ++ e ∷ []) s t
+pub first_on : (history : List Entry) (e : Entry) (s t : Stamp) → GoesFirst history s t → GoesFirst (history ++ e ∷ []) s t
 first_on history e s t (inl was) = inl (is_committed-kept history e s.xid.0 was)
 first_on history e s t (inr same) = inr same
 
 -- what goes first isn't taken back alone
-first_spared : (history : List Entry) (b c : ℕ) (event : Event) (s t : Stamp) → Runs history → IsLawful history (entry_of b c event) → GoesFirst history s t → IsSpared history b event t → IsSpared history b event s
+pub first_spared : (history : List Entry) (b c : ℕ) (event : Event) (s t : Stamp) → Runs history → IsLawful history (entry_of b c event) → GoesFirst history s t → IsSpared history b event t → IsSpared history b event s
 first_spared history b c (events.Gone from) s t r hidden (inl was) spared = ap (λ u. u && nat_le from s.command) (false_from_ne_true (runs_as history b s.xid.0) (λ runs. both_ways _ (r.hidden b s.xid.0 runs hidden) was))
 first_spared history b c (events.Gone from) s t r hidden (inr same) spared = false_from_ne_true (is_back history b from s) (λ back.
     let p = and_parts (runs_as history b s.xid.0) (nat_le from s.command) back in
@@ -195,7 +195,7 @@ previous_on history b c event (keys.Att rel num) s r lawful spared (inr previous
 previous_on history b c event key s r lawful spared has = tt
 
 -- what holds of the rows that a write gives, and of those that were there
-every_written : (R : Row → Stamp → Type 0) (before : List Entry) (b : ℕ) (stamp : Stamp) (items : List Item) (vs : List Version) → AllByRecursion (λ item. IfSome (added_row item) (λ row. R row stamp)) items → AllByRecursion (λ v. R v.row v.by) vs
+pub every_written : (R : Row → Stamp → Type 0) (before : List Entry) (b : ℕ) (stamp : Stamp) (items : List Item) (vs : List Version) → AllByRecursion (λ item. IfSome (added_row item) (λ row. R row stamp)) items → AllByRecursion (λ v. R v.row v.by) vs
     → AllByRecursion (λ v. R v.row v.by) (fold (change_by before b stamp) vs items)
 every_written R before b stamp [] vs new old = old
 every_written R before b stamp (item ∷ items) vs new old =
@@ -236,29 +236,31 @@ row_there history b key has = of (row_with history b key) refl has
         some-weaker (λ v. (sees history b v ≡ true) × (v.row ≡ row)) (λ v. (key_of v.row ≡ key) × (sees history b v ≡ true)) (λ v h. (ap key_of h.1 ∙ one_key, h.0)) (versions_of history)
         (find_some (λ r. same_key (key_of r) key) (sees history b) row (versions_of history) is)
 
--- what a backend sees before its write goes first
-seen_first : (history : List Entry) (b c : ℕ) (xid : Xid) (items : List Item) → Ordered history → MayComeNext history (entry_of b c (events.Write xid items)) → (key : RowKey) → has_row history b key ≡ true
-    → SomeOf (λ v. (key_of v.row ≡ key) × GoesFirst history v.by (record { xid = xid; command = c })) (versions_of history)
-seen_first history b c xid items k comes key has =
-    some_with (λ v. (key_of v.row ≡ key) × (sees history b v ≡ true)) (OfStamps (Touch history)) (λ v. (key_of v.row ≡ key) × GoesFirst history v.by stamp)
-    (λ v h touch. (h.0, first v.by v.row touch.0 (or_cases (is_committed history v.by.xid.0) (runs_as history b v.by.xid.0) (and_parts (counts history b v.by) (not (option_map_or (counts history b) v.ended false)) h.1).0))) (versions_of history) k.touched (row_there history b key has)
+-- what counts for a backend before its write goes first
+pub counted_first : (history : List Entry) (b c : ℕ) (xid : Xid) (items : List Item) → Ordered history → MayComeNext history (entry_of b c (events.Write xid items)) → (s : Stamp) (row : Row) → Touch history s row → counts history b s ≡ true
+    → GoesFirst history s (record { xid = xid; command = c })
+counted_first history b c xid items k comes s row touch counted = by_side (or_cases (is_committed history s.xid.0) (runs_as history b s.xid.0) counted)
   where
     e : Entry
     e = entry_of b c (events.Write xid items)
 
-    stamp : Stamp
-    stamp = record { xid = xid; command = c }
-
-    first : (s : Stamp) (row : Row) → Touch history s row → (is_committed history s.xid.0 ≡ true) ⊎ (runs_as history b s.xid.0 ≡ true) → GoesFirst history s stamp
-    first s row touch (inl was) = inl was
-    first s row touch (inr runs) = of (runs-after history b c (events.Write xid items) b s row (lawful_of history e k comes) k.runs touch)
+    by_side : (is_committed history s.xid.0 ≡ true) ⊎ (runs_as history b s.xid.0 ≡ true) → GoesFirst history s (record { xid = xid; command = c })
+    by_side (inl was) = inl was
+    by_side (inr runs) = of (runs-after history b c (events.Write xid items) b s row (lawful_of history e k comes) k.runs touch)
       where
-        of : (is_committed history s.xid.0 ≡ true) ⊎ (runs_as (history ++ e ∷ []) b s.xid.0 ≡ runs_as history b s.xid.0) → GoesFirst history s stamp
+        of : (is_committed history s.xid.0 ≡ true) ⊎ (runs_as (history ++ e ∷ []) b s.xid.0 ≡ runs_as history b s.xid.0) → GoesFirst history s (record { xid = xid; command = c })
         of (inl was) = inl was
         of (inr same) = inr (
           one_xid s.xid.0 xid.0 (running_transaction_of (history ++ e ∷ []) b) (same ∙ runs) (writes_on history b c xid items),
           any_with (is_of s.command) (λ w. w.command ≤ c) (s.command ≤ c) (λ w here low. omega (arith, eqb-true w.command s.command here, low)) (lists_of history b) (touch.written b runs) (begun_at history e comes.follows.life k.lives).low,
         )
+
+-- and so what a backend sees then
+seen_first : (history : List Entry) (b c : ℕ) (xid : Xid) (items : List Item) → Ordered history → MayComeNext history (entry_of b c (events.Write xid items)) → (key : RowKey) → has_row history b key ≡ true
+    → SomeOf (λ v. (key_of v.row ≡ key) × GoesFirst history v.by (record { xid = xid; command = c })) (versions_of history)
+seen_first history b c xid items k comes key has =
+    some_with (λ v. (key_of v.row ≡ key) × (sees history b v ≡ true)) (OfStamps (Touch history)) (λ v. (key_of v.row ≡ key) × GoesFirst history v.by (record { xid = xid; command = c }))
+    (λ v h touch. (h.0, counted_first history b c xid items k comes v.by v.row touch.0 (and_parts (counts history b v.by) (not (option_map_or (counts history b) v.ended false)) h.1).0)) (versions_of history) k.touched (row_there history b key has)
 
 numbered_new : (history : List Entry) (b c : ℕ) (xid : Xid) (items : List Item) → Ordered history → MayComeNext history (entry_of b c (events.Write xid items)) → AllByRecursion (Numbered history) (versions_of history)
     → (item : Item) → IfSome (ended_key item) (λ key. has_row history b key ≡ true) → is_next_column history b items item ≡ true

@@ -2,14 +2,12 @@
 use Rattle.std.proofs.Common.{◌≡◌, ◌≤◌, ◌<◌, ◌+◌, ◌∙◌, ◌&&◌, ◌||◌, ◌==◌, ℕ, Bool, true, false, Option, None, Some, List, [], ◌∷◌, ◌++◌, refl, sym, ap, subst, drop, is_some, unwrap_or, slice_get, arith, if◌then◌else◌}
 use Rattle.std.proofs.lemmas.List.{length_push, append-nil}
 use Rattle.std.proofs.lemmas.Option.{slice_get_within}
+use Rattle.std.specs.List.{cons_option}
 use Rattle.base_types.specs.Scans.{selects}
 use Rattle.base_types.specs.declared.row.Row.TheVariants as rows
-use Rattle.base_types.specs.declared.scan.Purpose.TheVariants as scans
 use Rattle.lock_modes.specs.Own.{has_lock}
 use Rattle.inval_messages.specs.Lists.{Written}
 use Rattle.txn_blocks.specs.Blocks.{Blocks}
-use Rattle.ddl_effect.specs.declared.told.Told.TheVariants as tells
-use Rattle.ddl_effect.specs.Commands.{regclass_of}
 use Rattle.ddl_effect.specs.Plans.{Plan, Act, Done, Fails, Absent, Do, NotBuilt, Lookup, Open, Search, Read, Lock, Write, after_act}
 use Rattle.ddl_effect.specs.Stages.{plan_at, plan_again, acts_left, want_of, want_of_act}
 use Rattle.ddl_effect.specs.declared.want.Want.{Want}
@@ -19,24 +17,24 @@ use Rattle.history_model.specs.Read.{is_scan_of, rows_by, rows_read}
 use Rattle.history_model.specs.Versions.{answer_of}
 use Rattle.history_model.proofs.Every.{every-weaker}
 use Rattle.history_model.proofs.Prefixes.{along-keeps}
-use Rattle.cacheless.specs.Types.{Oid, Mode, Row, Purpose, Command, CommandError, Scenario, Entry, Opening, OwnLock, Exec}
+use Rattle.cacheless.specs.Types.{Mode, Row, Purpose, Command, CommandError, Scenario, Entry, Opening, OwnLock, Exec}
 use Rattle.cacheless.specs.declared.progress.Counts.{Counts}
 use Rattle.cacheless.specs.declared.progress.Progress.{Progress}
 use Rattle.cacheless.specs.Facts.{Facts, facts_of}
-use Rattle.cacheless.specs.Locks.{is_locked}
 use Rattle.cacheless.specs.Session.{Session, first_of, plan_first, refused_first}
 use Rattle.cacheless.specs.Settled.{next_session, blocks_after, finished_as, looked_up, if_locked, opened_by, sought_by, act_done, settled}
 use Rattle.cacheless.specs.Puts.{AreGivenBy, PutsOpened}
-use Rattle.cacheless.specs.State.{blocks_passed, lists_at, no_counts, is_kept, rows_kept, builds_missing, act_missing, is_absent, ends_on_scan, is_out, end_at, rest_of, session_at}
+use Rattle.cacheless.specs.State.{blocks_passed, lists_at, no_counts, is_kept, rows_kept, builds_missing, act_missing, row_sought, row_next, is_absent, is_out, end_at, rest_of, session_at}
 use Rattle.cacheless.specs.May.{owes_nothing}
-use Rattle.cacheless.specs.Silently.{gives_at, gives_next, is_ends, is_finished_at, rows_for, opened_for, Acts, Finishes}
-use Rattle.cacheless.specs.Holds.{NamedFit, FactsFit, Holds, HasActed, HasPassed}
+use Rattle.cacheless.specs.Silently.{gives_at, gives_next, is_ends, is_finished_at, rows_for, rows_given, opened_for, Acts, Finishes}
+use Rattle.cacheless.specs.Holds.{FactsFit, Holds, HasActed, HasPassed}
 use Rattle.cacheless.proofs.Settling.{settled-act, settled-finish, acted-out}
+use Rattle.cacheless.proofs.Plans.SilentActs.{some_is}
 use Rattle.cacheless.proofs.StillSeen.{given_seen}
 use Rattle.cacheless.proofs.Tests.{and_true, right_none, not_both}
-use Rattle.cacheless.proofs.Resting.{first_left, left_command, kept_rows, cond_none, read_made, named_made, Free, free_now, lacks_none, here, finished_same}
+use Rattle.cacheless.proofs.Resting.{first_left, left_command, kept_rows, cond_none, Free, free_now, lacks_none, here, finished_same}
 use Rattle.cacheless.proofs.Written.Putting.{puts_first}
-use Rattle.cacheless.proofs.Entries.EnteredLooks.{not_absent, no_end}
+use Rattle.cacheless.proofs.Entries.EnteredLooks.{not_absent}
 
 -- the rows that a scan gave are such as it asks for
 rows_asked : (history : List Entry) (b : ℕ) (scan : Purpose) → AreGivenBy scan (rows_read history b scan)
@@ -53,29 +51,17 @@ rows_asked history b scan = along-keeps (λ before given. AreGivenBy scan given)
     stays : (before : List Entry) (given : List Row) (e : Entry) → AreGivenBy scan given → AreGivenBy scan (if e.backend == b then rows_by before b scan e.event given else given)
     stays before given e asked = by_backend before e (e.backend == b) given asked
 
-some_is : (a b : List Row) → Some a ≡ Some b → a ≡ b
-some_is a b is = ap (λ o. unwrap_or o a) is
-
 -- what an act gave that needs no entry: the rows of a scan are such as it asks for
 gave_asked : (seen : List Entry) (b : ℕ) (s : Progress) (act : Act) (plan : List Row → Plan) (gave : List Row) → FactsFit (facts_of seen b) s → plan_at s.exec ≡ Do act plan → act_missing s (Do act plan) ≡ [] → gives_at s act ≡ Some gave
     → PutsOpened s.opened (Do act plan) → PutsOpened (s.opened ++ opened_by act) (plan gave)
 gave_asked seen b s (Lookup name mode) plan gave fits at none gives puts = subst (λ l. PutsOpened l (plan gave)) (sym (append-nil s.opened)) (puts gave)
 gave_asked seen b s (Open rel kind) plan gave fits at none gives puts = puts gave
 gave_asked seen b s (Search scan) plan gave fits at none gives puts = subst (λ l. PutsOpened l (plan gave)) (sym (append-nil s.opened))
-    (puts gave (subst (AreGivenBy scan) ((named_made (facts_of seen b) s (Do (Search scan) plan) fits at (read_made s.read s.named scan none)).0 ∙ some_is s.given.items gave gives) (rows_asked seen b scan)))
+    (puts gave (subst (AreGivenBy scan) (kept_rows (facts_of seen b).rows s.kept scan fits.kept (cond_none (is_kept s.kept scan) scan none) ∙ some_is (rows_kept s.kept scan) gave gives) (rows_asked seen b scan)))
 gave_asked seen b s (Read scan) plan gave fits at none gives puts = subst (λ l. PutsOpened l (plan gave)) (sym (append-nil s.opened))
     (puts gave (subst (AreGivenBy scan) (kept_rows (facts_of seen b).rows s.kept scan fits.kept (cond_none (is_kept s.kept scan) scan none) ∙ some_is (rows_kept s.kept scan) gave gives) (rows_asked seen b scan)))
 gave_asked seen b s (Lock rel mode) plan gave fits at none gives puts = subst (λ l. PutsOpened l (plan gave)) (sym (append-nil s.opened)) (puts gave)
 gave_asked seen b s (Write draft) plan gave fits at none gives puts = absurd (cc)
-
--- what a search gave that found nothing is what the code holds
-missed_by : (facts : Facts) (s : Progress) (act : Act) (plan : List Row → Plan) (name : List ℕ) → FactsFit facts s → plan_at s.exec ≡ Do act plan → act_missing s (Do act plan) ≡ [] → Seeks name (Do act plan) → NamedFit facts (Absent name) s.given.items s.named
-missed_by facts s (Lookup own mode) plan name fits at none seeks = subst (λ n. (facts.rows (scans.RelName n) ≡ s.given.items) × (facts.usable (scans.RelName n) ≡ s.named)) seeks (named_made facts s (Do (Lookup own mode) plan) fits at (read_made s.read (s.named || is_locked s.locks.items mode s.given.items) (scans.RelName own) none))
-missed_by facts s (Open rel kind) plan name fits at none seeks = absurd seeks
-missed_by facts s (Search scan) plan name fits at none seeks = absurd seeks
-missed_by facts s (Read scan) plan name fits at none seeks = absurd seeks
-missed_by facts s (Lock rel mode) plan name fits at none seeks = absurd seeks
-missed_by facts s (Write draft) plan name fits at none seeks = absurd seeks
 
 sought_is : (act : Act) (plan : List Row → Plan) (name : List ℕ) (r : Session) → Seeks name (Do act plan) → sought_by act r ≡ r.left
 sought_is (Lookup own mode) plan name r seeks = refl
@@ -84,16 +70,6 @@ sought_is (Search scan) plan name r seeks = absurd seeks
 sought_is (Read scan) plan name r seeks = absurd seeks
 sought_is (Lock rel mode) plan name r seeks = absurd seeks
 sought_is (Write draft) plan name r seeks = absurd seeks
-
--- what a search for an oid gave is what the code holds
-told_by : (facts : Facts) (s : Progress) (act : Act) (plan : List Row → Plan) (oid : Oid) → FactsFit facts s → plan_at s.exec ≡ Do act plan → act_missing s (Do act plan) ≡ [] → plan_at s.exec ≡ regclass_of oid → NamedFit facts (Done (tells.Regclass oid)) s.given.items s.named
-told_by facts s act plan oid fits at none is = named_made facts s (regclass_of oid) fits is (read_made s.read s.named (scans.RelOid oid) (ap (act_missing s) (sym is ∙ at) ∙ none))
-
--- where an answer rests on a scan, it is at hand
-ends_or : {X : Type 0} (p : Plan) → ends_on_scan p ≡ true → ((name : List ℕ) → p ≡ Absent name → X) → ((oid : Oid) → p ≡ Done (tells.Regclass oid) → X) → X
-ends_or (Absent name) is go told = go name refl
-ends_or (Done (tells.Regclass oid)) is go told = told oid refl
-ends_or p is go told = absurd (cc)
 
 -- where a search has found nothing, its name is at hand
 absent_or : {X : Type 0} (p : Plan) → is_absent p ≡ true → ((name : List ℕ) → p ≡ Absent name → X) → X
@@ -109,9 +85,9 @@ out_of command s is = (and_true (is_out s) (s.ended || is_ends (end_at s command
 
 -- an act that needs no entry, whichever it is
 pub act_keeps : (scenario : Scenario) (seen : List Entry) (was : Progress) (exec : Exec) (opened : List Opening) (command : Command) (act : Act) (plan : List Row → Plan) (gave : List Row) → Holds scenario seen was → slice_get was.commands was.finished ≡ Some command
-    → owes_nothing command was ≡ true → plan_at was.exec ≡ Do act plan → gives_at was act ≡ Some gave → plan_at exec ≡ plan gave → ((name : List ℕ) → plan_at exec ≡ Absent name → plan_again exec ≡ plan_at was.exec) → ((oid : Oid) → plan_at exec ≡ Done (tells.Regclass oid) → plan_at was.exec ≡ regclass_of oid) → opened ≡ was.opened ++ opened_by act
-    → Holds scenario seen (record was { exec = exec; opened = opened; read = false })
-act_keeps scenario seen was exec opened command act plan gave holds has owes at gives_it on again oid_is opens = record {
+    → owes_nothing command was ≡ true → plan_at was.exec ≡ Do act plan → gives_at was act ≡ Some gave → plan_at exec ≡ plan gave → ((name : List ℕ) → plan_at exec ≡ Absent name → plan_again exec ≡ plan_at was.exec) → opened ≡ was.opened ++ opened_by act
+    → Holds scenario seen (record was { exec = exec; opened = opened; granted = false })
+act_keeps scenario seen was exec opened command act plan gave holds has owes at gives_it on again opens = record {
   number = holds.number;
   commands = holds.commands;
   few = holds.few;
@@ -130,8 +106,7 @@ act_keeps scenario seen was exec opened command act plan gave holds has owes at 
     owed = f.owed;
     usable = f.usable;
     kept = f.kept;
-    given = λ is. ends_or (plan_at exec) is (λ name missed. subst (λ p. NamedFit facts p was.given.items was.named) (sym missed) (missed_by facts was act plan name holds.facts at none (seeks name missed)))
-        (λ oid told. subst (λ p. NamedFit facts p was.given.items was.named) (sym told) (told_by facts was act plan oid holds.facts at none (oid_is oid told)));
+    given = λ is. absurd (cc is);
   };
   counts = holds.counts;
   order = holds.order;
@@ -156,11 +131,11 @@ act_keeps scenario seen was exec opened command act plan gave holds has owes at 
 
 -- and its session is that after the act
 pub act_acts : (scenario : Scenario) (seen : List Entry) (was : Progress) (exec : Exec) (opened : List Opening) (command : Command) (act : Act) (plan : List Row → Plan) (gave : List Row) (held : Holds scenario seen was) → slice_get was.commands was.finished ≡ Some command
-    → owes_nothing command was ≡ true → plan_at was.exec ≡ Do act plan → gives_at was act ≡ Some gave → plan_at exec ≡ plan gave → ((name : List ℕ) → plan_at exec ≡ Absent name → plan_again exec ≡ plan_at was.exec) → ((oid : Oid) → plan_at exec ≡ Done (tells.Regclass oid) → plan_at was.exec ≡ regclass_of oid) → opened ≡ was.opened ++ opened_by act
-    → HasActed scenario seen was held (record was { exec = exec; opened = opened; read = false })
+    → owes_nothing command was ≡ true → plan_at was.exec ≡ Do act plan → gives_at was act ≡ Some gave → plan_at exec ≡ plan gave → ((name : List ℕ) → plan_at exec ≡ Absent name → plan_again exec ≡ plan_at was.exec) → opened ≡ was.opened ++ opened_by act
+    → HasActed scenario seen was held (record was { exec = exec; opened = opened; granted = false })
 unfolding act_keeps
-act_acts scenario seen was exec opened command act plan gave held has owes at gives_it on again oid_is opens = record {
-  holds = act_keeps scenario seen was exec opened command act plan gave held has owes at gives_it on again oid_is opens;
+act_acts scenario seen was exec opened command act plan gave held has owes at gives_it on again opens = record {
+  holds = act_keeps scenario seen was exec opened command act plan gave held has owes at gives_it on again opens;
   command = command;
   at = has;
   free = free.first;
@@ -178,7 +153,7 @@ act_acts scenario seen was exec opened command act plan gave held has owes at gi
 
 -- the state at the next command
 abbrev pub at_next : Progress → Exec → Bool → Blocks → List Opening → Progress
-at_next was exec blocked blocks opened = record was { finished = was.finished + 1; exec = exec; blocked = blocked; ended = false; blocks = blocks; read = false; opened = opened; tally = no_counts; answer = None }
+at_next was exec blocked blocks opened = record was { finished = was.finished + 1; exec = exec; blocked = blocked; ended = false; blocks = blocks; granted = false; opened = opened; tally = no_counts; answer = None }
 
 -- a finished command is passed over
 pub finish_keeps : (scenario : Scenario) (seen : List Entry) (was : Progress) (exec : Exec) (blocked : Bool) (blocks : Blocks) (opened : List Opening) (command : Command) → Holds scenario seen was → slice_get was.commands was.finished ≡ Some command → is_finished_at command was ≡ true
@@ -197,7 +172,7 @@ finish_keeps scenario seen was exec blocked blocks opened command holds has fini
       ∙ settled-finish facts command (drop (was.finished + 1) was.commands) (session_at was holds.rest) (acted-out facts command (session_at was holds.rest) (out_of command was finished)) (finished_same facts command was holds.rest holds.facts holds.count ∙ finished)
       ∙ ap (settled facts (drop (was.finished + 1) was.commands)) same
       );
-  facts = let f = holds.facts in record { running = f.running; lists = f.lists; owed = f.owed; usable = f.usable; kept = f.kept; given = λ is. absurd (not_both (ends_on_scan (plan_at exec)) is unended) };
+  facts = let f = holds.facts in record { running = f.running; lists = f.lists; owed = f.owed; usable = f.usable; kept = f.kept; given = λ is. absurd (cc is) };
   counts = record { looks = omega arith; scans = omega arith; grants = omega arith; fetches = omega arith; full = omega arith };
   order = every-weaker (λ (list : Written). list.command ≤ was.finished + 1) (λ (list : Written). list.command ≤ was.finished + 1 + 1) (λ list low. omega (arith, low)) (lists_at was) holds.order;
   sought = λ is. absurd (not_both (is_absent (plan_at exec)) is found);
@@ -209,9 +184,6 @@ finish_keeps scenario seen was exec blocked blocks opened command holds has fini
 
     found : is_absent (plan_at exec) ≡ false
     found = ap is_absent on ∙ not_absent blocks (slice_get was.commands (was.finished + 1))
-
-    unended : ends_on_scan (plan_at exec) ≡ false
-    unended = ap ends_on_scan on ∙ no_end blocks (slice_get was.commands (was.finished + 1))
 
     next : Session
     next = next_session command (slice_get was.commands (was.finished + 1)) (session_at was holds.rest)
@@ -257,21 +229,21 @@ finish_passes scenario seen was exec blocked blocks opened command held has fini
     blocks_are = ap (λ n. blocks_passed (plan_at was.exec) (n + 1) command was.blocks) held.count ∙ sym passes
 
 -- what an act gives is what the code gives it
-given_rows : (locks : List OwnLock) (mode : Mode) (given : List Row) → is_some (looked_up locks mode given) ≡ true → looked_up locks mode given ≡ Some given
-given_rows locks mode [] is = refl
-given_rows locks mode (rows.Class oid own kind fill ∷ more) is = by_lock (has_lock locks oid mode) is
+given_rows : (locks : List OwnLock) (mode : Mode) (o : Option Row) → is_some (looked_up locks mode (cons_option o [])) ≡ true → looked_up locks mode (cons_option o []) ≡ Some (cons_option o [])
+given_rows locks mode None is = refl
+given_rows locks mode (Some (rows.Class oid own kind fill)) is = by_lock (has_lock locks oid mode) is
   where
-    by_lock : (t : Bool) → is_some (if_locked t (rows.Class oid own kind fill ∷ more)) ≡ true → if_locked t (rows.Class oid own kind fill ∷ more) ≡ Some (rows.Class oid own kind fill ∷ more)
+    by_lock : (t : Bool) → is_some (if_locked t (rows.Class oid own kind fill ∷ [])) ≡ true → if_locked t (rows.Class oid own kind fill ∷ []) ≡ Some (rows.Class oid own kind fill ∷ [])
     by_lock true some = refl
     by_lock false some = absurd (cc)
-given_rows locks mode (row ∷ more) is = refl
+given_rows locks mode (Some row) is = refl
 
 lock_rows : (t : Bool) → is_some (if_locked t []) ≡ true → if_locked t [] ≡ Some []
 lock_rows true some = refl
 lock_rows false some = absurd (cc)
 
-gave_is : (s : Progress) (act : Act) (rest : List Row → Plan) → is_some (gives_at s act) ≡ true → gives_at s act ≡ Some (rows_for (want_of (Do act rest)) s.given.items s.kept)
-gave_is s (Lookup name mode) rest is = given_rows s.locks.items mode s.given.items is
+gave_is : (s : Progress) (act : Act) (rest : List Row → Plan) → is_some (gives_at s act) ≡ true → gives_at s act ≡ Some (rows_given s (want_of (Do act rest)))
+gave_is s (Lookup name mode) rest is = given_rows s.locks.items mode (row_sought s name) is
 gave_is s (Open rel kind) rest is = refl
 gave_is s (Search scan) rest is = refl
 gave_is s (Read scan) rest is = refl
@@ -301,6 +273,16 @@ act_left exec act rest at = acts_some exec (λ scan is. never_done act scan (sym
     never_absent (Lookup n mode) name is = absurd (cc)
     never_absent a name is = absurd (cc)
 
+-- the rows that the code gives an act
+pub given_is : (s : Progress) (p : Plan) → rows_for (want_of p) (row_next s p) s.kept ≡ rows_given s (want_of p)
+given_is s (Do (Lookup name mode) rest) = refl
+given_is s (Do (Open rel kind) rest) = refl
+given_is s (Do (Search scan) rest) = refl
+given_is s (Do (Read scan) rest) = refl
+given_is s (Do (Lock rel mode) rest) = refl
+given_is s (Do (Write draft) rest) = refl
+given_is s p = refl
+
 -- an act is left
 pub act_is_left : (s : Progress) → Acts s → 0 < acts_left s.exec
 act_is_left s acts = by_plan (plan_at s.exec) refl (and_true (owes_nothing acts.command s) (gives_next s (plan_at s.exec)) acts.acts).1
@@ -314,18 +296,17 @@ act_is_left s acts = by_plan (plan_at s.exec) refl (and_true (owes_nothing acts.
 
 -- the act that is done without an entry
 pub acted_keeps : (was : Progress) (exec : Exec) (opened : List Opening) (want : Want) (acts : Acts was) → want ≡ want_of (plan_at was.exec)
-    → plan_at exec ≡ after_act (rows_for want was.given.items was.kept) (plan_at was.exec) → ((name : List ℕ) → 0 < acts_left was.exec → plan_at exec ≡ Absent name → plan_again exec ≡ plan_at was.exec) → ((oid : Oid) → 0 < acts_left was.exec → plan_at exec ≡ Done (tells.Regclass oid) → plan_at was.exec ≡ regclass_of oid) → opened ≡ was.opened ++ opened_for want
-    → (scenario : Scenario) (seen : List Entry) (held : Holds scenario seen was) → HasActed scenario seen was held (record was { exec = exec; opened = opened; read = false })
-acted_keeps was exec opened want acts wants on again oid_is opens scenario seen held = by_plan (plan_at was.exec) refl (and_true (owes_nothing acts.command was) (gives_next was (plan_at was.exec)) acts.acts)
+    → plan_at exec ≡ after_act (rows_given was want) (plan_at was.exec) → ((name : List ℕ) → 0 < acts_left was.exec → plan_at exec ≡ Absent name → plan_again exec ≡ plan_at was.exec) → opened ≡ was.opened ++ opened_for want
+    → (scenario : Scenario) (seen : List Entry) (held : Holds scenario seen was) → HasActed scenario seen was held (record was { exec = exec; opened = opened; granted = false })
+acted_keeps was exec opened want acts wants on again opens scenario seen held = by_plan (plan_at was.exec) refl (and_true (owes_nothing acts.command was) (gives_next was (plan_at was.exec)) acts.acts)
   where
-    by_plan : (p : Plan) → plan_at was.exec ≡ p → (owes_nothing acts.command was ≡ true) × (gives_next was (plan_at was.exec) ≡ true) → HasActed scenario seen was held (record was { exec = exec; opened = opened; read = false })
+    by_plan : (p : Plan) → plan_at was.exec ≡ p → (owes_nothing acts.command was ≡ true) × (gives_next was (plan_at was.exec) ≡ true) → HasActed scenario seen was held (record was { exec = exec; opened = opened; granted = false })
     by_plan (Do act plan) at parts =
         let want_is : want ≡ want_of (Do act plan) = wants ∙ ap want_of at in
-        act_acts scenario seen was exec opened acts.command act plan (rows_for (want_of (Do act plan)) was.given.items was.kept) held acts.at parts.0 at
+        act_acts scenario seen was exec opened acts.command act plan (rows_given was (want_of (Do act plan))) held acts.at parts.0 at
         (gave_is was act plan (sym (ap (gives_next was) at) ∙ parts.1))
-        (on ∙ ap (after_act (rows_for want was.given.items was.kept)) at ∙ ap (λ w. plan (rows_for w was.given.items was.kept)) want_is)
+        (on ∙ ap (after_act (rows_given was want)) at ∙ ap (λ w. plan (rows_given was w)) want_is)
         (λ name. again name (act_is_left was acts))
-        (λ oid. oid_is oid (act_is_left was acts))
         (opens ∙ ap (λ w. was.opened ++ opened_for w) want_is ∙ ap (λ l. was.opened ++ l) (opened_is act plan))
     by_plan (Done told) at parts = absurd (let both : false ≡ true = sym (ap (gives_next was) at) ∙ parts.1 in cc)
     by_plan (Fails error) at parts = absurd (let both : false ≡ true = sym (ap (gives_next was) at) ∙ parts.1 in cc)
@@ -336,7 +317,7 @@ acted_keeps was exec opened want acts wants on again oid_is opens scenario seen 
 pub finish_code : (was : Progress) (exec : Exec) (blocked : Bool) (blocks : Blocks) (tally : Counts) (opened : List Opening) (answer : Option (List ℕ)) (commands : List Command) (command : Command) → Finishes was → slice_get was.commands was.finished ≡ Some command
     → blocks ≡ blocks_passed (plan_at was.exec) (was.finished + 1) command was.blocks → commands ≡ was.commands → plan_at exec ≡ plan_first blocks (slice_get commands (was.finished + 1)) → blocked ≡ is_some (refused_first blocks (slice_get commands (was.finished + 1))) → tally ≡ no_counts → opened ≡ [] → answer ≡ None
     → (scenario : Scenario) (seen : List Entry) (held : Holds scenario seen was)
-    → HasPassed scenario seen was held (record was { finished = was.finished + 1; exec = exec; blocked = blocked; ended = false; tally = tally; blocks = blocks; read = false; opened = opened; answer = answer })
+    → HasPassed scenario seen was held (record was { finished = was.finished + 1; exec = exec; blocked = blocked; ended = false; tally = tally; blocks = blocks; granted = false; opened = opened; answer = answer })
 finish_code was exec blocked blocks tally opened answer commands command finishes at passes same on refuses fresh none taken scenario seen held =
     subst (HasPassed scenario seen was held) (λ i. record (at_next was exec blocked blocks opened) { tally = sym fresh i; answer = sym taken i })
     (finish_passes scenario seen was exec blocked blocks opened command held at (subst (λ c. is_finished_at c was ≡ true) one finishes.finished) passes none

@@ -1,28 +1,28 @@
 -- Where the code finds nothing to do without an entry, its session is settled.
 use Rattle.std.proofs.Common.{◌≡◌, ◌≤◌, ◌<◌, ◌+◌, ◌∙◌, ◌&&◌, ◌||◌, ◌⊎◌, inl, inr, ℕ, Bool, true, false, not, Option, Some, None, List, [], ◌∷◌, ◌++◌, refl, sym, ap, subst, length, drop, is_none, is_some, slice_get, arith, All, cond, suc, get_or, if◌then◌else◌}
 use Rattle.std.specs.Option.{option_map_or}
-use Rattle.std.specs.List.{find}
+use Rattle.std.specs.List.{cons_option, find}
 use Rattle.std.proofs.lemmas.List.{drop_more, drop_all}
 use Rattle.std.proofs.lemmas.Option.{slice_get_cases, slice_get_within, get_or_from_slice_get}
 use Rattle.base_types.specs.Scans.{same_scan}
+use Rattle.base_types.specs.declared.row.Row.TheVariants as rows
 use Rattle.base_types.specs.declared.scan.Purpose.TheVariants as scans
 use Rattle.base_types.proofs.SameScan.{same_scan-true}
 use Rattle.ddl_effect.specs.Plans.{Plan, Act, Done, Fails, Absent, Do, NotBuilt, Lookup, Open, Search, Read, Lock, Write}
 use Rattle.ddl_effect.specs.Stages.{plan_at}
 use Rattle.history_model.specs.Writes.{is_empty}
-use Rattle.cacheless.specs.Types.{Row, Purpose, Command, Scenario, Entry, Event}
+use Rattle.cacheless.specs.Types.{Mode, Row, Purpose, Command, OwnLock, Scenario, Entry, Event}
 use Rattle.cacheless.specs.declared.kept_scan.KeptScan.{KeptScan}
 use Rattle.cacheless.specs.declared.progress.Progress.{Progress}
 use Rattle.cacheless.specs.Facts.{Facts, facts_of}
-use Rattle.cacheless.specs.Locks.{is_locked}
 use Rattle.cacheless.specs.Session.{Session, Badly, outcome_of, is_settled, first_of}
 use Rattle.cacheless.specs.Owed.{owed_at_start, owed_after, builds_owed, act_owed, owed_of}
 use Rattle.cacheless.specs.Ends.{End, Ends, Commits, TakesBack, end_left, end_of, next_of_end}
 use Rattle.cacheless.specs.Settled.{gives, looked_up, act_done, done_here, acted_on, is_finished, settled}
-use Rattle.cacheless.specs.State.{owed_at, owed_first, running_of, rows_kept, is_kept, builds_missing, act_missing, scans_missing, ends_on_scan, end_at, Rest, session_at}
+use Rattle.cacheless.specs.State.{owed_at, owed_first, running_of, rows_kept, row_sought, is_kept, missing, builds_missing, act_missing, scans_missing, end_at, Rest, session_at}
 use Rattle.cacheless.specs.May.{lacks_any, owes_nothing}
 use Rattle.cacheless.specs.Silently.{gives_at, gives_next, acts_on, is_ends, is_finished_at}
-use Rattle.cacheless.specs.Holds.{ReadRight, NamedFit, FactsFit, Holds, Rests}
+use Rattle.cacheless.specs.Holds.{ReadRight, GivenFits, FactsFit, Holds, Rests}
 use Rattle.cacheless.proofs.Settling.{settled-waits}
 use Rattle.cacheless.proofs.Tests.{and_true, empty_is, right_none}
 use Rattle.cacheless.proofs.Same.{start_owed, builds_same, act_same, scans_same, lacks_any_is, owes_nothing_is, empty_append}
@@ -52,20 +52,25 @@ pub cond_none : (t : Bool) (scan : Purpose) → cond (not t) (scan ∷ []) [] �
 cond_none true scan none = refl
 cond_none false scan none = absurd (cc)
 
--- a lookup that lacks no scan has made it
-pub read_made : (read served : Bool) (scan : Purpose) → (if read && served then [] else scan ∷ []) ≡ [] → read ≡ true
-read_made true served scan none = refl
-read_made false served scan none = absurd (cc)
+-- a lookup gives what it finds first
+first_only : (locks : List OwnLock) (mode : Mode) (given : List Row) → looked_up locks mode given ≡ looked_up locks mode (cons_option (slice_get given 0) [])
+first_only locks mode [] = refl
+first_only locks mode (rows.Class oid name kind fill ∷ more) = refl
+first_only locks mode (row ∷ more) = refl
 
--- so what it gave is what the code holds
-pub named_made : (facts : Facts) (s : Progress) (p : Plan) → FactsFit facts s → plan_at s.exec ≡ p → s.read ≡ true → NamedFit facts p s.given.items s.named
-named_made facts s p fits at read = subst (λ q. NamedFit facts q s.given.items s.named) at (fits.given (ap (λ t. t || ends_on_scan (plan_at s.exec)) read))
+-- the row by which a lookup goes on that lacks no scan is the first that the last scan of its name gave
+pub sought_same : (facts : Facts) (s : Progress) (name : List ℕ) (mode : Mode) (rest : List Row → Plan) → FactsFit facts s → plan_at s.exec ≡ Do (Lookup name mode) rest → act_missing s (Do (Lookup name mode) rest) ≡ [] → slice_get (facts.rows (scans.RelName name)) 0 ≡ row_sought s name
+sought_same facts s name mode rest fits at none = by_granted s.granted refl none
+  where
+    by_granted : (t : Bool) → s.granted ≡ t → (if t then [] else missing s.kept (scans.RelName name ∷ [])) ≡ [] → slice_get (facts.rows (scans.RelName name)) 0 ≡ (if t then s.given else slice_get (rows_kept s.kept (scans.RelName name)) 0)
+    by_granted true is lacks = (subst (λ p. GivenFits facts p s.given) at (fits.given is)).0
+    by_granted false is lacks = ap (λ l. slice_get l 0) (kept_rows facts.rows s.kept (scans.RelName name) fits.kept (cond_none (is_kept s.kept (scans.RelName name)) (scans.RelName name) lacks))
 
 -- an act that lacks no scan gives what the code works out
 pub gives_same : (facts : Facts) (s : Progress) (act : Act) (rest : List Row → Plan) → FactsFit facts s → plan_at s.exec ≡ Do act rest → act_missing s (Do act rest) ≡ [] → gives facts s.locks.items act ≡ gives_at s act
-gives_same facts s (Lookup name mode) rest fits at none = ap (looked_up s.locks.items mode) (named_made facts s (Do (Lookup name mode) rest) fits at (read_made s.read (s.named || is_locked s.locks.items mode s.given.items) (scans.RelName name) none)).0
+gives_same facts s (Lookup name mode) rest fits at none = first_only s.locks.items mode (facts.rows (scans.RelName name)) ∙ ap (λ o. looked_up s.locks.items mode (cons_option o [])) (sought_same facts s name mode rest fits at none)
 gives_same facts s (Open rel kind) rest fits at none = refl
-gives_same facts s (Search scan) rest fits at none = ap Some (named_made facts s (Do (Search scan) rest) fits at (read_made s.read s.named scan none)).0
+gives_same facts s (Search scan) rest fits at none = ap Some (kept_rows facts.rows s.kept scan fits.kept (cond_none (is_kept s.kept scan) scan none))
 gives_same facts s (Read scan) rest fits at none = ap Some (kept_rows facts.rows s.kept scan fits.kept (cond_none (is_kept s.kept scan) scan none))
 gives_same facts s (Lock rel mode) rest fits at none = refl
 gives_same facts s (Write draft) rest fits at none = refl
@@ -97,9 +102,9 @@ here facts s rest act plan fits at none =
     lacks : builds_missing s.kept s.opened ++ act_missing s (Do act plan) ≡ []
     lacks = lacks_none s act plan at none
 
-    same : builds_owed facts s.opened ++ act_owed facts s.locks.items s.read (Do act plan) ≡ []
-    same = ap (λ l. l ++ act_owed facts s.locks.items s.read (Do act plan)) (builds_same facts s fits)
-        ∙ ap (λ l. builds_missing s.kept s.opened ++ l) (ap (act_owed facts s.locks.items s.read) (sym at) ∙ act_same facts s fits ∙ ap (act_missing s) at) ∙ lacks
+    same : builds_owed facts s.opened ++ act_owed facts s.granted (Do act plan) ≡ []
+    same = ap (λ l. l ++ act_owed facts s.granted (Do act plan)) (builds_same facts s fits)
+        ∙ ap (λ l. builds_missing s.kept s.opened ++ l) (ap (act_owed facts s.granted) (sym at) ∙ act_same facts s fits ∙ ap (act_missing s) at) ∙ lacks
 
 -- the tests of a finished command
 over_same : (facts : Facts) (command : Command) (s : Progress) (r : Rest) → facts.running ≡ running_of s.running → length r.finished ≡ s.finished → is_none (end_left facts command (session_at s r)) ≡ (s.ended || is_ends (end_at s command))
@@ -132,11 +137,11 @@ stays_act facts command s r fits stays NotBuilt at free = refl
 stays_act facts command s r fits stays (Do act plan) at free = ap (λ o. elim o [ None ↦ session_at s r | Some given ↦ acted_on facts (plan given) (act_done act given (plan given) (session_at s r)) ]) (by_lacks (lacks_any s) refl)
   where
     owed : List Purpose
-    owed = builds_owed facts s.opened ++ act_owed facts s.locks.items s.read (Do act plan)
+    owed = builds_owed facts s.opened ++ act_owed facts s.granted (Do act plan)
 
     -- the scans that are owed before the act
     owed_is : owed ≡ scans_missing s
-    owed_is = ap (λ p. elim (outcome_of p) as (λ x. List Purpose) [ Badly ↦ [] | other ↦ builds_owed facts s.opened ++ act_owed facts s.locks.items s.read p ]) (sym at) ∙ scans_same facts s r fits
+    owed_is = ap (λ p. elim (outcome_of p) as (λ x. List Purpose) [ Badly ↦ [] | other ↦ builds_owed facts s.opened ++ act_owed facts s.granted p ]) (sym at) ∙ scans_same facts s r fits
 
     by_lacks : (t : Bool) → lacks_any s ≡ t → done_here facts (session_at s r) act (Do act plan) ≡ None
     by_lacks true is = ap (λ t. elim t as (λ x. Option (List Row)) [ true ↦ gives facts s.locks.items act | false ↦ None ]) (ap is_empty owed_is ∙ sym (lacks_any_is s) ∙ ap not is)

@@ -3,17 +3,16 @@ use Rattle.std.proofs.Common.{◌≡◌, ◌+◌, ◌*◌, ◌∙◌, ◌==◌, 
 use Rattle.std.specs.Option.{option_map_or}
 use Rattle.std.specs.List.{find, list_any, flat_map, AllByRecursion}
 use Rattle.std.proofs.Common.{take}
-use Rattle.std.proofs.Math.Bool.{or-false, or-true}
+use Rattle.std.proofs.Math.Bool.{or-false}
 use Rattle.std.proofs.lemmas.List.Folds.{list_any-append}
 use Rattle.base_types.specs.Scans.{same_scan, build_scans, is_build_scan}
 use Rattle.base_types.specs.declared.kind.Kind.TheVariants.{Table, Index}
 use Rattle.base_types.specs.declared.scan.Purpose.TheVariants as scans
 use Rattle.ddl_effect.specs.declared.told.Told.TheVariants as tells
-use Rattle.ddl_effect.specs.Plans.{Plan, Done, Do, Lookup, Open, Search, Read, Lock, Write}
+use Rattle.ddl_effect.specs.Plans.{Plan, Done, Do, Lookup, Open, Search, Read, Lock, Write, left_rests_on}
 use Rattle.ddl_effect.specs.Stages.{plan_at}
 use Rattle.history_model.specs.Writes.{is_empty}
 use Rattle.cacheless.specs.Facts.{Facts}
-use Rattle.cacheless.specs.Locks.{is_locked}
 use Rattle.cacheless.specs.Session.{Outcome, Unsettled, Well, Badly, outcome_of}
 use Rattle.cacheless.specs.Owed.{OwesLook, OwesFetch, OwesScan, owed_at_start, owed_after, unusable, builds_owed, act_owed, scans_owed, owed_of, act_next, is_next_scan, owes_build, owes_build_scan, owes_accept}
 use Rattle.cacheless.specs.Plays.{has_looked, may_look}
@@ -21,9 +20,9 @@ use Rattle.cacheless.specs.Types.{Kind, Oid, Command, Purpose, Opening}
 use Rattle.cacheless.specs.declared.kept_scan.KeptScan.{KeptScan}
 use Rattle.txn_blocks.specs.declared.transaction.RunningTransaction.{RunningTransaction}
 use Rattle.cacheless.specs.declared.progress.Progress.{Progress}
-use Rattle.cacheless.specs.State.{ends_on_scan, owed_at, one_if, running_of, is_kept, missing, builds_missing, act_missing, scans_missing, lacks_builds, is_full, is_in_accept, begins_in, owed_first, Rest, session_at}
-use Rattle.cacheless.specs.May.{may_look_at, has_looked_at, is_first_missing, is_next_of_act, is_next_at, has_failed, lacks_opened, lacks_to_build, lacks_any, owes_nothing}
-use Rattle.cacheless.specs.Holds.{NamedFit, FactsFit}
+use Rattle.cacheless.specs.State.{owed_at, one_if, running_of, is_kept, missing, builds_missing, act_missing, scans_missing, lacks_builds, is_full, is_in_accept, begins_in, owed_first, Rest, session_at}
+use Rattle.cacheless.specs.May.{may_look_at, has_looked_at, is_first_missing, is_missing, is_next_of_act, is_next_at, has_failed, lacks_opened, lacks_to_build, lacks_any, owes_nothing}
+use Rattle.cacheless.specs.Holds.{FactsFit}
 use Rattle.cacheless.proofs.ReadsBuilds.{ReadsBuilds, stage_reads}
 
 none_running : (own : Option RunningTransaction) → is_none (running_of own) ≡ is_none own
@@ -35,46 +34,35 @@ pub start_owed : (facts : Facts) (command : Command) (s : Progress) (rest : Rest
 start_owed facts command s rest fits = ap (λ t. elim (begins_in s.blocks s.ended command && t) [ true ↦ OwesLook ∷ [] | false ↦ [] ]) (ap is_none fits.running ∙ none_running s.running)
 
 -- the scans that are owed are those that it misses
-pub unusable-missing : (facts : Facts) (kept : List KeptScan) → ((scan : Purpose) → is_build_scan scan ≡ true → facts.usable scan ≡ is_kept kept scan) → (kind : Kind) (rel : Oid)
-    → unusable facts (build_scans kind rel) ≡ missing kept (build_scans kind rel)
-unusable-missing facts kept usable Table rel =
-    rw (usable (scans.Class rel) refl, usable (scans.Attribute rel) refl, usable (scans.AttrDef rel) refl, usable (scans.Constraint rel) refl, usable (scans.Index rel) refl, usable (scans.Trigger rel) refl) refl
-unusable-missing facts kept usable Index rel = rw (usable (scans.Class rel) refl, usable (scans.IndexRow rel) refl) refl
+pub unusable-missing : (facts : Facts) (kept : List KeptScan) → ((scan : Purpose) → facts.usable scan ≡ is_kept kept scan) → (wanted : List Purpose) → unusable facts wanted ≡ missing kept wanted
+unusable-missing facts kept usable [] = refl
+unusable-missing facts kept usable (scan ∷ wanted) =
+    ap (λ t. cond (not t) (scan ∷ unusable facts wanted) (unusable facts wanted)) (usable scan)
+    ∙ ap (λ l. cond (not (is_kept kept scan)) (scan ∷ l) l) (unusable-missing facts kept usable wanted)
 
-builds-missing : (facts : Facts) (kept : List KeptScan) → ((scan : Purpose) → is_build_scan scan ≡ true → facts.usable scan ≡ is_kept kept scan) → (opened : List Opening) → builds_owed facts opened ≡ builds_missing kept opened
+builds-missing : (facts : Facts) (kept : List KeptScan) → ((scan : Purpose) → facts.usable scan ≡ is_kept kept scan) → (opened : List Opening) → builds_owed facts opened ≡ builds_missing kept opened
 builds-missing facts kept usable [] = refl
-builds-missing facts kept usable (o ∷ opened) = ap (λ l. l ++ builds_owed facts opened) (unusable-missing facts kept usable o.kind o.rel) ∙ ap (λ l. missing kept (build_scans o.kind o.rel) ++ l) (builds-missing facts kept usable opened)
+builds-missing facts kept usable (o ∷ opened) = ap (λ l. l ++ builds_owed facts opened) (unusable-missing facts kept usable (build_scans o.kind o.rel)) ∙ ap (λ l. missing kept (build_scans o.kind o.rel) ++ l) (builds-missing facts kept usable opened)
 
 pub builds_same : (facts : Facts) (s : Progress) → FactsFit facts s → builds_owed facts s.opened ≡ builds_missing s.kept s.opened
 builds_same facts s fits = builds-missing facts s.kept fits.usable s.opened
 
--- whether the scan of a catalog cache is to be made
-by_name : (read served serves : Bool) (scan : Purpose) → (read ≡ true → served ≡ serves) → (if read && served then [] else scan ∷ []) ≡ (if read && serves then [] else scan ∷ [])
-by_name true served serves scan same = ap (λ t. if t then [] else scan ∷ []) (same refl)
-by_name false served serves scan same = refl
-
-turned : (serves : Bool) (scan : Purpose) → cond (not serves) (scan ∷ []) [] ≡ (if serves then [] else scan ∷ [])
-turned true scan = refl
-turned false scan = refl
-
 -- the scans that the next act or the answer lacks
-act-missing : (facts : Facts) (s : Progress) (p : Plan) → FactsFit facts s → ReadsBuilds p → ((s.read || ends_on_scan p) ≡ true → NamedFit facts p s.given.items s.named) → act_owed facts s.locks.items s.read p ≡ act_missing s p
-act-missing facts s (Do (Lookup name mode) rest) fits reads named = by_name s.read (facts.usable (scans.RelName name) || is_locked s.locks.items mode (facts.rows (scans.RelName name))) (s.named || is_locked s.locks.items mode s.given.items) (scans.RelName name)
-    (λ read. let fit = named (ap (λ t. t || false) read) in ap (λ t. t || is_locked s.locks.items mode (facts.rows (scans.RelName name))) fit.1 ∙ ap (λ l. s.named || is_locked s.locks.items mode l) fit.0)
-act-missing facts s (Do (Open rel kind) rest) fits reads named = unusable-missing facts s.kept fits.usable kind rel
-act-missing facts s (Do (Search scan) rest) fits reads named = by_name s.read (facts.usable scan) s.named scan (λ read. (named (ap (λ t. t || false) read)).1)
-act-missing facts s (Do (Read scan) rest) fits reads named = ap (λ t. cond (not t) (scan ∷ []) []) (fits.usable scan reads)
-act-missing facts s (Do (Lock rel mode) rest) fits reads named = refl
-act-missing facts s (Do (Write draft) rest) fits reads named = refl
-act-missing facts s (Done (tells.Regclass oid)) fits reads named = ap (λ t. cond (not t) (scans.RelOid oid ∷ []) []) (named (or-true s.read)).1 ∙ turned s.named (scans.RelOid oid)
-act-missing facts s p fits reads named = refl
+act-missing : (facts : Facts) (s : Progress) (p : Plan) → FactsFit facts s → act_owed facts s.granted p ≡ act_missing s p
+act-missing facts s (Do (Lookup name mode) rest) fits = ap (λ l. if s.granted then [] else l) (unusable-missing facts s.kept fits.usable (scans.RelName name ∷ []))
+act-missing facts s (Do (Open rel kind) rest) fits = unusable-missing facts s.kept fits.usable (build_scans kind rel)
+act-missing facts s (Do (Search scan) rest) fits = unusable-missing facts s.kept fits.usable (scan ∷ [])
+act-missing facts s (Do (Read scan) rest) fits = unusable-missing facts s.kept fits.usable (scan ∷ [])
+act-missing facts s (Do (Lock rel mode) rest) fits = refl
+act-missing facts s (Do (Write draft) rest) fits = refl
+act-missing facts s p fits = unusable-missing facts s.kept fits.usable (left_rests_on p)
 
-pub act_same : (facts : Facts) (s : Progress) → FactsFit facts s → act_owed facts s.locks.items s.read (plan_at s.exec) ≡ act_missing s (plan_at s.exec)
-act_same facts s fits = act-missing facts s (plan_at s.exec) fits (stage_reads s.exec) fits.given
+pub act_same : (facts : Facts) (s : Progress) → FactsFit facts s → act_owed facts s.granted (plan_at s.exec) ≡ act_missing s (plan_at s.exec)
+act_same facts s fits = act-missing facts s (plan_at s.exec) fits
 
 pub scans_same : (facts : Facts) (s : Progress) (rest : Rest) → FactsFit facts s → scans_owed facts (session_at s rest) ≡ scans_missing s
 scans_same facts s rest fits = ap (λ l. elim (outcome_of (plan_at s.exec)) as (λ x. List Purpose) [ Badly ↦ [] | other ↦ l ])
-    (ap (λ l. l ++ act_owed facts s.locks.items s.read (plan_at s.exec)) (builds_same facts s fits) ∙ ap (λ l. builds_missing s.kept s.opened ++ l) (act_same facts s fits))
+    (ap (λ l. l ++ act_owed facts s.granted (plan_at s.exec)) (builds_same facts s fits) ∙ ap (λ l. builds_missing s.kept s.opened ++ l) (act_same facts s fits))
 
 -- its opened descriptors lack scans
 pub lacks_same : (facts : Facts) (s : Progress) (rest : Rest) → FactsFit facts s → owes_build facts (session_at s rest) ≡ lacks_builds s
@@ -107,31 +95,39 @@ any_first scan p (x ∷ l) = by_test (any_first scan p l) (p x)
     by_test more true = or-false (same_scan scan x)
     by_test more false = more
 
-first_same : (facts : Facts) (kept : List KeptScan) (scan : Purpose) → ((d : Purpose) → is_build_scan d ≡ true → facts.usable d ≡ is_kept kept d) → (kind : Kind) (rel : Oid)
-    → list_any (same_scan scan) (take 1 (unusable facts (build_scans kind rel))) ≡ is_first_missing scan kept kind rel
-first_same facts kept scan usable kind rel = ap (λ l. list_any (same_scan scan) (take 1 l)) (unusable-missing facts kept usable kind rel) ∙ any_first scan (λ d. not (is_kept kept d)) (build_scans kind rel)
+first_same : (facts : Facts) (kept : List KeptScan) (scan : Purpose) → ((d : Purpose) → facts.usable d ≡ is_kept kept d) → (wanted : List Purpose)
+    → list_any (same_scan scan) (take 1 (unusable facts wanted)) ≡ option_map_or (same_scan scan) (find (λ d. not (is_kept kept d)) wanted) false
+first_same facts kept scan usable wanted = ap (λ l. list_any (same_scan scan) (take 1 l)) (unusable-missing facts kept usable wanted) ∙ any_first scan (λ d. not (is_kept kept d)) wanted
 
-opened_first : (facts : Facts) (kept : List KeptScan) (scan : Purpose) → ((d : Purpose) → is_build_scan d ≡ true → facts.usable d ≡ is_kept kept d) → (opened : List Opening)
+opened_first : (facts : Facts) (kept : List KeptScan) (scan : Purpose) → ((d : Purpose) → facts.usable d ≡ is_kept kept d) → (opened : List Opening)
     → list_any (same_scan scan) (flat_map (λ o. take 1 (unusable facts (build_scans o.kind o.rel))) opened) ≡ list_any (λ o. is_first_missing scan kept o.kind o.rel) opened
 opened_first facts kept scan usable [] = refl
 opened_first facts kept scan usable (o ∷ opened) =
     list_any-append (same_scan scan) (take 1 (unusable facts (build_scans o.kind o.rel))) (flat_map (λ p. take 1 (unusable facts (build_scans p.kind p.rel))) opened)
-    ∙ ap (λ t. t || list_any (same_scan scan) (flat_map (λ p. take 1 (unusable facts (build_scans p.kind p.rel))) opened)) (first_same facts kept scan usable o.kind o.rel)
+    ∙ ap (λ t. t || list_any (same_scan scan) (flat_map (λ p. take 1 (unusable facts (build_scans p.kind p.rel))) opened)) (first_same facts kept scan usable (build_scans o.kind o.rel))
     ∙ ap (λ t. is_first_missing scan kept o.kind o.rel || t) (opened_first facts kept scan usable opened)
 
-one_taken : (scan x : Purpose) (t : Bool) → list_any (same_scan scan) (take 1 (if t then [] else x ∷ [])) ≡ (not t && same_scan scan x)
-one_taken scan x true = refl
-one_taken scan x false = or-false (same_scan scan x)
+-- a scan of a catalog cache is the first that is lacked
+one_first : (facts : Facts) (kept : List KeptScan) (scan wanted : Purpose) → ((d : Purpose) → facts.usable d ≡ is_kept kept d) → list_any (same_scan scan) (take 1 (unusable facts (wanted ∷ []))) ≡ is_missing scan kept wanted
+one_first facts kept scan wanted usable = first_same facts kept scan usable (wanted ∷ []) ∙ by_test (is_kept kept wanted)
+  where
+    by_test : (t : Bool) → option_map_or (same_scan scan) (cond (not t) (Some wanted) None) false ≡ (not t && same_scan scan wanted)
+    by_test true = refl
+    by_test false = refl
 
-act_first : (facts : Facts) (s : Progress) (scan : Purpose) (p : Plan) → FactsFit facts s → act_owed facts s.locks.items s.read p ≡ act_missing s p → list_any (same_scan scan) (act_next facts s.locks.items s.read p) ≡ is_next_of_act scan s p
-act_first facts s scan (Do (Lookup name mode) rest) fits same = ap (λ l. list_any (same_scan scan) (take 1 l)) same ∙ one_taken scan (scans.RelName name) (s.read && (s.named || is_locked s.locks.items mode s.given.items))
-act_first facts s scan (Do (Search wanted) rest) fits same = ap (λ l. list_any (same_scan scan) (take 1 l)) same ∙ one_taken scan wanted (s.read && s.named)
-act_first facts s scan (Do (Open rel kind) rest) fits same = first_same facts s.kept scan fits.usable kind rel
-act_first facts s scan (Do (Read d) rest) fits same = refl
-act_first facts s scan (Do (Lock rel mode) rest) fits same = refl
-act_first facts s scan (Do (Write draft) rest) fits same = refl
-act_first facts s scan (Done (tells.Regclass oid)) fits same = ap (λ l. list_any (same_scan scan) (take 1 l)) same ∙ one_taken scan (scans.RelOid oid) s.named
-act_first facts s scan p fits same = refl
+act_first : (facts : Facts) (s : Progress) (scan : Purpose) (p : Plan) → FactsFit facts s → list_any (same_scan scan) (act_next facts s.granted p) ≡ is_next_of_act scan s p
+act_first facts s scan (Do (Lookup name mode) rest) fits = by_granted s.granted
+  where
+    by_granted : (t : Bool) → list_any (same_scan scan) (take 1 (if t then [] else unusable facts (scans.RelName name ∷ []))) ≡ (not t && is_missing scan s.kept (scans.RelName name))
+    by_granted true = refl
+    by_granted false = one_first facts s.kept scan (scans.RelName name) fits.usable
+act_first facts s scan (Do (Search wanted) rest) fits = one_first facts s.kept scan wanted fits.usable
+act_first facts s scan (Do (Open rel kind) rest) fits = first_same facts s.kept scan fits.usable (build_scans kind rel)
+act_first facts s scan (Do (Read d) rest) fits = refl
+act_first facts s scan (Do (Lock rel mode) rest) fits = refl
+act_first facts s scan (Do (Write draft) rest) fits = refl
+act_first facts s scan (Done (tells.Regclass oid)) fits = one_first facts s.kept scan (scans.RelOid oid) fits.usable
+act_first facts s scan p fits = refl
 
 -- the scan may be made now
 pub next_same : (facts : Facts) (s : Progress) (rest : Rest) (scan : Purpose) → FactsFit facts s → is_next_scan scan facts (session_at s rest) ≡ is_next_at scan s
@@ -141,11 +137,11 @@ next_same facts s rest scan fits = by_outcome (outcome_of (plan_at s.exec))
     builds = flat_map (λ o. take 1 (unusable facts (build_scans o.kind o.rel))) s.opened
 
     acts : List Purpose
-    acts = act_next facts s.locks.items s.read (plan_at s.exec)
+    acts = act_next facts s.granted (plan_at s.exec)
 
     both : list_any (same_scan scan) (builds ++ acts) ≡ (list_any (λ o. is_first_missing scan s.kept o.kind o.rel) s.opened || is_next_of_act scan s (plan_at s.exec))
     both = list_any-append (same_scan scan) builds acts ∙ ap (λ t. t || list_any (same_scan scan) acts) (opened_first facts s.kept scan fits.usable s.opened)
-        ∙ ap (λ t. list_any (λ o. is_first_missing scan s.kept o.kind o.rel) s.opened || t) (act_first facts s scan (plan_at s.exec) fits (act_same facts s fits))
+        ∙ ap (λ t. list_any (λ o. is_first_missing scan s.kept o.kind o.rel) s.opened || t) (act_first facts s scan (plan_at s.exec) fits)
 
     by_outcome : (o : Outcome) → list_any (same_scan scan) (elim o as (λ x. List Purpose) [ Badly ↦ [] | other ↦ builds ++ acts ])
         ≡ (not (elim o as (λ x. Bool) [ Badly ↦ true | other ↦ false ]) && (list_any (λ p. is_first_missing scan s.kept p.kind p.rel) s.opened || is_next_of_act scan s (plan_at s.exec)))
@@ -274,13 +270,20 @@ opened_any kept (o ∷ opened) =
     by_test true = refl
     by_test false = refl
 
-no_build : (t : Bool) (scan : Purpose) → is_build_scan scan ≡ false → list_any is_build_scan (if t then [] else scan ∷ []) ≡ false
-no_build true scan other = refl
-no_build false scan other = ap (λ t. t || false) other
+no_build : (kept : List KeptScan) (scan : Purpose) → is_build_scan scan ≡ false → list_any is_build_scan (missing kept (scan ∷ [])) ≡ false
+no_build kept scan other = by_test (is_kept kept scan)
+  where
+    by_test : (t : Bool) → list_any is_build_scan (cond (not t) (scan ∷ []) []) ≡ false
+    by_test true = refl
+    by_test false = ap (λ t. t || false) other
 
 act_any : (s : Progress) (p : Plan) → ReadsBuilds p → list_any is_build_scan (act_missing s p) ≡ lacks_to_build s p
-act_any s (Do (Lookup name mode) rest) reads = no_build (s.read && (s.named || is_locked s.locks.items mode s.given.items)) (scans.RelName name) refl
-act_any s (Do (Search scan) rest) reads = no_build (s.read && s.named) scan reads
+act_any s (Do (Lookup name mode) rest) reads = by_granted s.granted
+  where
+    by_granted : (t : Bool) → list_any is_build_scan (if t then [] else missing s.kept (scans.RelName name ∷ [])) ≡ false
+    by_granted true = refl
+    by_granted false = no_build s.kept (scans.RelName name) refl
+act_any s (Do (Search scan) rest) reads = no_build s.kept scan reads
 act_any s (Do (Open rel kind) rest) reads = any_found (λ scan. not (is_kept s.kept scan)) (build_scans kind rel) (builds_of kind rel)
 act_any s (Do (Read scan) rest) reads = by_test (is_kept s.kept scan)
   where
@@ -289,7 +292,7 @@ act_any s (Do (Read scan) rest) reads = by_test (is_kept s.kept scan)
     by_test false = ap (λ t. t || false) reads
 act_any s (Do (Lock rel mode) rest) reads = refl
 act_any s (Do (Write draft) rest) reads = refl
-act_any s (Done (tells.Regclass oid)) reads = no_build s.named (scans.RelOid oid) refl
+act_any s (Done (tells.Regclass oid)) reads = no_build s.kept (scans.RelOid oid) refl
 act_any s p reads = refl
 
 -- the test whether a scan for a descriptor is missing

@@ -31,6 +31,13 @@ use Rattle.cacheless.specs.Types.{Oid, Kind, Row, Purpose, Entry, Event, Item}
 use Rattle.cacheless.specs.TableWrites.{is_table_key, HaveOneName, WritesTables}
 use Rattle.cacheless.proofs.Successors.{IsKept, by_kept, counted_seen}
 
+-- an entry that may come next, after a sound history of which each write keeps tables, as it does itself
+pub record MayCome (history : List Entry) (e : Entry) : Type 0 where
+  pub sound : IsSound history
+  pub tables : EachEntry WritesTables history
+  pub comes : MayComeNext history e
+  pub keeps : WritesTables history e
+
 -- the event takes back nothing that the stamp has done
 abbrev pub IsSpared : List Entry → ℕ → Event → Stamp → Type 0
 IsSpared before b (events.Gone from) s = is_back before b from s ≡ false
@@ -157,12 +164,12 @@ row_seen P history b some = some-map P (λ v. v.row) (filter (sees history b) (v
 pub row_given : (P : Row → Type 0) (history : List Entry) (b : ℕ) (d : Purpose) → ((row : Row) → P row → selects d row ≡ true) → SomeOf P (rows_of history b) → SomeOf P (answer_of history b d)
 row_given P history b d asks some = some_given P d [] (filter (selects d) (rows_of history b)) (inr (some-filter P (selects d) (rows_of history b) (some-weaker P (λ row. (selects d row ≡ true) × P row) (λ row is. (asks row is, is)) (rows_of history b) some)))
 
-relation_seen : (history : List Entry) (b : ℕ) (rel : Oid) (name : List ℕ) (kind : Kind) → IsSeenAs history b rel name kind → SomeOf (λ v. IsRelation rel name kind v.row × (sees history b v ≡ true)) (versions_of history)
+pub relation_seen : (history : List Entry) (b : ℕ) (rel : Oid) (name : List ℕ) (kind : Kind) → IsSeenAs history b rel name kind → SomeOf (λ v. IsRelation rel name kind v.row × (sees history b v ≡ true)) (versions_of history)
 relation_seen history b rel name kind seen =
     version_seen (IsRelation rel name kind) history b (some-weaker (λ row. rows.Class rel name kind seen.0 ≡ row) (IsRelation rel name kind) (λ row is. subst (IsRelation rel name kind) is (refl, (refl, refl))) (rows_of history b)
     (subst (AllByRecursion (λ row. IsIn row (rows_of history b) × (selects (scans.Class rel) row ≡ true))) seen.1 (given_seen history b (scans.Class rel))).0.0)
 
-seen_relation : (history : List Entry) (b : ℕ) (rel : Oid) (name : List ℕ) (kind : Kind) → IsSound history → SomeOf (λ v. IsRelation rel name kind v.row × (sees history b v ≡ true)) (versions_of history) → IsSeenAs history b rel name kind
+pub seen_relation : (history : List Entry) (b : ℕ) (rel : Oid) (name : List ℕ) (kind : Kind) → IsSound history → SomeOf (λ v. IsRelation rel name kind v.row × (sees history b v ≡ true)) (versions_of history) → IsSeenAs history b rel name kind
 seen_relation history b rel name kind sound some =
     of (answer_of history b d) refl (given_seen history b d) (row_given (IsRelation rel name kind) history b d asks (row_seen (IsRelation rel name kind) history b some))
   where

@@ -5,6 +5,7 @@ pub mod WrittenMessages
 pub mod FitToWrite
 pub mod AlterationsFit
 pub mod NewTableItems
+pub mod NewNames
 pub mod AlteringLocks
 pub mod NewTable
 pub mod WriteFits

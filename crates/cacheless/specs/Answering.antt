@@ -1,28 +1,21 @@
 -- What the running command answers, by what the code holds.
-use Rattle.std.specs.Prelude.{◌≡◌, ⊤, ℕ, Bool, true, List, All, if◌then◌else◌}
-use Rattle.base_types.specs.Scans.{is_build_scan}
+use Rattle.std.specs.Prelude.{◌≡◌, ℕ, true, false, Some, List, All}
 use Rattle.base_types.specs.declared.scan.Purpose.TheVariants as scans
+use Rattle.event_kinds.specs.declared.entry.Event.TheVariants as events
 use Rattle.command_answers.specs.Answers.{answer_text}
-use Rattle.ddl_effect.specs.Plans.{Plan, Absent, Do, Lookup}
+use Rattle.ddl_effect.specs.Plans.{Absent}
 use Rattle.ddl_effect.specs.Stages.{plan_at}
+use Rattle.history_model.specs.Lives.{last_event_of}
 use Rattle.history_model.specs.Read.{place_read}
-use Rattle.cacheless.specs.Types.{Row, Purpose, Answer, Entry}
+use Rattle.cacheless.specs.Types.{Answer, Entry}
 use Rattle.cacheless.specs.declared.kept_scan.KeptScan.{KeptScan}
 use Rattle.cacheless.specs.declared.progress.Progress.{Progress}
-use Rattle.cacheless.specs.State.{rows_kept, place_kept}
+use Rattle.cacheless.specs.State.{is_kept, rows_kept, place_kept}
 use Rattle.cacheless.specs.Told.{told_left}
-
--- the rows that are held of a scan: those that are kept of one for a descriptor, or those of the last one of a catalog cache
-abbrev pub rows_held : Progress → Purpose → List Row
-rows_held s scan = if is_build_scan scan then rows_kept s.kept scan else s.given.items
-
--- and its place
-abbrev pub place_held : Progress → Purpose → ℕ
-place_held s scan = if is_build_scan scan then place_kept s.kept scan else s.given_at
 
 -- what the running command answers, once it has come out
 abbrev pub told_at : Progress → Answer
-told_at s = told_left (rows_held s) (place_held s) s.locks.items s.blocks.block (plan_at s.exec)
+told_at s = told_left (rows_kept s.kept) (place_kept s.kept) s.locks.items s.blocks.block (plan_at s.exec)
 
 -- the text is that of what this command answers
 abbrev pub IsToldText : Progress → List ℕ → Type 0
@@ -32,13 +25,16 @@ IsToldText s text = text ≡ answer_text (told_at s)
 abbrev pub KeptAt : List Entry → ℕ → KeptScan → Type 0
 KeptAt seen b k = place_read seen b k.scan ≡ k.at
 
--- the place of the scan by name on which the plan rests, or on which its error rests
-abbrev pub PlaceFits : List Entry → ℕ → Plan → Bool → ℕ → Type 0
-PlaceFits seen b (Do (Lookup name mode) rest) true at = place_read seen b (scans.RelName name) ≡ at
-PlaceFits seen b (Absent name) read at = place_read seen b (scans.RelName name) ≡ at
-PlaceFits seen b plan read at = ⊤
+-- nothing of the running command is taken back or released
+pub record IsWhole (seen : List Entry) (s : Progress) : Type 0 where
+  pub untaken : (from : ℕ) → last_event_of seen s.id ≡ Some (events.Gone from) → ⊥
+  pub going : s.ended ≡ false
 
--- the places that the code holds are those of the last scans of its backend
+-- where a lookup found no relation its scan is kept, until something of the command is taken back or released
+abbrev pub KeepsAbsent : List Entry → Progress → Type 0
+KeepsAbsent seen s = (name : List ℕ) → plan_at s.exec ≡ Absent name → IsWhole seen s → is_kept s.kept (scans.RelName name) ≡ true
+
+-- the places that the code holds are those of the last scans of its backend, and it has those that it has to tell
 pub record PlacesFit (seen : List Entry) (s : Progress) : Type 0 where
   pub kept : All (KeptAt seen s.id) s.kept
-  pub given_at : PlaceFits seen s.id (plan_at s.exec) s.read s.given_at
+  pub absent : KeepsAbsent seen s

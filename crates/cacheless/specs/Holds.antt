@@ -1,12 +1,11 @@
 -- What the code holds is the session of its backend in a history.
-use Rattle.std.specs.Prelude.{◌≡◌, ◌≤◌, ◌+◌, ◌++◌, ◌∷◌, ◌||◌, [], ℕ, Bool, true, List, length, drop, All, Some, slice_get, ⊤}
+use Rattle.std.specs.Prelude.{◌≡◌, ◌≤◌, ◌+◌, ◌++◌, ◌∷◌, [], ℕ, Bool, true, false, Option, List, length, drop, All, Some, slice_get, ⊤}
 use Rattle.std.specs.List.{AllByRecursion}
-use Rattle.std.specs.Option.{IfSome}
-use Rattle.base_types.specs.Scans.{is_build_scan}
 use Rattle.base_types.specs.Scenario.{IsBackend}
+use Rattle.base_types.specs.declared.row.Row.TheVariants as rows
 use Rattle.base_types.specs.declared.scan.Purpose.TheVariants as scans
 use Rattle.event_kinds.specs.declared.entry.Event.TheVariants as events
-use Rattle.ddl_effect.specs.Plans.{Plan, Act, Done, Absent, Do, Lookup, Search, told_rests_on}
+use Rattle.ddl_effect.specs.Plans.{Plan, Act, Absent, Do, Lookup}
 use Rattle.txn_blocks.specs.Blocks.{no_block}
 use Rattle.ddl_effect.specs.Commands.{commands_of}
 use Rattle.ddl_effect.specs.Stages.{plan_at, plan_again}
@@ -21,30 +20,32 @@ use Rattle.cacheless.specs.Owed.{owed_at_start, owed_after}
 use Rattle.cacheless.specs.Settled.{done_here, act_done, is_finished, next_session, settled}
 use Rattle.cacheless.specs.Sessions.{entered, session_of}
 use Rattle.cacheless.specs.Puts.{PutsOpened}
-use Rattle.cacheless.specs.State.{owed_at, running_of, lists_at, is_kept, is_absent, ends_on_scan, IsNew, Rest, session_at}
+use Rattle.cacheless.specs.State.{owed_at, running_of, lists_at, is_kept, is_absent, IsNew, Rest, session_at}
 use Rattle.cacheless.specs.Silently.{IsAtRest}
 
 -- what is kept of a scan is what the last such scan gave
 pub record ReadRight (rows : Purpose → List Row) (k : KeptScan) : Type 0 where
-  pub build : is_build_scan k.scan ≡ true
   pub rows_are : k.rows ≡ rows k.scan
 
--- what the scan of a catalog cache gave is what the code holds of it, and it knows whether that serves still
-abbrev pub NamedFit : Facts → Plan → List Row → Bool → Type 0
-NamedFit facts (Do (Lookup name mode) rest) given named = (facts.rows (scans.RelName name) ≡ given) × (facts.usable (scans.RelName name) ≡ named)
-NamedFit facts (Do (Search scan) rest) given named = (facts.rows scan ≡ given) × (facts.usable scan ≡ named)
-NamedFit facts (Done told) given named = IfSome (told_rests_on told) (λ scan. (facts.rows scan ≡ given) × (facts.usable scan ≡ named))
-NamedFit facts (Absent name) given named = (facts.rows (scans.RelName name) ≡ given) × (facts.usable (scans.RelName name) ≡ named)
-NamedFit facts plan given named = ⊤
+-- there is a row, and it is that of a relation
+abbrev pub is_class : Option Row → Bool
+is_class (Some (rows.Class oid name kind fill)) = true
+is_class given = false
+
+-- the row that a lookup found is that of a relation, and the first that the last scan of its name gave; one that found no relation was granted no lock
+abbrev pub GivenFits : Facts → Plan → Option Row → Type 0
+GivenFits facts (Absent name) given = ⊥
+GivenFits facts (Do (Lookup name mode) rest) given = (slice_get (facts.rows (scans.RelName name)) 0 ≡ given) × (is_class given ≡ true)
+GivenFits facts plan given = ⊤
 
 -- the facts of the backend's entries are what the code holds
 pub record FactsFit (facts : Facts) (s : Progress) : Type 0 where
   pub running : facts.running ≡ running_of s.running
   pub lists : facts.lists ≡ lists_at s
   pub owed : owed_after facts.last ≡ owed_at s.due
-  pub usable : (scan : Purpose) → is_build_scan scan ≡ true → facts.usable scan ≡ is_kept s.kept scan
+  pub usable : (scan : Purpose) → facts.usable scan ≡ is_kept s.kept scan
   pub kept : All (ReadRight facts.rows) s.kept
-  pub given : (s.read || ends_on_scan (plan_at s.exec)) ≡ true → NamedFit facts (plan_at s.exec) s.given.items s.named
+  pub given : s.granted ≡ true → GivenFits facts (plan_at s.exec) s.given
 
 -- the running command has made so many entries at most
 pub record CountsFit (c : Counts) (entries : ℕ) : Type 0 where

@@ -22,7 +22,7 @@ pub mod Judged
 pub mod OpenedReads
 pub mod Puts
 pub mod State
-pub mod KeptByRelation
+pub mod KeptStarts
 pub mod SameItems
 pub mod May
 pub mod Endings

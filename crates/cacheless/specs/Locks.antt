@@ -1,11 +1,11 @@
 -- The locks that a backend holds, and whether each is clear.
-use Rattle.std.specs.Prelude.{ℕ, Bool, true, false, List, [], ◌∷◌, ◌++◌, nat_lt, filter}
+use Rattle.std.specs.Prelude.{ℕ, true, false, List, [], ◌∷◌, ◌++◌, nat_lt, filter}
 use Rattle.std.specs.List.{flat_map}
 use Rattle.base_types.specs.declared.row.Row.TheVariants.{Class}
 use Rattle.event_kinds.specs.declared.entry.Event.TheVariants.{LockOk, Write, Release}
 use Rattle.event_kinds.specs.declared.entry.Item.TheVariants.{Add}
-use Rattle.lock_modes.specs.Own.{has_lock, new_lock}
-use Rattle.cacheless.specs.Types.{Oid, Mode, Row, OwnLock, Item, Event}
+use Rattle.lock_modes.specs.Own.{new_lock}
+use Rattle.cacheless.specs.Types.{Oid, OwnLock, Item, Event}
 
 -- the lock on a new relation, which is clear at once
 abbrev pub locked_by : ℕ → Item → List OwnLock
@@ -22,8 +22,3 @@ locks_by command event old = old
 -- the locks after a write that draws so many oids, of which this is the first: one is on the relation that it made, if it made one
 abbrev pub locks_written : ℕ → Oid → ℕ → List OwnLock → List OwnLock
 locks_written new_oids rel command locks = elim (nat_lt 0 new_oids) [ true ↦ locks ++ new_lock rel command ∷ [] | false ↦ locks ]
-
--- the relation of the first row is locked in the mode
-abbrev pub is_locked : List OwnLock → Mode → List Row → Bool
-is_locked locks mode (Class oid name kind fill ∷ more) = has_lock locks oid mode
-is_locked locks mode given = false

@@ -1,5 +1,5 @@
 -- What may come next of a backend, by what the code holds.
-use Rattle.std.specs.Prelude.{◌≡◌, ℕ, Bool, true, false, not, Some, None, List, [], ◌∷◌, ◌+◌, ◌*◌, ◌==◌, ◌&&◌, ◌||◌, nat_lt, nat_le, is_none, is_some, slice_get, length, take, if◌then◌else◌}
+use Rattle.std.specs.Prelude.{◌≡◌, ℕ, Bool, true, false, not, Option, Some, None, List, [], ◌∷◌, ◌+◌, ◌*◌, ◌==◌, ◌&&◌, ◌||◌, nat_lt, nat_le, is_none, is_some, slice_get, length, take, if◌then◌else◌}
 use Rattle.std.specs.Option.{option_map_or}
 use Rattle.std.specs.List.{find, list_any, flat_map}
 use Rattle.std.specs.Str.{bytes_eq}
@@ -17,13 +17,12 @@ use Rattle.history_model.specs.Writes.{is_empty}
 use Rattle.cacheless.specs.Types.{Oid, Mode, Kind, Row, Purpose, Message, Command, Item, Event, Opening}
 use Rattle.cacheless.specs.declared.kept_scan.KeptScan.{KeptScan}
 use Rattle.cacheless.specs.declared.progress.Progress.{Progress}
-use Rattle.cacheless.specs.Locks.{is_locked}
 use Rattle.cacheless.specs.Session.{Badly, outcome_of}
 use Rattle.cacheless.specs.Owed.{OwesFetch}
 use Rattle.cacheless.specs.Ends.{End, Ends, Commits, TakesBack}
 use Rattle.cacheless.specs.Plays.{drafted}
 use Rattle.cacheless.specs.SameItems.{same_items}
-use Rattle.cacheless.specs.State.{owed_at, owed_first, one_if, is_kept, rows_kept, act_missing, is_visible_at, unsent_at, xid_at, has_write_since, end_at}
+use Rattle.cacheless.specs.State.{owed_at, owed_first, one_if, is_kept, rows_kept, row_sought, act_missing, is_visible_at, unsent_at, xid_at, has_write_since, end_at}
 
 -- the counts are small enough to be summed
 abbrev pub HasRoom : Progress → Type 0
@@ -45,11 +44,15 @@ has_looked_at s = nat_lt (s.tally.scans + s.tally.grants + started_at s + s.tall
 abbrev pub is_first_missing : Purpose → List KeptScan → Kind → Oid → Bool
 is_first_missing scan kept kind rel = option_map_or (same_scan scan) (find (λ d. not (is_kept kept d)) (build_scans kind rel)) false
 
+-- the scan is this one, and isn't kept
+abbrev pub is_missing : Purpose → List KeptScan → Purpose → Bool
+is_missing scan kept wanted = not (is_kept kept wanted) && same_scan scan wanted
+
 -- the scan is the first that the next act or the answer lacks
 abbrev pub is_next_of_act : Purpose → Progress → Plan → Bool
-is_next_of_act scan s (Do (Lookup name mode) rest) = not (s.read && (s.named || is_locked s.locks.items mode s.given.items)) && same_scan scan (scans.RelName name)
-is_next_of_act scan s (Do (Search wanted) rest) = not (s.read && s.named) && same_scan scan wanted
-is_next_of_act scan s (Done told) = option_map_or (λ wanted. not s.named && same_scan scan wanted) (told_rests_on told) false
+is_next_of_act scan s (Do (Lookup name mode) rest) = not s.granted && is_missing scan s.kept (scans.RelName name)
+is_next_of_act scan s (Do (Search wanted) rest) = is_missing scan s.kept wanted
+is_next_of_act scan s (Done told) = option_map_or (is_missing scan s.kept) (told_rests_on told) false
 is_next_of_act scan s (Do (Open rel kind) rest) = is_first_missing scan s.kept kind rel
 is_next_of_act scan s plan = false
 
@@ -79,14 +82,14 @@ lacks_any s = not (has_failed s) && (lacks_opened s.kept s.opened || not (is_emp
 abbrev pub owes_nothing : Command → Progress → Bool
 owes_nothing command s = is_empty (owed_first s command) && is_empty (owed_at s.due) && not (lacks_any s)
 
--- the first row is that of the relation
-abbrev pub names_relation : Oid → List Row → Bool
-names_relation rel (rows.Class oid name kind fill ∷ more) = same_oid rel oid
+-- there is a row, and it is that of the relation
+abbrev pub names_relation : Oid → Option Row → Bool
+names_relation rel (Some (rows.Class oid name kind fill)) = same_oid rel oid
 names_relation rel given = false
 
 -- the next act asks for this lock
 abbrev pub is_lock_at : Progress → Plan → Oid → Mode → Bool
-is_lock_at s (Do (Lookup name wanted) rest) rel mode = names_relation rel s.given.items && same_mode mode wanted
+is_lock_at s (Do (Lookup name wanted) rest) rel mode = names_relation rel (row_sought s name) && same_mode mode wanted
 is_lock_at s (Do (Lock other wanted) rest) rel mode = same_oid rel other && same_mode mode wanted
 is_lock_at s plan rel mode = false
 

@@ -82,11 +82,11 @@ abbrev pub IsFirstSeen : List Entry → ℕ → List Row → Type 0
 IsFirstSeen seen b (rows.Class rel own kind fill ∷ more) = SeesRelation seen b rel kind
 IsFirstSeen seen b given = ⊤
 
--- what the last scan of a name gave: the relation is seen, where a lookup rests on it, and there is none, where the command failed to find one
+-- what the last scan of a name gave: the relation is seen, where a lookup of it has its lock, and there is none, where the command failed to find one
 abbrev pub NamedFits : List Entry → ℕ → Plan → Bool → Type 0
 NamedFits seen b (Do (Lookup name mode) rest) true = IsFirstSeen seen b (rows_read seen b (scans.RelName name))
-NamedFits seen b (Absent name) read = class_oid (rows_read seen b (scans.RelName name)) ≡ None
-NamedFits seen b plan read = ⊤
+NamedFits seen b (Absent name) granted = class_oid (rows_read seen b (scans.RelName name)) ≡ None
+NamedFits seen b plan granted = ⊤
 
 -- a command that found no relation has done only its lookup, which a fetch repeats
 pub record WasSought (seen : List Entry) (b : ℕ) (s : Session) (command : Command) (name : List ℕ) : Type 0 where
@@ -108,7 +108,7 @@ pub record DoesNoAct (s : Session) (told : Told) : Type 0 where
 pub record FollowsPlan (seen : List Entry) (b : ℕ) (s : Session) (command : Command) : Type 0 where
   pub refused : (error : CommandError) → s.refused ≡ Some error → s.left ≡ Fails error
   pub way : s.refused ≡ None → Way seen b s command
-  pub named : NamedFits seen b s.left s.read
+  pub named : NamedFits seen b s.left s.granted
   pub sought : (name : List ℕ) → s.left ≡ Absent name → WasSought seen b s command name
   pub plain : (told : Told) → plan_of none_open command ≡ Done told → DoesNoAct s told
 

@@ -4,12 +4,11 @@ use Rattle.std.specs.List.{flat_map, list_any}
 use Rattle.base_types.specs.Scans.{same_scan, is_build_scan, build_scans}
 use Rattle.base_types.specs.declared.scan.Purpose.TheVariants as scans
 use Rattle.event_kinds.specs.declared.entry.Event.TheVariants as events
-use Rattle.ddl_effect.specs.Plans.{Plan, Done, Do, Lookup, Search, Read, rests_on, left_rests_on}
+use Rattle.ddl_effect.specs.Plans.{Plan, Do, Lookup, Read, left_rests_on}
 use Rattle.txn_blocks.specs.Blocks.{Outside, no_block, ends_block, refused_by}
 use Rattle.history_model.specs.Writes.{is_empty}
-use Rattle.cacheless.specs.Types.{Purpose, Command, Event, Opening, OwnLock}
+use Rattle.cacheless.specs.Types.{Purpose, Command, Event, Opening}
 use Rattle.cacheless.specs.Facts.{Facts}
-use Rattle.cacheless.specs.Locks.{is_locked}
 use Rattle.cacheless.specs.Session.{Session, Badly, outcome_of}
 
 -- a look at the has-messages word, a fetch, or a scan
@@ -41,30 +40,27 @@ unusable facts wanted = filter (λ scan. not (facts.usable scan)) wanted
 abbrev pub builds_owed : Facts → List Opening → List Purpose
 builds_owed facts opened = flat_map (λ o. unusable facts (build_scans o.kind o.rel)) opened
 
--- the scans that the next act or the answer lacks: that of a catalog cache is made for each act anew, and a name's isn't repeated once the relation is locked
-abbrev pub act_owed : Facts → List OwnLock → Bool → Plan → List Purpose
-act_owed facts locks read (Do (Lookup name mode) rest) = if read && (facts.usable (scans.RelName name) || is_locked locks mode (facts.rows (scans.RelName name))) then [] else scans.RelName name ∷ []
-act_owed facts locks read (Do (Search scan) rest) = if read && facts.usable scan then [] else scan ∷ []
-act_owed facts locks read (Do act rest) = unusable facts (rests_on act)
-act_owed facts locks read (Done told) = unusable facts (left_rests_on (Done told))
-act_owed facts locks read plan = []
+-- the scans that the next act or the answer lacks: a lookup isn't repeated once its lock is granted
+abbrev pub act_owed : Facts → Bool → Plan → List Purpose
+act_owed facts granted (Do (Lookup name mode) rest) = if granted then [] else unusable facts (scans.RelName name ∷ [])
+act_owed facts granted plan = unusable facts (left_rests_on plan)
 
 -- the scans that are owed: none once the command has failed
 abbrev pub scans_owed : Facts → Session → List Purpose
-scans_owed facts s = elim (outcome_of s.left) [ Badly ↦ [] | other ↦ builds_owed facts s.opened ++ act_owed facts s.locks s.read s.left ]
+scans_owed facts s = elim (outcome_of s.left) [ Badly ↦ [] | other ↦ builds_owed facts s.opened ++ act_owed facts s.granted s.left ]
 
 -- all that has to come before the next act, or before the end
 abbrev pub owed_of : Facts → Command → Session → List Owes
 owed_of facts command s = owed_at_start facts command s ++ owed_after facts.last ++ map OwesScan (scans_owed facts s)
 
 -- the first scan that the next act lacks; what it reads of an opened descriptor is scanned in the order of that descriptor
-abbrev pub act_next : Facts → List OwnLock → Bool → Plan → List Purpose
-act_next facts locks read (Do (Read scan) rest) = []
-act_next facts locks read plan = take 1 (act_owed facts locks read plan)
+abbrev pub act_next : Facts → Bool → Plan → List Purpose
+act_next facts granted (Do (Read scan) rest) = []
+act_next facts granted plan = take 1 (act_owed facts granted plan)
 
 -- of each descriptor the first scan that it lacks, and the first that the next act lacks
 abbrev pub scans_next : Facts → Session → List Purpose
-scans_next facts s = elim (outcome_of s.left) [ Badly ↦ [] | other ↦ flat_map (λ o. take 1 (unusable facts (build_scans o.kind o.rel))) s.opened ++ act_next facts s.locks s.read s.left ]
+scans_next facts s = elim (outcome_of s.left) [ Badly ↦ [] | other ↦ flat_map (λ o. take 1 (unusable facts (build_scans o.kind o.rel))) s.opened ++ act_next facts s.granted s.left ]
 
 -- a scan may be made now
 abbrev pub is_next_scan : Purpose → Facts → Session → Bool

@@ -1,13 +1,20 @@
 -- What the laws of commands ask of a history.
 use Rattle.std.specs.Prelude.{List}
+use Rattle.std.specs.List.{AllByRecursion}
+use Rattle.base_types.specs.Commands.{IsCommand}
 use Rattle.history_model.specs.Orderly.{IsSound}
 use Rattle.history_model.specs.Prefixes.{EachEntry}
 use Rattle.cacheless.specs.Types.{Scenario, Entry}
 use Rattle.cacheless.specs.Plays.{Plays}
 use Rattle.cacheless.specs.TableWrites.{WritesTables}
 
--- a sound history in which the backends do what their commands say, and of which each write keeps tables
+-- the commands of a script have forms that lines may have
+abbrev pub AreSpelled : Scenario → Type 0
+AreSpelled scenario = AllByRecursion (λ p. IsCommand p.command) scenario.commands
+
+-- a sound history in which the backends do what the commands of a script say, and of which each write keeps tables
 pub record IsPlayed (scenario : Scenario) (history : List Entry) : Type 0 where
   pub sound : IsSound history
   pub plays : Plays scenario history
   pub tables : EachEntry WritesTables history
+  pub spelled : AreSpelled scenario

@@ -1,14 +1,13 @@
 -- Tests whether items of writes are equal.
-use Rattle.std.specs.Prelude.{ℕ, ⊤, Bool, true, false, List, [], ◌∷◌, ◌&&◌}
+use Rattle.std.specs.Prelude.{ℕ, Bool, true, false, List, [], ◌∷◌, ◌&&◌}
 use Rattle.base_types.specs.RowKeys.{same_key}
 use Rattle.base_types.specs.Scans.{same_oid}
-use Rattle.base_types.specs.declared.row.Row.TheVariants as rows
 use Rattle.event_kinds.specs.declared.entry.Item.TheVariants as items
 use Rattle.ddl_effect.specs.Drawing.{drawn_change}
 use Rattle.history_model.specs.Changes.{item_of}
 use Rattle.history_model.specs.Covered.{same_row}
 use Rattle.history_model.specs.Types.{Change}
-use Rattle.cacheless.specs.Types.{Oid, Row, Item}
+use Rattle.cacheless.specs.Types.{Oid, Item}
 
 -- two items are equal
 abbrev pub same_item : Item → Item → Bool

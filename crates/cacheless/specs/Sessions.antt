@@ -1,16 +1,14 @@
 -- The session of a backend: a fold over its entries.
-use Rattle.std.specs.Prelude.{ℕ, Bool, true, false, not, Option, Some, None, List, [], ◌∷◌, ◌++◌, ◌+◌, ◌-◌, ◌==◌, ◌&&◌, ◌||◌, if◌then◌else◌, map, length, take, drop}
-use Rattle.std.specs.Option.{option_map, option_map_or}
-use Rattle.base_types.specs.Scans.{same_scan}
-use Rattle.base_types.specs.declared.scan.Purpose.TheVariants as scans
+use Rattle.std.specs.Prelude.{ℕ, Bool, true, false, not, Option, Some, None, List, [], ◌∷◌, ◌++◌, ◌+◌, ◌-◌, ◌==◌, ◌&&◌, if◌then◌else◌, map, length, take, drop}
+use Rattle.std.specs.Option.{option_map}
 use Rattle.event_kinds.specs.declared.entry.Event.TheVariants as events
 use Rattle.command_answers.specs.declared.error.CommandError.TheVariants as errors
 use Rattle.lock_modes.specs.Own.{cleared}
-use Rattle.ddl_effect.specs.Plans.{Lookup, Search, Write, Plan, Done, Fails, Absent, Do, told_rests_on}
+use Rattle.ddl_effect.specs.Plans.{Write, Plan, Fails, Absent, Do}
 use Rattle.ddl_effect.specs.Commands.{commands_of}
 use Rattle.txn_blocks.specs.Blocks.{no_block}
 use Rattle.history_model.specs.Prefixes.{along_own}
-use Rattle.cacheless.specs.Types.{Purpose, Command, CommandError, Scenario, Entry, Event}
+use Rattle.cacheless.specs.Types.{Command, CommandError, Scenario, Entry, Event}
 use Rattle.cacheless.specs.Facts.{Facts, facts_of}
 use Rattle.cacheless.specs.Locks.{locks_by}
 use Rattle.cacheless.specs.Session.{Session, Tally, first_of, at_command}
@@ -21,21 +19,14 @@ use Rattle.cacheless.specs.Settled.{settled}
 abbrev pub refused_with : CommandError → Session → Session
 refused_with error s = record s { left = Fails error; refused = Some error }
 
--- the next act searches a catalog cache by this scan, or the answer rests on it
-abbrev pub is_wanted : Purpose → Plan → Bool
-is_wanted scan (Do (Lookup name mode) rest) = same_scan scan (scans.RelName name)
-is_wanted scan (Do (Search wanted) rest) = same_scan scan wanted
-is_wanted scan (Done told) = option_map_or (same_scan scan) (told_rests_on told) false
-is_wanted scan plan = false
-
 -- the write of the command is made, and its descriptors are closed
 abbrev pub written : Plan → Session → Session
-written (Do (Write draft) rest) s = record s { left = rest []; opened = []; read = false }
+written (Do (Write draft) rest) s = record s { left = rest []; opened = []; granted = false }
 written plan s = s
 
 -- a lookup that ended without a relation goes on
 abbrev pub resumed : Plan → Session → Session
-resumed (Absent name) s = record s { left = s.sought; read = true; found = take (length s.found - 1) s.found }
+resumed (Absent name) s = record s { left = s.sought; found = take (length s.found - 1) s.found }
 resumed plan s = s
 
 -- the tally after an event
@@ -49,7 +40,7 @@ tally_by event old = old
 
 -- what an event changes of the running command
 abbrev pub noted : Event → Session → Session
-noted (events.Scan scan rows) s = record s { read = is_wanted scan s.left || s.read }
+noted (events.LockOk rel mode) s = record s { granted = true }
 noted (events.LockHeld rel mode holder held) s = refused_with (errors.Locked rel holder held) s
 noted (events.ClashRow name rel) s = refused_with (errors.RelationExists name) s
 noted (events.ClashRunning name xid) s = refused_with (errors.NameInUse name xid) s

@@ -1,5 +1,5 @@
 -- Acts and commands that need no entry are passed over at once.
-use Rattle.std.specs.Prelude.{Bool, true, false, Option, Some, None, List, [], ◌∷◌, ◌++◌, ◌&&◌, is_none}
+use Rattle.std.specs.Prelude.{Bool, true, false, Option, Some, None, List, [], ◌∷◌, ◌++◌, ◌&&◌, take, is_none}
 use Rattle.base_types.specs.declared.row.Row.TheVariants as rows
 use Rattle.base_types.specs.declared.scan.Purpose.TheVariants as scans
 use Rattle.lock_modes.specs.Own.{has_lock}
@@ -22,10 +22,10 @@ abbrev pub if_locked : Bool → List Row → Option (List Row)
 if_locked true given = Some given
 if_locked false given = None
 
--- what a lookup gives: its rows, once the relation that they name is locked
+-- what a lookup gives: its first row, once the relation that it names is locked
 abbrev pub looked_up : List OwnLock → Mode → List Row → Option (List Row)
-looked_up locks mode (rows.Class oid name kind fill ∷ more) = if_locked (has_lock locks oid mode) (rows.Class oid name kind fill ∷ more)
-looked_up locks mode given = Some given
+looked_up locks mode (rows.Class oid name kind fill ∷ more) = if_locked (has_lock locks oid mode) (rows.Class oid name kind fill ∷ [])
+looked_up locks mode given = Some (take 1 given)
 
 -- what an act gives that is done here and leaves no entry
 abbrev pub gives : Facts → List OwnLock → Act → Option (List Row)
@@ -53,11 +53,11 @@ sought_by act s = s.sought
 
 -- the session after an act that gave these rows
 abbrev pub act_done : Act → List Row → Plan → Session → Session
-act_done act given rest s = record s { left = rest; opened = s.opened ++ opened_by act; read = false; found = s.found ++ found_by act given; sought = sought_by act s }
+act_done act given rest s = record s { left = rest; opened = s.opened ++ opened_by act; granted = false; found = s.found ++ found_by act given; sought = sought_by act s }
 
 -- what the next act gives, if no scan is owed and it needs no entry
 abbrev pub done_here : Facts → Session → Act → Plan → Option (List Row)
-done_here facts s act plan = elim (is_empty (builds_owed facts s.opened ++ act_owed facts s.locks s.read plan)) [ true ↦ gives facts s.locks act | false ↦ None ]
+done_here facts s act plan = elim (is_empty (builds_owed facts s.opened ++ act_owed facts s.granted plan)) [ true ↦ gives facts s.locks act | false ↦ None ]
 
 -- the session after the acts of a plan that need no entry
 abbrev pub acted_on : Facts → Plan → Session → Session

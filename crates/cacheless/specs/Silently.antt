@@ -1,5 +1,6 @@
 -- What a backend does without an entry, by what the code holds.
 use Rattle.std.specs.Prelude.{◌≡◌, ℕ, Bool, true, false, Option, Some, None, List, [], ◌∷◌, ◌&&◌, ◌||◌, ◌+◌, ◌-◌, ◌*◌, is_some, slice_get, length}
+use Rattle.std.specs.List.{cons_option}
 use Rattle.std.specs.Option.{option_map, option_map_or}
 use Rattle.lock_modes.specs.Own.{has_lock}
 use Rattle.ddl_effect.specs.Plans.{Plan, Act, Do, Lookup, Open, Search, Read, Lock, Write}
@@ -13,15 +14,15 @@ use Rattle.cacheless.specs.declared.silent.Silent.{Silent}
 use Rattle.cacheless.specs.declared.silent.Silent.TheVariants as silents
 use Rattle.cacheless.specs.Ends.{End, Ends}
 use Rattle.cacheless.specs.Settled.{if_locked, looked_up}
-use Rattle.cacheless.specs.State.{rows_kept, is_out, end_at}
+use Rattle.cacheless.specs.State.{rows_kept, row_sought, is_out, end_at}
 use Rattle.cacheless.specs.May.{has_failed, owes_nothing}
 use Rattle.cacheless.specs.Answering.{IsToldText}
 
 -- what an act gives that needs no entry
 abbrev pub gives_at : Progress → Act → Option (List Row)
-gives_at s (Lookup name mode) = looked_up s.locks.items mode s.given.items
+gives_at s (Lookup name mode) = looked_up s.locks.items mode (cons_option (row_sought s name) [])
 gives_at s (Open rel kind) = Some []
-gives_at s (Search scan) = Some s.given.items
+gives_at s (Search scan) = Some (rows_kept s.kept scan)
 gives_at s (Read scan) = Some (rows_kept s.kept scan)
 gives_at s (Lock rel mode) = if_locked (has_lock s.locks.items rel mode) []
 gives_at s (Write draft) = None
@@ -52,12 +53,17 @@ is_to_answer command s = is_out s && (has_failed s || owes_nothing command s)
 abbrev pub is_to_answer_at : Progress → Bool
 is_to_answer_at s = elim (slice_get s.commands s.finished) [ Some command ↦ is_to_answer command s | None ↦ false ]
 
--- the rows that are given to an act
-abbrev pub rows_for : Want → List Row → List KeptScan → List Row
-rows_for (wants.Read scan) given kept = rows_kept kept scan
-rows_for (wants.Open rel kind) given kept = []
-rows_for (wants.Lock rel mode) given kept = []
-rows_for want given kept = given
+-- the rows that are given to an act: the row that a lookup found, or those that are kept of its scan
+abbrev pub rows_for : Want → Option Row → List KeptScan → List Row
+rows_for (wants.Lookup name mode) row kept = cons_option row []
+rows_for (wants.Search scan) row kept = rows_kept kept scan
+rows_for (wants.Read scan) row kept = rows_kept kept scan
+rows_for want row kept = []
+
+-- the rows that the next act is given
+abbrev pub rows_given : Progress → Want → List Row
+rows_given s (wants.Lookup name mode) = cons_option (row_sought s name) []
+rows_given s want = rows_for want None s.kept
 
 -- the descriptor that an act opens
 abbrev pub opened_for : Want → List Opening

@@ -12,7 +12,7 @@ use Rattle.lock_modes.specs.Own.{cleared, new_lock}
 use Rattle.inval_messages.specs.Lists.{Written, has_write_from, unsent_after}
 use Rattle.inval_messages.specs.Messages.{is_spared}
 use Rattle.command_lists.specs.Lists.{all_lists, no_lists}
-use Rattle.ddl_effect.specs.Plans.{Plan, Done, Absent, Do, Lookup, Search, rests_on, told_rests_on}
+use Rattle.ddl_effect.specs.Plans.{Plan, Do, Lookup, left_rests_on}
 use Rattle.txn_blocks.specs.Blocks.{Block, Outside, Inside, Failed, Blocks, no_block, ends_block, refused_by, innermost, blocks_well, blocks_badly}
 use Rattle.ddl_effect.specs.Stages.{plan_at, plan_again}
 use Rattle.ddl_effect.specs.declared.exec.Exec.TheVariants as stages
@@ -23,7 +23,6 @@ pub use Rattle.cacheless.specs.OnCourse.{is_absent}
 use Rattle.txn_blocks.specs.Transactions.{begun_own}
 use Rattle.cacheless.specs.Types.{Oid, Message, Row, Purpose, Command, CommandError, Clash, Item, Entry, Event, Opening, OwnLock}
 use Rattle.cacheless.specs.Session.{Session, Finished, Tally, Badly, Well, Unsettled, outcome_of, is_settled, plan_first, refused_first}
-use Rattle.cacheless.specs.Locks.{is_locked}
 use Rattle.cacheless.specs.Owed.{Owes, OwesLook, OwesFetch}
 use Rattle.cacheless.specs.Ends.{End, Ends, Commits, TakesBack}
 use Rattle.cacheless.specs.declared.kept_scan.KeptScan.{KeptScan}
@@ -93,11 +92,6 @@ has_write_since from s = has_write_from from (lists_at s)
 abbrev pub is_kept : List KeptScan → Purpose → Bool
 is_kept kept scan = list_any (λ k. same_scan k.scan scan) kept
 
--- what is kept of a scan that gave these rows in the entry of this number: nothing, where a catalog cache is searched by it
-abbrev pub newly_kept : Bool → Purpose → List Row → ℕ → List KeptScan
-newly_kept true scan given at = []
-newly_kept false scan given at = record { scan = scan; rows = given; at = at } ∷ []
-
 -- the rows that are kept of a scan
 abbrev pub rows_kept : List KeptScan → Purpose → List Row
 rows_kept kept scan = option_map_or (λ k. k.rows) (find (λ k. same_scan k.scan scan) kept) []
@@ -110,19 +104,14 @@ place_kept kept scan = option_map_or (λ k. k.at) (find (λ k. same_scan k.scan 
 abbrev pub kept_spared : List Message → List KeptScan → List KeptScan
 kept_spared messages kept = filter (λ k. is_spared k.scan messages) kept
 
--- whether the scan of a catalog cache behind the next act or behind the answer is usable after messages
-abbrev pub named_spared : List Message → Plan → Bool → Bool
-named_spared messages (Do (Lookup name mode) rest) named = named && is_spared (scans.RelName name) messages
-named_spared messages (Do (Search scan) rest) named = named && is_spared scan messages
-named_spared messages (Done told) named = option_map_or (λ scan. named && is_spared scan messages) (told_rests_on told) named
-named_spared messages (Absent name) named = named && is_spared (scans.RelName name) messages
-named_spared messages plan named = named
+-- the row by which a lookup of the name goes on: once its lock is granted the one that it had found by then, else the first of those that are kept
+abbrev pub row_sought : Progress → List ℕ → Option Row
+row_sought s name = if s.granted then s.given else slice_get (rows_kept s.kept (scans.RelName name)) 0
 
--- the answer of a command that has come out rests on the scan of a catalog cache
-abbrev pub ends_on_scan : Plan → Bool
-ends_on_scan (Absent name) = true
-ends_on_scan (Done told) = is_some (told_rests_on told)
-ends_on_scan plan = false
+-- that of the next act, if it is a lookup
+abbrev pub row_next : Progress → Plan → Option Row
+row_next s (Do (Lookup name mode) rest) = row_sought s name
+row_next s plan = None
 
 -- those of these scans that aren't kept
 abbrev pub missing : List KeptScan → List Purpose → List Purpose
@@ -132,13 +121,10 @@ missing kept wanted = filter (λ scan. not (is_kept kept scan)) wanted
 abbrev pub builds_missing : List KeptScan → List Opening → List Purpose
 builds_missing kept opened = flat_map (λ o. missing kept (build_scans o.kind o.rel)) opened
 
--- the scans that the next act or the answer lacks: that of a catalog cache serves while nothing took it away, and a name's on while the relation is locked
+-- the scans that the next act or the answer lacks: a lookup isn't repeated once its lock is granted
 abbrev pub act_missing : Progress → Plan → List Purpose
-act_missing s (Do (Lookup name mode) rest) = if s.read && (s.named || is_locked s.locks.items mode s.given.items) then [] else scans.RelName name ∷ []
-act_missing s (Do (Search scan) rest) = if s.read && s.named then [] else scan ∷ []
-act_missing s (Do act rest) = missing s.kept (rests_on act)
-act_missing s (Done told) = option_map_or (λ scan. if s.named then [] else scan ∷ []) (told_rests_on told) []
-act_missing s plan = []
+act_missing s (Do (Lookup name mode) rest) = if s.granted then [] else missing s.kept (scans.RelName name ∷ [])
+act_missing s plan = missing s.kept (left_rests_on plan)
 
 -- the scans that come before the next act: none once the command has failed
 abbrev pub scans_missing : Progress → List Purpose
@@ -242,7 +228,7 @@ pub record IsLockedIn (locks : List OwnLock) (old new : Progress) : Type 0 where
 -- a search that found no relation is made anew, by the rows that its scan gave
 pub record SearchesAgain (old new : Progress) : Type 0 where
   pub plan : plan_at new.exec ≡ plan_again old.exec
-  pub is : new ≡ record old { exec = new.exec; read = old.read || is_absent (plan_at old.exec) }
+  pub is : new ≡ record old { exec = new.exec }
 
 -- a backend of this number with these commands, before it has started
 pub record IsNew (id : ℕ) (all : List Command) (s : Progress) : Type 0 where
@@ -257,7 +243,7 @@ pub record IsNew (id : ℕ) (all : List Command) (s : Progress) : Type 0 where
   pub blocks : s.blocks ≡ no_block
   pub running : s.running ≡ None
   pub lists : s.lists.lists ≡ no_lists
-  pub read : s.read ≡ false
+  pub granted : s.granted ≡ false
   pub opened : s.opened ≡ []
   pub locks : s.locks.items ≡ []
   pub kept : s.kept ≡ []
@@ -289,7 +275,7 @@ session_at s rest = record {
   refused = rest.refused;
   blocked = s.blocked;
   opened = s.opened;
-  read = s.read;
+  granted = s.granted;
   found = rest.found;
   sought = rest.sought;
   ended = s.ended;

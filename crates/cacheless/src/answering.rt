@@ -6,13 +6,13 @@ ghost use Rattle.command_answers.specs.declared.answer.Answer.TheVariants as ans
 ghost use Rattle.base_types.specs.Fields.{fields_of as all_fields};
 ghost use Rattle.cacheless.specs.Lines.{name_in, commit_answer};
 ghost use Rattle.cacheless.specs.Protected.{protects};
-ghost use Rattle.cacheless.specs.State.{rows_kept, place_kept};
+ghost use Rattle.cacheless.specs.State.{rows_kept as kept_rows, place_kept as kept_place};
 ghost use Rattle.cacheless.specs.Told.{told_field, told_well};
-ghost use Rattle.cacheless.specs.Answering.{rows_held, place_held};
 
+use crate::silent::rows_kept;
 use crate::{KeptScans, Progress};
 use base_types::{
-    Field, Kind, Listed, Name, NoMemory, Oid, Row, field_text, fields_of, read_by, writers,
+    Field, Kind, Listed, Name, NoMemory, Oid, Purpose, Row, field_text, fields_of, read_by, writers,
 };
 use command_answers::{Answer, Column, CommandError, Shown, answer_text};
 use ddl_effect::{Told, Want};
@@ -44,7 +44,7 @@ impl Progress {
             Want::Fails(error) => Ok(Answer::Error(error)),
             Want::Absent(name) => Ok(Answer::Error(CommandError::NoRelation {
                 name,
-                at: self.given_at,
+                at: place_kept(&self.kept, Purpose::RelName(name)),
             })),
             Want::Done(_) => match self.exec.told() {
                 Some(told) => self.told_by(alloc, told),
@@ -56,7 +56,7 @@ impl Progress {
 
     // What a command answers that came out well, by what it tells.
     fn told_by(&self, alloc: Global, told: &Told) -> Result<Answer, NoMemory>
-        ensures { IfOk result (λ answer. answer ≡ told_well (rows_held self.now) (place_held self.now) self.now.locks.items self.now.blocks.block told.now) }
+        ensures { IfOk result (λ answer. answer ≡ told_well (kept_rows self.now.kept) (kept_place self.now.kept) self.now.locks.items self.now.blocks.block told.now) }
     {
         match told {
             Told::Ok => Ok(Answer::Ok),
@@ -73,8 +73,8 @@ impl Progress {
             }),
             Told::Regclass(oid) => Ok(Answer::Regclass {
                 rel: *oid,
-                name: name_of(self.given.as_slice()),
-                at: self.given_at,
+                name: name_of(rows_kept(&self.kept, Purpose::RelOid(*oid))),
+                at: place_kept(&self.kept, Purpose::RelOid(*oid)),
             }),
             Told::Commit => Ok(self.told_commit()),
         }
@@ -109,6 +109,16 @@ fn name_of(rows: &[Row]) -> Option<Name>
     }
 }
 
+// The place of a scan that is kept.
+fn place_kept(kept: &KeptScans, scan: Purpose) -> u64
+    ensures { result ≡ kept_place kept.now scan }
+{
+    match kept.find(&scan) {
+        Some(k) => k.at,
+        None => 0,
+    }
+}
+
 // All fields of a relation.
 fn shown_all(
     alloc: Global,
@@ -117,7 +127,7 @@ fn shown_all(
     rel: Oid,
     kind: Kind,
 ) -> Result<Answer, NoMemory>
-    ensures { IfOk result (λ answer. answer ≡ answers.Shown kind rel (map (told_field (rows_kept kept.now) (place_kept kept.now) locks.now.items rel kind) (all_fields kind))) }
+    ensures { IfOk result (λ answer. answer ≡ answers.Shown kind rel (map (told_field (kept_rows kept.now) (kept_place kept.now) locks.now.items rel kind) (all_fields kind))) }
 {
     let mut fields = Listed::new(alloc);
     for field in fields_of(kind) {
@@ -135,7 +145,7 @@ fn shown_one(
     kind: Kind,
     field: Field,
 ) -> Result<Answer, NoMemory>
-    ensures { IfOk result (λ answer. answer ≡ answers.One (told_field (rows_kept kept.now) (place_kept kept.now) locks.now.items rel kind field)) }
+    ensures { IfOk result (λ answer. answer ≡ answers.One (told_field (kept_rows kept.now) (kept_place kept.now) locks.now.items rel kind field)) }
 {
     let shown = shown_field(alloc, kept, locks, rel, kind, field)?;
     Ok(Answer::One(shown))
@@ -150,7 +160,7 @@ fn shown_field(
     kind: Kind,
     field: Field,
 ) -> Result<Shown, NoMemory>
-    ensures { IfOk result (λ shown. shown ≡ told_field (rows_kept kept.now) (place_kept kept.now) locks.now.items rel kind field) }
+    ensures { IfOk result (λ shown. shown ≡ told_field (kept_rows kept.now) (kept_place kept.now) locks.now.items rel kind field) }
 {
     let scan = read_by(field, rel);
     let found = kept.find(&scan);

@@ -8,10 +8,8 @@ ghost use Rattle.event_kinds.specs.declared.entry.Entry.{Entry};
 ghost use Rattle.history_model.specs.Log.{fetched_by};
 ghost use Rattle.cacheless.specs.State.{due_looked, due_fetched, locks_accepted};
 
-use crate::execute::serves_still;
 use crate::{Due, KeptScans, Progress};
 use base_types::Command;
-use ddl_effect::Want;
 use event_kinds::Event;
 use inval_messages::Message;
 use lock_modes::OwnLocks;
@@ -22,17 +20,14 @@ use txn_blocks::RunningTransaction;
 const MOST_FETCHED: usize = 32;
 
 impl Progress {
-    ghost use Rattle.std.specs.Prelude.{List, ℕ, ◌||◌};
-    ghost use Rattle.ddl_effect.specs.Stages.{plan_at};
-    ghost use Rattle.ddl_effect.specs.declared.exec.Exec.{Exec};
-    ghost use Rattle.cacheless.specs.State.{kept_spared, is_absent as has_missed, is_in_accept, is_full as counts_full, one_if, SearchesAgain};
+    ghost use Rattle.std.specs.Prelude.{List, ℕ};
+    ghost use Rattle.cacheless.specs.State.{kept_spared, is_in_accept, is_full as counts_full, one_if, SearchesAgain};
     ghost use Rattle.cacheless.specs.May.{HasRoom};
     ghost use Rattle.cacheless.specs.Holds.{HasNotStarted, HasStarted, Rests, HasEntered};
 
     /// It has started (`SharedInvalBackendInit` in `src/backend/storage/ipc/sinvaladt.c`).
     pub fn enter_start(&mut self)
         ensures kept { self.new.kept ≡ self.old.kept }
-        ensures given_at { self.new.given_at ≡ self.old.given_at }
         ensures answer { self.new.answer ≡ self.old.answer }
         ensures holds { (scenario : Scenario) (seen : List Entry) → HasNotStarted scenario seen self.old → HasStarted scenario seen self.old self.new }
     {
@@ -44,7 +39,6 @@ impl Progress {
     pub fn enter_stop(&mut self)
         requires few { self.old.finished ≤ 20000 }
         ensures kept { self.new.kept ≡ self.old.kept }
-        ensures given_at { self.new.given_at ≡ self.old.given_at }
         ensures answer { self.new.answer ≡ self.old.answer }
         ensures holds { (scenario : Scenario) (seen : List Entry) → (rests : Rests scenario seen self.old) → HasEntered scenario seen self.old Event.Stop rests self.new }
     {
@@ -59,7 +53,6 @@ impl Progress {
         requires few { self.old.finished ≤ 20000 }
         requires room { HasRoom self.old }
         ensures kept { self.new.kept ≡ self.old.kept }
-        ensures given_at { self.new.given_at ≡ self.old.given_at }
         ensures answer { self.new.answer ≡ None }
         ensures holds { (scenario : Scenario) (seen : List Entry) → (rests : Rests scenario seen self.old) → HasEntered scenario seen self.old (Event.Look some_wait) rests self.new }
     {
@@ -77,13 +70,11 @@ impl Progress {
         requires few { self.old.finished ≤ 20000 }
         requires room { HasRoom self.old }
         ensures kept { self.new.kept ≡ kept_spared messages.now self.old.kept }
-        ensures given_at { self.new.given_at ≡ self.old.given_at }
         ensures answer { self.new.answer ≡ None }
         ensures holds { (scenario : Scenario) (seen : List Entry) → (rests : Rests scenario seen self.old) → messages.now ≡ fetched_by seen self.old.id (length messages.now) → HasEntered scenario seen self.old (Event.Fetch (length messages.now)) rests self.new }
     {
         self.running = Some(RunningTransaction::begun(self.finished + 1, self.running));
         self.kept.execute(messages);
-        self.named = serves_still(self.named, &self.exec, messages);
         self.due = after_fetch(messages.len());
         self.search_again();
         self.tally.fetches += 1;
@@ -100,13 +91,11 @@ impl Progress {
         requires few { self.old.finished ≤ 20000 }
         requires room { HasRoom self.old }
         ensures kept { self.new.kept ≡ [] }
-        ensures given_at { self.new.given_at ≡ self.old.given_at }
         ensures answer { self.new.answer ≡ None }
         ensures holds { (scenario : Scenario) (seen : List Entry) → (rests : Rests scenario seen self.old) → HasEntered scenario seen self.old Event.FetchReset rests self.new }
     {
         self.running = Some(RunningTransaction::begun(self.finished + 1, self.running));
         self.kept = KeptScans::new(alloc);
-        self.named = false;
         self.due = Due::Nothing;
         self.search_again();
         self.tally.fetches += 1;
@@ -115,19 +104,11 @@ impl Progress {
         self.answer = None;
     }
 
-    // Where a search found no relation it is made anew, by the rows that its scan gave.
+    // Where a lookup found no relation it is made anew.
     fn search_again(&mut self)
         ensures { SearchesAgain self.old self.new }
     {
-        self.read = self.read || self.is_absent();
         self.exec.search_again();
-    }
-
-    // Whether a search found no relation.
-    fn is_absent(&self) -> bool
-        ensures { result ≡ has_missed (plan_at self.now.exec) }
-    {
-        matches!(self.exec.next(), Want::Absent(_))
     }
 
     // 1 for a fetch of 32 messages after which no scan for a descriptor is owed: the look that it asks

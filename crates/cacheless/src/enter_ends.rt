@@ -7,7 +7,6 @@ ghost use Rattle.cacheless.specs.State.{lists_left};
 ghost use Rattle.command_lists.specs.Lists.{all_lists};
 
 use crate::enter::accept;
-use crate::execute::serves_still;
 use crate::{Due, Progress};
 use base_types::Xid;
 use command_lists::InvalLists;
@@ -25,7 +24,6 @@ impl Progress {
     pub fn enter_visible(&mut self, xid: Xid)
         requires few { self.old.finished ≤ 20000 }
         ensures kept { self.new.kept ≡ self.old.kept }
-        ensures given_at { self.new.given_at ≡ self.old.given_at }
         ensures answer { self.new.answer ≡ self.old.answer }
         ensures holds { (scenario : Scenario) (seen : List Entry) → (rests : Rests scenario seen self.old) → HasEntered scenario seen self.old (Event.Visible xid) rests self.new }
     {
@@ -45,7 +43,6 @@ impl Progress {
         requires few { self.old.finished ≤ 20000 }
         requires fits { published_at self.old + count < 2 ^ 64 }
         ensures kept { self.new.kept ≡ self.old.kept }
-        ensures given_at { self.new.given_at ≡ self.old.given_at }
         ensures answer { self.new.answer ≡ self.old.answer }
         ensures holds { (scenario : Scenario) (seen : List Entry) → (rests : Rests scenario seen self.old) → HasEntered scenario seen self.old (Event.Publish count) rests self.new }
     {
@@ -65,15 +62,12 @@ impl Progress {
     pub fn enter_gone(&mut self, from: u32)
         requires few { self.old.finished ≤ 20000 }
         ensures kept { self.new.kept ≡ kept_spared (rels_in (lists_from from (lists_at self.old))) (kept_spared (cats_in (lists_from from (lists_at self.old))) self.old.kept) }
-        ensures given_at { self.new.given_at ≡ self.old.given_at }
         ensures answer { self.new.answer ≡ self.old.answer }
         ensures holds { (scenario : Scenario) (seen : List Entry) → (rests : Rests scenario seen self.old) → HasEntered scenario seen self.old (Event.Gone from) rests self.new }
     {
         self.running = Some(RunningTransaction::begun(self.finished + 1, self.running));
         self.kept.execute(self.lists.cats_from(from));
         self.kept.execute(self.lists.rels_from(from));
-        self.named = serves_still(self.named, &self.exec, self.lists.cats_from(from));
-        self.named = serves_still(self.named, &self.exec, self.lists.rels_from(from));
         self.lists.abort_from(from);
         self.due = Due::Nothing;
         let accepting = self.is_in_acceptance();
@@ -86,7 +80,6 @@ impl Progress {
     pub fn enter_release(&mut self, from: u32)
         requires few { self.old.finished ≤ 20000 }
         ensures kept { self.new.kept ≡ self.old.kept }
-        ensures given_at { self.new.given_at ≡ self.old.given_at }
         ensures answer { self.new.answer ≡ self.old.answer }
         ensures holds { (scenario : Scenario) (seen : List Entry) → (rests : Rests scenario seen self.old) → HasEntered scenario seen self.old (Event.Release from) rests self.new }
     {

@@ -1,6 +1,6 @@
 // How a session changes with its locks, and with the error of a refused one.
 
-ghost use Rattle.std.specs.Prelude.{◌≡◌, ◌≤◌, ◌<◌, false, None, OnOk};
+ghost use Rattle.std.specs.Prelude.{◌≡◌, ◌≤◌, ◌<◌, true, false, None, OnOk};
 ghost use Rattle.base_types.specs.Scenario.{Scenario};
 ghost use Rattle.event_kinds.specs.declared.entry.Entry.{Entry};
 ghost use Rattle.lock_modes.specs.Own.{has_lock};
@@ -14,8 +14,9 @@ use txn_blocks::RunningTransaction;
 
 impl Progress {
     ghost use Rattle.std.specs.Prelude.{List};
+    ghost use Rattle.ddl_effect.specs.Stages.{plan_at};
     ghost use Rattle.cacheless.specs.State.{FailsWith, IsLockedIn};
-    ghost use Rattle.cacheless.specs.May.{HasRoom};
+    ghost use Rattle.cacheless.specs.May.{HasRoom, lacks_any, is_lock_at};
     ghost use Rattle.cacheless.specs.Holds.{Rests, HasEntered};
 
     /// Makes room for one more lock. Out of memory, nothing changes.
@@ -27,21 +28,24 @@ impl Progress {
         self.locks.reserve()
     }
 
-    /// It was granted a lock. Conditions: there is room for it, it doesn't hold it, and its counts are
-    /// small enough to be summed.
+    /// It was granted a lock. Conditions: its next act asks for it and lacks no scan, there is room for it, it
+    /// doesn't hold it, and its counts are small enough to be summed.
     pub fn enter_lock(&mut self, rel: Oid, mode: Mode)
         requires few { self.old.finished ≤ 20000 }
         requires room { HasRoom self.old }
+        requires next { is_lock_at self.old (plan_at self.old.exec) rel mode ≡ true }
+        requires whole { lacks_any self.old ≡ false }
         requires place { 0 < self.old.locks.room }
         requires new { has_lock self.old.locks.items rel mode ≡ false }
         ensures kept { self.new.kept ≡ self.old.kept }
-        ensures given_at { self.new.given_at ≡ self.old.given_at }
         ensures answer { self.new.answer ≡ None }
         ensures holds { (scenario : Scenario) (seen : List Entry) → (rests : Rests scenario seen self.old) → HasEntered scenario seen self.old (Event.LockOk rel mode) rests self.new }
     {
         self.running = Some(RunningTransaction::begun(self.finished + 1, self.running));
         self.due = Due::Look;
         self.tally.grants += 1;
+        self.given = self.row_next();
+        self.granted = true;
         self.locks.add(rel, mode, self.finished + 1);
         self.answer = None;
     }
@@ -51,7 +55,6 @@ impl Progress {
     pub fn enter_refused(&mut self, rel: Oid, mode: Mode, holder: u32, held: Mode)
         requires few { self.old.finished ≤ 20000 }
         ensures kept { self.new.kept ≡ self.old.kept }
-        ensures given_at { self.new.given_at ≡ self.old.given_at }
         ensures answer { self.new.answer ≡ None }
         ensures holds { (scenario : Scenario) (seen : List Entry) → (rests : Rests scenario seen self.old) → HasEntered scenario seen self.old (Event.LockHeld rel mode holder held) rests self.new }
     {

@@ -49,7 +49,6 @@ impl Progress {
         requires place { 0 < self.old.locks.room }
         requires new { 0 < new_oids → has_lock self.old.locks.items first AccessExclusive ≡ false }
         ensures kept { OnOk result (self.new.kept ≡ kept_spared messages.now self.old.kept) }
-        ensures given_at { OnOk result (self.new.given_at ≡ self.old.given_at) }
         ensures answer { OnOk result (self.new.answer ≡ None) }
         ensures holds { OnOk result ((scenario : Scenario) (seen : List Entry) (items : List Item) → (rests : Rests scenario seen self.old) → messages.now ≡ messages_in seen self.old.id items → flat_map (locked_by (self.old.finished + 1)) items ≡ locks_made new_oids first (self.old.finished + 1) → HasEntered scenario seen self.old (Event.Write xid items) rests self.new) }
     {
@@ -61,7 +60,7 @@ impl Progress {
         self.due = Due::Nothing;
         self.exec.give(alloc, &[])?;
         self.opened = Listed::new(alloc);
-        self.read = false;
+        self.granted = false;
         let accepting = self.is_in_acceptance();
         accept(&mut self.locks, accepting);
         self.answer = None;
@@ -72,7 +71,6 @@ impl Progress {
     pub fn enter_clash(&mut self, name: Name, clash: Clash)
         requires few { self.old.finished ≤ 20000 }
         ensures kept { self.new.kept ≡ self.old.kept }
-        ensures given_at { self.new.given_at ≡ self.old.given_at }
         ensures answer { self.new.answer ≡ None }
         ensures holds { (scenario : Scenario) (seen : List Entry) → (rests : Rests scenario seen self.old) → HasEntered scenario seen self.old (clash_event name clash) rests self.new }
     {

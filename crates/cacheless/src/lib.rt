@@ -55,6 +55,7 @@ mod opening;
 mod progress;
 mod scans;
 mod silent;
+mod starts;
 
 pub use ending::Ending;
 pub use execute::is_covered;

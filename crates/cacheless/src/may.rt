@@ -6,7 +6,7 @@ ghost use Rattle.base_types.specs.Modes.{same_mode as modes_match};
 ghost use Rattle.base_types.specs.Scans.{is_build_scan};
 ghost use Rattle.ddl_effect.specs.Stages.{plan_at, want_of};
 ghost use Rattle.txn_blocks.specs.Blocks.{ends_block as does_end_block};
-ghost use Rattle.cacheless.specs.May.{is_first_missing as is_first, names_relation as names};
+ghost use Rattle.cacheless.specs.May.{is_first_missing as is_first, is_missing as lacks, names_relation as names};
 
 use crate::draft_items::{gives_name, writes_items};
 use crate::scans::{first_lacking, first_missing, has_kept};
@@ -21,7 +21,6 @@ impl Progress {
     ghost use Rattle.event_kinds.specs.declared.entry.Entry.{Entry};
     ghost use Rattle.history_model.specs.Writes.{is_empty as none_in};
     ghost use Rattle.cacheless.specs.Facts.{facts_of};
-    ghost use Rattle.cacheless.specs.Locks.{is_locked};
     ghost use Rattle.cacheless.specs.Plays.{MayPlayIn};
     ghost use Rattle.cacheless.specs.State.{owed_at, owed_first, act_missing, scans_missing, lacks_builds, session_at};
     ghost use Rattle.cacheless.specs.Holds.{Holds};
@@ -165,12 +164,12 @@ impl Progress {
         ensures { result ≡ is_next_of_act scan.now self.now (plan_at self.now.exec) }
     {
         match want {
-            Want::Lookup { name, mode } => {
-                !(self.read && (self.named || self.is_found_locked(*mode)))
-                    && same_scan(scan, &Purpose::RelName(*name))
+            Want::Lookup { name, .. } => {
+                !self.granted && is_missing(scan, &self.kept, &Purpose::RelName(*name))
             }
-            Want::Search(wanted) => !(self.read && self.named) && same_scan(scan, wanted),
-            Want::Done(Some(wanted)) => !self.named && same_scan(scan, wanted),
+            Want::Search(wanted) | Want::Done(Some(wanted)) => {
+                is_missing(scan, &self.kept, wanted)
+            }
             Want::Open { rel, kind } => is_first_missing(scan, &self.kept, *kind, *rel),
             _ => false,
         }
@@ -188,8 +187,8 @@ impl Progress {
         ensures { result ≡ is_lock_at self.now (plan_at self.now.exec) rel mode }
     {
         match self.exec.next() {
-            Want::Lookup { mode: wanted, .. } => {
-                names_relation(rel, self.given.as_slice()) && same_mode(mode, wanted)
+            Want::Lookup { name, mode: wanted } => {
+                names_relation(rel, self.row_sought(name)) && same_mode(mode, wanted)
             }
             Want::Lock {
                 rel: other,
@@ -298,22 +297,13 @@ impl Progress {
         ensures { not result ≡ none_in (act_missing self.now (plan_at self.now.exec)) }
     {
         match want {
-            Want::Lookup { mode, .. } => !(self.read
-                && (self.named || self.is_found_locked(*mode))),
-            Want::Search(_) => !(self.read && self.named),
-            Want::Done(Some(_)) => !self.named,
-            Want::Open { rel, kind } => { first_missing(&self.kept, *kind, *rel).is_some() }
-            Want::Read(scan) => !has_kept(&self.kept, scan),
-            _ => false,
-        }
-    }
-
-    // Whether the relation that the lookup's rows name is locked in the mode.
-    fn is_found_locked(&self, mode: Mode) -> bool
-        ensures { result ≡ is_locked self.now.locks.items mode self.now.given.items }
-    {
-        match self.given.first() {
-            Some(Row::Class { oid, .. }) => self.locks.state(*oid, mode).is_some(),
+            Want::Lookup { name, .. } => {
+                !self.granted && !has_kept(&self.kept, &Purpose::RelName(*name))
+            }
+            Want::Search(scan) | Want::Read(scan) | Want::Done(Some(scan)) => {
+                !has_kept(&self.kept, scan)
+            }
+            Want::Open { rel, kind } => first_missing(&self.kept, *kind, *rel).is_some(),
             _ => false,
         }
     }
@@ -329,11 +319,18 @@ fn is_first_missing(scan: &Purpose, kept: &KeptScans, kind: Kind, rel: Oid) -> b
     }
 }
 
-// Whether the first row is that of the relation.
-fn names_relation(rel: Oid, given: &[Row]) -> bool
-    ensures { result ≡ names rel given.now }
+// Whether the scan is this one, and isn't kept.
+fn is_missing(scan: &Purpose, kept: &KeptScans, wanted: &Purpose) -> bool
+    ensures { result ≡ lacks scan.now kept.now wanted.now }
 {
-    match given.first() {
+    !has_kept(kept, wanted) && same_scan(scan, wanted)
+}
+
+// Whether there is a row, and it is that of the relation.
+fn names_relation(rel: Oid, given: Option<Row>) -> bool
+    ensures { result ≡ names rel given }
+{
+    match given {
         Some(Row::Class { oid, .. }) => rel.0 == oid.0,
         _ => false,
     }

@@ -72,16 +72,14 @@ pub struct Progress {
     pub blocks: TxnBlocks,
     pub running: Option<RunningTransaction>,
     pub lists: InvalLists,
-    // whether the scan of a catalog cache on which the next act rests is made, whether nothing has taken
-    // it away since, and what it gave, in the entry of this number
-    pub read: bool,
-    pub named: bool,
-    pub given: Vec<Row>,
-    pub given_at: u64,
+    // whether a lock was granted since the next act became next, and the row that a lookup had found by
+    // then: a message may have taken its scan away since
+    pub granted: bool,
+    pub given: Option<Row>,
     // the descriptors that it has opened
     pub opened: Listed<Opening>,
     pub locks: OwnLocks,
-    // the scans for descriptors that serve
+    // the scans that serve
     pub kept: KeptScans,
     // what the running command answers, where that is worked out
     pub answer: Option<LineText>,
@@ -108,10 +106,8 @@ impl Progress {
             blocks,
             running: None,
             lists: InvalLists::new(alloc),
-            read: false,
-            named: false,
-            given: Vec::new(alloc),
-            given_at: 0,
+            granted: false,
+            given: None,
             opened: Listed::new(alloc),
             locks: OwnLocks::new(alloc),
             kept: KeptScans::new(alloc),

@@ -5,7 +5,6 @@ ghost use Rattle.std.specs.List.{find};
 ghost use Rattle.base_types.specs.Scans.{build_scans};
 ghost use Rattle.cacheless.specs.State.{is_kept};
 
-use crate::kept_scans::relation_of;
 use crate::{KeptScan, KeptScans, Opening};
 use base_types::{Kind, Oid, Purpose, same_scan, table_scans};
 
@@ -47,7 +46,7 @@ fn first_of(kept: &[KeptScan], wanted: &[Purpose]) -> Option<Purpose>
 pub fn has_kept(kept: &KeptScans, scan: &Purpose) -> bool
     ensures { result ≡ is_kept kept.now scan.now }
 {
-    is_among(kept.of(relation_of(scan)), scan)
+    is_among(kept.like(scan), scan)
 }
 
 // Whether the scan is one of these.

@@ -8,7 +8,7 @@ ghost use Rattle.cacheless.specs.Silently.{rows_for as gives_rows};
 
 use crate::begun::begun;
 use crate::{Counts, KeptScans, Opening, Progress};
-use base_types::{Command, Kind, Listed, NoMemory, Oid, Purpose, Row};
+use base_types::{Command, Kind, Listed, Name, NoMemory, Oid, Purpose, Row};
 use ddl_effect::{Exec, Want};
 use event_kinds::Line;
 use std::alloc::Global;
@@ -28,7 +28,7 @@ impl Progress {
     ghost use Rattle.std.specs.Prelude.{List};
     ghost use Rattle.base_types.specs.Scenario.{Scenario};
     ghost use Rattle.event_kinds.specs.declared.entry.Entry.{Entry};
-    ghost use Rattle.cacheless.specs.State.{is_out as has_come_out, end_at};
+    ghost use Rattle.cacheless.specs.State.{is_out as has_come_out, row_sought as sought_row, row_next as next_row, end_at};
     ghost use Rattle.cacheless.specs.Silently.{opened_for, gives_next, acts_on, is_to_answer, is_to_answer_at, is_finished_at, Acts, Answers, Finishes, IsSilentOf, HasAnswered, IsLineOf, left_of};
     ghost use Rattle.cacheless.specs.Holds.{Holds, Rests, HasActed, HasPassed};
     ghost use Rattle.cacheless.specs.Answering.{PlacesFit};
@@ -43,7 +43,6 @@ impl Progress {
         ensures answered { OnOk result (is_to_answer_at self.new ≡ true → is_some self.new.answer ≡ true) }
         ensures goes_on { OnOk result ((scenario : Scenario) (seen : List Entry) (held : Holds scenario seen self.old) → TellsNow scenario seen self.old held → PlacesFit seen self.old → HasGoneOn scenario seen self.old held lines.old self.new lines.new) }
         ensures kept { OnOk result (self.new.kept ≡ self.old.kept) }
-        ensures given_at { OnOk result (self.new.given_at ≡ self.old.given_at) }
         ensures same { OnOk result (self.new.commands ≡ self.old.commands) }
     {
         'settling: loop {
@@ -88,13 +87,37 @@ impl Progress {
         ensures { result ≡ gives_next self.now (plan_at self.now.exec) }
     {
         match self.exec.next() {
-            Want::Lookup { mode, .. } => match self.given.first() {
-                Some(Row::Class { oid, .. }) => self.locks.state(*oid, mode).is_some(),
+            Want::Lookup { name, mode } => match self.row_sought(name) {
+                Some(Row::Class { oid, .. }) => self.locks.state(oid, mode).is_some(),
                 _ => true,
             },
             Want::Lock { rel, mode } => self.locks.state(rel, mode).is_some(),
             Want::Open { .. } | Want::Search(_) | Want::Read(_) => true,
             _ => false,
+        }
+    }
+
+    /// The row by which a lookup of the name goes on: once its lock is granted the one that it had found by
+    /// then, else the first of those that are kept.
+    pub fn row_sought(&self, name: Name) -> Option<Row>
+        ensures { result ≡ sought_row self.now name }
+    {
+        if self.granted {
+            self.given
+        } else {
+            rows_kept(&self.kept, Purpose::RelName(name))
+                .first()
+                .copied()
+        }
+    }
+
+    // That of its next act, if it is a lookup.
+    pub(crate) fn row_next(&self) -> Option<Row>
+        ensures { result ≡ next_row self.now (plan_at self.now.exec) }
+    {
+        match self.exec.next() {
+            Want::Lookup { name, .. } => self.row_sought(name),
+            _ => None,
         }
     }
 
@@ -128,7 +151,6 @@ impl Progress {
         requires acts { Acts self.old }
         ensures acts { OnOk result ((scenario : Scenario) (seen : List Entry) (held : Holds scenario seen self.old) → HasActed scenario seen self.old held self.new) }
         ensures kept { OnOk result (self.new.kept ≡ self.old.kept) }
-        ensures given_at { OnOk result (self.new.given_at ≡ self.old.given_at) }
         ensures answer { OnOk result (self.new.answer ≡ self.old.answer) }
         ensures less { OnOk result (left_of self.new < left_of self.old) }
         ensures same { OnOk result (self.new.commands ≡ self.old.commands) }
@@ -145,14 +167,13 @@ impl Progress {
         requires opens { want_of (plan_at self.old.exec) ≡ Want.Open rel kind }
         ensures acts { OnOk result ((scenario : Scenario) (seen : List Entry) (held : Holds scenario seen self.old) → HasActed scenario seen self.old held self.new) }
         ensures kept { OnOk result (self.new.kept ≡ self.old.kept) }
-        ensures given_at { OnOk result (self.new.given_at ≡ self.old.given_at) }
         ensures answer { OnOk result (self.new.answer ≡ self.old.answer) }
         ensures less { OnOk result (left_of self.new < left_of self.old) }
         ensures same { OnOk result (self.new.commands ≡ self.old.commands) }
     {
         self.opened.push(Opening { rel, kind })?;
         self.exec.give(alloc, &[])?;
-        self.read = false;
+        self.granted = false;
         Ok(())
     }
 
@@ -162,15 +183,14 @@ impl Progress {
         requires other { opened_for (want_of (plan_at self.old.exec)) ≡ [] }
         ensures acts { OnOk result ((scenario : Scenario) (seen : List Entry) (held : Holds scenario seen self.old) → HasActed scenario seen self.old held self.new) }
         ensures kept { OnOk result (self.new.kept ≡ self.old.kept) }
-        ensures given_at { OnOk result (self.new.given_at ≡ self.old.given_at) }
         ensures answer { OnOk result (self.new.answer ≡ self.old.answer) }
         ensures less { OnOk result (left_of self.new < left_of self.old) }
         ensures same { OnOk result (self.new.commands ≡ self.old.commands) }
     {
         let want = self.exec.next();
-        self.exec
-            .give(alloc, rows_for(&want, self.given.as_slice(), &self.kept))?;
-        self.read = false;
+        let row = self.row_next();
+        self.exec.give(alloc, rows_for(&want, &row, &self.kept))?;
+        self.granted = false;
         Ok(())
     }
 
@@ -194,7 +214,6 @@ impl Progress {
         requires finishes { Finishes self.old }
         ensures passes { OnOk result ((scenario : Scenario) (seen : List Entry) (held : Holds scenario seen self.old) → HasPassed scenario seen self.old held self.new) }
         ensures kept { OnOk result (self.new.kept ≡ self.old.kept) }
-        ensures given_at { OnOk result (self.new.given_at ≡ self.old.given_at) }
         ensures answer { OnOk result (self.new.answer ≡ None) }
         ensures line { IfOk result (λ line. IsLineOf self.old line) }
         ensures less { OnOk result (left_of self.new < left_of self.old) }
@@ -214,7 +233,7 @@ impl Progress {
         self.blocked = next.blocked;
         self.ended = false;
         self.tally = Counts::none();
-        self.read = false;
+        self.granted = false;
         self.opened = Listed::new(alloc);
         Ok(Line {
             backend: self.id,
@@ -234,14 +253,17 @@ fn pass(blocks: &mut TxnBlocks, exec: &Exec, number: u32, command: &Command)
     }
 }
 
-// The rows that are given to an act.
-fn rows_for<'a>(want: &Want, given: &'a [Row], kept: &'a KeptScans) -> &'a [Row]
-    ensures { result.now ≡ gives_rows want.now given.now kept.now }
+// The rows that are given to an act: the row that a lookup found, or those that are kept of its scan.
+fn rows_for<'a>(want: &Want, row: &'a Option<Row>, kept: &'a KeptScans) -> &'a [Row]
+    ensures { result.now ≡ gives_rows want.now row.now kept.now }
 {
     match want {
-        Want::Read(scan) => rows_kept(kept, *scan),
-        Want::Open { .. } | Want::Lock { .. } => &[],
-        _ => given,
+        Want::Lookup { .. } => match row {
+            Some(row) => std::slice::from_ref(row),
+            None => &[],
+        },
+        Want::Search(scan) | Want::Read(scan) => rows_kept(kept, *scan),
+        _ => &[],
     }
 }
 

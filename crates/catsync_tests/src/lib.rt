@@ -17,6 +17,8 @@ mod answers;
 #[cfg(test)]
 mod calls;
 #[cfg(test)]
+mod cat_caches;
+#[cfg(test)]
 mod commands;
 #[cfg(test)]
 mod descriptors;

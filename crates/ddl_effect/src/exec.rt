@@ -57,6 +57,9 @@ impl Exec {
                 | Command::Commit
                 | Command::Rollback
                 | Command::Show { .. }
+                | Command::Columns(_)
+                | Command::Column { .. }
+                | Command::Regclass(_)
                 | Command::LockTable { .. }
                 | Command::CreateTable { .. }
                 | Command::AddColumn { .. }
@@ -85,6 +88,12 @@ impl Exec {
                 name: *name,
                 field: *field,
             })),
+            Command::Columns(name) => Ok(Exec::Finding(Finding::Columns { name: *name })),
+            Command::Column { name, column } => Ok(Exec::Finding(Finding::Column {
+                name: *name,
+                column: *column,
+            })),
+            Command::Regclass(oid) => Ok(Exec::FindingOid(*oid)),
             Command::LockTable { name, mode } => Ok(Exec::Finding(Finding::LockTable {
                 name: *name,
                 mode: *mode,

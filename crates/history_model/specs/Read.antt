@@ -1,6 +1,6 @@
 -- Which scans a backend has made, and which of them it may still rely on.
 use Rattle.std.specs.Prelude.{ℕ, Bool, true, false, Option, Some, None, List, [], ◌≡◌, ◌+◌, ◌&&◌, ◌||◌, length, unwrap_or, ⊤}
-use Rattle.base_types.specs.Scans.{same_scan, is_build_scan}
+use Rattle.base_types.specs.Scans.{same_scan}
 use Rattle.inval_messages.specs.Messages.{is_spared}
 use Rattle.inval_messages.specs.Lists.{lists_from, sent_in}
 use Rattle.history_model.specs.Types.{Row, Purpose, Entry, Event, Scan, Fetch, FetchReset, Write, Gone, Fail}
@@ -47,11 +47,11 @@ usable_by before b command purpose event old = is_scan_of purpose event || (spar
 abbrev pub is_usable : List Entry → ℕ → Purpose → Bool
 is_usable history b purpose = along_own b (λ before old e. usable_by before b e.command purpose e.event old) false history
 
--- a scan for a descriptor is made only where nothing read before still serves
+-- a scan is made only where nothing read before still serves
 abbrev pub ScansOnlyIfNeeded : List Entry → ℕ → Event → Type 0
-ScansOnlyIfNeeded before b (Scan purpose rows) = is_build_scan purpose ≡ true → is_usable before b purpose ≡ false
+ScansOnlyIfNeeded before b (Scan purpose rows) = is_usable before b purpose ≡ false
 ScansOnlyIfNeeded before b event = ⊤
 
--- nobody scans again for a descriptor what it may still rely on
+-- nobody scans again what it may still rely on
 abbrev pub IsEconomical : List Entry → Type 0
 IsEconomical history = EachEntry (λ before e. ScansOnlyIfNeeded before e.backend e.event) history

@@ -34,6 +34,12 @@ fn copied(alloc: Global, command: &Command) -> Option<Command> {
             name: *name,
             field: *field,
         }),
+        Command::Columns(name) => Some(Command::Columns(*name)),
+        Command::Column { name, column } => Some(Command::Column {
+            name: *name,
+            column: *column,
+        }),
+        Command::Regclass(oid) => Some(Command::Regclass(*oid)),
         Command::LockTable { name, mode } => Some(Command::LockTable {
             name: *name,
             mode: *mode,

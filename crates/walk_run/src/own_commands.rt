@@ -59,6 +59,12 @@ fn copied(alloc: Global, command: &Command) -> Result<Command, NoMemory>
             name: *name,
             field: *field,
         },
+        Command::Columns(name) => Command::Columns(*name),
+        Command::Column { name, column } => Command::Column {
+            name: *name,
+            column: *column,
+        },
+        Command::Regclass(oid) => Command::Regclass(*oid),
         Command::LockTable { name, mode } => Command::LockTable {
             name: *name,
             mode: *mode,

@@ -3,27 +3,30 @@ use Rattle.std.proofs.Common.{◌≡◌, ◌∙◌, ℕ, Bool, true, false, not,
 use Rattle.std.specs.List.{find, list_any}
 use Rattle.std.specs.Option.{option_map_or}
 use Rattle.std.proofs.Math.Bool.{or-true}
-use Rattle.std.proofs.lemmas.Bool.{both_ways}
-use Rattle.base_types.specs.Scans.{same_scan, is_build_scan, build_scans}
+use Rattle.std.proofs.lemmas.Bool.{both_ways, eq-eqb}
+use Rattle.base_types.specs.Scans.{same_oid, same_scan, is_build_scan, build_scans}
+use Rattle.base_types.specs.Modes.{mode_number, same_mode}
+use Rattle.base_types.specs.declared.row.Row.TheVariants as rows
 use Rattle.base_types.specs.declared.scan.Purpose.TheVariants as scans
 use Rattle.base_types.proofs.SameScan.{same_scan-itself}
+use Rattle.lock_modes.specs.Own.{has_lock}
 use Rattle.ddl_effect.specs.Plans.{Plan, Act, Done, Fails, Absent, NotBuilt, Do, Lookup, Open, Search, Read, Lock, Write}
 use Rattle.ddl_effect.specs.Stages.{plan_at, want_of_act, want_of}
 use Rattle.ddl_effect.specs.declared.want.Want.{Want}
 use Rattle.ddl_effect.specs.declared.want.Want.TheVariants as wants
 use Rattle.history_model.specs.Writes.{is_empty}
-use Rattle.cacheless.specs.Locks.{is_locked}
-use Rattle.cacheless.specs.May.{has_failed, is_first_missing, is_next_of_act, is_next_at, lacks_opened, lacks_any, owes_nothing}
+use Rattle.cacheless.specs.May.{has_failed, names_relation, is_lock_at, is_first_missing, is_next_of_act, is_next_at, lacks_opened, lacks_any, owes_nothing}
 use Rattle.cacheless.specs.OpenedReads.{ReadsOpened}
 use Rattle.cacheless.specs.Session.{Badly, outcome_of}
 use Rattle.cacheless.specs.Silently.{gives_at, gives_next, IsAtRest}
-use Rattle.cacheless.specs.State.{is_kept, builds_missing, act_missing}
+use Rattle.cacheless.specs.State.{is_kept, row_sought, missing, builds_missing, act_missing}
 use Rattle.cacheless.proofs.ReadsBuilds.{ReadsBuilds, stage_reads}
 use Rattle.cacheless.proofs.Same.{lacks_opened_is}
 use Rattle.cacheless.proofs.Plans.SilentActs.{empty_list}
 use Rattle.cacheless.proofs.Tests.{both_true}
-use Rattle.backend_core.specs.Types.{Oid, Mode, Kind, Row, Purpose, Command, Progress}
-use Rattle.backend_core.specs.Steps.{IsFree, IsScanNext}
+use Rattle.backend_core.specs.Types.{Oid, Mode, Kind, Row, Purpose, Command, OwnLock, Progress}
+use Rattle.backend_core.specs.Steps.{IsFree, IsScanNext, IsLockNext}
+use Rattle.backend_core.specs.Words.{unlocked_of}
 use Rattle.cacheless.proofs.Answers.KeptReads.{kept_opened}
 use Rattle.backend_core.proofs.Choosing.Nexting.{out_owes, none_built, find_all, each_builds}
 
@@ -75,44 +78,67 @@ found_lacks f (x ∷ xs) = by_test (f x) (found_lacks f xs)
     by_test true more = refl
     by_test false more = more
 
-one_lacks : (t : Bool) (scan : Purpose) → not (is_empty (if t then [] else scan ∷ [])) ≡ not t
+one_lacks : (t : Bool) (scan : Purpose) → not (is_empty (cond (not t) (scan ∷ []) [])) ≡ not t
 one_lacks true scan = refl
 one_lacks false scan = refl
+
+-- the relation that isn't locked is that of the row
+unlocked_named : (locks : List OwnLock) (mode : Mode) (o : Option Row) (rel : Oid) → unlocked_of locks mode o ≡ Some rel → names_relation rel o ≡ true
+unlocked_named locks mode (Some (rows.Class oid name kind fill)) rel found = by_lock (has_lock locks oid mode) found
+  where
+    by_lock : (t : Bool) → elim t as (λ x. Option Oid) [ true ↦ None | false ↦ Some oid ] ≡ Some rel → same_oid rel oid ≡ true
+    by_lock true none = absurd (cc none)
+    by_lock false same = let one : oid ≡ rel = cc same in eq-eqb rel.0 oid.0 (ap (λ o. o.0) (sym one))
+unlocked_named locks mode o rel found = absurd (cc found)
 
 module _ (p : Progress) (command : Command) (still : IsAtRest p) (free : IsFree p command) (whole : lacks_opened p.kept p.opened ≡ false) where
   -- the scan of a name
   pub lookup_next : (name : List ℕ) (mode : Mode) → want_of (plan_at p.exec) ≡ wants.Lookup name mode → owes_nothing command p ≡ false → IsScanNext p (scans.RelName name) false
-  lookup_next name mode want owes = by_made made refl
+  lookup_next name mode want owes = by_tests p.granted (is_kept p.kept (scans.RelName name)) refl refl
     where
-      made : Bool
-      made = p.read && (p.named || is_locked p.locks.items mode p.given.items)
-
       act : Wants (plan_at p.exec) (Lookup name mode)
       act = plan_wanted (plan_at p.exec) (Lookup name mode) (ap wanted_act want)
 
-      lacks : (t : Bool) → made ≡ t → lacks_any p ≡ not t
-      lacks t is = lacks_is p (Lookup name mode) act whole ∙ ap (λ x. not (is_empty (if x then [] else scans.RelName name ∷ []))) is ∙ one_lacks t (scans.RelName name)
+      lacks : (t : Bool) → p.granted ≡ t → lacks_any p ≡ not (is_empty (if t then [] else missing p.kept (scans.RelName name ∷ [])))
+      lacks t is = lacks_is p (Lookup name mode) act whole ∙ ap (λ x. not (is_empty (if x then [] else missing p.kept (scans.RelName name ∷ [])))) is
 
-      by_made : (t : Bool) → made ≡ t → IsScanNext p (scans.RelName name) false
-      by_made true is = absurd (both_ways _ owes (out_owes p command free (lacks true is)))
-      by_made false is = record { command = command; free = free; lacks = lacks false is; next = next_is p (Lookup name mode) act (scans.RelName name) (ap (λ t. not t && same_scan (scans.RelName name) (scans.RelName name)) is ∙ same_scan-itself (scans.RelName name)); first = λ other. none_built p.kept p.opened (scans.RelName name) other whole; kind = refl }
+      by_tests : (t kept : Bool) → p.granted ≡ t → is_kept p.kept (scans.RelName name) ≡ kept → IsScanNext p (scans.RelName name) false
+      by_tests true kept is has = absurd (both_ways _ owes (out_owes p command free (lacks true is)))
+      by_tests false true is has = absurd (both_ways _ owes (out_owes p command free (lacks false is ∙ one_lacks (is_kept p.kept (scans.RelName name)) (scans.RelName name) ∙ ap not has)))
+      by_tests false false is has = record {
+        command = command;
+        free = free;
+        lacks = lacks false is ∙ one_lacks (is_kept p.kept (scans.RelName name)) (scans.RelName name) ∙ ap not has;
+        next = next_is p (Lookup name mode) act (scans.RelName name) ((λ i. not (is i) && (not (has i) && same_scan (scans.RelName name) (scans.RelName name))) ∙ same_scan-itself (scans.RelName name));
+        first = λ other. none_built p.kept p.opened (scans.RelName name) other whole;
+        kind = refl;
+      }
+
+  -- the lock of the relation that it names
+  pub lock_next : (name : List ℕ) (mode : Mode) (rel : Oid) → want_of (plan_at p.exec) ≡ wants.Lookup name mode → owes_nothing command p ≡ true → unlocked_of p.locks.items mode (row_sought p name) ≡ Some rel → IsLockNext p rel mode
+  lock_next name mode rel want owes found = record {
+    command = command;
+    free = free;
+    may = both_true (owes_nothing command p) (is_lock_at p (plan_at p.exec) rel mode) owes (ap (λ q. is_lock_at p q rel mode) act.is
+        ∙ both_true (names_relation rel (row_sought p name)) (same_mode mode mode) (unlocked_named p.locks.items mode (row_sought p name) rel found) (eq-eqb (mode_number mode) (mode_number mode) refl));
+  }
+    where
+      act : Wants (plan_at p.exec) (Lookup name mode)
+      act = plan_wanted (plan_at p.exec) (Lookup name mode) (ap wanted_act want)
 
   -- the scan of a catalog cache
   pub search_next : (scan : Purpose) → want_of (plan_at p.exec) ≡ wants.Search scan → IsScanNext p scan false
-  search_next scan want = by_made made refl
+  search_next scan want = by_kept (is_kept p.kept scan) refl
     where
-      made : Bool
-      made = p.read && p.named
-
       act : Wants (plan_at p.exec) (Search scan)
       act = plan_wanted (plan_at p.exec) (Search scan) (ap wanted_act want)
 
-      lacks : (t : Bool) → made ≡ t → lacks_any p ≡ not t
-      lacks t is = lacks_is p (Search scan) act whole ∙ ap (λ x. not (is_empty (if x then [] else scan ∷ []))) is ∙ one_lacks t scan
+      lacks : (t : Bool) → is_kept p.kept scan ≡ t → lacks_any p ≡ not t
+      lacks t is = lacks_is p (Search scan) act whole ∙ one_lacks (is_kept p.kept scan) scan ∙ ap not is
 
-      by_made : (t : Bool) → made ≡ t → IsScanNext p scan false
-      by_made true is = absurd (not_at_rest p command (Search scan) still free act (out_owes p command free (lacks true is)) refl)
-      by_made false is = record {
+      by_kept : (t : Bool) → is_kept p.kept scan ≡ t → IsScanNext p scan false
+      by_kept true is = absurd (not_at_rest p command (Search scan) still free act (out_owes p command free (lacks true is)) refl)
+      by_kept false is = record {
         command = command;
         free = free;
         lacks = lacks false is;

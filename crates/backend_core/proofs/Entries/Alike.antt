@@ -7,15 +7,15 @@ use Rattle.ddl_effect.specs.Stages.{plan_at, plan_again}
 use Rattle.ddl_effect.specs.declared.exec.Exec.TheVariants as stages
 use Rattle.history_model.specs.Writes.{is_empty}
 use Rattle.cacheless.specs.Facts.{facts_of}
-use Rattle.cacheless.specs.Holds.{NamedFit, Holds}
+use Rattle.cacheless.specs.Holds.{GivenFits, Holds}
 use Rattle.cacheless.specs.May.{lacks_opened, owes_nothing}
 use Rattle.cacheless.specs.Puts.{PutsOpened}
 use Rattle.cacheless.specs.Session.{Badly, outcome_of, is_settled}
 use Rattle.cacheless.specs.Settled.{settled}
 use Rattle.cacheless.specs.Silently.{IsAtRest, is_to_answer_at}
-use Rattle.cacheless.specs.State.{ends_on_scan, owed_at, owed_first, act_missing, is_absent, IsLockedIn, Rest, session_at}
+use Rattle.cacheless.specs.State.{owed_at, owed_first, act_missing, is_absent, IsLockedIn, Rest, session_at}
 use Rattle.backend_core.specs.Types.{Oid, Mode, Command, Draft, Exec, OwnLock, Scenario, Entry, Progress, Backend}
-use Rattle.backend_core.specs.Agrees.{command_at, PlaceFits, AwaitsEntry}
+use Rattle.backend_core.specs.Agrees.{command_at, AwaitsEntry}
 use Rattle.backend_core.specs.Fits.{Fits}
 use Rattle.backend_core.specs.Steps.{MakesEntry, Enters, IsLockNext, IsWriteNext}
 
@@ -41,7 +41,7 @@ module _ (scenario : Scenario) (seen : List Entry) (s : Backend) (exec : Exec) (
       owed = h.facts.owed;
       usable = h.facts.usable;
       kept = h.facts.kept;
-      given = subst (λ p. (s.progress.read || ends_on_scan p) ≡ true → NamedFit (facts_of seen s.progress.id) p s.progress.given.items s.progress.named) (sym plan) h.facts.given;
+      given = subst (λ p. s.progress.granted ≡ true → GivenFits (facts_of seen s.progress.id) p s.progress.given) (sym plan) h.facts.given;
     };
     counts = h.counts;
     order = h.order;
@@ -55,7 +55,7 @@ module _ (scenario : Scenario) (seen : List Entry) (s : Backend) (exec : Exec) (
       alive = k.alive;
       life = record { last = k.life.last; alive = k.life.alive; most = k.life.most };
       built = k.built;
-      places = record { kept = k.places.kept; given_at = subst (λ p. PlaceFits seen s.progress.id p s.progress.read s.progress.given_at) (sym plan) k.places.given_at };
+      places = record { kept = k.places.kept; absent = λ name missed whole. k.places.absent name (sym plan ∙ missed) (record { untaken = whole.untaken; going = whole.going }) };
     };
     rests = record { holds = holds_same waits.rests.holds; still = still };
     fits = subst (λ x. Fits (facts_of seen s.progress.id) (command_at s) x s.looked s.looked_to_build) (sym (session_same waits.rests.holds.rest)) waits.fits;

@@ -28,6 +28,7 @@ use Rattle.backend_core.specs.Steps.{EndsNext, Enters}
 use Rattle.backend_core.proofs.Entries.EndEntries.{end_plays, end_now, end_call, end_enters}
 use Rattle.backend_core.proofs.Choosing.EndsNow.{end_by, is_end, EndsBy, IsCommit, ShowsNow, PublishesNow, comes_now, back_end}
 use Rattle.backend_core.proofs.Fitting.FitsEnds.{later_at, GoesOn, fits_ending, commits_on, write_from_first, goes_first, begun_xid, written_runs}
+use Rattle.backend_core.proofs.Fitting.Entered.{absent_still}
 use Rattle.backend_core.proofs.Own.{waiting}
 
 -- the Xid of a transaction that has written
@@ -40,11 +41,14 @@ xid_own (Some t) xid some is = by_xid t.xid some is
     by_xid (Some x) there at = eq-eqb x xid (sym at)
 
 -- where a commit comes next nothing was taken back
+untaken : (facts : Facts) (o : Option Command) (s : Session) (looked to_build : Bool) → Fits facts o s looked to_build → IsCommit facts (end_by facts o s) → (from : ℕ) → facts.last ≡ Some (events.Gone from) → ⊥
+untaken facts o s looked to_build fits commit from is = let no : TakesBack from ≡ Commits commit.first = sym (back_end facts o s looked to_build from fits is) ∙ commit.is in cc no
+
 none_gone : (facts : Facts) (o : Option Command) (s : Session) (looked to_build : Bool) (event : Event) → Fits facts o s looked to_build → IsCommit facts (end_by facts o s) → FollowsGone facts.last event
 none_gone facts o s looked to_build event fits commit = by_last facts.last refl
   where
     by_last : (last : Option Event) → facts.last ≡ last → FollowsGone last event
-    by_last (Some (events.Gone from)) is = absurd (let no : TakesBack from ≡ Commits commit.first = sym (back_end facts o s looked to_build from fits is) ∙ commit.is in cc no)
+    by_last (Some (events.Gone from)) is = absurd (untaken facts o s looked to_build fits commit from is)
     by_last last is = tt
 
 module _ (facts : Facts) (o : Option Command) (s : Session) (looked to_build : Bool) (next : ℕ) (event : Event) (ends : ends_command event ≡ true) (fits : Fits facts o s looked to_build) (plays : MayPlayIn next facts o s event) (commit : IsCommit facts (end_by facts o s)) where
@@ -141,9 +145,10 @@ module _ (scenario : Scenario) (old : List Entry) (was : Backend) (event : Event
 
 -- the state after its visibility step
 pub commit_enters : (scenario : Scenario) (old new : List Entry) (had has : ℕ → ℕ) (was : Backend) (xid : Xid) (p : Progress) (waits : AwaitsEntry scenario old was) → IsPlayed scenario old → AllOnCourse scenario old → EndsNext was.progress (events.Visible xid)
-    → HasEntered scenario old was.progress (events.Visible xid) waits.rests p → p.kept ≡ was.progress.kept → p.given_at ≡ was.progress.given_at → p.answer ≡ was.progress.answer → Appends old new had has (entry_of was.progress.id (was.progress.finished + 1) (events.Visible xid)) → Enters scenario old new had has was (record was { progress = p })
-commit_enters scenario old new had has was xid p waits played courses next goes kept given_at same appends =
-    end_enters scenario old new had has was event p waits refl played courses next goes (subst (All (KeptAt old was.progress.id)) (sym kept) waits.keeps.places.kept) given_at same
+    → HasEntered scenario old was.progress (events.Visible xid) waits.rests p → p.kept ≡ was.progress.kept → p.answer ≡ was.progress.answer → Appends old new had has (entry_of was.progress.id (was.progress.finished + 1) (events.Visible xid)) → Enters scenario old new had has was (record was { progress = p })
+commit_enters scenario old new had has was xid p waits played courses next goes kept same appends =
+    end_enters scenario old new had has was event p waits refl played courses next goes (subst (All (KeptAt old was.progress.id)) (sym kept) waits.keeps.places.kept)
+    (absent_still scenario old was event waits p goes kept (ap (λ (x : Session). x.left) goes.session) (ap (λ (x : Session). x.ended) goes.session) (untaken facts (command_at was) (waiting waits) was.looked was.looked_to_build waits.fits now.commit)) same
     (commit_fits scenario old was event waits refl next now.commit (begun (was.progress.finished + 1) facts.running).published true _ (length old + 1) refl (λ from is. cc is)) appends
   where
     event : Event
@@ -158,10 +163,11 @@ commit_enters scenario old new had has was xid p waits played courses next goes 
 -- the state after a publish
 pub publish_enters : (scenario : Scenario) (old new : List Entry) (had has : ℕ → ℕ) (was : Backend) (messages : List Message) (p : Progress) (waits : AwaitsEntry scenario old was) → IsPlayed scenario old → AllOnCourse scenario old
     → EndsNext was.progress (events.Publish (length (take 64 (unsent_at was.progress)))) → messages ≡ take 64 (unsent_at was.progress)
-    → HasEntered scenario old was.progress (events.Publish (length messages)) waits.rests p → p.kept ≡ was.progress.kept → p.given_at ≡ was.progress.given_at → p.answer ≡ was.progress.answer
+    → HasEntered scenario old was.progress (events.Publish (length messages)) waits.rests p → p.kept ≡ was.progress.kept → p.answer ≡ was.progress.answer
     → Appends old new had has (entry_of was.progress.id (was.progress.finished + 1) (events.Publish (length messages))) → Enters scenario old new had has was (record was { progress = p })
-publish_enters scenario old new had has was messages p waits played courses next is goes kept given_at same appends =
-    end_enters scenario old new had has was event p waits refl played courses now_next goes (subst (All (KeptAt old was.progress.id)) (sym kept) waits.keeps.places.kept) given_at same
+publish_enters scenario old new had has was messages p waits played courses next is goes kept same appends =
+    end_enters scenario old new had has was event p waits refl played courses now_next goes (subst (All (KeptAt old was.progress.id)) (sym kept) waits.keeps.places.kept)
+    (absent_still scenario old was event waits p goes kept (ap (λ (x : Session). x.left) goes.session) (ap (λ (x : Session). x.ended) goes.session) (untaken facts (command_at was) (waiting waits) was.looked was.looked_to_build waits.fits (publish_now scenario old was messages waits next is).commit)) same
     (commit_fits scenario old was event waits refl now_next (publish_now scenario old was messages waits next is).commit ((begun (was.progress.finished + 1) facts.running).published + length messages) (begun (was.progress.finished + 1) facts.running).visible _ (length old + 1) refl (λ from same. cc same)) appends
   where
     event : Event

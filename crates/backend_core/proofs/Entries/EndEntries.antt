@@ -21,21 +21,18 @@ use Rattle.cacheless.specs.OnCourse.{AllOnCourse}
 use Rattle.cacheless.specs.Plays.{MayPlayIn}
 use Rattle.cacheless.specs.Runs.{runs}
 use Rattle.cacheless.specs.Schedule.{LooksTruly}
-use Rattle.cacheless.specs.Session.{Session}
-use Rattle.cacheless.specs.Sessions.{ends_command, noted, entered}
+use Rattle.cacheless.specs.Sessions.{ends_command, entered}
 use Rattle.cacheless.specs.Silently.{is_to_answer}
 use Rattle.cacheless.specs.State.{owed_at, has_write_since, is_out, end_of_running}
 use Rattle.cacheless.proofs.Deciding.{holds_decides}
-use Rattle.cacheless.proofs.Allowed.NextOnCourse.{entered_noted}
-use Rattle.cacheless.proofs.Allowed.OwnEntries.{IsNoted}
 use Rattle.cacheless.proofs.Tests.{both_true}
 use Rattle.backend_core.specs.Types.{Purpose, Command, Scenario, Entry, Event, Progress, Backend}
-use Rattle.backend_core.specs.Agrees.{IsPlayed, KeptAt, command_at, AwaitsEntry}
+use Rattle.backend_core.specs.Agrees.{IsPlayed, KeptAt, KeepsAbsent, command_at, AwaitsEntry}
 use Rattle.backend_core.specs.Fits.{Fits}
 use Rattle.backend_core.specs.Steps.{EndsNext, InCommand, AfterAll, Enters}
 use Rattle.backend_core.proofs.Choosing.EndsNow.{EndsBy, ends_by}
 use Rattle.backend_core.proofs.Fitting.Entered.{fits_at, keeps_still}
-use Rattle.backend_core.proofs.Own.{waiting, AtEnd, own_enters, end_left}
+use Rattle.backend_core.proofs.Own.{waiting, AtEnd, own_enters}
 
 may_end : (next : ℕ) (command : Command) (p : Progress) (event : Event) → ends_command event ≡ true → may_end_at command p event ≡ true → may_play_at next command p event ≡ true
 may_end next command p (events.Visible xid) ends may = may
@@ -72,14 +69,13 @@ record IsPlain (scenario : Scenario) (old : List Entry) (b c : ℕ) (event : Eve
   queue : FetchesFrom scenario.size old b event
   lives : life_by c event ≡ Alive c
   unread : (scan : Purpose) → is_scan_of scan event ≡ false
-  read : (s : Session) → (noted event s).read ≡ s.read
   follows : (last : ℕ) → last ≤ c → FollowsLife (Alive last) c event
 
 is_plain : (scenario : Scenario) (old : List Entry) (b c : ℕ) (event : Event) → ends_command event ≡ true → IsPlain scenario old b c event
-is_plain scenario old b c (events.Visible xid) ends = record { truly = tt; queue = tt; lives = refl; unread = λ scan. refl; read = λ s. refl; follows = λ last low. low }
-is_plain scenario old b c (events.Publish count) ends = record { truly = tt; queue = tt; lives = refl; unread = λ scan. refl; read = λ s. refl; follows = λ last low. low }
-is_plain scenario old b c (events.Gone from) ends = record { truly = tt; queue = tt; lives = refl; unread = λ scan. refl; read = λ s. refl; follows = λ last low. low }
-is_plain scenario old b c (events.Release from) ends = record { truly = tt; queue = tt; lives = refl; unread = λ scan. refl; read = λ s. refl; follows = λ last low. low }
+is_plain scenario old b c (events.Visible xid) ends = record { truly = tt; queue = tt; lives = refl; unread = λ scan. refl; follows = λ last low. low }
+is_plain scenario old b c (events.Publish count) ends = record { truly = tt; queue = tt; lives = refl; unread = λ scan. refl; follows = λ last low. low }
+is_plain scenario old b c (events.Gone from) ends = record { truly = tt; queue = tt; lives = refl; unread = λ scan. refl; follows = λ last low. low }
+is_plain scenario old b c (events.Release from) ends = record { truly = tt; queue = tt; lives = refl; unread = λ scan. refl; follows = λ last low. low }
 is_plain scenario old b c event ends = absurd (cc ends)
 
 module _ (scenario : Scenario) (seen : List Entry) (s : Backend) (waits : AwaitsEntry scenario seen s) (event : Event) (ends : ends_command event ≡ true) (next : EndsNext s.progress event) where
@@ -125,18 +121,14 @@ built_at scenario seen s waits command at = subst (λ c. runs c ≡ true) (get_o
 
 -- after an entry of an end the backend agrees
 pub end_enters : (scenario : Scenario) (old new : List Entry) (had has : ℕ → ℕ) (was : Backend) (event : Event) (p : Progress) (waits : AwaitsEntry scenario old was) → ends_command event ≡ true → IsPlayed scenario old → AllOnCourse scenario old → EndsNext was.progress event
-    → HasEntered scenario old was.progress event waits.rests p → All (KeptAt old was.progress.id) p.kept → p.given_at ≡ was.progress.given_at → p.answer ≡ was.progress.answer
+    → HasEntered scenario old was.progress event waits.rests p → All (KeptAt old was.progress.id) p.kept → KeepsAbsent (with_own old was.progress event) p → p.answer ≡ was.progress.answer
     → Fits (facts_by old was.progress.id (was.progress.finished + 1) event (facts_of old was.progress.id)) (command_at was)
     (entered (facts_of (with_own old was.progress event) was.progress.id) (drop was.progress.finished was.progress.commands) (length old + 1) (was.progress.finished + 1) event (waiting waits)) was.looked was.looked_to_build
     → Appends old new had has (entry_of was.progress.id (was.progress.finished + 1) event) → Enters scenario old new had has was (record was { progress = p })
-end_enters scenario old new had has was event p waits ends played courses next goes kept given_at same fits appends =
+end_enters scenario old new had has was event p waits ends played courses next goes kept absent same fits appends =
     own_enters scenario old new had has was (record was { progress = p }) event waits played courses (record { plays = end_plays scenario old was waits event ends next; truly = plain.truly; queue = plain.queue }) goes
-    (keeps_still scenario old was event waits p goes (record was { progress = p }) refl plain.lives plain.unread kept
-    (ap (λ (x : Session). x.left) goes.session ∙ noted_is.after.left ∙ end_left event (waiting waits) ends) (ap (λ (x : Session). x.read) goes.session ∙ noted_is.read ∙ plain.read (waiting waits)) given_at)
+    (keeps_still scenario old was event waits p goes (record was { progress = p }) refl plain.lives plain.unread kept absent)
     (fits_at scenario old was event waits p goes was.looked was.looked_to_build fits) refl (AtEnd ends (end_answered scenario old was waits event ends next) same) (λ inside. absurd (both_ways _ inside ends)) appends
   where
     plain : IsPlain scenario old was.progress.id (was.progress.finished + 1) event
     plain = is_plain scenario old was.progress.id (was.progress.finished + 1) event ends
-
-    noted_is : IsNoted (noted event (waiting waits)) (entered (facts_of (with_own old was.progress event) was.progress.id) (drop was.progress.finished was.progress.commands) (length old + 1) (was.progress.finished + 1) event (waiting waits))
-    noted_is = entered_noted (facts_of (with_own old was.progress event) was.progress.id) (drop was.progress.finished was.progress.commands) (length old + 1) (was.progress.finished + 1) event (waiting waits)

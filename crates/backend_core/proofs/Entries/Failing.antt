@@ -21,13 +21,13 @@ use Rattle.cacheless.specs.Plays.{started_in, MayPlayIn}
 use Rattle.cacheless.specs.Schedule.{LooksTruly}
 use Rattle.cacheless.specs.Session.{Session, Tally, number_of, outcome_of, is_settled}
 use Rattle.cacheless.specs.Sessions.{noted, ends_command, entered}
-use Rattle.cacheless.specs.State.{clash_event, error_of}
+use Rattle.cacheless.specs.State.{is_absent, clash_event, error_of}
 use Rattle.backend_core.specs.Types.{Oid, Mode, Purpose, Command, CommandError, Scenario, Entry, Event, Progress, Backend}
-use Rattle.backend_core.specs.Agrees.{IsPlayed, command_at, KeptAt, PlaceFits, AwaitsEntry}
+use Rattle.backend_core.specs.Agrees.{IsPlayed, command_at, KeptAt, AwaitsEntry}
 use Rattle.backend_core.specs.Fits.{looks_due, LooksFit}
 use Rattle.backend_core.specs.Steps.{Enters}
 use Rattle.backend_core.proofs.Choosing.Chosen.{Acts}
-use Rattle.backend_core.proofs.Fitting.Entered.{fits_at, keeps_at, kept_stays}
+use Rattle.backend_core.proofs.Fitting.Entered.{fits_at, keeps_at, kept_stays, keeps_none}
 use Rattle.backend_core.proofs.Entries.Inside.{runs_on, inside_fits}
 use Rattle.backend_core.proofs.Own.{waiting, going, Inside, own_enters}
 
@@ -79,7 +79,7 @@ failed_enters scenario old new had has was p event error command waits played co
     own_enters scenario old new had has was (record was { progress = p }) event waits played courses (record { plays = plays; truly = shows.truly; queue = shows.queue }) goes
     (keeps_at scenario old was event waits p goes (record was { progress = p }) refl shows.lives
     (kept_stays old (entry_of was.progress.id (was.progress.finished + 1) event) was.progress.id p.kept shows.others (subst (All (KeptAt old was.progress.id)) (sym kept) waits.keeps.places.kept))
-    (subst (λ q. PlaceFits (with_own old was.progress event) was.progress.id q p.read p.given_at) (sym (ap (λ (x : Session). x.left) goes.session ∙ shows.left)) tt))
+    (keeps_none (with_own old was.progress event) p (ap is_absent (ap (λ (x : Session). x.left) goes.session ∙ shows.left))))
     (fits_at scenario old was event waits p goes was.looked was.looked_to_build
     (inside_fits scenario old was waits courses command acting.at later now was.looked was.looked_to_build same shows.lists shows.last
     (record { blocks = shows.blocks; finished = ap length shows.finished; blocked = shows.blocked; ended = shows.ended; left = λ is there. absurd (both_ways _ acting.unsettled is) }) acting.runs (Acts acting.unsettled) looks))

@@ -27,15 +27,13 @@ use Rattle.cacheless.specs.Session.{Session, Tally, number_of}
 use Rattle.cacheless.specs.Sessions.{resumed, noted, ends_command, placed_at, entered}
 use Rattle.cacheless.specs.State.{owed_at, one_if, kept_spared}
 use Rattle.cacheless.proofs.Allowed.NextOnCourse.{entered_noted}
-use Rattle.cacheless.proofs.Answers.ReadPlaces.{place_read-more}
-use Rattle.base_types.specs.declared.scan.Purpose.TheVariants as scans
 use Rattle.backend_core.specs.Types.{Purpose, Command, Scenario, Entry, Event, Message, Progress, Backend}
-use Rattle.backend_core.specs.Agrees.{IsPlayed, command_at, KeptAt, PlaceFits, AwaitsEntry}
+use Rattle.backend_core.specs.Agrees.{IsPlayed, command_at, KeptAt, AwaitsEntry}
 use Rattle.backend_core.specs.Fits.{looks_due, LooksFit, Fits}
 use Rattle.backend_core.specs.Steps.{Enters}
 use Rattle.backend_core.specs.Words.{has_begun, marks_build}
 use Rattle.backend_core.proofs.Choosing.Chosen.{Busy, due_busy, may_call, hidden, one_at_most, started_still}
-use Rattle.backend_core.proofs.Fitting.Entered.{fits_at, keeps_at, kept_stays, place_stays}
+use Rattle.backend_core.proofs.Fitting.Entered.{fits_at, keeps_at, kept_stays, keeps_none}
 use Rattle.backend_core.proofs.Fitting.FitsEntries.{StaysAt, Goes, fits_inside}
 use Rattle.backend_core.proofs.Entries.Looking.{begun_written}
 use Rattle.backend_core.proofs.Own.{waiting, follows, going, OwnEntry, Inside as StaysWithin, own_enters}
@@ -85,14 +83,13 @@ is_resumed : (p : Plan) (s : Session) → IsResumed p s
 is_resumed (Absent name) s = record { blocks = refl; finished = refl; blocked = refl; ended = refl; left = λ present. absurd (cc present) }
 is_resumed p s = record { blocks = refl; finished = refl; blocked = refl; ended = refl; left = λ present. refl }
 
--- the place of its scan stays
-place_fetched : (old : List Entry) (e : Entry) (b : ℕ) (s : Session) (command : Command) (at : ℕ) → ((scan : Purpose) → is_scan_of scan e.event ≡ false) → ((name : List ℕ) → s.left ≡ Absent name → WasSought old b s command name) → PlaceFits old b s.left s.read at
-    → PlaceFits (old ++ e ∷ []) b (resumed s.left s).left (resumed s.left s).read at
-place_fetched old e b s command at others sought fits = by_plan s.left refl fits
+-- it has something left to do then
+found_again : (old : List Entry) (b : ℕ) (s : Session) (command : Command) → ((name : List ℕ) → s.left ≡ Absent name → WasSought old b s command name) → is_absent (resumed s.left s).left ≡ false
+found_again old b s command sought = by_plan s.left refl
   where
-    by_plan : (p : Plan) → s.left ≡ p → PlaceFits old b p s.read at → PlaceFits (old ++ e ∷ []) b (resumed p s).left (resumed p s).read at
-    by_plan (Absent name) is place = subst (λ x. PlaceFits (old ++ e ∷ []) b x true at) (sym (sought name is).looks) (place_read-more old e b (scans.RelName name) (others (scans.RelName name)) ∙ place)
-    by_plan p is place = subst (λ x. PlaceFits (old ++ e ∷ []) b x s.read at) (sym is) (place_stays old e b p s.read at others place)
+    by_plan : (p : Plan) → s.left ≡ p → is_absent (resumed p s).left ≡ false
+    by_plan (Absent name) is = ap is_absent (sought name is).looks
+    by_plan p is = ap is_absent is
 
 -- the session after a fetch: one more fetch, which is full at most where it asks for a look
 record IsFetched (s now : Session) (event : Event) : Type 0 where
@@ -148,13 +145,12 @@ record BringsBack (scenario : Scenario) (old : List Entry) (was : Backend) (even
 
 -- after either the backend agrees
 fetch_agrees : (scenario : Scenario) (old new : List Entry) (had has : ℕ → ℕ) (was : Backend) (p : Progress) (event : Event) (marked : Bool) (waits : AwaitsEntry scenario old was) → IsPlayed scenario old → AllOnCourse scenario old → was.progress.due ≡ dues.Fetch → BringsBack scenario old was event waits
-    → HasEntered scenario old was.progress event waits.rests p → All (KeptAt old was.progress.id) p.kept → p.given_at ≡ was.progress.given_at → p.answer ≡ None → Appends old new had has (entry_of was.progress.id (was.progress.finished + 1) event)
+    → HasEntered scenario old was.progress event waits.rests p → All (KeptAt old was.progress.id) p.kept → p.answer ≡ None → Appends old new had has (entry_of was.progress.id (was.progress.finished + 1) event)
     → Enters scenario old new had has was (record was { progress = p; looked_to_build = was.looked_to_build && not marked })
-fetch_agrees scenario old new had has was p event marked waits played courses is_fetch brings goes kept given_at none appends =
+fetch_agrees scenario old new had has was p event marked waits played courses is_fetch brings goes kept none appends =
     own_enters scenario old new had has was (record was { progress = p; looked_to_build = was.looked_to_build && not marked }) event waits played courses brings.own goes
     (keeps_at scenario old was event waits p goes (record was { progress = p; looked_to_build = was.looked_to_build && not marked }) refl brings.lives (kept_stays old e b p.kept brings.others kept)
-    (subst (λ x. PlaceFits (old ++ e ∷ []) b x p.read p.given_at) (sym left) (subst (λ t. PlaceFits (old ++ e ∷ []) b (resumed s.left s).left t p.given_at) (sym read) (subst (λ n. PlaceFits (old ++ e ∷ []) b (resumed s.left s).left (resumed s.left s).read n) (sym given_at)
-    (place_fetched old e b s due.command was.progress.given_at brings.others (follows scenario old was waits courses due.command due.at).sought waits.keeps.places.given_at)))))
+    (keeps_none (old ++ e ∷ []) p (ap is_absent left ∙ found_again old b s due.command (follows scenario old was waits courses due.command due.at).sought)))
     (fits_at scenario old was event waits p goes was.looked (was.looked_to_build && not marked) (subst (λ f. Fits f (command_at was) (entered (facts_of (with_own old was.progress event) b) (drop was.progress.finished was.progress.commands) (length old + 1) (was.progress.finished + 1) event s) was.looked (was.looked_to_build && not marked)) (sym brings.facts)
     (fetch_fits (facts_of old b) (command_at was) s _ event brings.usable due.command was.looked was.looked_to_build marked due.at waits.fits brings.fetched due.runs (hidden scenario old was waits due.command due.at due.busy) (going scenario old was waits courses due.command due.at) due.owed)))
     refl (StaysWithin brings.inside none) (λ inside. ap (λ (x : Session). x.ended) brings.notes ∙ (is_resumed s.left s).ended) appends
@@ -173,9 +169,6 @@ fetch_agrees scenario old new had has was p event marked waits played courses is
 
     left : plan_at p.exec ≡ (resumed s.left s).left
     left = ap (λ (x : Session). x.left) goes.session ∙ (entered_noted (facts_of (with_own old was.progress event) b) (drop was.progress.finished was.progress.commands) (length old + 1) (was.progress.finished + 1) event s).after.left ∙ ap (λ (x : Session). x.left) brings.notes
-
-    read : p.read ≡ (resumed s.left s).read
-    read = ap (λ (x : Session). x.read) goes.session ∙ (entered_noted (facts_of (with_own old was.progress event) b) (drop was.progress.finished was.progress.commands) (length old + 1) (was.progress.finished + 1) event s).read ∙ ap (λ (x : Session). x.read) brings.notes
 
 due_fetched : (count : ℕ) → looks_due (owed_after (Some (events.Fetch count))) ≡ one_if (count == 32)
 due_fetched count = elim (count == 32) as (λ t. looks_due (elim t as (λ x. List Owes) [ true ↦ OwesLook ∷ [] | false ↦ [] ]) ≡ one_if t) [ true ↦ refl | false ↦ refl ]
@@ -254,12 +247,12 @@ fetched_count old b count due = length-take-le count (drop (position_of old b) (
 -- the messages of a fetch
 pub messages_enter : (scenario : Scenario) (old new : List Entry) (had has : ℕ → ℕ) (was now : Backend) (count : ℕ) (taken given : List Message) (waits : AwaitsEntry scenario old was) → IsPlayed scenario old → AllOnCourse scenario old → was.progress.due ≡ dues.Fetch
     → Fetches scenario.size old new had has was.progress.id (was.progress.finished + 1) taken (fetches.Messages count) → given ≡ taken
-    → (given ≡ fetched_by old was.progress.id (length given) → HasEntered scenario old was.progress (events.Fetch (length given)) waits.rests now.progress) → now.progress.kept ≡ kept_spared given was.progress.kept → now.progress.given_at ≡ was.progress.given_at → now.progress.answer ≡ None
+    → (given ≡ fetched_by old was.progress.id (length given) → HasEntered scenario old was.progress (events.Fetch (length given)) waits.rests now.progress) → now.progress.kept ≡ kept_spared given was.progress.kept → now.progress.answer ≡ None
     → now ≡ record was { progress = now.progress; looked_to_build = was.looked_to_build && not (marks_build was.progress given) } → Enters scenario old new had has was now
-messages_enter scenario old new had has was now count taken given waits played courses due gives same goes kept given_at none is =
+messages_enter scenario old new had has was now count taken given waits played courses due gives same goes kept none is =
     subst (Enters scenario old new had has was) (sym is)
     (fetch_agrees scenario old new had has was now.progress (events.Fetch (length given)) (marks_build was.progress given) waits played courses due (messages_bring scenario old was (length given) waits due gives.served) (goes (same ∙ gives.messages ∙ ap (fetched_by old was.progress.id) counts))
-    (subst (All (KeptAt old was.progress.id)) (sym kept) (All-filter (λ k. is_spared k.scan given) (KeptAt old was.progress.id) was.progress.kept waits.keeps.places.kept)) given_at none
+    (subst (All (KeptAt old was.progress.id)) (sym kept) (All-filter (λ k. is_spared k.scan given) (KeptAt old was.progress.id) was.progress.kept waits.keeps.places.kept)) none
     (subst (λ n. Appends old new had has (entry_of was.progress.id (was.progress.finished + 1) (events.Fetch n))) counts gives.appends))
   where
     counts : count ≡ length given
@@ -267,9 +260,9 @@ messages_enter scenario old new had has was now count taken given waits played c
 
 -- a reset
 pub reset_enters : (scenario : Scenario) (old new : List Entry) (had has : ℕ → ℕ) (was now : Backend) (given : List Message) (waits : AwaitsEntry scenario old was) → IsPlayed scenario old → AllOnCourse scenario old → was.progress.due ≡ dues.Fetch
-    → Fetches scenario.size old new had has was.progress.id (was.progress.finished + 1) given fetches.Reset → HasEntered scenario old was.progress events.FetchReset waits.rests now.progress → now.progress.kept ≡ [] → now.progress.given_at ≡ was.progress.given_at → now.progress.answer ≡ None
+    → Fetches scenario.size old new had has was.progress.id (was.progress.finished + 1) given fetches.Reset → HasEntered scenario old was.progress events.FetchReset waits.rests now.progress → now.progress.kept ≡ [] → now.progress.answer ≡ None
     → now ≡ record was { progress = now.progress; looked_to_build = was.looked_to_build && not (has_begun was.progress) } → Enters scenario old new had has was now
-reset_enters scenario old new had has was now given waits played courses due gives goes kept given_at none is =
+reset_enters scenario old new had has was now given waits played courses due gives goes kept none is =
     subst (Enters scenario old new had has was) (sym is)
     (fetch_agrees scenario old new had has was now.progress events.FetchReset (has_begun was.progress) waits played courses due (reset_brings scenario old was waits due gives.lapped) goes
-    (subst (All (KeptAt old was.progress.id)) (sym kept) (λ i d within. absurd (omega (arith, within)))) given_at none gives.appends)
+    (subst (All (KeptAt old was.progress.id)) (sym kept) (λ i d within. absurd (omega (arith, within)))) none gives.appends)

@@ -6,7 +6,6 @@ use Rattle.std.proofs.lemmas.List.Elements.{All-nil}
 use Rattle.event_kinds.specs.declared.entry.Event.TheVariants as events
 use Rattle.txn_blocks.specs.Blocks.{no_block}
 use Rattle.ddl_effect.specs.Commands.{commands_of}
-use Rattle.ddl_effect.specs.Stages.{plan_at}
 use Rattle.inval_messages.specs.Lists.{has_write_from}
 use Rattle.std.specs.Option.{option_map_or}
 use Rattle.history_model.specs.Legal.{FollowsVisible, FollowsGone}
@@ -29,12 +28,12 @@ use Rattle.cacheless.proofs.Resting.{first_left}
 use Rattle.cacheless.proofs.Reading.{facts_of-own}
 use Rattle.cacheless.proofs.Allowed.SettledCourse.{begins_on_course}
 use Rattle.cacheless.proofs.Allowed.StaysOnCourse.{has_written-quiet}
-use Rattle.cacheless.proofs.Answers.Telling.{place_first}
 use Rattle.backend_core.specs.Types.{Command, Scenario, Entry, KeptScan, Progress, Backend}
 use Rattle.backend_core.specs.declared.life.Life.TheVariants as lives
-use Rattle.backend_core.specs.Agrees.{IsPlayed, KeptAt, PlaceFits, AgreesNow, HasNotJoined}
+use Rattle.backend_core.specs.Agrees.{IsPlayed, KeptAt, AgreesNow, HasNotJoined}
 use Rattle.backend_core.specs.Fits.{looks_due, IsPast, Fits}
 use Rattle.backend_core.specs.Steps.{MakesEntry, Enters}
+use Rattle.backend_core.proofs.Fitting.Entered.{keeps_none}
 use Rattle.backend_core.proofs.Own.{appended_makes}
 use Rattle.backend_core.proofs.Played.{IsPlayed-more}
 
@@ -84,8 +83,7 @@ join_enters scenario old new had has was p before played started kept same appen
       built = subst (All (λ c. runs c ≡ true)) (sym started.moves.commands) before.built;
       places = record {
         kept = subst (λ (l : List KeptScan). All (KeptAt (old ++ e ∷ []) p.id) l) (sym (kept ∙ before.new.progress.kept)) (All-nil (KeptAt (old ++ e ∷ []) p.id));
-        given_at = subst (λ r. PlaceFits (old ++ e ∷ []) p.id (plan_at p.exec) r p.given_at) (sym (ap (λ (s : Session). s.read) started.session))
-            (place_first (old ++ e ∷ []) p.id (plan_at p.exec) p.given_at (ap is_absent (ap (λ (s : Session). s.left) started.session) ∙ not_absent no_block (slice_get was.progress.commands 0)));
+        absent = keeps_none (old ++ e ∷ []) p (ap is_absent (ap (λ (s : Session). s.left) started.session) ∙ not_absent no_block (slice_get was.progress.commands 0));
       };
     };
     holds = started.holds;

@@ -1,5 +1,6 @@
 -- The locks that a backend asks for.
-use Rattle.std.proofs.Common.{◌≡◌, ◌<◌, ◌+◌, ◌∙◌, ◌&&◌, ℕ, Bool, true, false, Some, None, Err, List, [], ◌∷◌, refl, sym, ap, subst, length, drop, is_some, All, arith}
+use Rattle.std.proofs.Common.{◌≡◌, ◌<◌, ◌+◌, ◌∙◌, ◌&&◌, ℕ, Bool, true, false, not, Option, Some, None, Err, List, [], ◌∷◌, refl, sym, ap, subst, length, drop, is_some, All, arith}
+use Rattle.std.specs.List.{cons_option}
 use Rattle.std.proofs.lemmas.Bool.{and_parts}
 use Rattle.base_types.specs.declared.row.Row.TheVariants as rows
 use Rattle.event_kinds.specs.declared.entry.Event.TheVariants as events
@@ -13,10 +14,11 @@ use Rattle.ddl_effect.specs.Stages.{plan_at}
 use Rattle.history_model.specs.Drawn.{next_oid}
 use Rattle.history_model.specs.Held.{held_of}
 use Rattle.history_model.specs.Transactions.{begun}
+use Rattle.history_model.specs.Writes.{is_empty}
 use Rattle.seg_calls.specs.Calls.{entry_of, MayRequest, Appends, Locks}
 use Rattle.cacheless.specs.Facts.{Facts, facts_of, facts_by}
 use Rattle.cacheless.specs.Holds.{HasEntered, with_own}
-use Rattle.cacheless.specs.May.{owes_nothing, names_relation, is_lock_at, may_play_at, may_last_at}
+use Rattle.cacheless.specs.May.{lacks_any, owes_nothing, names_relation, is_lock_at, may_play_at, may_last_at}
 use Rattle.cacheless.specs.OnCourse.{AllOnCourse}
 use Rattle.cacheless.specs.Owed.{owed_of}
 use Rattle.cacheless.specs.Plays.{started_in, IsLock, MayPlayIn}
@@ -24,10 +26,11 @@ use Rattle.cacheless.specs.Session.{Session, number_of, outcome_of, is_settled}
 use Rattle.cacheless.specs.Sessions.{entered}
 use Rattle.cacheless.specs.Settled.{if_locked, looked_up}
 use Rattle.cacheless.specs.Silently.{gives_next}
-use Rattle.cacheless.specs.State.{owed_at}
+use Rattle.cacheless.specs.State.{owed_at, owed_first, row_sought, is_absent}
 use Rattle.cacheless.proofs.Plans.AloneLocks.{session_holds}
 use Rattle.cacheless.proofs.Allowed.NextKeeps as keeping
 use Rattle.cacheless.proofs.SameRows.{oid_decides}
+use Rattle.cacheless.proofs.Tests.{not_true}
 use Rattle.backend_core.specs.Types.{Oid, Mode, Row, OwnLock, Scenario, Entry, Event, Progress, Backend}
 use Rattle.backend_core.specs.Agrees.{IsPlayed, command_at, KeptAt, AwaitsEntry}
 use Rattle.backend_core.specs.Fits.{looks_due, LooksFit}
@@ -35,20 +38,19 @@ use Rattle.backend_core.specs.Steps.{IsLockNext, Enters}
 use Rattle.backend_core.proofs.Choosing.ActsRun.{act_runs}
 use Rattle.backend_core.proofs.Entries.Alike.{alike_enters}
 use Rattle.backend_core.proofs.Choosing.Chosen.{Acts, may_request, now_plays}
-use Rattle.backend_core.proofs.Fitting.Entered.{fits_at, keeps_still}
+use Rattle.backend_core.proofs.Fitting.Entered.{fits_at, keeps_still, keeps_none}
 use Rattle.backend_core.proofs.Entries.Failing.{IsActing, held_shows, failed_enters}
 use Rattle.backend_core.proofs.Entries.Inside.{runs_on, inside_fits}
 use Rattle.backend_core.proofs.Own.{waiting, waiting_is, follows, going, Inside, own_enters}
 
--- the relation that the rows name isn't locked, where they wait for its lock
-unlocked : (locks : List OwnLock) (mode : Mode) (given : List Row) (rel : Oid) → names_relation rel given ≡ true → is_some (looked_up locks mode given) ≡ false → has_lock locks rel mode ≡ false
-unlocked locks mode [] rel names none = absurd (cc names)
-unlocked locks mode (rows.Class oid own kind fill ∷ more) rel names none = subst (λ r. has_lock locks r mode ≡ false) (sym ((oid_decides rel oid).0 names)) (by_test (has_lock locks oid mode) none)
+-- the relation of the row isn't locked, where it waits for its lock
+unlocked : (locks : List OwnLock) (mode : Mode) (given : Option Row) (rel : Oid) → names_relation rel given ≡ true → is_some (looked_up locks mode (cons_option given [])) ≡ false → has_lock locks rel mode ≡ false
+unlocked locks mode (Some (rows.Class oid own kind fill)) rel names none = subst (λ r. has_lock locks r mode ≡ false) (sym ((oid_decides rel oid).0 names)) (by_test (has_lock locks oid mode) none)
   where
-    by_test : (t : Bool) → is_some (if_locked t (rows.Class oid own kind fill ∷ more)) ≡ false → t ≡ false
+    by_test : (t : Bool) → is_some (if_locked t (rows.Class oid own kind fill ∷ [])) ≡ false → t ≡ false
     by_test true gives = absurd (cc gives)
     by_test false gives = refl
-unlocked locks mode (row ∷ more) rel names none = absurd (cc names)
+unlocked locks mode given rel names none = absurd (cc names)
 
 unlocked_still : (t : Bool) → is_some (if_locked t []) ≡ false → t ≡ false
 unlocked_still true gives = absurd (cc gives)
@@ -56,7 +58,7 @@ unlocked_still false gives = refl
 
 -- the lock that comes next isn't held
 not_held : (facts : Facts) (s : Progress) (p : Plan) (rel : Oid) (mode : Mode) → is_lock_at s p rel mode ≡ true → IsLock facts p rel mode → gives_next s p ≡ false → has_lock s.locks.items rel mode ≡ false
-not_held facts s (Do (Lookup name wanted) rest) rel mode is asks none = subst (λ m. has_lock s.locks.items rel m ≡ false) (sym asks.1) (unlocked s.locks.items wanted s.given.items rel (and_parts (names_relation rel s.given.items) _ is).0 none)
+not_held facts s (Do (Lookup name wanted) rest) rel mode is asks none = subst (λ m. has_lock s.locks.items rel m ≡ false) (sym asks.1) (unlocked s.locks.items wanted (row_sought s name) rel (and_parts (names_relation rel (row_sought s name)) _ is).0 none)
 not_held facts s (Do (Lock other wanted) rest) rel mode is asks none = (λ i. has_lock s.locks.items (asks.0 i) (asks.1 i)) ∙ unlocked_still (has_lock s.locks.items other wanted) none
 not_held facts s (Do (Open of kind) rest) rel mode is asks none = absurd asks
 not_held facts s (Do (Search scan) rest) rel mode is asks none = absurd asks
@@ -121,6 +123,13 @@ module _ (scenario : Scenario) (old : List Entry) (was : Backend) (waits : Await
   pub lock_request : MayRequest scenario old was.progress.id (was.progress.finished + 1)
   lock_request = may_request scenario old was waits next.command next.free.at (Acts acting.unsettled)
 
+  -- it is asked for, and no scan is lacked
+  pub lock_asked : is_lock_at was.progress (plan_at was.progress.exec) rel mode ≡ true
+  lock_asked = may.1
+
+  pub lock_whole : lacks_any was.progress ≡ false
+  lock_whole = not_true (lacks_any was.progress) (and_parts (is_empty (owed_first was.progress next.command) && is_empty (owed_at was.progress.due)) (not (lacks_any was.progress)) may.0).1
+
   pub lock_free : has_lock was.progress.locks.items rel mode ≡ false
   lock_free = not_held facts was.progress (plan_at was.progress.exec) rel mode may.1 asks.1 (ap (λ t. t && gives_next was.progress (plan_at was.progress.exec)) (sym may.0) ∙ (waits.rests.still next.command next.free.at).0)
 
@@ -128,16 +137,16 @@ module _ (scenario : Scenario) (old : List Entry) (was : Backend) (waits : Await
   lock_new = session_holds scenario old was.progress.id s played.sound (waiting_is scenario old was waits) rel mode ∙ lock_free
 
   pub lock_drawn : rel.0 < next_oid old
-  lock_drawn = keeping.lock_drawn old was.progress.id s next.command rel mode played.sound (follows scenario old was waits courses next.command next.free.at) asks.0 asks.1
+  lock_drawn = keeping.lock_drawn old was.progress.id s next.command rel mode played.sound played.tables (follows scenario old was waits courses next.command next.free.at) asks.0 asks.1
 
   -- a lock that is granted, to a backend that had the room for it made
   module _ (first : Backend) (id : was.progress.id ≡ first.progress.id) (new : List Entry) (had has : ℕ → ℕ) (p : Progress) (kept : p.kept ≡ was.progress.kept) (none : p.answer ≡ None) where
-    pub granted_enters : HasEntered scenario old was.progress (events.LockOk rel mode) waits.rests p → p.given_at ≡ was.progress.given_at
+    pub granted_enters : HasEntered scenario old was.progress (events.LockOk rel mode) waits.rests p
         → Appends old new had has (entry_of was.progress.id (was.progress.finished + 1) (events.LockOk rel mode)) → Enters scenario old new had has first (record was { progress = p })
-    granted_enters goes given_at appends = alike_enters scenario old new had has first was (record was { progress = p }) id (
+    granted_enters goes appends = alike_enters scenario old new had has first was (record was { progress = p }) id (
         own_enters scenario old new had has was (record was { progress = p }) event waits played courses (record { plays = plays event next.may; truly = tt; queue = tt }) goes
         (keeps_still scenario old was event waits p goes (record was { progress = p }) refl refl (λ scan. refl) (subst (All (KeptAt old was.progress.id)) (sym kept) waits.keeps.places.kept)
-        (ap (λ (x : Session). x.left) goes.session) (ap (λ (x : Session). x.read) goes.session) given_at)
+        (keeps_none (with_own old was.progress event) p (ap is_absent (ap (λ (x : Session). x.left) goes.session ∙ is_act.is))))
         (fits_at scenario old was event waits p goes was.looked was.looked_to_build
         (inside_fits scenario old was waits courses next.command next.free.at later now was.looked was.looked_to_build same refl (λ from is. cc is) (record { blocks = refl; finished = refl; blocked = refl; ended = refl; left = λ is there. refl }) acting.runs (Acts acting.unsettled)
         (record { enough = omega (arith, before.enough, ap looks_due acting.owed, started); within = omega (arith, before.within, ap looks_due acting.owed, started) })))

@@ -2,6 +2,7 @@
 use Rattle.std.proofs.Common.{◌≡◌, ◌≢◌, ◌≤◌, ◌+◌, ◌*◌, ◌∙◌, ◌⊎◌, inl, inr, ◌&&◌, ◌||◌, ℕ, Bool, true, false, not, Option, Some, None, List, [], ◌∷◌, refl, sym, ap, subst, length, drop, is_none, is_some, All, arith}
 use Rattle.std.specs.Option.{option_map_or}
 use Rattle.std.proofs.Math.Bool.{and-false}
+use Rattle.std.proofs.lemmas.Bool.{both_ways}
 use Rattle.event_kinds.specs.declared.entry.Event.TheVariants as events
 use Rattle.txn_blocks.specs.Blocks.{Block, Outside, Inside, Failed, no_block, ends_block, refused_by}
 use Rattle.history_model.specs.Drawn.{next_oid}
@@ -11,7 +12,7 @@ use Rattle.history_model.specs.Transactions.{Running, begun, is_visible}
 use Rattle.history_model.specs.Writes.{is_empty}
 use Rattle.history_model.proofs.Sound.{sound_is_legal}
 use Rattle.history_model.proofs.Waiting.{not_waited}
-use Rattle.seg_calls.specs.Calls.{entry_of, MayCall, Appends}
+use Rattle.seg_calls.specs.Calls.{entry_of, took_back, MayCall, Appends}
 use Rattle.cacheless.specs.declared.progress.Due.TheVariants as dues
 use Rattle.txn_blocks.specs.declared.transaction.RunningTransaction.{RunningTransaction}
 use Rattle.cacheless.specs.Facts.{Facts, facts_of, facts_by}
@@ -30,8 +31,8 @@ use Rattle.backend_core.specs.Fits.{looks_due, LooksFit, Fits}
 use Rattle.backend_core.specs.Steps.{OwesLookNow, IsLookNext, Enters}
 use Rattle.backend_core.specs.Words.{is_looked_for}
 use Rattle.backend_core.proofs.Choosing.ActsRun.{scan_runs}
-use Rattle.backend_core.proofs.Choosing.Chosen.{Busy, Owes, due_busy, may_call, hidden, one_at_most, started_most, started_by, started_now, started_still, look_may}
-use Rattle.backend_core.proofs.Fitting.Entered.{fits_at, keeps_still}
+use Rattle.backend_core.proofs.Choosing.Chosen.{Busy, Owes, due_busy, may_call, hidden, standing, one_at_most, started_most, started_by, started_now, started_still, look_may}
+use Rattle.backend_core.proofs.Fitting.Entered.{fits_at, keeps_still, absent_still}
 use Rattle.backend_core.proofs.Fitting.FitsEntries.{RunsHere, Goes, Starts, fits_inside}
 use Rattle.backend_core.proofs.Own.{waiting, going, Inside as StaysWithin, own_enters}
 
@@ -161,23 +162,24 @@ module _ (scenario : Scenario) (old : List Entry) (was : Backend) (waits : Await
         (record { blocks = refl; finished = refl; blocked = refl; ended = refl; left = λ is there. refl }) counts.goes hides (going scenario old was waits courses command at) looks_more))
 
     -- so after it the backend agrees
-    pub look_agrees : (new : List Entry) (had has : ℕ → ℕ) (p : Progress) → IsPlayed scenario old → some_wait ≡ is_waiting old was.progress.id → Busy was.progress command → HasEntered scenario old was.progress event waits.rests p → p.kept ≡ was.progress.kept → p.given_at ≡ was.progress.given_at → p.answer ≡ None
+    pub look_agrees : (new : List Entry) (had has : ℕ → ℕ) (p : Progress) → IsPlayed scenario old → some_wait ≡ is_waiting old was.progress.id → Busy was.progress command → HasEntered scenario old was.progress event waits.rests p → p.kept ≡ was.progress.kept → p.answer ≡ None
         → Appends old new had has (entry_of was.progress.id (was.progress.finished + 1) event) → Enters scenario old new had has was (record was { progress = p; looked = looked; looked_to_build = to_build })
-    look_agrees new had has p played is busy goes kept given_at none appends =
+    look_agrees new had has p played is busy goes kept none appends =
         own_enters scenario old new had has was (record was { progress = p; looked = looked; looked_to_build = to_build }) event waits played courses
         (record { plays = subst (λ o. MayPlayIn (next_oid old) facts o s event) (sym at) (look_may facts s counts.owes within); truly = look_true old was.progress.id some_wait (sym is); queue = tt })
         goes
         (keeps_still scenario old was event waits p goes (record was { progress = p; looked = looked; looked_to_build = to_build }) refl refl (λ scan. refl)
-        (subst (All (KeptAt old was.progress.id)) (sym kept) waits.keeps.places.kept) (ap (λ (x : Session). x.left) goes.session) (ap (λ (x : Session). x.read) goes.session) given_at)
+        (subst (All (KeptAt old was.progress.id)) (sym kept) waits.keeps.places.kept)
+        (absent_still scenario old was event waits p goes kept (ap (λ (x : Session). x.left) goes.session) (ap (λ (x : Session). x.ended) goes.session) (λ from gone. both_ways _ (standing scenario old was waits command at busy) (ap took_back gone))))
         (fits_at scenario old was event waits p goes looked to_build (look_fits (hidden scenario old was waits command at busy)))
         refl (StaysWithin refl none) (λ inside. refl) appends
 
 -- the look that is owed
 pub look_enters : (scenario : Scenario) (old new : List Entry) (had has : ℕ → ℕ) (was : Backend) (p : Progress) (some_wait : Bool) (waits : AwaitsEntry scenario old was) → IsPlayed scenario old → AllOnCourse scenario old → OwesLookNow was.progress → some_wait ≡ is_waiting old was.progress.id
-    → HasEntered scenario old was.progress (events.Look some_wait) waits.rests p → p.kept ≡ was.progress.kept → p.given_at ≡ was.progress.given_at → p.answer ≡ None
+    → HasEntered scenario old was.progress (events.Look some_wait) waits.rests p → p.kept ≡ was.progress.kept → p.answer ≡ None
     → Appends old new had has (entry_of was.progress.id (was.progress.finished + 1) (events.Look some_wait)) → Enters scenario old new had has was (record was { progress = p })
-look_enters scenario old new had has was p some_wait waits played courses next is goes kept given_at none appends =
-    look_agrees scenario old was waits courses next.command next.at some_wait was.looked was.looked_to_build (by_side next.owes) new had has p played is (look_busy was.progress next) goes kept given_at none appends
+look_enters scenario old new had has was p some_wait waits played courses next is goes kept none appends =
+    look_agrees scenario old was waits courses next.command next.at some_wait was.looked was.looked_to_build (by_side next.owes) new had has p played is (look_busy was.progress next) goes kept none appends
   where
     facts : Facts
     facts = facts_of old was.progress.id
@@ -199,13 +201,13 @@ look_before_call scenario seen s some_wait builds waits played next is = may_cal
 
 pub look_before_enters : (scenario : Scenario) (old new : List Entry) (had has : ℕ → ℕ) (was : Backend) (p : Progress) (some_wait builds looked to_build : Bool) (waits : AwaitsEntry scenario old was) → IsPlayed scenario old → AllOnCourse scenario old → IsLookNext builds was → some_wait ≡ is_waiting old was.progress.id
     → looked ≡ (was.looked || not builds) → to_build ≡ (was.looked_to_build || builds)
-    → HasEntered scenario old was.progress (events.Look some_wait) waits.rests p → p.kept ≡ was.progress.kept → p.given_at ≡ was.progress.given_at → p.answer ≡ None
+    → HasEntered scenario old was.progress (events.Look some_wait) waits.rests p → p.kept ≡ was.progress.kept → p.answer ≡ None
     → Appends old new had has (entry_of was.progress.id (was.progress.finished + 1) (events.Look some_wait)) → Enters scenario old new had has was (record was { progress = p; looked = looked; looked_to_build = to_build })
-look_before_enters scenario old new had has was p some_wait builds looked to_build waits played courses next is looked_is to_build_is goes kept given_at none appends =
+look_before_enters scenario old new had has was p some_wait builds looked to_build waits played courses next is looked_is to_build_is goes kept none appends =
     look_agrees scenario old was waits courses next.next.command next.next.free.at some_wait looked to_build
     (counts_scan (facts_of old was.progress.id) (waiting waits) next.next.command builds was.looked was.looked_to_build looked to_build looked_is to_build_is (waits.rests.holds.facts.owed ∙ ap owed_at next.next.free.due)
     (scan_runs scenario old was waits courses next.next.command next.next.free.at next.scan next.next.next next.next.free.first) (unlooked builds next.unlooked))
-    new had has p played is (scan_busy was.progress next.next.command next.next.lacks) goes kept given_at none appends
+    new had has p played is (scan_busy was.progress next.next.command next.next.lacks) goes kept none appends
   where
     unlooked : (t : Bool) → is_looked_for t was ≡ false → elim t as (λ x. Bool) [ true ↦ was.looked_to_build | false ↦ was.looked ] ≡ false
     unlooked true none = none

@@ -147,6 +147,7 @@ module _ (scenario : Scenario) (old : List Entry) (was : Backend) (from : ℕ) (
 
 -- the state after it
 pub release_enters : (scenario : Scenario) (old new : List Entry) (had has : ℕ → ℕ) (was : Backend) (from : ℕ) (p : Progress) (waits : AwaitsEntry scenario old was) → IsPlayed scenario old → AllOnCourse scenario old → EndsNext was.progress (events.Release from)
-    → HasEntered scenario old was.progress (events.Release from) waits.rests p → p.kept ≡ was.progress.kept → p.given_at ≡ was.progress.given_at → p.answer ≡ was.progress.answer → Appends old new had has (entry_of was.progress.id (was.progress.finished + 1) (events.Release from)) → Enters scenario old new had has was (record was { progress = p })
-release_enters scenario old new had has was from p waits played courses next goes kept given_at same appends =
-    end_enters scenario old new had has was (events.Release from) p waits refl played courses next goes (subst (All (KeptAt old was.progress.id)) (sym kept) waits.keeps.places.kept) given_at same (release_fits scenario old was from waits next _ (length old + 1)) appends
+    → HasEntered scenario old was.progress (events.Release from) waits.rests p → p.kept ≡ was.progress.kept → p.answer ≡ was.progress.answer → Appends old new had has (entry_of was.progress.id (was.progress.finished + 1) (events.Release from)) → Enters scenario old new had has was (record was { progress = p })
+release_enters scenario old new had has was from p waits played courses next goes kept same appends =
+    end_enters scenario old new had has was (events.Release from) p waits refl played courses next goes (subst (All (KeptAt old was.progress.id)) (sym kept) waits.keeps.places.kept)
+    (λ name missed whole. absurd (both_ways _ whole.going (ap (λ (x : Session). x.ended) goes.session))) same (release_fits scenario old was from waits next _ (length old + 1)) appends

@@ -1,17 +1,14 @@
 -- The scans of a backend.
-use Rattle.std.proofs.Common.{◌≡◌, ◌≢◌, ◌≤◌, ◌+◌, ◌∙◌, ◌&&◌, ◌||◌, ℕ, Bool, true, false, not, None, List, [], ◌∷◌, ◌++◌, if◌then◌else◌, refl, sym, ap, subst, length, drop, get_or, All, arith}
+use Rattle.std.proofs.Common.{◌≡◌, ◌≤◌, ◌+◌, ◌∙◌, ◌&&◌, ℕ, Bool, true, false, not, None, List, [], ◌∷◌, ◌++◌, refl, sym, ap, subst, length, drop, get_or, All, arith}
 use Rattle.std.proofs.lemmas.Bool.{both_ways, eq-eqb, lt-ltb}
-use Rattle.std.proofs.lemmas.List.{append-nil}
 use Rattle.std.proofs.lemmas.List.Elements.{All-push}
 use Rattle.std.proofs.lemmas.List.Folds.{list_any_at}
-use Rattle.base_types.specs.Scans.{same_scan, is_build_scan}
-use Rattle.base_types.specs.declared.scan.Purpose.TheVariants as scans
+use Rattle.base_types.specs.Scans.{same_scan}
 use Rattle.base_types.proofs.SameScan.{same_scan-true, same_scan-itself}
 use Rattle.event_kinds.specs.declared.entry.Event.TheVariants as events
-use Rattle.ddl_effect.specs.Plans.{Plan, Absent, Do, Lookup}
+use Rattle.ddl_effect.specs.Plans.{Plan, Absent}
 use Rattle.ddl_effect.specs.Stages.{plan_at}
 use Rattle.history_model.specs.Drawn.{next_oid}
-use Rattle.history_model.specs.Read.{place_read}
 use Rattle.seg_calls.specs.Calls.{entry_of, MayRequest, Appends}
 use Rattle.cacheless.specs.Facts.{Facts, facts_of, facts_by}
 use Rattle.cacheless.specs.Holds.{HasEntered, with_own}
@@ -20,21 +17,20 @@ use Rattle.cacheless.specs.OnCourse.{AllOnCourse}
 use Rattle.cacheless.specs.Owed.{owed_after}
 use Rattle.cacheless.specs.Plays.{started_in, has_looked, MayPlayIn}
 use Rattle.cacheless.specs.Session.{Session, Badly, number_of, outcome_of}
-use Rattle.cacheless.specs.Sessions.{is_wanted, entered}
-use Rattle.cacheless.specs.State.{owed_at, one_if, is_kept, newly_kept}
-use Rattle.cacheless.proofs.ReadsBuilds.{stage_reads}
-use Rattle.cacheless.proofs.Entries.EnteredScans.{wanted_named, next_lacks}
+use Rattle.cacheless.specs.Sessions.{entered}
+use Rattle.cacheless.specs.State.{is_absent, owed_at, one_if, is_kept}
+use Rattle.cacheless.proofs.Entries.EnteredScans.{next_lacks}
 use Rattle.cacheless.proofs.Answers.ReadPlaces.{place_read-more, place_read-scan}
 use Rattle.cacheless.proofs.Same.{next_same}
 use Rattle.cacheless.proofs.Tests.{and_true, not_true}
 use Rattle.backend_core.specs.Types.{Row, Purpose, Scenario, Entry, Event, KeptScan, Progress, Backend}
-use Rattle.backend_core.specs.Agrees.{IsPlayed, command_at, KeptAt, PlaceFits, AwaitsEntry}
+use Rattle.backend_core.specs.Agrees.{IsPlayed, command_at, KeptAt, AwaitsEntry}
 use Rattle.backend_core.specs.Fits.{looks_due, LooksFit, Fits}
 use Rattle.backend_core.specs.Steps.{IsScanNext, MakesEntry, Enters}
 use Rattle.backend_core.specs.Words.{is_looked_for}
 use Rattle.backend_core.proofs.Choosing.ActsRun.{scan_runs}
 use Rattle.backend_core.proofs.Choosing.Chosen.{may_request}
-use Rattle.backend_core.proofs.Fitting.Entered.{fits_at, keeps_at}
+use Rattle.backend_core.proofs.Fitting.Entered.{fits_at, keeps_at, keeps_none}
 use Rattle.backend_core.proofs.Entries.Inside.{runs_on, inside_fits}
 use Rattle.backend_core.proofs.Entries.Looking.{scan_busy}
 use Rattle.backend_core.proofs.Own.{waiting, going, OwnEntry, Inside, own_makes, own_enters}
@@ -55,39 +51,13 @@ one_less false false to_build l t is left right = absurd (cc is)
 looked_enough : (facts : Facts) (s : Session) (looked to_build : Bool) → LooksFit facts s looked to_build → owed_after facts.last ≡ [] → 1 ≤ one_if looked + one_if to_build → has_looked facts s ≡ true
 looked_enough facts s looked to_build fits none some = lt-ltb (s.tally.scans + s.tally.grants + started_in (number_of s) facts + s.tally.full) s.tally.looks (omega (arith, fits.enough, ap looks_due none, some))
 
--- what comes next isn't kept
-none_kept : (p : Progress) (scan : Purpose) (k : KeptScan) → is_next_at scan p ≡ true → is_build_scan k.scan ≡ true → (same_scan k.scan scan ≡ true → is_kept p.kept scan ≡ true) → same_scan scan k.scan ≡ false
-none_kept p scan k next build among = by_same (same_scan scan k.scan) refl
+-- what comes next is another scan than each that is kept
+none_kept : (p : Progress) (scan : Purpose) (k : KeptScan) → is_next_at scan p ≡ true → (same_scan k.scan scan ≡ true → is_kept p.kept scan ≡ true) → same_scan scan k.scan ≡ false
+none_kept p scan k next among = by_same (same_scan scan k.scan) refl
   where
-    by_wanted : scan ≡ k.scan → (t : Bool) → is_wanted scan (plan_at p.exec) ≡ t → ⊥
-    by_wanted same true is = both_ways _ (wanted_named scan (plan_at p.exec) (stage_reads p.exec) is) (ap is_build_scan same ∙ build)
-    by_wanted same false is = both_ways _ (not_true (is_kept p.kept scan) (next_lacks p scan is next).0) (among (subst (λ x. same_scan x scan ≡ true) same (same_scan-itself scan)))
-
     by_same : (t : Bool) → same_scan scan k.scan ≡ t → same_scan scan k.scan ≡ false
     by_same false is = is
-    by_same true is = absurd (by_wanted (same_scan-true scan k.scan is) (is_wanted scan (plan_at p.exec)) refl)
-
--- the place of the scan on which the plan rests
-module _ (old : List Entry) (b c : ℕ) (scan : Purpose) (count : ℕ) where
-  abbrev new : List Entry
-  new = old ++ entry_of b c (events.Scan scan count) ∷ []
-
-  here : (named : Purpose) → same_scan scan named ≡ true → place_read new b named ≡ length old + 1
-  here named is = place_read-scan old (entry_of b c (events.Scan scan count)) b named (eq-eqb b b refl) is
-
-  scan_place : (plan : Plan) (read : Bool) (at : ℕ) → outcome_of plan ≢ Badly → PlaceFits old b plan read at → PlaceFits new b plan (is_wanted scan plan || read) (if is_wanted scan plan then length old + 1 else at)
-  scan_place (Do (Lookup name mode) rest) read at goes fits = by_same (same_scan scan (scans.RelName name)) refl
-    where
-      by_read : (t : Bool) → same_scan scan (scans.RelName name) ≡ false → PlaceFits old b (Do (Lookup name mode) rest) t at → PlaceFits new b (Do (Lookup name mode) rest) t at
-      by_read true other is = place_read-more old (entry_of b c (events.Scan scan count)) b (scans.RelName name) other ∙ is
-      by_read false other is = tt
-
-      by_same : (t : Bool) → same_scan scan (scans.RelName name) ≡ t → PlaceFits new b (Do (Lookup name mode) rest) (t || read) (if t then length old + 1 else at)
-      by_same true is = here (scans.RelName name) is
-      by_same false is = by_read read is fits
-  scan_place (Do act rest) read at goes fits = tt
-  scan_place (Absent name) read at goes fits = absurd (goes refl)
-  scan_place plan read at goes fits = tt
+    by_same true is = absurd (both_ways _ (not_true (is_kept p.kept scan) (next_lacks p scan next)) (among (subst (λ x. same_scan x scan ≡ true) (same_scan-true scan k.scan is) (same_scan-itself scan))))
 
 -- all that a scan rests on
 module _ (scenario : Scenario) (old : List Entry) (was : Backend) (waits : AwaitsEntry scenario old was) (courses : AllOnCourse scenario old) (scan : Purpose) (builds : Bool) (next : IsScanNext was.progress scan builds) (looked_for : is_looked_for builds was ≡ true) (count : ℕ) where
@@ -151,33 +121,33 @@ module _ (scenario : Scenario) (old : List Entry) (was : Backend) (waits : Await
       (scan_runs scenario old was waits courses next.command next.free.at scan next.next next.free.first) (scan_busy was.progress next.command next.lacks) (looks_less l t left right)
 
   -- what was kept stays where it is, and the scan stands at its entry
-  kept_then : (rows : List Row) (t : Bool) → All (KeptAt (with_own old was.progress event) was.progress.id) (was.progress.kept ++ newly_kept t scan rows (length old + 1))
-  kept_then rows t = by_kind t
+  kept_then : (rows : List Row) → All (KeptAt (with_own old was.progress event) was.progress.id) (was.progress.kept ++ record { scan = scan; rows = rows; at = length old + 1 } ∷ [])
+  kept_then rows = All-push (KeptAt (with_own old was.progress event) was.progress.id) was.progress.kept (record { scan = scan; rows = rows; at = length old + 1 })
+      (λ i d within. place_read-more old e was.progress.id (get_or was.progress.kept i d).scan
+      (none_kept was.progress scan (get_or was.progress.kept i d) next.next (list_any_at (λ k. same_scan k.scan scan) was.progress.kept i d within))
+      ∙ waits.keeps.places.kept i d within)
+      (place_read-scan old e was.progress.id scan (eq-eqb was.progress.id was.progress.id refl) (same_scan-itself scan))
     where
-      stay : All (KeptAt (with_own old was.progress event) was.progress.id) was.progress.kept
-      stay = λ i d within. place_read-more old (entry_of was.progress.id (was.progress.finished + 1) event) was.progress.id (get_or was.progress.kept i d).scan
-          (none_kept was.progress scan (get_or was.progress.kept i d) next.next (waits.rests.holds.facts.kept i d within).build (list_any_at (λ k. same_scan k.scan scan) was.progress.kept i d within))
-          ∙ waits.keeps.places.kept i d within
+      e : Entry
+      e = entry_of was.progress.id (was.progress.finished + 1) event
 
-      by_kind : (u : Bool) → All (KeptAt (with_own old was.progress event) was.progress.id) (was.progress.kept ++ newly_kept u scan rows (length old + 1))
-      by_kind true = subst (All (KeptAt (with_own old was.progress event) was.progress.id)) (sym (append-nil was.progress.kept)) stay
-      by_kind false = All-push (KeptAt (with_own old was.progress event) was.progress.id) was.progress.kept (record { scan = scan; rows = rows; at = length old + 1 }) stay (here old was.progress.id (was.progress.finished + 1) scan count scan (same_scan-itself scan))
-
-  goes_well : outcome_of (plan_at was.progress.exec) ≢ Badly
-  goes_well badly = both_ways _ (not_true (has_failed was.progress) (and_true (not (has_failed was.progress)) _ next.next).0) (ap (λ o. elim o as (λ x. Bool) [ Badly ↦ true | other ↦ false ]) badly)
+  -- it has no failure to tell
+  present : is_absent (plan_at was.progress.exec) ≡ false
+  present = by_plan (plan_at was.progress.exec) refl
+    where
+      by_plan : (p : Plan) → plan_at was.progress.exec ≡ p → is_absent p ≡ false
+      by_plan (Absent name) at = absurd (both_ways _ (not_true (has_failed was.progress) (and_true (not (has_failed was.progress)) _ next.next).0) (ap (λ p. elim (outcome_of p) as (λ x. Bool) [ Badly ↦ true | other ↦ false ]) at))
+      by_plan p at = refl
 
   -- so after it the backend agrees
   pub scan_enters : (new : List Entry) (had has : ℕ → ℕ) (p : Progress) (l t : Bool) (rows : List Row) (at : ℕ) → IsPlayed scenario old → HasEntered scenario old was.progress event waits.rests p → at ≡ length old + 1
-      → p.kept ≡ was.progress.kept ++ newly_kept (is_wanted scan (plan_at was.progress.exec)) scan rows at → p.given_at ≡ (if is_wanted scan (plan_at was.progress.exec) then at else was.progress.given_at) → p.answer ≡ None
+      → p.kept ≡ was.progress.kept ++ record { scan = scan; rows = rows; at = at } ∷ [] → p.answer ≡ None
       → l ≡ (was.looked && not (not builds)) → t ≡ (was.looked_to_build && not builds)
       → Appends old new had has (entry_of was.progress.id (was.progress.finished + 1) event) → Enters scenario old new had has was (record was { progress = p; looked = l; looked_to_build = t })
-  scan_enters new had has p l t rows at played goes at_is kept given_at none left right appends =
+  scan_enters new had has p l t rows at played goes at_is kept none left right appends =
       own_enters scenario old new had has was (record was { progress = p; looked = l; looked_to_build = t }) event waits played courses scan_own goes
       (keeps_at scenario old was event waits p goes (record was { progress = p; looked = l; looked_to_build = t }) refl refl
-      (subst (All (KeptAt (with_own old was.progress event) was.progress.id)) (sym (kept ∙ ap (λ n. was.progress.kept ++ newly_kept (is_wanted scan (plan_at was.progress.exec)) scan rows n) at_is)) (kept_then rows (is_wanted scan (plan_at was.progress.exec))))
-      (subst (PlaceFits (with_own old was.progress event) was.progress.id (plan_at p.exec) p.read) (sym (given_at ∙ ap (λ n. if is_wanted scan (plan_at was.progress.exec) then n else was.progress.given_at) at_is))
-      (subst (λ r. PlaceFits (with_own old was.progress event) was.progress.id (plan_at p.exec) r (if is_wanted scan (plan_at was.progress.exec) then length old + 1 else was.progress.given_at)) (sym (ap (λ (x : Session). x.read) goes.session))
-      (subst (λ q. PlaceFits (with_own old was.progress event) was.progress.id q (is_wanted scan (plan_at was.progress.exec) || was.progress.read) (if is_wanted scan (plan_at was.progress.exec) then length old + 1 else was.progress.given_at)) (sym (ap (λ (x : Session). x.left) goes.session))
-      (scan_place old was.progress.id (was.progress.finished + 1) scan count (plan_at was.progress.exec) was.progress.read was.progress.given_at goes_well waits.keeps.places.given_at)))))
+      (subst (All (KeptAt (with_own old was.progress event) was.progress.id)) (sym (kept ∙ ap (λ n. was.progress.kept ++ record { scan = scan; rows = rows; at = n } ∷ []) at_is)) (kept_then rows))
+      (keeps_none (with_own old was.progress event) p (ap is_absent (ap (λ (x : Session). x.left) goes.session) ∙ present)))
       (fits_at scenario old was event waits p goes l t (scan_fits l t left right))
       refl (Inside refl none) (λ inside. refl) appends

@@ -2,7 +2,7 @@
 use Rattle.std.proofs.Common.{◌≡◌, ◌+◌, ◌∙◌, ℕ, Bool, true, false, Option, Some, None, List, [], refl, sym, ap, subst, length, is_some, All}
 use Rattle.std.specs.List.{cons_option}
 use Rattle.std.specs.Option.{option_map_or}
-use Rattle.std.proofs.lemmas.Bool.{both_ways, false_from_ne_true}
+use Rattle.std.proofs.lemmas.Bool.{both_ways, eq-eqb, false_from_ne_true}
 use Rattle.std.proofs.lemmas.List.Elements.{All-filter}
 use Rattle.event_kinds.specs.declared.entry.Event.TheVariants as events
 use Rattle.inval_messages.specs.Lists.{has_write_from, lists_from, cats_in, rels_in}
@@ -11,11 +11,13 @@ use Rattle.ddl_effect.specs.declared.told.Told.TheVariants as tells
 use Rattle.ddl_effect.specs.Plans.{Done, told_rests_on}
 use Rattle.ddl_effect.specs.Stages.{told_of}
 use Rattle.history_model.specs.Legal.{FollowsVisible, FollowsGone}
+use Rattle.history_model.specs.Lives.{last_event_of}
 use Rattle.history_model.specs.Transactions.{Running, is_visible}
+use Rattle.history_model.proofs.Reading.{last_event_of-own}
 use Rattle.seg_calls.specs.Calls.{entry_of, MayCall, Appends}
 use Rattle.cacheless.specs.Ends.{Commits, TakesBack}
 use Rattle.cacheless.specs.Facts.{Facts, facts_of, facts_by}
-use Rattle.cacheless.specs.Holds.{HasEntered}
+use Rattle.cacheless.specs.Holds.{HasEntered, with_own}
 use Rattle.cacheless.specs.OnCourse.{AllOnCourse}
 use Rattle.cacheless.specs.Owed.{Owes, unusable, owed_after, owed_of, builds_owed}
 use Rattle.cacheless.specs.Session.{Session, Well, outcome_of, is_settled, plan_first}
@@ -98,9 +100,10 @@ spared_twice P cats rels kept holds = All-filter (λ k. is_spared k.scan rels) P
 
 -- the state after it
 pub take_back_enters : (scenario : Scenario) (old new : List Entry) (had has : ℕ → ℕ) (was : Backend) (from : ℕ) (p : Progress) (waits : AwaitsEntry scenario old was) → IsPlayed scenario old → AllOnCourse scenario old → EndsNext was.progress (events.Gone from)
-    → HasEntered scenario old was.progress (events.Gone from) waits.rests p → p.kept ≡ kept_spared (rels_in (lists_from from (lists_at was.progress))) (kept_spared (cats_in (lists_from from (lists_at was.progress))) was.progress.kept) → p.given_at ≡ was.progress.given_at → p.answer ≡ was.progress.answer
+    → HasEntered scenario old was.progress (events.Gone from) waits.rests p → p.kept ≡ kept_spared (rels_in (lists_from from (lists_at was.progress))) (kept_spared (cats_in (lists_from from (lists_at was.progress))) was.progress.kept) → p.answer ≡ was.progress.answer
     → Appends old new had has (entry_of was.progress.id (was.progress.finished + 1) (events.Gone from)) → Enters scenario old new had has was (record was { progress = p })
-take_back_enters scenario old new had has was from p waits played courses next goes kept given_at same appends =
+take_back_enters scenario old new had has was from p waits played courses next goes kept same appends =
     end_enters scenario old new had has was (events.Gone from) p waits refl played courses next goes
-    (subst (All (KeptAt old was.progress.id)) (sym kept) (spared_twice (KeptAt old was.progress.id) (cats_in (lists_from from (lists_at was.progress))) (rels_in (lists_from from (lists_at was.progress))) was.progress.kept waits.keeps.places.kept)) given_at same
+    (subst (All (KeptAt old was.progress.id)) (sym kept) (spared_twice (KeptAt old was.progress.id) (cats_in (lists_from from (lists_at was.progress))) (rels_in (lists_from from (lists_at was.progress))) was.progress.kept waits.keeps.places.kept))
+    (λ name missed whole. absurd (whole.untaken from (ap (last_event_of (with_own old was.progress (events.Gone from))) goes.moves.id ∙ last_event_of-own old (entry_of was.progress.id (was.progress.finished + 1) (events.Gone from)) was.progress.id (eq-eqb was.progress.id was.progress.id refl)))) same
     (take_back_fits scenario old was from waits next courses _ (length old + 1)) appends

@@ -32,7 +32,8 @@ use Rattle.cacheless.specs.Owed.{owed_of}
 use Rattle.cacheless.specs.Plays.{started_in, IsWrite, IsClash, MayPlay, MayPlayIn}
 use Rattle.cacheless.specs.Session.{Session, number_of, outcome_of, is_settled}
 use Rattle.cacheless.specs.Sessions.{written, entered}
-use Rattle.cacheless.specs.State.{owed_at, lists_at, kept_spared, locks_made, messages_in, clash_event, error_of}
+use Rattle.cacheless.specs.State.{is_absent, owed_at, lists_at, kept_spared, locks_made, messages_in, clash_event, error_of}
+use Rattle.cacheless.proofs.Allowed.NextKeeps.{spelled_at}
 use Rattle.cacheless.proofs.Plans.AloneLocks.{session_holds}
 use Rattle.cacheless.proofs.Entries.EnteredFetches.{all-spared}
 use Rattle.cacheless.proofs.Written.Listed.{lists_before_it}
@@ -40,16 +41,16 @@ use Rattle.cacheless.proofs.Same.{owes_nothing_is}
 use Rattle.cacheless.proofs.Plans.SilentActs.{empty_list, on_its_way}
 use Rattle.cacheless.proofs.Written.WriteFits.{WriteFits, write_fits}
 use Rattle.backend_core.specs.Types.{Oid, Xid, Command, Draft, Item, Message, Scenario, Entry, Event, Progress, Backend}
-use Rattle.backend_core.specs.Agrees.{IsPlayed, KeptAt, PlaceFits, AwaitsEntry}
+use Rattle.backend_core.specs.Agrees.{IsPlayed, KeptAt, AwaitsEntry}
 use Rattle.backend_core.specs.Fits.{looks_due, LooksFit}
 use Rattle.backend_core.specs.Steps.{IsWriteNext, MakesEntry, Enters, IsRefused}
 use Rattle.backend_core.proofs.Choosing.ActsRun.{act_runs}
 use Rattle.backend_core.proofs.Entries.Alike.{alike_enters}
 use Rattle.backend_core.proofs.Choosing.Chosen.{Acts, may_request, started_still}
-use Rattle.backend_core.proofs.Fitting.Entered.{fits_at, keeps_at, kept_stays}
+use Rattle.backend_core.proofs.Fitting.Entered.{fits_at, keeps_at, kept_stays, keeps_none}
 use Rattle.backend_core.proofs.Entries.Failing.{IsActing, clash_shows, failed_enters}
 use Rattle.backend_core.proofs.Entries.Inside.{made_refused, entry_fits}
-use Rattle.backend_core.proofs.Own.{waiting, waiting_is, follows, going, OwnEntry, Inside, own_makes, own_enters}
+use Rattle.backend_core.proofs.Own.{waiting, waiting_is, at_session, follows, going, OwnEntry, Inside, own_makes, own_enters}
 
 -- on a relation that is still to be drawn there is no lock
 none_held : (b : ℕ) (rel : Oid) (next : ℕ) (held : List Grant) → rel.0 ≡ next → AllByRecursion (λ g. g.rel.0 < next) held → holds held b rel AccessExclusive ≡ false
@@ -95,7 +96,7 @@ module _ (scenario : Scenario) (old : List Entry) (was : Backend) (draft : Draft
 
   -- what it is about to write may be written
   suits : WriteFits old was.progress.id (was.progress.finished + 1) facts draft
-  suits = write_fits old was.progress.id (was.progress.finished + 1) facts next.command way.gave draft (λ given. Done tells.Ok) played.sound played.tables way.runs way.holds (sym way.plan ∙ at)
+  suits = write_fits old was.progress.id (was.progress.finished + 1) facts next.command way.gave draft (λ given. Done tells.Ok) played.sound played.tables (spelled_at scenario was.progress.id (length s.finished) next.command played.spelled (at_session scenario old was waits ∙ next.free.at)) way.runs way.holds (sym way.plan ∙ at)
 
   pub write_request : MayRequest scenario old was.progress.id (was.progress.finished + 1)
   write_request = may_request scenario old was waits next.command next.free.at (Acts acting.unsettled)
@@ -132,7 +133,7 @@ module _ (scenario : Scenario) (old : List Entry) (was : Backend) (draft : Draft
       (keeps_at scenario old was event waits p goes (record was { progress = p }) refl refl
       (subst (All (KeptAt (with_own old was.progress event) was.progress.id)) (sym kept) (all-spared (KeptAt (with_own old was.progress event) was.progress.id) messages was.progress.kept
       (kept_stays old (entry_of was.progress.id (was.progress.finished + 1) event) was.progress.id was.progress.kept (λ scan. refl) waits.keeps.places.kept)))
-      (subst (λ q. PlaceFits (with_own old was.progress event) was.progress.id q p.read p.given_at) (sym (ap (λ (x : Session). x.left) goes.session ∙ ap (λ q. (written q s).left) at)) tt))
+      (keeps_none (with_own old was.progress event) p (ap is_absent (ap (λ (x : Session). x.left) goes.session ∙ ap (λ q. (written q s).left) at))))
       (fits_at scenario old was event waits p goes was.looked was.looked_to_build
       (entry_fits scenario old was waits courses next.command next.free.at later now was.looked was.looked_to_build
       (record { runs = λ i. Some (record (begun (sym waits.rests.holds.count i + 1) facts.running) { xid = Some xid.0 }); written = λ is. refl; last = λ from is. cc is })

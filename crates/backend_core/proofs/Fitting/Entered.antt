@@ -1,10 +1,10 @@
 -- What a backend keeps with its own entry.
-use Rattle.std.proofs.Common.{◌≡◌, ◌≤◌, ◌+◌, ◌∙◌, ℕ, Bool, true, false, List, [], ◌∷◌, ◌++◌, refl, sym, ap, subst, length, drop, slice_get, get_or, All, arith}
-use Rattle.std.proofs.lemmas.Bool.{eq-eqb, lt-ltb}
+use Rattle.std.proofs.Common.{◌≡◌, ◌≤◌, ◌+◌, ◌∙◌, ℕ, Bool, true, false, Some, List, [], ◌∷◌, ◌++◌, refl, sym, ap, subst, length, drop, slice_get, get_or, All, arith}
+use Rattle.std.proofs.lemmas.Bool.{both_ways, eq-eqb, lt-ltb}
 use Rattle.base_types.specs.declared.scan.Purpose.TheVariants as scans
-use Rattle.ddl_effect.specs.Plans.{Plan, Absent, Do, Lookup}
+use Rattle.event_kinds.specs.declared.entry.Event.TheVariants as events
 use Rattle.ddl_effect.specs.Stages.{plan_at}
-use Rattle.history_model.specs.Lives.{Alive, life_by, life_of}
+use Rattle.history_model.specs.Lives.{Alive, life_by, life_of, last_event_of}
 use Rattle.history_model.specs.Read.{is_scan_of}
 use Rattle.history_model.proofs.Reading.{life_of-own}
 use Rattle.cacheless.specs.Facts.{facts_of, facts_by}
@@ -12,11 +12,11 @@ use Rattle.cacheless.specs.Holds.{CountsFit, HasEntered, entry_of, with_own}
 use Rattle.cacheless.specs.May.{HasRoom}
 use Rattle.cacheless.specs.Runs.{runs}
 use Rattle.cacheless.specs.Sessions.{entered}
-use Rattle.cacheless.specs.State.{session_at}
+use Rattle.cacheless.specs.State.{is_kept, is_absent, session_at}
 use Rattle.cacheless.proofs.Reading.{facts_of-own}
 use Rattle.cacheless.proofs.Answers.ReadPlaces.{place_read-more}
 use Rattle.backend_core.specs.Types.{Purpose, Scenario, Entry, Event, KeptScan, Progress, Backend}
-use Rattle.backend_core.specs.Agrees.{command_at, KeptAt, PlaceFits, Keeps, AwaitsEntry}
+use Rattle.backend_core.specs.Agrees.{command_at, KeptAt, KeepsAbsent, Keeps, AwaitsEntry}
 use Rattle.backend_core.specs.Fits.{Fits}
 use Rattle.backend_core.proofs.Own.{waiting}
 
@@ -37,12 +37,9 @@ is_few scenario seen s waits = omega (arith, waits.rests.holds.few, waits.rests.
 pub kept_stays : (old : List Entry) (e : Entry) (b : ℕ) (kept : List KeptScan) → ((scan : Purpose) → is_scan_of scan e.event ≡ false) → All (KeptAt old b) kept → All (KeptAt (old ++ e ∷ []) b) kept
 kept_stays old e b kept others fits = λ i d within. place_read-more old e b (get_or kept i d).scan (others (get_or kept i d).scan) ∙ fits i d within
 
-pub place_stays : (old : List Entry) (e : Entry) (b : ℕ) (plan : Plan) (read : Bool) (at : ℕ) → ((scan : Purpose) → is_scan_of scan e.event ≡ false) → PlaceFits old b plan read at → PlaceFits (old ++ e ∷ []) b plan read at
-place_stays old e b (Do (Lookup name mode) rest) true at others fits = place_read-more old e b (scans.RelName name) (others (scans.RelName name)) ∙ fits
-place_stays old e b (Do (Lookup name mode) rest) false at others fits = tt
-place_stays old e b (Do act rest) read at others fits = tt
-place_stays old e b (Absent name) read at others fits = place_read-more old e b (scans.RelName name) (others (scans.RelName name)) ∙ fits
-place_stays old e b plan read at others fits = tt
+-- a plan that isn't absent has no scan to keep
+pub keeps_none : (seen : List Entry) (p : Progress) → is_absent (plan_at p.exec) ≡ false → KeepsAbsent seen p
+keeps_none seen p there = λ name missed whole. absurd (both_ways _ there (ap is_absent missed))
 
 module _ (scenario : Scenario) (old : List Entry) (was : Backend) (event : Event) (waits : AwaitsEntry scenario old was) (p : Progress) (goes : HasEntered scenario old was.progress event waits.rests p) where
   -- what the choice keeps of the session that the entry left, it keeps of what the code holds then
@@ -58,8 +55,8 @@ module _ (scenario : Scenario) (old : List Entry) (was : Backend) (event : Event
 
   -- and so it keeps the rest, where the places of its scans are told
   pub keeps_at : (now : Backend) → now.life ≡ was.life → life_by (was.progress.finished + 1) event ≡ Alive (was.progress.finished + 1) → All (KeptAt (with_own old was.progress event) was.progress.id) p.kept
-      → PlaceFits (with_own old was.progress event) was.progress.id (plan_at p.exec) p.read p.given_at → Keeps (with_own old was.progress event) (record now { progress = p })
-  keeps_at now life goes_on kept place = record {
+      → KeepsAbsent (with_own old was.progress event) p → Keeps (with_own old was.progress event) (record now { progress = p })
+  keeps_at now life goes_on kept absent = record {
     alive = life ∙ waits.keeps.alive;
     life = record {
       last = was.progress.finished + 1;
@@ -67,15 +64,14 @@ module _ (scenario : Scenario) (old : List Entry) (was : Backend) (event : Event
       most = omega (arith, goes.moves.finished);
     };
     built = subst (All (λ c. runs c ≡ true)) (sym goes.moves.commands) waits.keeps.built;
-    places = record {
-      kept = subst (λ b. All (KeptAt (with_own old was.progress event) b) p.kept) (sym goes.moves.id) kept;
-      given_at = subst (λ b. PlaceFits (with_own old was.progress event) b (plan_at p.exec) p.read p.given_at) (sym goes.moves.id) place;
-    };
+    places = record { kept = subst (λ b. All (KeptAt (with_own old was.progress event) b) p.kept) (sym goes.moves.id) kept; absent = absent };
   }
 
-  -- so where the entry is no scan and leaves its plan
+  -- so where the entry is no scan
   pub keeps_still : (now : Backend) → now.life ≡ was.life → life_by (was.progress.finished + 1) event ≡ Alive (was.progress.finished + 1) → ((scan : Purpose) → is_scan_of scan event ≡ false) → All (KeptAt old was.progress.id) p.kept
-      → plan_at p.exec ≡ plan_at was.progress.exec → p.read ≡ was.progress.read → p.given_at ≡ was.progress.given_at → Keeps (with_own old was.progress event) (record now { progress = p })
-  keeps_still now life goes_on others kept plan read at = keeps_at now life goes_on (kept_stays old (entry_of was.progress.id (was.progress.finished + 1) event) was.progress.id p.kept others kept)
-      (place_stays old (entry_of was.progress.id (was.progress.finished + 1) event) was.progress.id (plan_at p.exec) p.read p.given_at others
-      (subst (λ n. PlaceFits old was.progress.id (plan_at p.exec) p.read n) (sym at) (subst (λ t. PlaceFits old was.progress.id (plan_at p.exec) t was.progress.given_at) (sym read) (subst (λ x. PlaceFits old was.progress.id x was.progress.read was.progress.given_at) (sym plan) waits.keeps.places.given_at))))
+      → KeepsAbsent (with_own old was.progress event) p → Keeps (with_own old was.progress event) (record now { progress = p })
+  keeps_still now life goes_on others kept absent = keeps_at now life goes_on (kept_stays old (entry_of was.progress.id (was.progress.finished + 1) event) was.progress.id p.kept others kept) absent
+
+  -- an entry that leaves its plan and its scans, where nothing was taken back before
+  pub absent_still : p.kept ≡ was.progress.kept → plan_at p.exec ≡ plan_at was.progress.exec → p.ended ≡ was.progress.ended → ((from : ℕ) → last_event_of old was.progress.id ≡ Some (events.Gone from) → ⊥) → KeepsAbsent (with_own old was.progress event) p
+  absent_still kept plan ended untaken = λ name missed whole. ap (λ l. is_kept l (scans.RelName name)) kept ∙ waits.keeps.places.absent name (sym plan ∙ missed) (record { untaken = untaken; going = sym ended ∙ whole.going })

@@ -82,7 +82,7 @@ owed_later facts later command s locks at goes out built =
     start = ap (λ t. elim (begins command s && t) as (λ x. List Owes) [ true ↦ OwesLook ∷ [] | false ↦ [] ]) (none_some later.running goes.some)
         ∙ ap (λ t. elim t as (λ x. List Owes) [ true ↦ OwesLook ∷ [] | false ↦ [] ]) (and-false (begins command s))
 
-    by_plan : (p : Plan) → s.left ≡ p → is_settled (outcome_of p) ≡ true → (outcome_of s.left ≡ Well → OwesNoScan later s) → ◌≡◌ {A = List Purpose} (elim (outcome_of p) [ Badly ↦ [] | other ↦ builds_owed later s.opened ++ act_owed later locks s.read p ]) []
+    by_plan : (p : Plan) → s.left ≡ p → is_settled (outcome_of p) ≡ true → (outcome_of s.left ≡ Well → OwesNoScan later s) → ◌≡◌ {A = List Purpose} (elim (outcome_of p) [ Badly ↦ [] | other ↦ builds_owed later s.opened ++ act_owed later s.granted p ]) []
     by_plan (Done told) at is none = let free = none (ap outcome_of at) in ap (λ l. l ++ unusable later (left_rests_on (Done told))) free.0 ∙ free.1 told at
     by_plan (Fails error) at is none = refl
     by_plan (Absent name) at is none = refl

@@ -3,10 +3,10 @@ use Rattle.std.proofs.Common.{ℕ, List, [], ◌∷◌, ◌++◌, refl}
 use Rattle.history_model.specs.Legal.{MayFollow, IsLegal}
 use Rattle.history_model.specs.Orderly.{IsOrderly, MayComeNext, IsSound}
 use Rattle.history_model.specs.Read.{ScansOnlyIfNeeded, IsEconomical}
-use Rattle.history_model.proofs.Prefixes.{EachEntry-more, EachFrom-both, each-keeps}
+use Rattle.history_model.proofs.Prefixes.{EachEntry-more, EachEntry-weaker, EachFrom-both, each-keeps}
 use Rattle.cacheless.specs.Types.{Scenario, Entry}
 use Rattle.cacheless.specs.OnCourse.{AllOnCourse}
-use Rattle.cacheless.specs.Played.{IsPlayed}
+use Rattle.cacheless.specs.Played.{AreSpelled, IsPlayed}
 use Rattle.cacheless.specs.Plays.{IsNext, Plays}
 use Rattle.cacheless.specs.Output.{IsAllowed, IsOutput}
 use Rattle.cacheless.specs.TableWrites.{WritesTables}
@@ -29,36 +29,35 @@ played_more scenario history e played courses follows next = (later, all_stay sc
       sound = EachEntry-more MayComeNext history e played.sound comes;
       plays = EachEntry-more (IsNext scenario) history e played.plays next;
       tables = EachEntry-more WritesTables history e played.tables kept.1;
+      spelled = played.spelled;
     }
 
 -- nothing is played
-pub played_start : (scenario : Scenario) → IsPlayed scenario [] × AllOnCourse scenario []
-played_start scenario = (record { sound = tt; plays = tt; tables = tt }, λ b c. refl)
+pub played_start : (scenario : Scenario) → AreSpelled scenario → IsPlayed scenario [] × AllOnCourse scenario []
+played_start scenario spelled = (record { sound = tt; plays = tt; tables = tt; spelled = spelled }, λ b c. refl)
 
--- a legal history in which backends do what their commands say is played, and each is on its course
-pub plays_on_course : (scenario : Scenario) (history : List Entry) → IsLegal history → Plays scenario history → IsPlayed scenario history × AllOnCourse scenario history
-plays_on_course scenario history legal plays =
-    each-keeps (λ before e. MayFollow before e × IsNext scenario before e) (λ h. IsPlayed scenario h × AllOnCourse scenario h) (played_start scenario) (λ before e k may. played_more scenario before e k.0 k.1 may.0 may.1) history
+-- a legal history in which backends do what the commands of a script say is played, and each is on its course
+pub plays_on_course : (scenario : Scenario) (history : List Entry) → AreSpelled scenario → IsLegal history → Plays scenario history → IsPlayed scenario history × AllOnCourse scenario history
+plays_on_course scenario history spelled legal plays =
+    each-keeps (λ before e. MayFollow before e × IsNext scenario before e) (λ h. IsPlayed scenario h × AllOnCourse scenario h) (played_start scenario spelled) (λ before e k may. played_more scenario before e k.0 k.1 may.0 may.1) history
     (EachFrom-both MayFollow (IsNext scenario) [] history legal plays)
 
--- so a history is economical: nobody scans again for a descriptor what it may still rely on
-pub plays_economical : (scenario : Scenario) (history : List Entry) → IsLegal history → Plays scenario history → IsEconomical history
-plays_economical scenario history legal plays = (each-keeps (λ before e. MayFollow before e × IsNext scenario before e) (λ h. (IsPlayed scenario h × AllOnCourse scenario h) × IsEconomical h) (played_start scenario, tt)
-    (λ before e k may. (played_more scenario before e k.0.0 k.0.1 may.0 may.1, EachEntry-more (λ front x. ScansOnlyIfNeeded front x.backend x.event) before e k.1 (plays_needed scenario before e k.0.1 may.1))) history
-    (EachFrom-both MayFollow (IsNext scenario) [] history legal plays)).1
+-- a history in which backends do what their commands say is economical: nobody scans again what it may still rely on
+pub plays_economical : (scenario : Scenario) (history : List Entry) → Plays scenario history → IsEconomical history
+plays_economical scenario history plays = EachEntry-weaker (IsNext scenario) (λ before e. ScansOnlyIfNeeded before e.backend e.event) (plays_needed scenario) history plays
 
--- an allowed history is played
-pub allowed_played : (scenario : Scenario) (history : List Entry) → IsAllowed scenario history → IsPlayed scenario history
-allowed_played scenario history allowed = (plays_on_course scenario history allowed.legal allowed.plays).0
+-- a history that a script allows is played
+pub allowed_played : (scenario : Scenario) (history : List Entry) → AreSpelled scenario → IsAllowed scenario history → IsPlayed scenario history
+allowed_played scenario history spelled allowed = (plays_on_course scenario history spelled allowed.legal allowed.plays).0
 
 -- and sound: what is proved of sound histories holds of whatever the program writes
-pub allowed_sound : (scenario : Scenario) (history : List Entry) → IsAllowed scenario history → IsSound history
-allowed_sound scenario history allowed = (allowed_played scenario history allowed).sound
+pub allowed_sound : (scenario : Scenario) (history : List Entry) → AreSpelled scenario → IsAllowed scenario history → IsSound history
+allowed_sound scenario history spelled allowed = (allowed_played scenario history spelled allowed).sound
 
 -- and each of its backends is on its course
-pub allowed_on_course : (scenario : Scenario) (history : List Entry) → IsAllowed scenario history → AllOnCourse scenario history
-allowed_on_course scenario history allowed = (plays_on_course scenario history allowed.legal allowed.plays).1
+pub allowed_on_course : (scenario : Scenario) (history : List Entry) → AreSpelled scenario → IsAllowed scenario history → AllOnCourse scenario history
+allowed_on_course scenario history spelled allowed = (plays_on_course scenario history spelled allowed.legal allowed.plays).1
 
 -- as is the history of an output
-pub output_sound : (scenario : Scenario) (text : List ℕ) (output : IsOutput scenario text) → IsSound output.history
-output_sound scenario text output = allowed_sound scenario output.history output.allowed
+pub output_sound : (scenario : Scenario) (text : List ℕ) (output : IsOutput scenario text) → AreSpelled scenario → IsSound output.history
+output_sound scenario text output spelled = allowed_sound scenario output.history spelled output.allowed

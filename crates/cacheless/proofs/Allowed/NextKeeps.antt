@@ -1,7 +1,7 @@
 -- What backends do next that follow their commands keeps order and tables.
-use Rattle.std.proofs.Common.{◌≡◌, ◌<◌, ◌∙◌, ℕ, true, Option, Some, None, List, [], ◌∷◌, ◌++◌, refl, sym, ap, subst, map, length, slice_get}
+use Rattle.std.proofs.Common.{◌≡◌, ◌<◌, ◌∙◌, ◌==◌, ℕ, zero, suc, true, Option, Some, None, List, [], ◌∷◌, ◌++◌, refl, sym, ap, subst, map, filter, length, slice_get}
 use Rattle.std.specs.List.{AllByRecursion}
-use Rattle.std.proofs.lemmas.Bool.{and_parts}
+use Rattle.base_types.specs.Commands.{IsCommand}
 use Rattle.base_types.specs.declared.row.Row.TheVariants as rows
 use Rattle.base_types.specs.declared.scan.Purpose.TheVariants as scans
 use Rattle.event_kinds.specs.declared.entry.Event.TheVariants as events
@@ -12,26 +12,27 @@ use Rattle.history_model.specs.Orderly.{main_rel, IsOrderlyWrite, IsOrderlyEvent
 use Rattle.history_model.specs.Prefixes.{EachEntry}
 use Rattle.history_model.specs.Read.{rows_read}
 use Rattle.history_model.proofs.DrawnRows.{given_drawn}
+use Rattle.history_model.proofs.Every.{every-weaker, every-map, every-filter}
 use Rattle.cacheless.specs.Types.{Oid, Mode, Row, Purpose, Item, Scenario, Command, Entry, Event}
 use Rattle.cacheless.specs.Facts.{Facts, facts_of}
 use Rattle.cacheless.specs.OnCourse.{IsFirstSeen, NamedFits, FollowsPlan, IsOnCourse, CourseOf, AllOnCourse}
 use Rattle.cacheless.specs.Owed.{OwesScan, builds_owed, act_owed, scans_owed, owed_of}
-use Rattle.cacheless.specs.Played.{IsPlayed}
+use Rattle.cacheless.specs.Played.{AreSpelled, IsPlayed}
 use Rattle.cacheless.specs.Plays.{IsLock, IsWrite, MayPlay, MayPlayLast, MayPlayIn, IsStart, MayPlayAt, IsNext}
 use Rattle.cacheless.specs.Session.{Session, Badly, number_of, outcome_of}
 use Rattle.cacheless.specs.Sessions.{session_of}
 use Rattle.cacheless.specs.Settled.{class_oid}
 use Rattle.cacheless.specs.TableWrites.{WritesTables, KeepsTables, KeepsTablesBy}
 use Rattle.cacheless.proofs.Plans.AfterActs.{no_lock}
-use Rattle.cacheless.proofs.Plans.SilentActs.{both_empty, made_already, its_place, on_its_way}
+use Rattle.cacheless.proofs.Plans.SilentActs.{both_empty, lookup_seen, its_place, on_its_way}
 use Rattle.cacheless.proofs.Written.WriteFits.{write_fits}
 
 -- the scan on which a command's next act rests isn't owed, where nothing is
-pub nothing_owed : (facts : Facts) (command : Command) (s : Session) (act : Act) (rest : List Row → Plan) → s.left ≡ Do act rest → owed_of facts command s ≡ [] → act_owed facts s.locks s.read (Do act rest) ≡ []
-nothing_owed facts command s act rest at none = (both_empty (builds_owed facts s.opened) (act_owed facts s.locks s.read (Do act rest)) (unmapped _ (sym (ap (map OwesScan) same) ∙ (both_empty _ (map OwesScan (scans_owed facts s)) none).1))).1
+pub nothing_owed : (facts : Facts) (command : Command) (s : Session) (act : Act) (rest : List Row → Plan) → s.left ≡ Do act rest → owed_of facts command s ≡ [] → act_owed facts s.granted (Do act rest) ≡ []
+nothing_owed facts command s act rest at none = (both_empty (builds_owed facts s.opened) (act_owed facts s.granted (Do act rest)) (unmapped _ (sym (ap (map OwesScan) same) ∙ (both_empty _ (map OwesScan (scans_owed facts s)) none).1))).1
   where
-    same : scans_owed facts s ≡ builds_owed facts s.opened ++ act_owed facts s.locks s.read (Do act rest)
-    same = ap (λ p. elim (outcome_of p) as (λ x. List Purpose) [ Badly ↦ [] | other ↦ builds_owed facts s.opened ++ act_owed facts s.locks s.read p ]) at
+    same : scans_owed facts s ≡ builds_owed facts s.opened ++ act_owed facts s.granted (Do act rest)
+    same = ap (λ p. elim (outcome_of p) as (λ x. List Purpose) [ Badly ↦ [] | other ↦ builds_owed facts s.opened ++ act_owed facts s.granted p ]) at
 
     unmapped : (l : List Purpose) → map OwesScan l ≡ [] → l ≡ []
     unmapped [] is = refl
@@ -44,13 +45,13 @@ seen_drawn history b rel (rows.Class own name kind fill ∷ more) sound seen is 
 seen_drawn history b rel given sound seen is = absurd (cc is)
 
 -- a command asks for a lock on no relation that is still to be drawn
-pub lock_drawn : (history : List Entry) (b : ℕ) (s : Session) (command : Command) (rel : Oid) (mode : Mode) → IsSound history → FollowsPlan history b s command → owed_of (facts_of history b) command s ≡ [] → IsLock (facts_of history b) s.left rel mode → rel.0 < next_oid history
-lock_drawn history b s command rel mode sound follows none lock = by_plan s.left refl lock
+pub lock_drawn : (history : List Entry) (b : ℕ) (s : Session) (command : Command) (rel : Oid) (mode : Mode) → IsSound history → EachEntry WritesTables history → FollowsPlan history b s command → owed_of (facts_of history b) command s ≡ [] → IsLock (facts_of history b) s.left rel mode → rel.0 < next_oid history
+lock_drawn history b s command rel mode sound tables follows none lock = by_plan s.left refl lock
   where
     by_plan : (p : Plan) → s.left ≡ p → IsLock (facts_of history b) p rel mode → rel.0 < next_oid history
     by_plan (Do (Lookup name wanted) rest) at asks =
-        let read : s.read ≡ true = (and_parts s.read _ (made_already _ (scans.RelName name) (nothing_owed (facts_of history b) command s (Lookup name wanted) rest at none))).0 in
-        seen_drawn history b rel (rows_read history b (scans.RelName name)) sound (subst (NamedFits history b (Do (Lookup name wanted) rest)) read (subst (λ p. NamedFits history b p s.read) at follows.named)) asks.0
+        let seen = lookup_seen history b name wanted rest s.granted sound tables (nothing_owed (facts_of history b) command s (Lookup name wanted) rest at none) (subst (λ p. NamedFits history b p s.granted) at follows.named) in
+        seen_drawn history b rel (rows_read history b (scans.RelName name)) sound seen asks.0
     by_plan (Do (Lock on wanted) rest) at asks = absurd (no_lock _ _ on wanted rest (its_place history b s command (Lock on wanted) rest (on_its_way history b s command (Lock on wanted) rest follows at) at))
     by_plan (Do (Open of kind) rest) at asks = absurd asks
     by_plan (Do (Search scan) rest) at asks = absurd asks
@@ -61,14 +62,24 @@ lock_drawn history b s command rel mode sound follows none lock = by_plan s.left
     by_plan (Absent name) at asks = absurd asks
     by_plan NotBuilt at asks = absurd asks
 
+-- a command of a script has a form that a line may have
+pub spelled_at : (scenario : Scenario) (b n : ℕ) (command : Command) → AreSpelled scenario → slice_get (commands_of scenario b) n ≡ Some command → IsCommand command
+spelled_at scenario b n command spelled at = found n (commands_of scenario b)
+    (every-map IsCommand (λ p. p.command) (filter (λ p. p.backend == b) scenario.commands) (every-filter (λ p. IsCommand p.command) (λ p. p.backend == b) scenario.commands (every-weaker (λ p. IsCommand p.command) (λ p. (p.backend == b) ≡ true → IsCommand p.command) (λ p is own. is) scenario.commands spelled))) at
+  where
+    found : (k : ℕ) (commands : List Command) → AllByRecursion IsCommand commands → slice_get commands k ≡ Some command → IsCommand command
+    found k [] all is = absurd (cc is)
+    found zero (first ∷ commands) all is = let same : first ≡ command = cc is in subst IsCommand same all.0
+    found (suc k) (first ∷ commands) all is = found k commands all.1 is
+
 -- what a command writes keeps order and tables
-pub write_orderly : (history : List Entry) (b : ℕ) (s : Session) (command : Command) (items : List Item) → IsSound history → EachEntry WritesTables history → FollowsPlan history b s command → IsWrite (next_oid history) s.left items → IsOrderlyWrite history b items × KeepsTables history b items
-write_orderly history b s command items sound tables follows writes = by_plan s.left refl writes
+pub write_orderly : (history : List Entry) (b : ℕ) (s : Session) (command : Command) (items : List Item) → IsSound history → EachEntry WritesTables history → IsCommand command → FollowsPlan history b s command → IsWrite (next_oid history) s.left items → IsOrderlyWrite history b items × KeepsTables history b items
+write_orderly history b s command items sound tables spelled follows writes = by_plan s.left refl writes
   where
     by_plan : (p : Plan) → s.left ≡ p → IsWrite (next_oid history) p items → IsOrderlyWrite history b items × KeepsTables history b items
     by_plan (Do (Write draft) rest) at are =
         let way = on_its_way history b s command (Write draft) rest follows at in
-        let fits = write_fits history b (number_of s) (facts_of history b) command way.gave draft rest sound tables way.runs way.holds (sym way.plan ∙ at) in
+        let fits = write_fits history b (number_of s) (facts_of history b) command way.gave draft rest sound tables spelled way.runs way.holds (sym way.plan ∙ at) in
         (subst (IsOrderlyWrite history b) (sym are) fits.fit.orderly, subst (KeepsTables history b) (sym are) fits.keeps)
     by_plan (Do (Lookup name mode) rest) at are = absurd are
     by_plan (Do (Open rel kind) rest) at are = absurd are
@@ -97,11 +108,11 @@ last_keeps history b s (events.Write xid items) plays = absurd plays
 last_keeps history b s event plays = (tt, tt)
 
 -- and what comes next of a command on its course
-pub command_keeps : (scenario : Scenario) (history : List Entry) (b : ℕ) (s : Session) (command : Command) (event : Event) → IsPlayed scenario history → FollowsPlan history b s command → MayPlay (next_oid history) (facts_of history b) command s event → KeepsBoth history b event
-command_keeps scenario history b s command (events.LockOk rel mode) played follows plays = (lock_drawn history b s command rel mode played.sound follows plays.0 plays.1, tt)
-command_keeps scenario history b s command (events.LockHeld rel mode holder held) played follows plays = (lock_drawn history b s command rel mode played.sound follows plays.0 plays.1, tt)
-command_keeps scenario history b s command (events.Write xid items) played follows plays = write_orderly history b s command items played.sound played.tables follows plays.1
-command_keeps scenario history b s command event played follows plays = (tt, tt)
+pub command_keeps : (scenario : Scenario) (history : List Entry) (b : ℕ) (s : Session) (command : Command) (event : Event) → IsPlayed scenario history → IsCommand command → FollowsPlan history b s command → MayPlay (next_oid history) (facts_of history b) command s event → KeepsBoth history b event
+command_keeps scenario history b s command (events.LockOk rel mode) played spelled follows plays = (lock_drawn history b s command rel mode played.sound played.tables follows plays.0 plays.1, tt)
+command_keeps scenario history b s command (events.LockHeld rel mode holder held) played spelled follows plays = (lock_drawn history b s command rel mode played.sound played.tables follows plays.0 plays.1, tt)
+command_keeps scenario history b s command (events.Write xid items) played spelled follows plays = write_orderly history b s command items played.sound played.tables spelled follows plays.1
+command_keeps scenario history b s command event played spelled follows plays = (tt, tt)
 
 -- and so whatever may come next
 pub next_keeps : (scenario : Scenario) (history : List Entry) (e : Entry) → IsPlayed scenario history → AllOnCourse scenario history → IsNext scenario history e → IsOrderly history e × WritesTables history e
@@ -109,7 +120,7 @@ next_keeps scenario history e played courses next = by_session (session_of scena
   where
     by_command : (s : Session) (o : Option Command) → slice_get (commands_of scenario e.backend) (length s.finished) ≡ o → MayPlayIn (next_oid history) (facts_of history e.backend) o s e.event → IsOnCourse scenario history e.backend s → KeepsBoth history e.backend e.event
     by_command s None at plays course = last_keeps history e.backend s e.event plays
-    by_command s (Some command) at plays course = command_keeps scenario history e.backend s command e.event played (course.follows command at) plays
+    by_command s (Some command) at plays course = command_keeps scenario history e.backend s command e.event played (spelled_at scenario e.backend (length s.finished) command played.spelled at) (course.follows command at) plays
 
     by_session : (o : Option Session) → MayPlayAt scenario history e.backend o e.command e.event → CourseOf scenario history e.backend o → KeepsBoth history e.backend e.event
     by_session None plays course = start_keeps history e.backend e.event plays

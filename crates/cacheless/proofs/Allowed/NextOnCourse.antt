@@ -43,7 +43,7 @@ entered_noted facts left at c event s = record {
     sought = ap (λ x. x.sought) same;
     finished = ap (λ x. x.finished) same;
   };
-  read = ap (λ x. x.read) same;
+  granted = ap (λ x. x.granted) same;
   ended = ap (λ x. x.ended) same;
 }
   where

@@ -21,7 +21,7 @@ use Rattle.cacheless.specs.Ends.{end_left}
 use Rattle.cacheless.proofs.Plans.ActOrder.{follows_order}
 use Rattle.cacheless.proofs.Plans.AfterActs.{order_there}
 use Rattle.cacheless.proofs.Settling.{acted-out}
-use Rattle.cacheless.proofs.Plans.SilentActs.{both_empty, empty_list, IsDoneHere, is_done_here, named_unread, absent_name, act_follows}
+use Rattle.cacheless.proofs.Plans.SilentActs.{both_empty, empty_list, IsDoneHere, is_done_here, named_ungranted, absent_name, act_follows}
 
 -- whether its accept of messages is over doesn't change where an act is done here
 builds_done : (facts : Facts) (command : Command) (s : Session) → builds_owed facts s.opened ≡ [] → is_empty (owed_at_start facts command s ++ owed_after facts.last) ≡ true → owes_accept facts (Some command) s ≡ false
@@ -103,7 +103,7 @@ pub begins_plan : (seen : List Entry) (b : ℕ) (blocks : Blocks) (finished : Li
 begins_plan seen b blocks finished locks last command unwritten = record {
   refused = λ error is. ap (λ o. plan_admitted o command) is;
   way = λ none. by_test (ap (λ o. plan_admitted o command) none) (runs command) refl;
-  named = named_unread seen b (plan_admitted (refused_by blocks command) command) (admitted_there (refused_by blocks command) command);
+  named = named_ungranted seen b (plan_admitted (refused_by blocks command) command) (admitted_there (refused_by blocks command) command);
   sought = λ name is. absurd (let both : true ≡ false = sym (absent_name name (plan_admitted (refused_by blocks command) command) is) ∙ admitted_there (refused_by blocks command) command in cc both);
   plain = λ told none. record { opened = refl; left = λ well. admitted_done command (refused_by blocks command) told none well };
 }
@@ -150,15 +150,15 @@ finished_accepts facts command s finished = by_parts (empty_list _ (and_parts (i
     first : List Owes
     first = owed_at_start facts command s ++ owed_after facts.last
 
-    by_outcome : (o : Outcome) → map OwesScan (elim o as (λ x. List Purpose) [ Badly ↦ [] | other ↦ builds_owed facts s.opened ++ act_owed facts s.locks s.read s.left ]) ≡ [] → elim o as (λ x. Bool) [ Badly ↦ false | other ↦ not (is_empty (builds_owed facts s.opened)) ] ≡ false
+    by_outcome : (o : Outcome) → map OwesScan (elim o as (λ x. List Purpose) [ Badly ↦ [] | other ↦ builds_owed facts s.opened ++ act_owed facts s.granted s.left ]) ≡ [] → elim o as (λ x. Bool) [ Badly ↦ false | other ↦ not (is_empty (builds_owed facts s.opened)) ] ≡ false
     by_outcome Unsettled none = by_builds (builds_owed facts s.opened) none
       where
-        by_builds : (l : List Purpose) → map OwesScan (l ++ act_owed facts s.locks s.read s.left) ≡ [] → not (is_empty l) ≡ false
+        by_builds : (l : List Purpose) → map OwesScan (l ++ act_owed facts s.granted s.left) ≡ [] → not (is_empty l) ≡ false
         by_builds [] is = refl
         by_builds (x ∷ xs) is = absurd (cc is)
     by_outcome Well none = by_builds (builds_owed facts s.opened) none
       where
-        by_builds : (l : List Purpose) → map OwesScan (l ++ act_owed facts s.locks s.read s.left) ≡ [] → not (is_empty l) ≡ false
+        by_builds : (l : List Purpose) → map OwesScan (l ++ act_owed facts s.granted s.left) ≡ [] → not (is_empty l) ≡ false
         by_builds [] is = refl
         by_builds (x ∷ xs) is = absurd (cc is)
     by_outcome Badly none = refl

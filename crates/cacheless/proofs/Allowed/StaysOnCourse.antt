@@ -9,8 +9,6 @@ use Rattle.ddl_effect.specs.Plans.{Plan, Absent, Do, Lookup}
 use Rattle.ddl_effect.specs.Commands.{plan_of}
 use Rattle.history_model.specs.Legal.{FollowsGone}
 use Rattle.history_model.specs.Lives.{last_event_of}
-use Rattle.history_model.specs.Orderly.{MayComeNext, IsSound}
-use Rattle.history_model.specs.Prefixes.{EachEntry}
 use Rattle.history_model.specs.Read.{is_scan_of, rows_read}
 use Rattle.history_model.specs.Versions.{answer_of}
 use Rattle.history_model.specs.Writes.{has_written, is_write}
@@ -20,8 +18,8 @@ use Rattle.cacheless.specs.Types.{Row, Purpose, Command, Told, Entry, Event}
 use Rattle.cacheless.specs.OnCourse.{OnItsWay, is_over, Way, Begun, Wrote, Unbuilt, Over, IsFirstSeen, NamedFits, WasSought, DoesNoAct, FollowsPlan}
 use Rattle.cacheless.specs.Session.{Session, none_open, number_of, outcome_of, is_settled}
 use Rattle.cacheless.specs.Settled.{class_oid}
-use Rattle.cacheless.specs.TableWrites.{WritesTables}
 use Rattle.cacheless.proofs.Plans.ActOrder.{follows_order}
+pub use Rattle.cacheless.proofs.StillSeen.{MayCome}
 use Rattle.cacheless.proofs.Plans.StillLocked.{way_stays}
 use Rattle.cacheless.proofs.StillSeen.{IsNoGone, TakesNoneBack, relation_stays}
 
@@ -55,13 +53,6 @@ pub record IsAfter (s later : Session) : Type 0 where
   pub sought : later.sought ≡ s.sought
   pub finished : later.finished ≡ s.finished
 
--- an entry that may come next, after a sound history of which each write keeps tables, as it does itself
-pub record MayCome (history : List Entry) (e : Entry) : Type 0 where
-  pub sound : IsSound history
-  pub tables : EachEntry WritesTables history
-  pub comes : MayComeNext history e
-  pub keeps : WritesTables history e
-
 -- it isn't a write of the backend
 abbrev pub LeavesWrites : List Entry → Entry → ℕ → Type 0
 LeavesWrites history e b = (c : ℕ) → has_written (history ++ e ∷ []) b c ≡ has_written history b c
@@ -81,7 +72,7 @@ begun-more history e b s later command may idle writes after way = record {
   found = after.found ∙ way.found;
   opened = after.opened ∙ way.opened;
   runs = way.runs;
-  holds = way_stays history e b way.gave (plan_of none_open command) may.sound may.comes idle (follows_order none_open command way.runs) way.holds;
+  holds = way_stays history e b way.gave (plan_of none_open command) may idle (follows_order none_open command way.runs) way.holds;
   unwritten = ap (has_written (history ++ e ∷ []) b) (number_same s later after) ∙ writes (number_of s) ∙ way.unwritten;
 }
 
@@ -107,19 +98,19 @@ first_seen-more history e b (rows.Class rel own kind fill ∷ more) may none see
 first_seen-more history e b given may none seen = tt
 
 -- what the scan of a name gave
-pub named-more : (history : List Entry) (e : Entry) (b : ℕ) (plan : Plan) (read : Bool) → MayCome history e → TakesNoneBack b history e → LeavesNames history e b → NamedFits history b plan read → NamedFits (history ++ e ∷ []) b plan read
+pub named-more : (history : List Entry) (e : Entry) (b : ℕ) (plan : Plan) (granted : Bool) → MayCome history e → TakesNoneBack b history e → LeavesNames history e b → NamedFits history b plan granted → NamedFits (history ++ e ∷ []) b plan granted
 named-more history e b (Do (Lookup name mode) rest) true may none names fits =
     subst (IsFirstSeen (history ++ e ∷ []) b) (sym (names name)) (first_seen-more history e b (rows_read history b (scans.RelName name)) may none fits)
 named-more history e b (Do (Lookup name mode) rest) false may none names fits = tt
-named-more history e b (Do act rest) read may none names fits = tt
-named-more history e b (Absent name) read may none names fits = ap class_oid (names name) ∙ fits
-named-more history e b plan read may none names fits = tt
+named-more history e b (Do act rest) granted may none names fits = tt
+named-more history e b (Absent name) granted may none names fits = ap class_oid (names name) ∙ fits
+named-more history e b plan granted may none names fits = tt
 
 -- the same of a command that has come out, after any entry that is no scan of a name
-pub named_out : (history : List Entry) (e : Entry) (b : ℕ) (plan : Plan) (read now : Bool) → is_settled (outcome_of plan) ≡ true → LeavesNames history e b → NamedFits history b plan read → NamedFits (history ++ e ∷ []) b plan now
-named_out history e b (Do act rest) read now out names fits = absurd (cc)
-named_out history e b (Absent name) read now out names fits = ap class_oid (names name) ∙ fits
-named_out history e b plan read now out names fits = tt
+pub named_out : (history : List Entry) (e : Entry) (b : ℕ) (plan : Plan) (granted now : Bool) → is_settled (outcome_of plan) ≡ true → LeavesNames history e b → NamedFits history b plan granted → NamedFits (history ++ e ∷ []) b plan now
+named_out history e b (Do act rest) granted now out names fits = absurd (cc)
+named_out history e b (Absent name) granted now out names fits = ap class_oid (names name) ∙ fits
+named_out history e b plan granted now out names fits = tt
 
 -- a command that failed to find a relation
 pub sought-more : (history : List Entry) (e : Entry) (b : ℕ) (s later : Session) (command : Command) (name : List ℕ) → LeavesWrites history e b → IsAfter s later → WasSought history b s command name → WasSought (history ++ e ∷ []) b later command name
@@ -144,12 +135,12 @@ quiet_back event quiet = tt
 
 -- the running command as a whole
 pub follows-more : (history : List Entry) (e : Entry) (b : ℕ) (s later : Session) (command : Command) → MayCome history e → IsIdle b history e → LeavesWrites history e b → LeavesNames history e b
-    → (is_over (last_event_of history b) s ≡ true → is_over (last_event_of (history ++ e ∷ []) b) later ≡ true) → IsAfter s later → later.read ≡ s.read → FollowsPlan history b s command → FollowsPlan (history ++ e ∷ []) b later command
-follows-more history e b s later command may idle writes names over after read follows = record {
+    → (is_over (last_event_of history b) s ≡ true → is_over (last_event_of (history ++ e ∷ []) b) later ≡ true) → IsAfter s later → later.granted ≡ s.granted → FollowsPlan history b s command → FollowsPlan (history ++ e ∷ []) b later command
+follows-more history e b s later command may idle writes names over after granted follows = record {
   refused = λ error is. after.left ∙ follows.refused error (sym after.refused ∙ is);
   way = λ none. way-more history e b s later command may idle writes over after (follows.way (sym after.refused ∙ none));
-  named = subst (λ p. NamedFits (history ++ e ∷ []) b p later.read) (sym after.left) (subst (NamedFits (history ++ e ∷ []) b s.left) (sym read)
-      (named-more history e b s.left s.read may (λ own. quiet_back e.event (idle own)) names follows.named));
+  named = subst (λ p. NamedFits (history ++ e ∷ []) b p later.granted) (sym after.left) (subst (NamedFits (history ++ e ∷ []) b s.left) (sym granted)
+      (named-more history e b s.left s.granted may (λ own. quiet_back e.event (idle own)) names follows.named));
   sought = λ name is. sought-more history e b s later command name writes after (follows.sought name (sym after.left ∙ is));
   plain = λ told none. plain-more s later told after (follows.plain told none);
 }

@@ -1,18 +1,17 @@
--- What the code answers is the line of its command: the scans that it keeps for descriptors are the last ones.
-use Rattle.std.proofs.Common.{◌≡◌, ◌≤◌, ◌∙◌, ◌||◌, ◌⊎◌, inl, inr, ℕ, Bool, true, false, if◌then◌else◌, Some, None, List, [], ◌∷◌, cond, suc, refl, sym, ap, subst, length, drop, All, arith}
+-- What the code answers is the line of its command: the scans that it keeps are the last ones.
+use Rattle.std.proofs.Common.{◌≡◌, ◌≤◌, ◌∙◌, ◌||◌, ◌⊎◌, inl, inr, ℕ, Bool, true, false, Some, List, [], ◌∷◌, cond, suc, refl, sym, ap, length, drop, All, arith}
 use Rattle.std.specs.List.{AllByRecursion, find}
 use Rattle.std.specs.Option.{option_map_or}
-use Rattle.base_types.specs.Fields.{field_text, read_by}
-use Rattle.base_types.specs.declared.field.Field.TheVariants as fields
-use Rattle.base_types.specs.Scans.{same_scan, is_build_scan, build_scans}
-use Rattle.base_types.specs.declared.kind.Kind.TheVariants.{Table, Index}
+use Rattle.base_types.specs.declared.scan.Purpose.TheVariants as scans
+use Rattle.base_types.specs.Scans.{same_scan, build_scans}
 use Rattle.base_types.proofs.SameScan.{same_scan-true}
 use Rattle.std.proofs.lemmas.Bool.{and_parts}
 use Rattle.command_answers.specs.Answers.{answer_text}
+use Rattle.ddl_effect.specs.Plans.{Absent}
 use Rattle.ddl_effect.specs.Stages.{plan_at}
 use Rattle.history_model.specs.Lives.{last_event_of}
 use Rattle.history_model.specs.Read.{place_read, rows_read, is_usable}
-use Rattle.cacheless.specs.Types.{Oid, Kind, Field, Purpose, Command, Opening, Scenario, Entry}
+use Rattle.cacheless.specs.Types.{Purpose, Command, Opening, Scenario, Entry}
 use Rattle.cacheless.specs.declared.kept_scan.KeptScan.{KeptScan}
 use Rattle.cacheless.specs.declared.progress.Progress.{Progress}
 use Rattle.cacheless.specs.Facts.{facts_of}
@@ -26,10 +25,7 @@ use Rattle.cacheless.specs.State.{is_kept, rows_kept, place_kept, is_out, Rest, 
 use Rattle.cacheless.specs.May.{has_failed, owes_nothing}
 use Rattle.cacheless.specs.Silently.{is_to_answer}
 use Rattle.cacheless.specs.Holds.{FactsFit, Holds}
-use Rattle.lock_modes.specs.Own.{clear_modes}
-use Rattle.cacheless.specs.Protected.{protects}
-use Rattle.cacheless.specs.Told.{told_field}
-use Rattle.cacheless.specs.Answering.{rows_held, place_held, told_at, IsToldText, KeptAt, PlaceFits}
+use Rattle.cacheless.specs.Answering.{told_at, IsToldText, KeptAt}
 use Rattle.cacheless.proofs.Same.{owes_nothing_is}
 use Rattle.cacheless.proofs.HeldLocks.{settled-locks}
 use Rattle.cacheless.proofs.Resting.{kept_rows}
@@ -38,28 +34,6 @@ use Rattle.cacheless.proofs.Allowed.SettledCourse.{HasSession}
 use Rattle.cacheless.proofs.Answers.ToldAlike.{IsAlike, AreAlike, answer_told_by}
 use Rattle.cacheless.proofs.Answers.ToldAnswers.{HasComeOut, has_come_out, answer_told, line_told}
 use Rattle.cacheless.proofs.Answers.ToldFields.{none_unusable}
-
--- a field is read by a scan for a descriptor
-reads_build : (field : Field) (rel : Oid) → is_build_scan (read_by field rel) ≡ true
-reads_build fields.Name rel = refl
-reads_build fields.Columns rel = refl
-reads_build fields.Defaults rel = refl
-reads_build fields.Statistics rel = refl
-reads_build fields.Fillfactor rel = refl
-reads_build fields.Constraints rel = refl
-reads_build fields.Referenced rel = refl
-reads_build fields.Indexes rel = refl
-reads_build fields.Triggers rel = refl
-reads_build fields.Of rel = refl
-reads_build fields.Valid rel = refl
-
--- so it is told by the scan that is kept
-pub field_held : (p : Progress) (rel : Oid) (kind : Kind) (field : Field) → told_field (rows_held p) (place_held p) p.locks.items rel kind field ≡ told_field (rows_kept p.kept) (place_kept p.kept) p.locks.items rel kind field
-field_held p rel kind field = λ i. record {
-  field = field;
-  value = field_text field rel (ap (λ t. if t then rows_kept p.kept (read_by field rel) else p.given.items) (reads_build field rel) i);
-  at = if protects (clear_modes p.locks.items rel) kind field then None else Some (ap (λ t. if t then place_kept p.kept (read_by field rel) else p.given_at) (reads_build field rel) i);
-}
 
 -- the place that is found of a scan is that of the last such scan
 kept_place : (places : Purpose → ℕ) (kept : List KeptScan) (scan : Purpose) → All (λ (k : KeptScan). places k.scan ≡ k.at) kept → is_kept kept scan ≡ true → places scan ≡ place_kept kept scan
@@ -70,49 +44,49 @@ kept_place places (k ∷ kept) scan at is = by_same (kept_place places kept scan
     by_same later true same any = ap places (sym (same_scan-true k.scan scan same)) ∙ at 0 k (omega arith)
     by_same later false other any = later any
 
--- a scan for a descriptor that is usable is told of alike
-kept_alike : (seen : List Entry) (p : Progress) (scan : Purpose) → FactsFit (facts_of seen p.id) p → All (KeptAt seen p.id) p.kept → is_build_scan scan ≡ true → is_usable seen p.id scan ≡ true → IsAlike (rows_read seen p.id) (rows_held p) (place_read seen p.id) (place_held p) scan
-kept_alike seen p scan fits at build usable = record {
-  rows_are = ap (λ t. if t then rows_kept p.kept scan else p.given.items) build ∙ sym (kept_rows (rows_read seen p.id) p.kept scan fits.kept has);
-  place_is = ap (λ t. if t then place_kept p.kept scan else p.given_at) build ∙ sym (kept_place (place_read seen p.id) p.kept scan at has);
+-- a scan that is usable is told of alike
+kept_alike : (seen : List Entry) (p : Progress) (scan : Purpose) → FactsFit (facts_of seen p.id) p → All (KeptAt seen p.id) p.kept → is_usable seen p.id scan ≡ true → IsAlike (rows_read seen p.id) (rows_kept p.kept) (place_read seen p.id) (place_kept p.kept) scan
+kept_alike seen p scan fits at usable = record {
+  rows_are = sym (kept_rows (rows_read seen p.id) p.kept scan fits.kept has);
+  place_is = sym (kept_place (place_read seen p.id) p.kept scan at has);
 }
   where
     has : is_kept p.kept scan ≡ true
-    has = sym (fits.usable scan build) ∙ usable
-
--- the scans of a descriptor are scans for one
-each_builds : (kind : Kind) (rel : Oid) → AllByRecursion (λ d. is_build_scan d ≡ true) (build_scans kind rel)
-each_builds Table rel = (refl, (refl, (refl, (refl, (refl, (refl, tt))))))
-each_builds Index rel = (refl, (refl, tt))
+    has = sym (fits.usable scan) ∙ usable
 
 -- so are several
-all_alike : (seen : List Entry) (p : Progress) (wanted : List Purpose) → FactsFit (facts_of seen p.id) p → All (KeptAt seen p.id) p.kept → AllByRecursion (λ d. is_build_scan d ≡ true) wanted → AllByRecursion (λ d. is_usable seen p.id d ≡ true) wanted
-    → AllByRecursion (IsAlike (rows_read seen p.id) (rows_held p) (place_read seen p.id) (place_held p)) wanted
-all_alike seen p [] fits at builds usable = tt
-all_alike seen p (scan ∷ wanted) fits at builds usable = (kept_alike seen p scan fits at builds.0 usable.0, all_alike seen p wanted fits at builds.1 usable.1)
+all_alike : (seen : List Entry) (p : Progress) (wanted : List Purpose) → FactsFit (facts_of seen p.id) p → All (KeptAt seen p.id) p.kept → AllByRecursion (λ d. is_usable seen p.id d ≡ true) wanted
+    → AllByRecursion (IsAlike (rows_read seen p.id) (rows_kept p.kept) (place_read seen p.id) (place_kept p.kept)) wanted
+all_alike seen p [] fits at usable = tt
+all_alike seen p (scan ∷ wanted) fits at usable = (kept_alike seen p scan fits at usable.0, all_alike seen p wanted fits at usable.1)
 
 -- and those of the opened descriptors
 opened_alike : (seen : List Entry) (p : Progress) (opened : List Opening) → FactsFit (facts_of seen p.id) p → All (KeptAt seen p.id) p.kept → builds_owed (facts_of seen p.id) opened ≡ []
-    → AreAlike (rows_read seen p.id) (rows_held p) (place_read seen p.id) (place_held p) opened
+    → AreAlike (rows_read seen p.id) (rows_kept p.kept) (place_read seen p.id) (place_kept p.kept) opened
 opened_alike seen p [] fits at none = tt
 opened_alike seen p (o ∷ opened) fits at none =
     let both = both_empty (unusable (facts_of seen p.id) (build_scans o.kind o.rel)) (builds_owed (facts_of seen p.id) opened) none in
-    (all_alike seen p (build_scans o.kind o.rel) fits at (each_builds o.kind o.rel) (none_unusable (facts_of seen p.id) (build_scans o.kind o.rel) both.0), opened_alike seen p opened fits at both.1)
+    (all_alike seen p (build_scans o.kind o.rel) fits at (none_unusable (facts_of seen p.id) (build_scans o.kind o.rel) both.0), opened_alike seen p opened fits at both.1)
 
--- so a command that has come out answers what is told by the scans that are kept, and by the place of the scan of the name that it failed to find
+-- a command that failed to find a relation has the scan of its name at hand
+abbrev pub KeepsMissed : Progress → Type 0
+KeepsMissed p = (name : List ℕ) → plan_at p.exec ≡ Absent name → is_kept p.kept (scans.RelName name) ≡ true
+
+-- so a command that has come out answers what is told by the scans that are kept
 pub answer_kept : (scenario : Scenario) (seen : List Entry) (p : Progress) (rest : Rest) (command : Command) → HasComeOut scenario seen p.id (session_at p rest) command → FactsFit (facts_of seen p.id) p → All (KeptAt seen p.id) p.kept
-    → PlaceFits seen p.id (plan_at p.exec) p.read p.given_at → answer_judged scenario seen p.id (number_of (session_at p rest)) (finished_as (session_at p rest)) command rest.refused ≡ told_at p
-answer_kept scenario seen p rest command come fits at place = answer_told_by (rows_held p) (place_held p) scenario seen p.id (session_at p rest) command come (record {
+    → KeepsMissed p → answer_judged scenario seen p.id (number_of (session_at p rest)) (finished_as (session_at p rest)) command rest.refused ≡ told_at p
+answer_kept scenario seen p rest command come fits at missed = answer_told_by (rows_kept p.kept) (place_kept p.kept) scenario seen p.id (session_at p rest) command come (record {
   opened = λ well. opened_alike seen p p.opened fits at (come.builds well);
-  absent = λ name is. sym (subst (λ plan. PlaceFits seen p.id plan p.read p.given_at) is place);
+  absent = λ name is. sym (kept_place (place_read seen p.id) p.kept (scans.RelName name) at (missed name is));
+  named = λ oid is. kept_alike seen p (scans.RelOid oid) fits at (come.named oid is);
 })
 
 -- and so says its line, where it is judged
 pub told_line : (scenario : Scenario) (seen : List Entry) (p : Progress) (rest : Rest) (command : Command) (text : List ℕ) → HasComeOut scenario seen p.id (session_at p rest) command → FactsFit (facts_of seen p.id) p → All (KeptAt seen p.id) p.kept
-    → PlaceFits seen p.id (plan_at p.exec) p.read p.given_at → length seen ≤ rest.judged → IsToldText p text
+    → KeepsMissed p → length seen ≤ rest.judged → IsToldText p text
     → record { backend = p.id; command = number_of (session_at p rest); text = text } ≡ line_of scenario seen p.id (number_of (session_at p rest)) (finished_as (session_at p rest)) command
-told_line scenario seen p rest command text come fits at place judged told =
-    ap (λ t. record { backend = p.id; command = number_of (session_at p rest); text = t }) (told ∙ ap answer_text (sym (answer_kept scenario seen p rest command come fits at place) ∙ answer_told scenario seen p.id (session_at p rest) command come))
+told_line scenario seen p rest command text come fits at missed judged told =
+    ap (λ t. record { backend = p.id; command = number_of (session_at p rest); text = t }) (told ∙ ap answer_text (sym (answer_kept scenario seen p rest command come fits at missed) ∙ answer_told scenario seen p.id (session_at p rest) command come))
     ∙ sym (line_told scenario seen p.id (session_at p rest) command come judged)
 
 -- the session of a history in which the code holds it
@@ -130,11 +104,11 @@ failed_badly o is = absurd (cc is)
 
 -- so what the code answers is the line of its command, once that is to be answered, and while nothing of it is taken back or released
 pub told_now : (scenario : Scenario) (seen : List Entry) (p : Progress) (command : Command) (text : List ℕ) → IsPlayed scenario seen → (holds : Holds scenario seen p) → FollowsPlan seen p.id (session_at p holds.rest) command → is_over (last_event_of seen p.id) (session_at p holds.rest) ≡ false → length seen ≤ holds.rest.judged
-    → All (KeptAt seen p.id) p.kept → PlaceFits seen p.id (plan_at p.exec) p.read p.given_at → is_to_answer command p ≡ true → IsToldText p text
+    → All (KeptAt seen p.id) p.kept → KeepsMissed p → is_to_answer command p ≡ true → IsToldText p text
     → record { backend = p.id; command = number_of (session_at p holds.rest); text = text } ≡ line_of scenario seen p.id (number_of (session_at p holds.rest)) (finished_as (session_at p holds.rest)) command
-told_now scenario seen p command text played holds follows stands judged at place out told = told_line scenario seen p holds.rest command text
+told_now scenario seen p command text played holds follows stands judged at missed out told = told_line scenario seen p holds.rest command text
     (has_come_out scenario seen p.id (session_at p holds.rest) command (session_held scenario seen p played holds) follows parts.0 stands (by_failed (has_failed p) refl parts.1))
-    holds.facts at place judged told
+    holds.facts at missed judged told
   where
     parts : (is_out p ≡ true) × ((has_failed p || owes_nothing command p) ≡ true)
     parts = and_parts (is_out p) (has_failed p || owes_nothing command p) out

@@ -11,7 +11,7 @@ use Rattle.cacheless.specs.Runs.{runs}
 use Rattle.txn_blocks.specs.Blocks.{Blocks, refused_by}
 use Rattle.cacheless.specs.Session.{none_open, outcome_of, is_settled, plan_admitted, plan_first}
 use Rattle.cacheless.specs.Settled.{opened_by}
-use Rattle.cacheless.proofs.Plans.ActOrder.{FollowsOpen, FollowsFound, FollowsOrder, follows_order}
+use Rattle.cacheless.proofs.Plans.ActOrder.{IsEnded, FollowsOpen, FollowsFound, FollowsOrder, follows_order}
 use Rattle.cacheless.proofs.Plans.EffectAlong.{plain_row}
 use Rattle.cacheless.specs.Types.{Oid, Mode, Kind, Row, Purpose, Command, CommandError, Opening}
 use Rattle.cacheless.specs.OpenedReads.{is_of_opened, ReadsOpened}
@@ -20,6 +20,11 @@ use Rattle.cacheless.specs.OpenedReads.{is_of_opened, ReadsOpened}
 pub reads_out : (opened : List Opening) (plan : Plan) → is_settled (outcome_of plan) ≡ true → ReadsOpened opened plan
 reads_out opened (Do act rest) out = absurd (cc)
 reads_out opened plan out = tt
+
+-- so does one that is over
+reads_ended : (opened : List Opening) (plan : Plan) → IsEnded plan → ReadsOpened opened plan
+reads_ended opened (Do act rest) over = absurd over
+reads_ended opened plan over = tt
 
 -- a scan of the one descriptor that is open
 of_one : (rel : Oid) (kind : Kind) (scan : Purpose) → Contains (build_scans kind rel) scan → is_of_opened scan (record { rel = rel; kind = kind } ∷ []) ≡ true
@@ -40,7 +45,7 @@ reads_found mode rel kind (Do (Open of as_kind) rest) follows = λ given.
     subst (λ o. ReadsOpened (record { rel = o; kind = as_kind } ∷ []) (rest given)) (sym follows.0) (subst (λ k. ReadsOpened (record { rel = rel; kind = k } ∷ []) (rest given)) (sym follows.1)
     (subst (ReadsOpened (record { rel = rel; kind = kind } ∷ [])) (sym (follows.2 given)) (reads_open 3 rel kind (rest []) follows.3)))
 reads_found mode rel kind (Do (Lookup name as_mode) rest) follows = absurd follows
-reads_found mode rel kind (Do (Search scan) rest) follows = absurd follows
+reads_found mode rel kind (Do (Search scan) rest) follows = λ given. reads_ended [] (rest given) (follows.3 given)
 reads_found mode rel kind (Do (Read scan) rest) follows = absurd follows
 reads_found mode rel kind (Do (Lock of as_mode) rest) follows = absurd follows
 reads_found mode rel kind (Do (Write draft) rest) follows = absurd follows
@@ -54,7 +59,7 @@ reads_order (Do (Lookup name mode) rest) follows = λ given. by_rows given (foll
     by_rows (rows.Class rel own kind fill ∷ more) is = subst (ReadsOpened []) (sym is) (reads_found mode rel kind (rest (plain_row rel kind)) (follows.1 rel kind))
     by_rows (row ∷ more) is = subst (ReadsOpened []) (sym is) tt
 reads_order (Do (Open of as_kind) rest) follows = absurd follows
-reads_order (Do (Search scan) rest) follows = absurd follows
+reads_order (Do (Search scan) rest) follows = λ given. subst (ReadsOpened []) (sym (follows.2 given)) tt
 reads_order (Do (Read scan) rest) follows = absurd follows
 reads_order (Do (Lock of as_mode) rest) follows = absurd follows
 reads_order (Do (Write draft) rest) follows = λ given. subst (ReadsOpened []) (sym (follows.1 given)) tt

@@ -3,32 +3,35 @@ use Rattle.std.proofs.Common.{◌≡◌, ◌≤◌, ◌+◌, ◌∙◌, ◌&&◌
 use Rattle.std.specs.Option.{option_map}
 use Rattle.std.proofs.Math.Bool.{or-true}
 use Rattle.std.proofs.lemmas.Bool.{both_ways, and_parts}
+use Rattle.lock_modes.specs.Own.{has_lock}
 use Rattle.ddl_effect.specs.Commands.{commands_of}
+use Rattle.base_types.specs.declared.row.Row.TheVariants as rows
 use Rattle.base_types.specs.declared.scan.Purpose.TheVariants as scans
 use Rattle.event_kinds.specs.declared.entry.Event.TheVariants as events
 use Rattle.ddl_effect.specs.Plans.{Plan, Act, Absent, Do, Lookup, Open, Search, Read, Lock, Write}
 use Rattle.ddl_effect.specs.Stages.{plan_at}
 use Rattle.txn_blocks.specs.Blocks.{Blocks}
 use Rattle.history_model.specs.Lives.{last_event_of}
-use Rattle.cacheless.specs.Types.{Row, Command, Scenario, Entry, Event, Line}
+use Rattle.cacheless.specs.Types.{Mode, Row, Command, OwnLock, Scenario, Entry, Event, Line}
 use Rattle.cacheless.specs.declared.progress.Progress.{Progress}
-use Rattle.cacheless.specs.Answering.{IsToldText, KeptAt, PlaceFits, PlacesFit}
-use Rattle.cacheless.specs.Facts.{facts_of}
-use Rattle.cacheless.specs.Holds.{Holds, HasActed, HasPassed}
+use Rattle.cacheless.specs.Answering.{IsToldText, KeptAt, IsWhole, PlacesFit}
+use Rattle.cacheless.specs.Facts.{Facts, facts_of}
+use Rattle.cacheless.specs.Holds.{is_class, GivenFits, FactsFit, Holds, HasActed, HasPassed}
 use Rattle.cacheless.specs.Lines.{line_of, lines_from}
 use Rattle.cacheless.specs.OnCourse.{is_absent, is_over, OnItsWay, EntersCourse}
-use Rattle.cacheless.specs.Session.{Session, number_of, first_of, outcome_of, is_settled, plan_first}
-use Rattle.cacheless.specs.Settled.{act_done, blocks_after, finished_as, next_session}
+use Rattle.cacheless.specs.Session.{Session, number_of, first_of, outcome_of, is_settled}
+use Rattle.cacheless.specs.Owed.{act_owed}
+use Rattle.cacheless.specs.Settled.{class_oid, if_locked, looked_up, act_done, blocks_after, finished_as, next_session}
 use Rattle.cacheless.specs.May.{has_failed, owes_nothing}
 use Rattle.cacheless.specs.Silently.{acts_on, is_ends, is_finished_at, is_to_answer, is_to_answer_at, Answers, Finishes, IsSettled, HasAnswered, IsLineOf}
-use Rattle.cacheless.specs.State.{is_out, end_at, session_at}
+use Rattle.cacheless.specs.State.{is_kept, is_out, end_at, Rest, session_at}
 use Rattle.cacheless.specs.Telling.{AreLines, IsJudgedHere, TellsNow, HasGoneOn}
 use Rattle.cacheless.proofs.Plans.ActOrder.{at_lookup}
 use Rattle.cacheless.proofs.Plans.AfterActs.{IsUnfound, after_lookup, after_opening, opening_alike, after_search, after_reading, no_lock}
-use Rattle.cacheless.proofs.Plans.SilentActs.{on_its_way, its_place, made_already, IsDoneHere, is_done_here}
+use Rattle.cacheless.proofs.Plans.SilentActs.{on_its_way, its_place, IsDoneHere, is_done_here}
 use Rattle.cacheless.proofs.Entries.EnteredLooks.{not_absent}
 use Rattle.cacheless.proofs.Tests.{both_true}
-use Rattle.cacheless.proofs.Resting.{first_left, left_command}
+use Rattle.cacheless.proofs.Resting.{first_left, left_command, cond_none}
 use Rattle.cacheless.proofs.Allowed.SettledCourse.{act_enters, finish_enters}
 use Rattle.cacheless.proofs.Answers.JudgedLines.{lines-push}
 use Rattle.cacheless.proofs.Answers.KeptTells.{session_held, told_now}
@@ -71,46 +74,60 @@ over_same : (last : Option Event) (s later : Session) → later.ended ≡ s.ende
 over_same (Some (events.Gone from)) s later same = refl
 over_same last s later same = same
 
--- a plan that has read nothing rests on no place
-pub place_first : (seen : List Entry) (b : ℕ) (plan : Plan) (at : ℕ) → is_absent plan ≡ false → PlaceFits seen b plan false at
-place_first seen b (Absent name) at there = absurd (cc there)
-place_first seen b (Do (Lookup name mode) rest) at there = tt
-place_first seen b plan at there = tt
-
--- the place of a lookup that found no relation is that of its scan
-place_absent : (seen : List Entry) (b : ℕ) (s : Session) (command : Command) (act : Act) (rest : List Row → Plan) (given : List Row) (at : ℕ) → (way : OnItsWay seen b s command) → s.left ≡ Do act rest → IsDoneHere (facts_of seen b) s act rest given → PlaceFits seen b s.left s.read at → is_absent (rest given) ≡ true → PlaceFits seen b (rest given) false at
-place_absent seen b s command (Lookup name mode) rest given at way left done fits absent = subst (λ p. PlaceFits seen b p false at) (sym unfound.is)
-    (subst (λ t. PlaceFits seen b (Do (Lookup name mode) rest) t at) (and_parts s.read _ (made_already _ (scans.RelName name) done.owed)).0 (subst (λ p. PlaceFits seen b p s.read at) left fits))
+-- a lookup by rows whose first is that of a relation finds one
+finds_class : (locks : List OwnLock) (mode : Mode) (read given : List Row) → looked_up locks mode read ≡ Some given → is_class (slice_get read 0) ≡ true → class_oid given ≡ None → ⊥
+finds_class locks mode [] given gave is none = absurd (cc is)
+finds_class locks mode (rows.Class oid own kind fill ∷ more) given gave is none = by_lock (has_lock locks oid mode) gave
   where
-    unfound : IsUnfound name (rest given) given
-    unfound = after_lookup name mode rest given (at_lookup _ _ name mode rest (its_place seen b s command (Lookup name mode) rest way left)).2 absent
-place_absent seen b s command (Open rel kind) rest given at way left done fits absent = let come = its_place seen b s command (Open rel kind) rest way left in
-    absurd (both_ways _ (ap is_absent (opening_alike _ _ rel kind rest given come) ∙ after_opening _ _ rel kind rest come) absent)
-place_absent seen b s command (Search scan) rest given at way left done fits absent = absurd (both_ways _ (after_search _ _ scan rest given (its_place seen b s command (Search scan) rest way left)) absent)
-place_absent seen b s command (Read scan) rest given at way left done fits absent = absurd (both_ways _ (after_reading _ _ scan rest given (its_place seen b s command (Read scan) rest way left)) absent)
-place_absent seen b s command (Lock rel mode) rest given at way left done fits absent = absurd (no_lock _ _ rel mode rest (its_place seen b s command (Lock rel mode) rest way left))
-place_absent seen b s command (Write draft) rest given at way left done fits absent = absurd (let no : None ≡ Some given = done.gave in cc no)
+    by_lock : (t : Bool) → if_locked t (rows.Class oid own kind fill ∷ []) ≡ Some given → ⊥
+    by_lock true held = let it : rows.Class oid own kind fill ∷ [] ≡ given = cc held in absurd (let no : Some oid ≡ None = ap class_oid it ∙ none in cc no)
+    by_lock false free = absurd (cc free)
+finds_class locks mode (row ∷ more) given gave is none = absurd (cc is)
+
+-- a lookup that found no relation was granted no lock, so its scan is kept
+unfound_kept : (facts : Facts) (s : Progress) (locks : List OwnLock) (name : List ℕ) (mode : Mode) (rest : List Row → Plan) (given : List Row) → FactsFit facts s → plan_at s.exec ≡ Do (Lookup name mode) rest → act_owed facts s.granted (Do (Lookup name mode) rest) ≡ []
+    → looked_up locks mode (facts.rows (scans.RelName name)) ≡ Some given → class_oid given ≡ None → is_kept s.kept (scans.RelName name) ≡ true
+unfound_kept facts s locks name mode rest given fits at owed gave none = by_granted s.granted refl owed
+  where
+    by_granted : (t : Bool) → s.granted ≡ t → act_owed facts t (Do (Lookup name mode) rest) ≡ [] → is_kept s.kept (scans.RelName name) ≡ true
+    by_granted true is nothing = let found = subst (λ p. GivenFits facts p s.given) at (fits.given is) in
+        absurd (finds_class locks mode (facts.rows (scans.RelName name)) given gave (ap is_class found.0 ∙ found.1) none)
+    by_granted false is nothing = sym (fits.usable (scans.RelName name)) ∙ cond_none (facts.usable (scans.RelName name)) (scans.RelName name) nothing
+
+-- where an act left that no relation has a name, the scan of the name is kept
+absent_kept : (seen : List Entry) (was : Progress) (rest : Rest) (command : Command) (act : Act) (further : List Row → Plan) (given : List Row) → FactsFit (facts_of seen was.id) was → OnItsWay seen was.id (session_at was rest) command → plan_at was.exec ≡ Do act further
+    → IsDoneHere (facts_of seen was.id) (session_at was rest) act further given → (name : List ℕ) → further given ≡ Absent name → is_kept was.kept (scans.RelName name) ≡ true
+absent_kept seen was rest command (Lookup sought mode) further given fits way at done name absent = subst (λ n. is_kept was.kept (scans.RelName n) ≡ true) one
+    (unfound_kept (facts_of seen was.id) was was.locks.items sought mode further given fits at done.owed done.gave unfound.none)
+  where
+    unfound : IsUnfound sought (further given) given
+    unfound = after_lookup sought mode further given (at_lookup _ _ sought mode further (its_place seen was.id (session_at was rest) command (Lookup sought mode) further way at)).2 (ap is_absent absent)
+
+    one : sought ≡ name
+    one = let both : Absent sought ≡ Absent name = sym unfound.is ∙ absent in cc both
+absent_kept seen was rest command (Open rel kind) further given fits way at done name absent = let come = its_place seen was.id (session_at was rest) command (Open rel kind) further way at in
+    absurd (both_ways _ (ap is_absent (opening_alike _ _ rel kind further given come) ∙ after_opening _ _ rel kind further come) (ap is_absent absent))
+absent_kept seen was rest command (Search scan) further given fits way at done name absent = absurd (both_ways _ (after_search _ _ scan further given (its_place seen was.id (session_at was rest) command (Search scan) further way at)) (ap is_absent absent))
+absent_kept seen was rest command (Read scan) further given fits way at done name absent = absurd (both_ways _ (after_reading _ _ scan further given (its_place seen was.id (session_at was rest) command (Read scan) further way at)) (ap is_absent absent))
+absent_kept seen was rest command (Lock rel mode) further given fits way at done name absent = absurd (no_lock _ _ rel mode further (its_place seen was.id (session_at was rest) command (Lock rel mode) further way at))
+absent_kept seen was rest command (Write draft) further given fits way at done name absent = absurd (let no : None ≡ Some given = done.gave in cc no)
 
 -- a command whose next act is done hasn't come out
 unsettled : (scenario : Scenario) (seen : List Entry) (was p : Progress) (held : Holds scenario seen was) (acted : HasActed scenario seen was held p) → is_settled (outcome_of (plan_at was.exec)) ≡ false
 unsettled scenario seen was p held acted = ap (λ x. is_settled (outcome_of x)) acted.left
 
 -- an act leaves the places
-pub act_places : (scenario : Scenario) (seen : List Entry) (was p : Progress) (held : Holds scenario seen was) → EntersCourse scenario seen was.id (session_at was held.rest) → (acted : HasActed scenario seen was held p) → p.kept ≡ was.kept → p.given_at ≡ was.given_at → PlacesFit seen was → PlacesFit seen p
-act_places scenario seen was p held course acted kept given_at places = record {
+pub act_places : (scenario : Scenario) (seen : List Entry) (was p : Progress) (held : Holds scenario seen was) → EntersCourse scenario seen was.id (session_at was held.rest) → (acted : HasActed scenario seen was held p) → p.kept ≡ was.kept → PlacesFit seen was → PlacesFit seen p
+act_places scenario seen was p held course acted kept places = record {
   kept = subst (λ b. All (KeptAt seen b) p.kept) (sym acted.moves.id) (subst (All (KeptAt seen was.id)) (sym kept) places.kept);
-  given_at = subst (λ b. PlaceFits seen b (plan_at p.exec) p.read p.given_at) (sym acted.moves.id) (subst (λ n. PlaceFits seen was.id (plan_at p.exec) p.read n) (sym given_at)
-      (subst (λ (x : Session). PlaceFits seen was.id x.left x.read was.given_at) (sym acted.session) (place (is_absent (acted.further acted.given)) refl)));
+  absent = λ name missed whole. ap (λ l. is_kept l (scans.RelName name)) kept
+      ∙ absent_kept seen was held.rest acted.command acted.act acted.further acted.given held.facts
+      (on_its_way seen was.id s acted.command acted.act acted.further (course.follows acted.command (at_finished scenario seen was held ∙ acted.at)) acted.left) acted.left
+      (is_done_here (facts_of seen was.id) s acted.act acted.further acted.given acted.gives) name (sym (ap (λ x. x.left) acted.session) ∙ missed);
 }
   where
     s : Session
     s = session_at was held.rest
-
-    place : (t : Bool) → is_absent (acted.further acted.given) ≡ t → PlaceFits seen was.id (acted.further acted.given) false was.given_at
-    place false there = place_first seen was.id (acted.further acted.given) was.given_at there
-    place true absent = place_absent seen was.id s acted.command acted.act acted.further acted.given was.given_at
-        (on_its_way seen was.id s acted.command acted.act acted.further (course.follows acted.command (at_finished scenario seen was held ∙ acted.at)) acted.left) acted.left
-        (is_done_here (facts_of seen was.id) s acted.act acted.further acted.given acted.gives) places.given_at absent
 
 -- after an act the code tells what the history says
 pub act_tells : (scenario : Scenario) (seen : List Entry) (was p : Progress) (held : Holds scenario seen was) → TellsNow scenario seen was held → (acted : HasActed scenario seen was held p) → p.answer ≡ was.answer → TellsNow scenario seen p acted.holds
@@ -164,10 +181,19 @@ answer_holds scenario seen s text holds = record {
   puts = holds.puts;
 }
 
+-- a command that isn't over is whole
+whole_now : (seen : List Entry) (s : Progress) (session : Session) → session.ended ≡ s.ended → is_over (last_event_of seen s.id) session ≡ false → IsWhole seen s
+whole_now seen s session same stands = by_last (last_event_of seen s.id) refl stands
+  where
+    by_last : (last : Option Event) → last_event_of seen s.id ≡ last → is_over last session ≡ false → IsWhole seen s
+    by_last (Some (events.Gone from)) is over = absurd (cc over)
+    by_last None is going = record { untaken = λ from gone. absurd (let no : None ≡ Some (events.Gone from) = sym is ∙ gone in cc no); going = sym same ∙ going }
+    by_last (Some event) is going = record { untaken = λ from gone. absurd (let no : Some event ≡ Some (events.Gone from) = sym is ∙ gone in cc no); going = sym same ∙ going }
+
 -- what the code answers is the line of its command
 pub answered_line : (scenario : Scenario) (seen : List Entry) (s : Progress) (command : Command) (text : List ℕ) (holds : Holds scenario seen s) → TellsNow scenario seen s holds → PlacesFit seen s → slice_get s.commands s.finished ≡ Some command → is_to_answer command s ≡ true → s.answer ≡ None → IsToldText s text
     → record { backend = s.id; command = number_of (session_at s holds.rest); text = text } ≡ line_of scenario seen s.id (number_of (session_at s holds.rest)) (finished_as (session_at s holds.rest)) command
-answered_line scenario seen s command text holds now places at out none told = told_now scenario seen s command text now.played holds (now.course.follows command (at_finished scenario seen s holds ∙ at)) here.stands here.judged places.kept places.given_at out told
+answered_line scenario seen s command text holds now places at out none told = told_now scenario seen s command text now.played holds (now.course.follows command (at_finished scenario seen s holds ∙ at)) here.stands here.judged places.kept (λ name missed. places.absent name missed (whole_now seen s (session_at s holds.rest) refl here.stands)) out told
   where
     here : IsJudgedHere seen s.id (session_at s holds.rest)
     here = now.here command at (ap (λ o. is_some o) none)
@@ -198,13 +224,13 @@ answered_holds scenario seen was p has holds = subst (Holds scenario seen) (sym 
 
 -- the places are as they were
 pub answer_places : (seen : List Entry) (s : Progress) (text : List ℕ) → PlacesFit seen s → PlacesFit seen (with_answer s text)
-answer_places seen s text places = record { kept = places.kept; given_at = places.given_at }
+answer_places seen s text places = record { kept = places.kept; absent = λ name missed whole. places.absent name missed (record { untaken = whole.untaken; going = whole.going }) }
 
 -- the passing to the next command leaves the places
 pub pass_places : (scenario : Scenario) (seen : List Entry) (was p : Progress) (held : Holds scenario seen was) (passed : HasPassed scenario seen was held p) → p.kept ≡ was.kept → PlacesFit seen was → PlacesFit seen p
 pass_places scenario seen was p held passed kept places = record {
   kept = subst (λ b. All (KeptAt seen b) p.kept) (sym passed.id) (subst (All (KeptAt seen was.id)) (sym kept) places.kept);
-  given_at = subst (λ (x : Session). PlaceFits seen p.id x.left x.read p.given_at) (sym passed.session) (place_first seen p.id (plan_first blocks next) p.given_at (not_absent blocks next));
+  absent = λ name missed whole. absurd (both_ways _ (not_absent blocks next) (ap is_absent (sym (ap (λ x. x.left) passed.session) ∙ missed)));
 }
   where
     next : Option Command
@@ -273,11 +299,11 @@ pass_lines scenario seen was p held now passed lines line says are = ap (λ l. l
         ∙ ap (λ n. line_of scenario seen was.id n (finished_as s) passed.command) (let n : number_of s ≡ 1 + length s.finished = omega arith in n)
 
 -- each of these goes on
-pub act_goes : (scenario : Scenario) (seen : List Entry) (was p : Progress) (held : Holds scenario seen was) (lines : List Line) → HasActed scenario seen was held p → p.kept ≡ was.kept → p.given_at ≡ was.given_at → p.answer ≡ was.answer → TellsNow scenario seen was held → PlacesFit seen was → HasGoneOn scenario seen was held lines p lines
-act_goes scenario seen was p held lines acted kept given_at same now places = record {
+pub act_goes : (scenario : Scenario) (seen : List Entry) (was p : Progress) (held : Holds scenario seen was) (lines : List Line) → HasActed scenario seen was held p → p.kept ≡ was.kept → p.answer ≡ was.answer → TellsNow scenario seen was held → PlacesFit seen was → HasGoneOn scenario seen was held lines p lines
+act_goes scenario seen was p held lines acted kept same now places = record {
   holds = acted.holds;
   tells = act_tells scenario seen was p held now acted same;
-  places = act_places scenario seen was p held now.course acted kept given_at places;
+  places = act_places scenario seen was p held now.course acted kept places;
   id = acted.moves.id;
   lines_are = act_lines scenario seen was p held acted lines;
 }

@@ -1,4 +1,4 @@
--- A command is told alike by other rows and places, where they are those of the last scans for the descriptors that it has opened, and of the name that it failed to find.
+-- A command is told alike by other rows and places, where they are those of the last scans for the descriptors that it has opened, of the name that it failed to find, and of the oid of which it tells.
 use Rattle.std.proofs.Common.{◌≡◌, ◌∙◌, ℕ, true, Option, Some, None, List, if◌then◌else◌, refl, sym, ap, subst}
 use Rattle.std.specs.List.{AllByRecursion}
 use Rattle.base_types.specs.Fields.{field_text, fields_of, has_field}
@@ -12,11 +12,11 @@ use Rattle.ddl_effect.specs.declared.told.Told.TheVariants as tells
 use Rattle.ddl_effect.specs.Plans.{Plan, Done, Fails, Absent, NotBuilt, Do}
 use Rattle.history_model.specs.Read.{place_read, rows_read}
 use Rattle.cacheless.specs.Types.{Oid, Kind, Field, Row, Purpose, Command, CommandError, Opening, OwnLock, Told, Scenario, Entry}
-use Rattle.cacheless.specs.Lines.{answer_judged}
+use Rattle.cacheless.specs.Lines.{name_in, answer_judged}
 use Rattle.cacheless.specs.Protected.{protects}
 use Rattle.cacheless.specs.Session.{Session, Well, number_of, outcome_of}
 use Rattle.cacheless.specs.Settled.{finished_as}
-use Rattle.cacheless.specs.Told.{told_field, told_well, told_left, told}
+use Rattle.cacheless.specs.Told.{told_field, told_name, told_well, told_left, told}
 use Rattle.cacheless.proofs.Plans.ActOrder.{TellsOpen}
 use Rattle.cacheless.proofs.Answers.ToldAnswers.{HasComeOut, stays, stays_open, answer_told}
 use Rattle.cacheless.proofs.Answers.ToldFields.{field_among, each_has, map_same}
@@ -34,6 +34,7 @@ AreAlike rows now places at opened = AllByRecursion (λ o. AllByRecursion (IsAli
 pub record TellsAlike (rows now : Purpose → List Row) (places at : Purpose → ℕ) (s : Session) : Type 0 where
   pub opened : outcome_of s.left ≡ Well → AreAlike rows now places at s.opened
   pub absent : (name : List ℕ) → s.left ≡ Absent name → at (scans.RelName name) ≡ places (scans.RelName name)
+  pub named : (oid : Oid) → s.left ≡ Done (tells.Regclass oid) → IsAlike rows now places at (scans.RelOid oid)
 
 -- a field of a relation
 pub field_alike : (rows now : Purpose → List Row) (places at : Purpose → ℕ) (locks : List OwnLock) (rel : Oid) (kind : Kind) (field : Field) → has_field kind field ≡ true → AllByRecursion (IsAlike rows now places at) (build_scans kind rel)
@@ -42,13 +43,18 @@ field_alike rows now places at locks rel kind field has all =
     let alike = field_among (IsAlike rows now places at) kind rel field has all in
     λ i. record { field = field; value = field_text field rel (alike.rows_are i); at = if protects (clear_modes locks rel) kind field then None else Some (alike.place_is i) }
 
+-- the name of an oid
+name_alike : (rows now : Purpose → List Row) (places at : Purpose → ℕ) (oid : Oid) → IsAlike rows now places at (scans.RelOid oid) → told_name now at oid ≡ told_name rows places oid
+name_alike rows now places at oid alike = λ i. answers.Regclass oid (name_in (alike.rows_are i)) (alike.place_is i)
+
 -- so is a command that came out well
-well_alike : (rows now : Purpose → List Row) (places at : Purpose → ℕ) (locks : List OwnLock) (block : Block) (opened : List Opening) (told : Told) → TellsOpen opened told → AreAlike rows now places at opened → told_well now at locks block told ≡ told_well rows places locks block told
-well_alike rows now places at locks block opened (tells.Relation rel kind) is all = ap (answers.Shown kind rel)
+well_alike : (rows now : Purpose → List Row) (places at : Purpose → ℕ) (locks : List OwnLock) (block : Block) (opened : List Opening) (told : Told) → TellsOpen opened told → AreAlike rows now places at opened → ((oid : Oid) → told ≡ tells.Regclass oid → IsAlike rows now places at (scans.RelOid oid))
+    → told_well now at locks block told ≡ told_well rows places locks block told
+well_alike rows now places at locks block opened (tells.Relation rel kind) is all named = ap (answers.Shown kind rel)
     (map_same (λ field. has_field kind field ≡ true) (told_field now at locks rel kind) (told_field rows places locks rel kind) (λ field has. field_alike rows now places at locks rel kind field has (subst (AreAlike rows now places at) is all).0) (fields_of kind) (each_has kind))
-well_alike rows now places at locks block opened (tells.Field rel kind field) is all = ap answers.One (field_alike rows now places at locks rel kind field is.1 (subst (AreAlike rows now places at) is.0 all).0)
-well_alike rows now places at locks block opened (tells.Regclass oid) is all = absurd is
-well_alike rows now places at locks block opened told is all = refl
+well_alike rows now places at locks block opened (tells.Field rel kind field) is all named = ap answers.One (field_alike rows now places at locks rel kind field is.1 (subst (AreAlike rows now places at) is.0 all).0)
+well_alike rows now places at locks block opened (tells.Regclass oid) is all named = name_alike rows now places at oid (named oid refl)
+well_alike rows now places at locks block opened told is all named = refl
 
 -- so a command that has come out is told alike
 pub told_alike : (rows now : Purpose → List Row) (places at : Purpose → ℕ) (scenario : Scenario) (seen : List Entry) (b : ℕ) (s : Session) (command : Command) → HasComeOut scenario seen b s command → TellsAlike rows now places at s → told now at s ≡ told rows places s
@@ -59,7 +65,7 @@ told_alike rows now places at scenario seen b s command come alike = by_plan s.l
     unrefused t done (Some error) is = absurd (let both : Done t ≡ Fails error = sym done ∙ come.follows.refused error is in cc both)
 
     by_plan : (p : Plan) → s.left ≡ p → told_left now at s.locks s.blocks.block p ≡ told_left rows places s.locks s.blocks.block p
-    by_plan (Done t) done = well_alike rows now places at s.locks s.blocks.block s.opened t (stays_open seen b s command t (stays scenario seen b s command come (unrefused t done s.refused refl)) done) (alike.opened (ap outcome_of done))
+    by_plan (Done t) done = well_alike rows now places at s.locks s.blocks.block s.opened t (stays_open seen b s command t (stays scenario seen b s command come (unrefused t done s.refused refl)) done) (alike.opened (ap outcome_of done)) (λ oid is. alike.named oid (done ∙ ap Done is))
     by_plan (Fails error) is = refl
     by_plan (Absent name) is = ap (λ place. answers.Error (errors.NoRelation name place)) (alike.absent name is)
     by_plan NotBuilt is = refl

@@ -1,38 +1,41 @@
 -- What a command has to answer by the history is what its backend tells by its last scans and its locks.
-use Rattle.std.proofs.Common.{◌≡◌, ◌≤◌, ◌∙◌, ℕ, true, false, Option, Some, None, List, [], refl, sym, ap, subst, length, ◌⊎◌, inl, inr}
+use Rattle.std.proofs.Common.{◌≡◌, ◌≤◌, ◌∙◌, ℕ, true, false, Option, Some, None, List, [], ◌∷◌, refl, sym, ap, subst, length, ◌⊎◌, inl, inr}
 use Rattle.std.proofs.lemmas.List.{append-nil, take_all}
 use Rattle.command_answers.specs.Answers.{answer_text}
 use Rattle.command_answers.specs.declared.answer.Answer.TheVariants as answers
+use Rattle.base_types.specs.declared.scan.Purpose.TheVariants as scans
 use Rattle.ddl_effect.specs.Commands.{plan_of}
 use Rattle.ddl_effect.specs.Effects.{effect_at}
 use Rattle.ddl_effect.specs.Stages.{told_of}
 use Rattle.ddl_effect.specs.declared.told.Told.TheVariants as tells
 use Rattle.ddl_effect.specs.Plans.{Plan, Done, Fails, Absent, NotBuilt, Do}
 use Rattle.history_model.specs.Lives.{last_event_of}
-use Rattle.history_model.specs.Read.{place_read, rows_read}
+use Rattle.history_model.specs.Read.{place_read, rows_read, is_usable}
 use Rattle.history_model.specs.Versions.{answer_of}
-use Rattle.cacheless.specs.Types.{Command, CommandError, Answer, Told, Scenario, Entry, Line}
+use Rattle.cacheless.specs.Types.{Oid, Command, CommandError, Answer, Told, Scenario, Entry, Line}
 use Rattle.cacheless.specs.ActsDone.{made_in, opening_by, relation_by}
 use Rattle.cacheless.specs.Facts.{facts_of}
-use Rattle.cacheless.specs.Lines.{answer_well, answer_by, effect_judged, answer_judged, line_of}
+use Rattle.cacheless.specs.Lines.{name_in, answer_well, answer_by, effect_judged, answer_judged, line_of}
 use Rattle.cacheless.specs.OnCourse.{OnItsWay, HasWritten, is_over, Way, Begun, Wrote, Unbuilt, Over, FollowsPlan}
 use Rattle.cacheless.specs.Owed.{builds_owed, owed_of}
-use Rattle.cacheless.proofs.Allowed.Releases.{owes_none_built}
+use Rattle.cacheless.proofs.Allowed.Releases.{OwesNoScan, owes_no_scan}
 use Rattle.cacheless.specs.Session.{Session, none_open, number_of, outcome_of, is_settled, Well, Badly}
 use Rattle.cacheless.specs.Settled.{found_by, finished_as}
 use Rattle.cacheless.specs.Told.{told_well, told_left, told_read}
 use Rattle.cacheless.proofs.Plans.ActOrder.{TellsOpen, HasCome, has_come, at_end, follows_order, goes_by_relation}
 use Rattle.cacheless.proofs.Plans.EffectAlong.{effect_along}
 use Rattle.cacheless.proofs.Allowed.SettledCourse.{HasSession}
-use Rattle.cacheless.proofs.Answers.ToldFields.{field_told, fields_told}
+use Rattle.cacheless.proofs.Answers.ReadPlaces.{read_at_place}
+use Rattle.cacheless.proofs.Answers.ToldFields.{none_unusable, field_told, fields_told}
 
--- a command that has come out, before anything of it is taken back or released; if it came out well, its backend may rely on all scans for the descriptors that it has opened
+-- a command that has come out, before anything of it is taken back or released; if it came out well, its backend may rely on all scans for the descriptors that it has opened, and on that of the oid of which it tells
 pub record HasComeOut (scenario : Scenario) (seen : List Entry) (b : ℕ) (s : Session) (command : Command) : Type 0 where
   pub has : HasSession scenario seen b s.locks
   pub follows : FollowsPlan seen b s command
   pub out : is_settled (outcome_of s.left) ≡ true
   pub stands : is_over (last_event_of seen b) s ≡ false
   pub builds : outcome_of s.left ≡ Well → builds_owed (facts_of seen b) s.opened ≡ []
+  pub named : (oid : Oid) → s.left ≡ Done (tells.Regclass oid) → is_usable seen b (scans.RelOid oid) ≡ true
 
 -- by what it is on its way to, or has written
 pub data Stays (seen : List Entry) (b : ℕ) (s : Session) (command : Command) : Type 0 where
@@ -56,7 +59,7 @@ tells_open seen b s command told way done = subst (λ l. TellsOpen l told) (sym 
     plan : Plan
     plan = plan_of none_open command
 
--- of a relation only what is open is told, a field only where the relation has it, and nothing of an oid
+-- of a relation only what is open is told, and a field only where the relation has it
 pub stays_open : (seen : List Entry) (b : ℕ) (s : Session) (command : Command) (told : Told) → Stays seen b s command → s.left ≡ Done told → TellsOpen s.opened told
 stays_open seen b s command told (Unwritten way) done = tells_open seen b s command told way done
 stays_open seen b s command told (Written wrote) done = subst (TellsOpen s.opened) (ap told_of (sym wrote.plan ∙ done)) tt
@@ -71,7 +74,7 @@ well_told scenario seen b s command (tells.Relation rel kind) come done opened =
     ap (answers.Shown kind rel) (fields_told scenario seen b s.locks (record { rel = rel; kind = kind }) (record { has = come.has; builds = ap (builds_owed (facts_of seen b)) (sym opened) ∙ come.builds (ap outcome_of done) }))
 well_told scenario seen b s command (tells.Field rel kind field) come done opened =
     ap answers.One (field_told scenario seen b s.locks (record { rel = rel; kind = kind }) field (record { has = come.has; builds = ap (builds_owed (facts_of seen b)) (sym opened.0) ∙ come.builds (ap outcome_of done) }) opened.1)
-well_told scenario seen b s command (tells.Regclass oid) come done opened = absurd opened
+well_told scenario seen b s command (tells.Regclass oid) come done opened = ap (λ given. answers.Regclass oid (name_in given) (place_read seen b (scans.RelOid oid))) (read_at_place seen b (scans.RelOid oid))
 well_told scenario seen b s command told come done opened = refl
 
 -- by the plan that is left
@@ -116,8 +119,15 @@ line_told scenario seen b s command come judged = ap (λ h. line_by h) (take_all
 -- a command that came out of itself and owes nothing, or has failed, has come out so, where its last entry takes nothing back and is no release
 pub has_come_out : (scenario : Scenario) (seen : List Entry) (b : ℕ) (s : Session) (command : Command) → HasSession scenario seen b s.locks → FollowsPlan seen b s command → is_settled (outcome_of s.left) ≡ true → is_over (last_event_of seen b) s ≡ false
     → (outcome_of s.left ≡ Badly) ⊎ (owed_of (facts_of seen b) command s ≡ []) → HasComeOut scenario seen b s command
-has_come_out scenario seen b s command has follows out stands owes = record { has = has; follows = follows; out = out; stands = stands; builds = by_side owes }
+has_come_out scenario seen b s command has follows out stands owes = record {
+  has = has;
+  follows = follows;
+  out = out;
+  stands = stands;
+  builds = λ well. (by_side owes well).0;
+  named = λ oid is. (none_unusable (facts_of seen b) (scans.RelOid oid ∷ []) ((by_side owes (ap outcome_of is)).1 (tells.Regclass oid) is)).0;
+}
   where
-    by_side : (outcome_of s.left ≡ Badly) ⊎ (owed_of (facts_of seen b) command s ≡ []) → outcome_of s.left ≡ Well → builds_owed (facts_of seen b) s.opened ≡ []
+    by_side : (outcome_of s.left ≡ Badly) ⊎ (owed_of (facts_of seen b) command s ≡ []) → outcome_of s.left ≡ Well → OwesNoScan (facts_of seen b) s
     by_side (inl failed) well = absurd (let both : Well ≡ Badly = sym well ∙ failed in cc both)
-    by_side (inr none) well = owes_none_built (facts_of seen b) command s well none
+    by_side (inr none) well = owes_no_scan (facts_of seen b) command s well none

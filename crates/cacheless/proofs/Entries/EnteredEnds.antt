@@ -7,13 +7,9 @@ use Rattle.lock_modes.specs.Rooms.{Roomy}
 use Rattle.inval_messages.specs.Messages.{covers, is_spared}
 use Rattle.inval_messages.specs.Lists.{Written, lists_before, lists_from, cats_in, rels_in, sent_in}
 use Rattle.command_lists.specs.Lists.{Held, all_lists}
-use Rattle.ddl_effect.specs.declared.told.Told.TheVariants as tells
-use Rattle.ddl_effect.specs.Plans.{Plan, Done, Absent, Do, Lookup, Search}
-use Rattle.ddl_effect.specs.Stages.{plan_at}
 use Rattle.history_model.specs.Transactions.{begun, after_release}
 use Rattle.history_model.specs.Sent.{ends_transaction}
 use Rattle.history_model.proofs.Every.{every-weaker, every-filter}
-use Rattle.base_types.specs.declared.scan.Purpose.TheVariants as scans
 use Rattle.cacheless.specs.Types.{Xid, Message, Purpose, Scenario, Entry, Event, OwnLock}
 use Rattle.cacheless.specs.declared.kept_scan.KeptScan.{KeptScan}
 use Rattle.cacheless.specs.declared.progress.Due.TheVariants as dues
@@ -21,8 +17,8 @@ use Rattle.txn_blocks.specs.declared.transaction.RunningTransaction.{RunningTran
 use Rattle.cacheless.specs.declared.progress.Progress.{Progress}
 use Rattle.cacheless.specs.Facts.{Facts, facts_of}
 use Rattle.txn_blocks.specs.Transactions.{begun_own, ends_own, released_own}
-use Rattle.cacheless.specs.State.{running_of, lists_at, lists_left, is_kept, kept_spared, named_spared, is_in_accept, locks_accepted}
-use Rattle.cacheless.specs.Holds.{ReadRight, NamedFit, FactsFit, Rests, HasEntered}
+use Rattle.cacheless.specs.State.{running_of, lists_at, lists_left, is_kept, kept_spared, is_in_accept, locks_accepted}
+use Rattle.cacheless.specs.Holds.{ReadRight, FactsFit, Rests, HasEntered}
 use Rattle.cacheless.proofs.Entries.EnteredFetches.{is_kept-spared, all-spared}
 use Rattle.cacheless.proofs.Entries.Entering.{facts_after, noted_after, with_locks, own_entered, release_begun, ends_same, runs_begun, counts_stay}
 
@@ -99,26 +95,12 @@ spared_twice first later (k ∷ kept) = by_first (is_spared k.scan first) (is_sp
     by_first true both rest = ap (λ l. cond (is_spared k.scan later) (k ∷ l) l) rest ∙ sym (ap (λ t. cond t (k ∷ kept_spared (first ++ later) kept) (kept_spared (first ++ later) kept)) both)
     by_first false both rest = rest ∙ sym (ap (λ t. cond t (k ∷ kept_spared (first ++ later) kept) (kept_spared (first ++ later) kept)) both)
 
-grouped : (named a b : Bool) → ((named && a) && b) ≡ (named && (a && b))
-grouped true a b = refl
-grouped false a b = refl
-
-swapped : (a b : Bool) → (a && b) ≡ (b && a)
-swapped true true = refl
-swapped true false = refl
-swapped false true = refl
-swapped false false = refl
-
-named_twice : (named : Bool) (scan : Purpose) (first later : List Message) → ((named && is_spared scan first) && is_spared scan later) ≡ (is_spared scan (first ++ later) && named)
-named_twice named scan first later = grouped named (is_spared scan first) (is_spared scan later) ∙ ap (λ t. named && t) (sym (is_spared-append scan first later)) ∙ swapped named (is_spared scan (first ++ later))
-
 -- the state once writes are taken back
 abbrev pub taken_back : Progress → List Message → List Message → Held → Progress
 taken_back was cats rels lists = record was {
   due = dues.Nothing;
   running = Some (begun_own (was.finished + 1) was.running);
   kept = kept_spared rels (kept_spared cats was.kept);
-  named = named_spared rels (plan_at was.exec) (named_spared cats (plan_at was.exec) was.named);
   lists = lists;
 }
 
@@ -126,18 +108,6 @@ taken_back was cats rels lists = record was {
 gone_usable : (old : List Entry) (was : Progress) (from : ℕ) (cats rels : List Message) (scan : Purpose) → FactsFit (facts_of old was.id) was → cats ≡ cats_in (lists_from from (lists_at was)) → rels ≡ rels_in (lists_from from (lists_at was))
     → is_spared scan (sent_in (lists_from from (facts_of old was.id).lists)) ≡ is_spared scan (cats ++ rels)
 gone_usable old was from cats rels scan fits cats_are rels_are = ap (λ l. is_spared scan (sent_in (lists_from from l))) fits.lists ∙ sym (λ i. is_spared scan (cats_are i ++ rels_are i))
-
-name_gone : (old : List Entry) (was : Progress) (from : ℕ) (cats rels : List Message) (scan : Purpose) → FactsFit (facts_of old was.id) was → cats ≡ cats_in (lists_from from (lists_at was)) → rels ≡ rels_in (lists_from from (lists_at was))
-    → (facts_of old was.id).usable scan ≡ was.named → (is_spared scan (sent_in (lists_from from (facts_of old was.id).lists)) && (facts_of old was.id).usable scan) ≡ ((was.named && is_spared scan cats) && is_spared scan rels)
-name_gone old was from cats rels scan fits cats_are rels_are usable = ap (λ t. t && (facts_of old was.id).usable scan) (gone_usable old was from cats rels scan fits cats_are rels_are) ∙ ap (λ t. is_spared scan (cats ++ rels) && t) usable ∙ sym (named_twice was.named scan cats rels)
-
-named_gone : (old : List Entry) (was : Progress) (from : ℕ) (cats rels : List Message) (p : Plan) → FactsFit (facts_of old was.id) was → cats ≡ cats_in (lists_from from (lists_at was)) → rels ≡ rels_in (lists_from from (lists_at was))
-    → NamedFit (facts_of old was.id) p was.given.items was.named → NamedFit (facts_after old was (events.Gone from)) p was.given.items (named_spared rels p (named_spared cats p was.named))
-named_gone old was from cats rels (Do (Lookup name mode) rest) fits cats_are rels_are fit = (fit.0, name_gone old was from cats rels (scans.RelName name) fits cats_are rels_are fit.1)
-named_gone old was from cats rels (Do (Search scan) rest) fits cats_are rels_are fit = (fit.0, name_gone old was from cats rels scan fits cats_are rels_are fit.1)
-named_gone old was from cats rels (Absent name) fits cats_are rels_are fit = (fit.0, name_gone old was from cats rels (scans.RelName name) fits cats_are rels_are fit.1)
-named_gone old was from cats rels (Done (tells.Regclass oid)) fits cats_are rels_are fit = (fit.0, name_gone old was from cats rels (scans.RelOid oid) fits cats_are rels_are fit.1)
-named_gone old was from cats rels p fits cats_are rels_are fit = fit
 
 pub gone_holds : (scenario : Scenario) (old : List Entry) (was : Progress) (from : ℕ) (cats rels : List Message) (lists : Held) (locks : Roomy OwnLock) (rests : Rests scenario old was)
     → cats ≡ cats_in (lists_from from (lists_at was)) → rels ≡ rels_in (lists_from from (lists_at was)) → all_lists lists.lists ≡ lists_before from (lists_at was)
@@ -150,10 +120,10 @@ gone_holds scenario old was from cats rels lists locks rests cats_are rels_are b
     running = ap (λ o. Some (begun (was.finished + 1) o)) f.running ∙ runs_begun (was.finished + 1) was.running;
     lists = ap (lists_before from) f.lists ∙ sym before;
     owed = refl;
-    usable = λ scan build. ap (λ t. t && (facts_of old was.id).usable scan) (gone_usable old was from cats rels scan f cats_are rels_are) ∙ ap (λ t. is_spared scan (cats ++ rels) && t) (f.usable scan build)
+    usable = λ scan. ap (λ t. t && (facts_of old was.id).usable scan) (gone_usable old was from cats rels scan f cats_are rels_are) ∙ ap (λ t. is_spared scan (cats ++ rels) && t) (f.usable scan)
         ∙ sym (ap (λ l. is_kept l scan) (spared_twice cats rels was.kept) ∙ is_kept-spared (cats ++ rels) was.kept scan);
-    kept = subst (All (ReadRight after.rows)) (sym (spared_twice cats rels was.kept)) (all-spared (ReadRight after.rows) (cats ++ rels) was.kept (λ i d within. let k = f.kept i d within in record { build = k.build; rows_are = k.rows_are }));
-    given = λ read. named_gone old was from cats rels (plan_at was.exec) f cats_are rels_are (f.given read);
+    kept = subst (All (ReadRight after.rows)) (sym (spared_twice cats rels was.kept)) (all-spared (ReadRight after.rows) (cats ++ rels) was.kept (λ i d within. let k = f.kept i d within in record { rows_are = k.rows_are }));
+    given = f.given;
   };
   counts = counts_stay rests.holds.counts;
   order = subst (AllByRecursion (λ (list : Written). list.command ≤ was.finished + 1)) (sym before)

@@ -1,23 +1,20 @@
 -- What a fetch of messages and a reset make of what the code holds.
 use Rattle.std.proofs.Common.{◌≡◌, ◌≤◌, ◌+◌, ◌∙◌, ◌==◌, ◌&&◌, ◌||◌, ℕ, Bool, true, false, Option, Some, None, List, [], ◌∷◌, refl, sym, ap, subst, length, slice_get, arith, All, cond, take, ◌-◌}
-use Rattle.std.proofs.Math.Bool.{and-false, or-false, or-true}
+use Rattle.std.proofs.Math.Bool.{and-false}
 use Rattle.std.proofs.lemmas.List.Elements.{All-filter}
 use Rattle.base_types.specs.Scans.{same_scan}
-use Rattle.base_types.specs.declared.scan.Purpose.TheVariants as scans
 use Rattle.base_types.proofs.SameScan.{same_scan-true}
 use Rattle.event_kinds.specs.declared.entry.Event.TheVariants as events
 use Rattle.inval_messages.specs.Messages.{is_spared}
 use Rattle.lock_modes.specs.Rooms.{Roomy}
-use Rattle.ddl_effect.specs.declared.told.Told.TheVariants as tells
-use Rattle.ddl_effect.specs.Plans.{Plan, Done, Fails, Absent, Do, NotBuilt, Lookup, Search}
+use Rattle.ddl_effect.specs.Plans.{Plan, Done, Fails, Absent, Do, NotBuilt}
 use Rattle.ddl_effect.specs.Stages.{plan_at, plan_again, altering_at, altering_again}
 use Rattle.ddl_effect.specs.declared.altering.Altering.{Altering}
 use Rattle.ddl_effect.specs.declared.altering.Altering.TheVariants as alters
 use Rattle.ddl_effect.specs.declared.exec.Exec.TheVariants as stages
-use Rattle.ddl_effect.proofs.Driven.{Seeks, seeks_again}
 use Rattle.history_model.specs.Log.{fetched_by}
 use Rattle.history_model.specs.Transactions.{begun}
-use Rattle.cacheless.specs.Types.{Oid, Message, Row, Purpose, Scenario, Entry, Event, OwnLock, Exec}
+use Rattle.cacheless.specs.Types.{Oid, Message, Purpose, Scenario, Entry, Event, OwnLock, Exec}
 use Rattle.cacheless.specs.declared.kept_scan.KeptScan.{KeptScan}
 use Rattle.cacheless.specs.declared.progress.Due.{Due}
 use Rattle.cacheless.specs.declared.progress.Due.TheVariants as dues
@@ -28,8 +25,8 @@ use Rattle.cacheless.specs.Owed.{Owes, OwesLook, owed_after}
 use Rattle.cacheless.specs.Sessions.{resumed, placed_at, counted}
 use Rattle.cacheless.specs.Puts.{PutsOpened}
 use Rattle.txn_blocks.specs.Transactions.{begun_own}
-use Rattle.cacheless.specs.State.{owed_at, due_fetched, one_if, is_kept, kept_spared, named_spared, is_absent, ends_on_scan, is_full, is_in_accept, locks_accepted, Rest, rest_of, tally_at, session_at}
-use Rattle.cacheless.specs.Holds.{ReadRight, NamedFit, FactsFit, Rests, HasEntered}
+use Rattle.cacheless.specs.State.{owed_at, due_fetched, one_if, is_kept, kept_spared, is_absent, is_full, is_in_accept, locks_accepted, Rest, rest_of, tally_at, session_at}
+use Rattle.cacheless.specs.Holds.{ReadRight, GivenFits, FactsFit, Rests, HasEntered}
 use Rattle.cacheless.proofs.Tests.{not_both}
 use Rattle.cacheless.proofs.Same.{full_same}
 use Rattle.cacheless.proofs.Written.Putting.{puts_again}
@@ -91,12 +88,12 @@ abbrev pub found_again : Plan → Session → List (Option Oid)
 found_again (Absent name) s = take (length s.found - 1) s.found
 found_again p s = s.found
 
-resumed_is : (p : Plan) (s : Session) → resumed p s ≡ record s { left = left_again p s; read = s.read || is_absent p; found = found_again p s }
-resumed_is (Absent name) s = λ i. record s { left = s.sought; read = sym (or-true s.read) i; found = take (length s.found - 1) s.found }
-resumed_is (Done told) s = λ i. record s { read = sym (or-false s.read) i }
-resumed_is (Fails error) s = λ i. record s { read = sym (or-false s.read) i }
-resumed_is (Do act rest) s = λ i. record s { read = sym (or-false s.read) i }
-resumed_is NotBuilt s = λ i. record s { read = sym (or-false s.read) i }
+resumed_is : (p : Plan) (s : Session) → resumed p s ≡ record s { left = left_again p s; found = found_again p s }
+resumed_is (Absent name) s = refl
+resumed_is (Done told) s = refl
+resumed_is (Fails error) s = refl
+resumed_is (Do act rest) s = refl
+resumed_is NotBuilt s = refl
 
 left_is : (was : Progress) (rest : Rest) → (is_absent (plan_at was.exec) ≡ true → rest.sought ≡ plan_again was.exec) → (p : Plan) → plan_at was.exec ≡ p → left_again p (session_at was rest) ≡ plan_again was.exec
 left_is was rest sought (Absent name) at = sought (ap is_absent at)
@@ -107,42 +104,30 @@ left_is was rest sought NotBuilt at = sym (again_same was.exec (ap is_absent at)
 
 -- the session once a search is made anew
 pub resumed_same : (was : Progress) (exec : Exec) (rest : Rest) → (is_absent (plan_at was.exec) ≡ true → rest.sought ≡ plan_again was.exec) → plan_at exec ≡ plan_again was.exec
-    → resumed (plan_at was.exec) (session_at was rest) ≡ record (session_at was rest) { left = plan_at exec; read = was.read || is_absent (plan_at was.exec); found = found_again (plan_at was.exec) (session_at was rest) }
+    → resumed (plan_at was.exec) (session_at was rest) ≡ record (session_at was rest) { left = plan_at exec; found = found_again (plan_at was.exec) (session_at was rest) }
 resumed_same was exec rest sought again = resumed_is (plan_at was.exec) (session_at was rest)
-    ∙ (λ i. record (session_at was rest) { left = (left_is was rest sought (plan_at was.exec) refl ∙ sym again) i; read = was.read || is_absent (plan_at was.exec); found = found_again (plan_at was.exec) (session_at was rest) })
+    ∙ (λ i. record (session_at was rest) { left = (left_is was rest sought (plan_at was.exec) refl ∙ sym again) i; found = found_again (plan_at was.exec) (session_at was rest) })
 
--- what a search by name gave, where it is made anew
-named_again : (facts : Facts) (given : List Row) (named : Bool) (name : List ℕ) (p : Plan) → Seeks name p → NamedFit facts (Absent name) given named → NamedFit facts p given named
-named_again facts given named name (Do (Lookup own mode) rest) is fit = subst (λ n. (facts.rows (scans.RelName n) ≡ given) × (facts.usable (scans.RelName n) ≡ named)) (sym is) fit
-named_again facts given named name p is fit = absurd is
-
--- what the scan of a name gave, by what is known of it after messages
-pub given_again : (facts : Facts) (was : Progress) (exec : Exec) (named : Plan → Bool) → plan_at exec ≡ plan_again was.exec
-    → ((p : Plan) → plan_at was.exec ≡ p → (was.read || ends_on_scan p) ≡ true → NamedFit facts p was.given.items (named p))
-    → (was.read || is_absent (plan_at was.exec) || ends_on_scan (plan_at exec)) ≡ true → NamedFit facts (plan_at exec) was.given.items (named (plan_at was.exec))
-given_again facts was exec named again fits is = by_plan (plan_at was.exec) refl
+-- what a lookup found fits still
+given_again : (facts : Facts) (was : Progress) (exec : Exec) → plan_at exec ≡ plan_again was.exec → GivenFits facts (plan_at was.exec) was.given → GivenFits facts (plan_at exec) was.given
+given_again facts was exec again fit = by_plan (plan_at was.exec) refl fit
   where
-    stays : (p : Plan) → plan_at was.exec ≡ p → is_absent p ≡ false → NamedFit facts (plan_at exec) was.given.items (named p)
-    stays p at found = subst (λ q. NamedFit facts q was.given.items (named p)) same (fits p at (ap (λ q. was.read || ends_on_scan q) same ∙ sym (ap (λ t. t || ends_on_scan (plan_at exec)) (ap (λ q. was.read || is_absent q) at ∙ ap (λ t. was.read || t) found ∙ or-false was.read)) ∙ is))
-      where
-        same : p ≡ plan_at exec
-        same = sym at ∙ sym (again_same was.exec (ap is_absent at ∙ found)) ∙ sym again
+    stays : (p : Plan) → plan_at was.exec ≡ p → is_absent p ≡ false → GivenFits facts p was.given → GivenFits facts (plan_at exec) was.given
+    stays p at found fit = subst (λ q. GivenFits facts q was.given) (sym at ∙ sym (again_same was.exec (ap is_absent at ∙ found)) ∙ sym again) fit
 
-    by_plan : (p : Plan) → plan_at was.exec ≡ p → NamedFit facts (plan_at exec) was.given.items (named p)
-    by_plan (Absent name) at = named_again facts was.given.items (named (Absent name)) name (plan_at exec) (subst (Seeks name) (sym again) (seeks_again was.exec name at)) (fits (Absent name) at (or-true was.read))
-    by_plan (Done told) at = stays (Done told) at refl
-    by_plan (Fails error) at = stays (Fails error) at refl
-    by_plan (Do act rest) at = stays (Do act rest) at refl
-    by_plan NotBuilt at = stays NotBuilt at refl
+    by_plan : (p : Plan) → plan_at was.exec ≡ p → GivenFits facts p was.given → GivenFits facts (plan_at exec) was.given
+    by_plan (Absent name) at fit = absurd fit
+    by_plan (Done told) at fit = stays (Done told) at refl fit
+    by_plan (Fails error) at fit = stays (Fails error) at refl fit
+    by_plan (Do act rest) at fit = stays (Do act rest) at refl fit
+    by_plan NotBuilt at fit = stays NotBuilt at refl fit
 
 -- the state after a fetch of these messages, but for its full fetches
 abbrev pub fetched_first : Progress → ℕ → List Message → Exec → Progress
 fetched_first was count messages exec = record was {
   exec = exec;
-  read = was.read || is_absent (plan_at was.exec);
   due = due_fetched count;
   running = Some (begun_own (was.finished + 1) was.running);
-  named = named_spared messages (plan_at was.exec) was.named;
   kept = kept_spared messages was.kept;
   tally = record was.tally { fetches = was.tally.fetches + 1 };
   answer = None;
@@ -169,25 +154,6 @@ full_more false tally = λ i. record tally { full = same i }
 one_at_most : (t : Bool) → one_if t ≤ 1
 one_at_most true = omega arith
 one_at_most false = omega arith
-
-swapped : (a b : Bool) → (a && b) ≡ (b && a)
-swapped true true = refl
-swapped true false = refl
-swapped false true = refl
-swapped false false = refl
-
-spared_after : (old : List Entry) (was : Progress) (count : ℕ) (messages : List Message) (scan : Purpose) → messages ≡ fetched_by old was.id count → (facts_of old was.id).usable scan ≡ was.named
-    → (is_spared scan (fetched_by old was.id count) && (facts_of old was.id).usable scan) ≡ (was.named && is_spared scan messages)
-spared_after old was count messages scan are usable = ap (λ l. is_spared scan l && (facts_of old was.id).usable scan) (sym are) ∙ ap (λ t. is_spared scan messages && t) usable ∙ swapped (is_spared scan messages) was.named
-
--- what the scan of a name gave, after messages
-named_after : (old : List Entry) (was : Progress) (count : ℕ) (messages : List Message) (p : Plan) → messages ≡ fetched_by old was.id count → NamedFit (facts_of old was.id) p was.given.items was.named
-    → NamedFit (facts_after old was (events.Fetch count)) p was.given.items (named_spared messages p was.named)
-named_after old was count messages (Do (Lookup name mode) rest) are fit = (fit.0, spared_after old was count messages (scans.RelName name) are fit.1)
-named_after old was count messages (Do (Search scan) rest) are fit = (fit.0, spared_after old was count messages scan are fit.1)
-named_after old was count messages (Absent name) are fit = (fit.0, spared_after old was count messages (scans.RelName name) are fit.1)
-named_after old was count messages (Done (tells.Regclass oid)) are fit = (fit.0, spared_after old was count messages (scans.RelOid oid) are fit.1)
-named_after old was count messages p are fit = tt
 
 pub fetch_holds : (scenario : Scenario) (old : List Entry) (was : Progress) (count : ℕ) (messages : List Message) (exec : Exec) (locks : Roomy OwnLock) (rests : Rests scenario old was) → messages ≡ fetched_by old was.id count → plan_at exec ≡ plan_again was.exec
     → locks.items ≡ locks_accepted (is_in_accept (fetched was count messages exec) (slice_get was.commands was.finished)) was.locks.items
@@ -223,9 +189,9 @@ fetch_holds scenario old was count messages exec locks rests are again items = o
       running = ap (λ o. Some (begun (was.finished + 1) o)) f.running ∙ runs_begun (was.finished + 1) was.running;
       lists = f.lists;
       owed = owed_fetched count;
-      usable = λ scan build. ap (λ l. is_spared scan l && (facts_of old was.id).usable scan) (sym are) ∙ ap (λ t. is_spared scan messages && t) (f.usable scan build) ∙ sym (is_kept-spared messages was.kept scan);
-      kept = all-spared (ReadRight after.rows) messages was.kept (λ i d within. let k = f.kept i d within in record { build = k.build; rows_are = k.rows_are });
-      given = given_again after was exec (λ p. named_spared messages p was.named) again (λ p at read. named_after old was count messages p are (subst (λ q. NamedFit (facts_of old was.id) q was.given.items was.named) at (f.given (ap (λ q. was.read || ends_on_scan q) at ∙ read))));
+      usable = λ scan. ap (λ l. is_spared scan l && (facts_of old was.id).usable scan) (sym are) ∙ ap (λ t. is_spared scan messages && t) (f.usable scan) ∙ sym (is_kept-spared messages was.kept scan);
+      kept = all-spared (ReadRight after.rows) messages was.kept (λ i d within. let k = f.kept i d within in record { rows_are = k.rows_are });
+      given = λ granted. given_again after was exec again (f.given granted);
     }
 
     s : Session
@@ -233,7 +199,7 @@ fetch_holds scenario old was count messages exec locks rests are again items = o
 
     -- the session with the entry, but for its tally
     noted_as : Tally → Session
-    noted_as tally = record s { left = plan_at exec; read = was.read || is_absent (plan_at was.exec); found = found_again (plan_at was.exec) s; tally = tally; judged = length old + 1; last = length old + 1 }
+    noted_as tally = record s { left = plan_at exec; found = found_again (plan_at was.exec) s; tally = tally; judged = length old + 1; last = length old + 1 }
 
     once : Tally
     once = record s.tally { fetches = s.tally.fetches + 1 }
@@ -250,21 +216,12 @@ fetch_holds scenario old was count messages exec locks rests are again items = o
 abbrev pub was_reset : Progress → Exec → List KeptScan → Progress
 was_reset was exec kept = record was {
   exec = exec;
-  read = was.read || is_absent (plan_at was.exec);
   due = dues.Nothing;
   running = Some (begun_own (was.finished + 1) was.running);
-  named = false;
   kept = kept;
   tally = record was.tally { fetches = was.tally.fetches + 1 };
   answer = None;
 }
-
-named_reset : (old : List Entry) (was : Progress) (p : Plan) → NamedFit (facts_of old was.id) p was.given.items was.named → NamedFit (facts_after old was events.FetchReset) p was.given.items false
-named_reset old was (Do (Lookup name mode) rest) fit = (fit.0, refl)
-named_reset old was (Do (Search scan) rest) fit = (fit.0, refl)
-named_reset old was (Absent name) fit = (fit.0, refl)
-named_reset old was (Done (tells.Regclass oid)) fit = (fit.0, refl)
-named_reset old was p fit = tt
 
 pub reset_holds : (scenario : Scenario) (old : List Entry) (was : Progress) (exec : Exec) (locks : Roomy OwnLock) (rests : Rests scenario old was) → plan_at exec ≡ plan_again was.exec
     → locks.items ≡ locks_accepted (is_in_accept (was_reset was exec []) (slice_get was.commands was.finished)) was.locks.items
@@ -276,9 +233,9 @@ reset_holds scenario old was exec locks rests again items = own_entered scenario
     running = ap (λ o. Some (begun (was.finished + 1) o)) f.running ∙ runs_begun (was.finished + 1) was.running;
     lists = f.lists;
     owed = refl;
-    usable = λ scan build. refl;
+    usable = λ scan. refl;
     kept = λ i d within. absurd (omega (arith, within));
-    given = given_again after was exec (λ p. false) again (λ p at read. named_reset old was p (subst (λ q. NamedFit (facts_of old was.id) q was.given.items was.named) at (f.given (ap (λ q. was.read || ends_on_scan q) at ∙ read))));
+    given = λ granted. given_again after was exec again (f.given granted);
   };
   counts = let c = rests.holds.counts in record { looks = omega (arith, c.looks); scans = omega (arith, c.scans); grants = omega (arith, c.grants); fetches = omega (arith, c.fetches); full = omega (arith, c.full) };
   order = rests.holds.order;
@@ -302,5 +259,5 @@ reset_holds scenario old was exec locks rests again items = own_entered scenario
     s : Session
     s = session_at was rests.holds.rest
 
-    whole : noted_after old was event rests.holds.rest ≡ record s { left = plan_at exec; read = was.read || is_absent (plan_at was.exec); found = found_again (plan_at was.exec) s; tally = tally_at now.tally; judged = length old + 1; last = length old + 1 }
+    whole : noted_after old was event rests.holds.rest ≡ record s { left = plan_at exec; found = found_again (plan_at was.exec) s; tally = tally_at now.tally; judged = length old + 1; last = length old + 1 }
     whole = ap (λ (t : Session). record t { tally = tally_at now.tally; locks = s.locks; judged = length old + 1; last = length old + 1 }) (resumed_same was exec rests.holds.rest rests.holds.sought again)

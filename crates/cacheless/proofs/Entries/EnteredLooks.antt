@@ -1,5 +1,5 @@
 -- What a start, a look and a stop make of what the code holds.
-use Rattle.std.proofs.Common.{◌≡◌, ◌≤◌, ◌+◌, ◌∙◌, ◌==◌, ◌||◌, Bool, true, false, Option, Some, None, List, [], ◌∷◌, ◌++◌, refl, sym, ap, subst, length, drop, slice_get, arith}
+use Rattle.std.proofs.Common.{◌≡◌, ◌≤◌, ◌+◌, ◌∙◌, ◌==◌, Bool, true, false, Option, Some, None, List, [], ◌∷◌, ◌++◌, refl, sym, ap, subst, length, drop, slice_get, arith}
 use Rattle.std.proofs.lemmas.Bool.{eq-eqb}
 use Rattle.std.specs.List.{AllByRecursion}
 use Rattle.command_lists.specs.Lists.{all_lists}
@@ -20,7 +20,7 @@ use Rattle.cacheless.specs.Owed.{owed_after}
 use Rattle.cacheless.specs.Settled.{settled}
 use Rattle.cacheless.specs.Puts.{PutsOpened}
 use Rattle.txn_blocks.specs.Transactions.{begun_own}
-use Rattle.cacheless.specs.State.{ends_on_scan, owed_at, due_looked, is_absent, is_in_accept, locks_accepted, IsNew, Rest, tally_at, session_at}
+use Rattle.cacheless.specs.State.{owed_at, due_looked, is_absent, is_in_accept, locks_accepted, IsNew, Rest, tally_at, session_at}
 use Rattle.cacheless.specs.Holds.{FactsFit, CountsFit, Holds, Rests, HasNotStarted, entry_of, HasEntered, HasStarted}
 use Rattle.cacheless.proofs.Plans.ActOrder.{FollowsOrder, follows_order}
 use Rattle.cacheless.proofs.Reading.{facts_of-own, session_of-own}
@@ -74,30 +74,21 @@ stop_holds scenario old was locks rests items = own_entered scenario old was (st
   puts = rests.holds.puts;
 }) items
 
--- a command begins by no answer that rests on a scan
-end_not : (p : Plan) → (is_built p ≡ true → FollowsOrder p) → ends_on_scan p ≡ false
-end_not (Absent name) follows = absurd (follows refl)
-end_not (Done (tells.Regclass oid)) follows = absurd (follows refl)
-end_not (Done told) follows = refl
-end_not (Fails error) follows = refl
-end_not (Do act rest) follows = refl
-end_not NotBuilt follows = refl
-
-pub no_end : (blocks : Blocks) (o : Option Command) → ends_on_scan (plan_first blocks o) ≡ false
-no_end blocks None = refl
-no_end blocks (Some command) = by_blocks (refused_by blocks command)
-  where
-    by_blocks : (error : Option CommandError) → ends_on_scan (plan_admitted error command) ≡ false
-    by_blocks None = end_not (plan_of none_open command) (follows_order none_open command)
-    by_blocks (Some error) = refl
-
--- so by no search that has found nothing
-there : (p : Plan) → ends_on_scan p ≡ false → is_absent p ≡ false
-there (Absent name) is = absurd (cc is)
-there p is = refl
+-- a command begins by no lookup that has found nothing
+there : (p : Plan) → (is_built p ≡ true → FollowsOrder p) → is_absent p ≡ false
+there (Absent name) follows = absurd (follows refl)
+there (Done told) follows = refl
+there (Fails error) follows = refl
+there (Do act rest) follows = refl
+there NotBuilt follows = refl
 
 pub not_absent : (blocks : Blocks) (o : Option Command) → is_absent (plan_first blocks o) ≡ false
-not_absent blocks o = there (plan_first blocks o) (no_end blocks o)
+not_absent blocks None = refl
+not_absent blocks (Some command) = by_blocks (refused_by blocks command)
+  where
+    by_blocks : (error : Option CommandError) → is_absent (plan_admitted error command) ≡ false
+    by_blocks None = there (plan_of none_open command) (follows_order none_open command)
+    by_blocks (Some error) = refl
 
 -- the state after the start
 abbrev pub started : Progress → Progress
@@ -117,7 +108,7 @@ start_holds scenario old was waits = record {
       ∙ ap (λ s. Some (settled after was.commands s)) same
       ∙ ap (λ n. Some (settled after (drop n was.commands) (session_at (started was) rest))) (sym new.finished)
       ∙ ap (λ f. Some (settled f (drop was.finished was.commands) (session_at (started was) rest))) (sym facts);
-  facts = subst (λ f. FactsFit f (started was)) (sym facts) (let f = waits.facts in record { running = refl; lists = f.lists; owed = refl; usable = f.usable; kept = f.kept; given = λ is. absurd (not_both (was.read || ends_on_scan (plan_at was.exec)) is unread) });
+  facts = subst (λ f. FactsFit f (started was)) (sym facts) (let f = waits.facts in record { running = refl; lists = f.lists; owed = refl; usable = f.usable; kept = f.kept; given = λ is. absurd (not_both was.granted is new.granted) });
   counts = subst (λ c. CountsFit c (length (old ++ e ∷ []))) (sym new.tally) (record { looks = omega arith; scans = omega arith; grants = omega arith; fetches = omega arith; full = omega arith });
   order = subst (AllByRecursion (λ list. list.command ≤ was.finished + 1)) (sym (ap all_lists new.lists)) tt;
   sought = λ is. absurd (not_both (is_absent (plan_at was.exec)) is found);
@@ -148,16 +139,13 @@ start_holds scenario old was waits = record {
     found : is_absent (plan_at was.exec) ≡ false
     found = ap is_absent new.plan ∙ not_absent no_block first
 
-    unread : (was.read || ends_on_scan (plan_at was.exec)) ≡ false
-    unread = ap (λ t. t || ends_on_scan (plan_at was.exec)) new.read ∙ ap ends_on_scan new.plan ∙ no_end no_block first
-
     same : at_command no_block [] [] (length old + 1) first ≡ session_at (started was) rest
     same = λ i. record (session_at (started was) rest) {
       blocks = sym new.blocks i;
       left = sym new.plan i;
       blocked = sym new.blocked i;
       opened = sym new.opened i;
-      read = sym new.read i;
+      granted = sym new.granted i;
       ended = sym new.ended i;
       tally = tally_at (sym new.tally i);
       locks = sym new.locks i;
@@ -173,7 +161,7 @@ start_starts scenario old was waits = record {
     left = new.plan i;
     blocked = new.blocked i;
     opened = new.opened i;
-    read = new.read i;
+    granted = new.granted i;
     ended = new.ended i;
     tally = tally_at (new.tally i);
     locks = new.locks i;

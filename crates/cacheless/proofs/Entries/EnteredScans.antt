@@ -1,5 +1,5 @@
 -- What a scan makes of what the code holds.
-use Rattle.std.proofs.Common.{◌≡◌, ◌<◌, ◌+◌, ◌∙◌, ◌||◌, ℕ, Bool, true, false, not, Some, None, List, [], ◌∷◌, ◌++◌, refl, sym, ap, subst, length, slice_get, arith, All, get_or, cond, Vec, Global}
+use Rattle.std.proofs.Common.{◌≡◌, ◌<◌, ◌+◌, ◌∙◌, ◌&&◌, ◌||◌, ℕ, Bool, true, false, not, Some, None, List, [], ◌∷◌, ◌++◌, refl, sym, ap, subst, length, slice_get, arith, All, get_or, cond}
 use Rattle.std.specs.List.{find, list_any, AllByRecursion}
 use Rattle.std.specs.Option.{option_map_or}
 use Rattle.std.proofs.lemmas.List.Folds.{list_any-append, list_any_at}
@@ -15,20 +15,18 @@ use Rattle.ddl_effect.specs.Stages.{plan_at}
 use Rattle.history_model.specs.Read.{rows_by}
 use Rattle.history_model.specs.Transactions.{begun}
 use Rattle.history_model.specs.Versions.{answer_of}
-use Rattle.cacheless.specs.Types.{Kind, Oid, Row, Purpose, Scenario, Entry, Event, Opening, OwnLock}
+use Rattle.cacheless.specs.Types.{Kind, Oid, Mode, Row, Purpose, Scenario, Entry, Event, Opening, OwnLock}
 use Rattle.cacheless.specs.declared.kept_scan.KeptScan.{KeptScan}
 use Rattle.cacheless.specs.declared.progress.Due.TheVariants as dues
 use Rattle.cacheless.specs.declared.progress.Progress.{Progress}
 use Rattle.cacheless.specs.Facts.{Facts, facts_of}
-use Rattle.cacheless.specs.Sessions.{is_wanted}
 use Rattle.txn_blocks.specs.Transactions.{begun_own}
 use Rattle.cacheless.specs.State.{is_kept, is_in_accept, locks_accepted}
-use Rattle.cacheless.specs.May.{is_first_missing, is_next_of_act, is_next_at, has_failed}
-use Rattle.cacheless.specs.Holds.{ReadRight, NamedFit, Rests, HasEntered}
+use Rattle.cacheless.specs.May.{is_first_missing, is_missing, is_next_of_act, is_next_at, has_failed}
+use Rattle.cacheless.specs.Holds.{ReadRight, GivenFits, Rests, HasEntered}
 use Rattle.cacheless.proofs.Tests.{and_true, or_either, not_true}
-use Rattle.cacheless.proofs.ReadsBuilds.{ReadsBuilds, stage_reads}
 use Rattle.cacheless.proofs.Same.{builds_of}
-use Rattle.cacheless.proofs.Entries.Entering.{facts_after, noted_after, with_locks, own_entered, runs_begun}
+use Rattle.cacheless.proofs.Entries.Entering.{facts_after, with_locks, own_entered, runs_begun}
 
 -- a scan for a descriptor that isn't kept
 abbrev pub IsLacking : List KeptScan → Purpose → Type 0
@@ -49,30 +47,19 @@ opened_lacks : (kept : List KeptScan) (scan : Purpose) (opened : List Opening) �
 opened_lacks kept scan [] is = absurd (cc)
 opened_lacks kept scan (o ∷ opened) is = or_either (is_first_missing scan kept o.kind o.rel) (list_any (λ q. is_first_missing scan kept q.kind q.rel) opened) is (first_lacks kept scan o.kind o.rel) (opened_lacks kept scan opened)
 
--- a scan that the next act lacks and that isn't of its name is one for a descriptor
-act_lacking : (s : Progress) (scan : Purpose) (p : Plan) → is_wanted scan p ≡ false → is_next_of_act scan s p ≡ true → IsLacking s.kept scan
-act_lacking s scan (Do (Lookup name mode) rest) other is = absurd (let both : true ≡ false = sym (and_true _ (same_scan scan (scans.RelName name)) is).1 ∙ other in cc)
-act_lacking s scan (Do (Search wanted) rest) other is = absurd (let both : true ≡ false = sym (and_true _ (same_scan scan wanted) is).1 ∙ other in cc)
-act_lacking s scan (Do (Open rel kind) rest) other is = first_lacks s.kept scan kind rel is
-act_lacking s scan (Done (tells.Regclass oid)) other is = absurd (let both : true ≡ false = sym (and_true _ (same_scan scan (scans.RelOid oid)) is).1 ∙ other in cc)
-act_lacking s scan p other is = absurd (cc)
+missing_lacks : (kept : List KeptScan) (scan wanted : Purpose) → is_missing scan kept wanted ≡ true → not (is_kept kept scan) ≡ true
+missing_lacks kept scan wanted is = let parts = and_true (not (is_kept kept wanted)) (same_scan scan wanted) is in ap (λ d. not (is_kept kept d)) (same_scan-true scan wanted parts.1) ∙ parts.0
 
-pub next_lacks : (s : Progress) (scan : Purpose) → is_wanted scan (plan_at s.exec) ≡ false → is_next_at scan s ≡ true → IsLacking s.kept scan
-next_lacks s scan other is = or_either _ _ (and_true (not (has_failed s)) _ is).1 (opened_lacks s.kept scan s.opened) (act_lacking s scan (plan_at s.exec) other)
+act_lacking : (s : Progress) (scan : Purpose) (p : Plan) → is_next_of_act scan s p ≡ true → not (is_kept s.kept scan) ≡ true
+act_lacking s scan (Do (Lookup name mode) rest) is = missing_lacks s.kept scan (scans.RelName name) (and_true (not s.granted) (is_missing scan s.kept (scans.RelName name)) is).1
+act_lacking s scan (Do (Search wanted) rest) is = missing_lacks s.kept scan wanted is
+act_lacking s scan (Do (Open rel kind) rest) is = (first_lacks s.kept scan kind rel is).0
+act_lacking s scan (Done (tells.Regclass oid)) is = missing_lacks s.kept scan (scans.RelOid oid) is
+act_lacking s scan p is = absurd (cc)
 
--- the scan of a catalog cache is none of a descriptor's
-pub wanted_named : (scan : Purpose) (p : Plan) → ReadsBuilds p → is_wanted scan p ≡ true → is_build_scan scan ≡ false
-wanted_named scan (Do (Lookup name mode) rest) reads is = ap is_build_scan (same_scan-true scan (scans.RelName name) is)
-wanted_named scan (Do (Search wanted) rest) reads is = ap is_build_scan (same_scan-true scan wanted is) ∙ reads
-wanted_named scan (Done (tells.Regclass oid)) reads is = ap is_build_scan (same_scan-true scan (scans.RelOid oid) is)
-wanted_named scan p reads is = absurd (cc)
-
-no_build : (named build : Purpose) → is_build_scan named ≡ false → is_build_scan build ≡ true → same_scan named build ≡ false
-no_build named build other is = by_test (same_scan named build) refl
-  where
-    by_test : (t : Bool) → same_scan named build ≡ t → same_scan named build ≡ false
-    by_test true same = absurd (let both : true ≡ false = sym is ∙ ap is_build_scan (sym (same_scan-true named build same)) ∙ other in cc)
-    by_test false same = same
+-- a scan that may be made isn't kept
+pub next_lacks : (s : Progress) (scan : Purpose) → is_next_at scan s ≡ true → not (is_kept s.kept scan) ≡ true
+next_lacks s scan is = or_either _ _ (and_true (not (has_failed s)) _ is).1 (λ here. (opened_lacks s.kept scan s.opened here).0) (act_lacking s scan (plan_at s.exec))
 
 no_named : (build named : Purpose) → is_build_scan build ≡ true → is_build_scan named ≡ false → same_scan build named ≡ false
 no_named build named is other = by_test (same_scan build named) refl
@@ -87,69 +74,22 @@ rows_by-others old b made scan count given other = ap (λ t. elim t [ true ↦ a
 rows_by-own : (old : List Entry) (b : ℕ) (made scan : Purpose) (count : ℕ) (given : List Row) → same_scan made scan ≡ true → rows_by old b scan (events.Scan made count) given ≡ answer_of old b made
 rows_by-own old b made scan count given is = ap (λ t. elim t [ true ↦ answer_of old b scan | false ↦ given ]) is ∙ ap (answer_of old b) (sym (same_scan-true made scan is))
 
--- the state after the scan of a catalog cache
-abbrev pub named_scan : Progress → Vec Row Global → ℕ → Progress
-named_scan was given at = record was { due = dues.Nothing; running = Some (begun_own (was.finished + 1) was.running); tally = record was.tally { scans = was.tally.scans + 1 }; read = true; named = true; given = given; given_at = at; answer = None }
-
--- its rows are those that the act asks for
-wanted_fit : (old : List Entry) (was : Progress) (scan : Purpose) (count : ℕ) (given : List Row) (p : Plan) → is_wanted scan p ≡ true → given ≡ answer_of old was.id scan → NamedFit (facts_after old was (events.Scan scan count)) p given true
-wanted_fit old was scan count given (Do (Lookup name mode) rest) is are =
-    (rows_by-own old was.id scan (scans.RelName name) count ((facts_of old was.id).rows (scans.RelName name)) is ∙ sym are, ap (λ t. t || (facts_of old was.id).usable (scans.RelName name)) is)
-wanted_fit old was scan count given (Do (Search wanted) rest) is are = (rows_by-own old was.id scan wanted count ((facts_of old was.id).rows wanted) is ∙ sym are, ap (λ t. t || (facts_of old was.id).usable wanted) is)
-wanted_fit old was scan count given (Done (tells.Regclass oid)) is are =
-    (rows_by-own old was.id scan (scans.RelOid oid) count ((facts_of old was.id).rows (scans.RelOid oid)) is ∙ sym are, ap (λ t. t || (facts_of old was.id).usable (scans.RelOid oid)) is)
-wanted_fit old was scan count given p is are = absurd (cc)
-
-pub named_holds : (scenario : Scenario) (old : List Entry) (was : Progress) (scan : Purpose) (count : ℕ) (given : Vec Row Global) (at : ℕ) (locks : Roomy OwnLock) (rests : Rests scenario old was)
-    → is_wanted scan (plan_at was.exec) ≡ true → given.items ≡ answer_of old was.id scan
-    → locks.items ≡ locks_accepted (is_in_accept (named_scan was given at) (slice_get was.commands was.finished)) was.locks.items
-    → HasEntered scenario old was (events.Scan scan count) rests (with_locks (named_scan was given at) locks)
-named_holds scenario old was scan count given at locks rests wanted are items = own_entered scenario old was (named_scan was given at) event locks rests (record { session = λ _ _ _ _ _ _. refl; finished = λ _. refl }) (record {
-  moves = record { id = refl; commands = refl; finished = refl };
-  session = λ i. record (noted_after old was event rests.holds.rest) { read = ap (λ t. t || was.read) wanted i };
-  facts = let f = rests.holds.facts in record {
-    running = ap (λ o. Some (begun (was.finished + 1) o)) f.running ∙ runs_begun (was.finished + 1) was.running;
-    lists = f.lists;
-    owed = refl;
-    usable = λ other build. ap (λ t. t || (facts_of old was.id).usable other) (no_build scan other named build) ∙ f.usable other build;
-    kept = λ i d within. let k = f.kept i d within in record { build = k.build; rows_are = k.rows_are ∙ sym (rows_by-others old was.id scan (get_or was.kept i d).scan count ((facts_of old was.id).rows (get_or was.kept i d).scan) (no_build scan (get_or was.kept i d).scan named k.build)) };
-    given = λ read. wanted_fit old was scan count given.items (plan_at was.exec) wanted are;
-  };
-  counts = let c = rests.holds.counts in record { looks = omega (arith, c.looks); scans = omega (arith, c.scans); grants = omega (arith, c.grants); fetches = omega (arith, c.fetches); full = c.full };
-  order = rests.holds.order;
-  sought = rests.holds.sought;
-  puts = rests.holds.puts;
-}) items
-  where
-    event : Event
-    event = events.Scan scan count
-
-    named : is_build_scan scan ≡ false
-    named = wanted_named scan (plan_at was.exec) (stage_reads was.exec) wanted
-
--- the state after a scan for a descriptor
+-- the state after a scan
 abbrev pub built_scan : Progress → List KeptScan → Progress
 built_scan was kept = record was { due = dues.Nothing; running = Some (begun_own (was.finished + 1) was.running); tally = record was.tally { scans = was.tally.scans + 1 }; kept = kept; answer = None }
 
-name_as_before : (old : List Entry) (was : Progress) (scan named : Purpose) (count : ℕ) → is_build_scan scan ≡ true → is_build_scan named ≡ false → ((facts_of old was.id).rows named ≡ was.given.items) × ((facts_of old was.id).usable named ≡ was.named)
-    → ((facts_after old was (events.Scan scan count)).rows named ≡ was.given.items) × ((facts_after old was (events.Scan scan count)).usable named ≡ was.named)
-name_as_before old was scan named count build is fit =
-    let other : same_scan scan named ≡ false = no_named scan named build is in
-    (rows_by-others old was.id scan named count ((facts_of old was.id).rows named) other ∙ fit.0, ap (λ t. t || (facts_of old was.id).usable named) other ∙ fit.1)
+-- none is of the name that a lookup has its lock for
+next_other : (s : Progress) (scan : Purpose) (name : List ℕ) (mode : Mode) (rest : List Row → Plan) → plan_at s.exec ≡ Do (Lookup name mode) rest → s.granted ≡ true → is_next_at scan s ≡ true → same_scan scan (scans.RelName name) ≡ false
+next_other s scan name mode rest at granted is = or_either _ _ (and_true (not (has_failed s)) _ is).1
+    (λ here. no_named scan (scans.RelName name) (opened_lacks s.kept scan s.opened here).1 refl)
+    (λ there. absurd (let both : false ≡ true = sym (ap (λ p. is_next_of_act scan s p) at ∙ ap (λ t. not t && is_missing scan s.kept (scans.RelName name)) granted) ∙ there in cc both))
 
--- what the scan of a catalog cache gave serves as before
-named_as_before : (old : List Entry) (was : Progress) (scan : Purpose) (count : ℕ) (p : Plan) → ReadsBuilds p → is_build_scan scan ≡ true → NamedFit (facts_of old was.id) p was.given.items was.named → NamedFit (facts_after old was (events.Scan scan count)) p was.given.items was.named
-named_as_before old was scan count (Do (Lookup name mode) rest) reads build fit = name_as_before old was scan (scans.RelName name) count build refl fit
-named_as_before old was scan count (Do (Search wanted) rest) reads build fit = name_as_before old was scan wanted count build reads fit
-named_as_before old was scan count (Absent name) reads build fit = name_as_before old was scan (scans.RelName name) count build refl fit
-named_as_before old was scan count (Done (tells.Regclass oid)) reads build fit = name_as_before old was scan (scans.RelOid oid) count build refl fit
-named_as_before old was scan count p reads build fit = fit
-
-unwanted : (scan : Purpose) (p : Plan) → ReadsBuilds p → is_build_scan scan ≡ true → is_wanted scan p ≡ false
-unwanted scan (Do (Lookup name mode) rest) reads build = no_named scan (scans.RelName name) build refl
-unwanted scan (Do (Search wanted) rest) reads build = no_named scan wanted build reads
-unwanted scan (Done (tells.Regclass oid)) reads build = no_named scan (scans.RelOid oid) build refl
-unwanted scan p reads build = refl
+-- what a lookup found fits as before
+given_as_before : (old : List Entry) (was : Progress) (scan : Purpose) (count : ℕ) (p : Plan) → plan_at was.exec ≡ p → was.granted ≡ true → is_next_at scan was ≡ true → GivenFits (facts_of old was.id) p was.given → GivenFits (facts_after old was (events.Scan scan count)) p was.given
+given_as_before old was scan count (Do (Lookup name mode) rest) at granted next fit =
+    (ap (λ l. slice_get l 0) (rows_by-others old was.id scan (scans.RelName name) count ((facts_of old was.id).rows (scans.RelName name)) (next_other was scan name mode rest at granted next)) ∙ fit.0, fit.1)
+given_as_before old was scan count (Absent name) at granted next fit = fit
+given_as_before old was scan count p at granted next fit = fit
 
 none_at : {X : Type 0} (p : X → Bool) (xs : List X) (i : ℕ) (d : X) → i < length xs → list_any p xs ≡ false → p (get_or xs i d) ≡ false
 none_at p xs i d within none = by_test (p (get_or xs i d)) refl
@@ -172,25 +112,24 @@ other_scan a b other = by_test (same_scan b a) refl
     by_test false is = is
 
 pub built_holds : (scenario : Scenario) (old : List Entry) (was : Progress) (scan : Purpose) (count : ℕ) (given : List Row) (at : ℕ) (kept : List KeptScan) (locks : Roomy OwnLock) (rests : Rests scenario old was)
-    → IsLacking was.kept scan → given ≡ answer_of old was.id scan → kept ≡ was.kept ++ record { scan = scan; rows = given; at = at } ∷ []
+    → is_next_at scan was ≡ true → given ≡ answer_of old was.id scan → kept ≡ was.kept ++ record { scan = scan; rows = given; at = at } ∷ []
     → locks.items ≡ locks_accepted (is_in_accept (built_scan was kept) (slice_get was.commands was.finished)) was.locks.items
     → HasEntered scenario old was (events.Scan scan count) rests (with_locks (built_scan was kept) locks)
-built_holds scenario old was scan count given at kept locks rests lacking are pushed items = own_entered scenario old was (built_scan was kept) event locks rests (record { session = λ _ _ _ _ _ _. refl; finished = λ _. refl }) (record {
+built_holds scenario old was scan count given at kept locks rests next are pushed items = own_entered scenario old was (built_scan was kept) event locks rests (record { session = λ _ _ _ _ _ _. refl; finished = λ _. refl }) (record {
   moves = record { id = refl; commands = refl; finished = refl };
-  session = λ i. record (noted_after old was event rests.holds.rest) { read = ap (λ t. t || was.read) (unwanted scan (plan_at was.exec) (stage_reads was.exec) lacking.1) i };
+  session = refl;
   facts = let f = rests.holds.facts in record {
     running = ap (λ o. Some (begun (was.finished + 1) o)) f.running ∙ runs_begun (was.finished + 1) was.running;
     lists = f.lists;
     owed = refl;
-    usable = λ other build. ap (λ t. same_scan scan other || t) (f.usable other build) ∙ swapped (same_scan scan other) (is_kept was.kept other) ∙ sym (list_any-append (λ k. same_scan k.scan other) was.kept (made ∷ [])) ∙ ap (λ l. is_kept l other) (sym pushed);
+    usable = λ other. ap (λ t. same_scan scan other || t) (f.usable other) ∙ swapped (same_scan scan other) (is_kept was.kept other) ∙ sym (list_any-append (λ k. same_scan k.scan other) was.kept (made ∷ [])) ∙ ap (λ l. is_kept l other) (sym pushed);
     kept = subst (All (ReadRight after.rows)) (sym pushed) (All-push (ReadRight after.rows) was.kept made
         (λ i d within. let k = f.kept i d within in record {
-          build = k.build;
           rows_are = k.rows_are ∙ sym (rows_by-others old was.id scan (get_or was.kept i d).scan count ((facts_of old was.id).rows (get_or was.kept i d).scan)
               (other_scan (get_or was.kept i d).scan scan (none_at (λ k. same_scan k.scan scan) was.kept i d within unkept)));
         })
-        (record { build = lacking.1; rows_are = are ∙ sym (rows_by-own old was.id scan scan count ((facts_of old was.id).rows scan) (same_scan-itself scan)) }));
-    given = λ read. named_as_before old was scan count (plan_at was.exec) (stage_reads was.exec) lacking.1 (f.given read);
+        (record { rows_are = are ∙ sym (rows_by-own old was.id scan scan count ((facts_of old was.id).rows scan) (same_scan-itself scan)) }));
+    given = λ granted. given_as_before old was scan count (plan_at was.exec) refl granted next (f.given granted);
   };
   counts = let c = rests.holds.counts in record { looks = omega (arith, c.looks); scans = omega (arith, c.scans); grants = omega (arith, c.grants); fetches = omega (arith, c.fetches); full = c.full };
   order = rests.holds.order;
@@ -205,7 +144,7 @@ built_holds scenario old was scan count given at kept locks rests lacking are pu
     after = facts_after old was event
 
     unkept : is_kept was.kept scan ≡ false
-    unkept = not_true (is_kept was.kept scan) lacking.0
+    unkept = not_true (is_kept was.kept scan) (next_lacks was scan next)
 
     made : KeptScan
     made = record { scan = scan; rows = given; at = at }

@@ -32,7 +32,7 @@ use Rattle.cacheless.specs.Session.{Session}
 use Rattle.cacheless.specs.Sessions.{written}
 use Rattle.cacheless.specs.Puts.{PutsOpened}
 use Rattle.txn_blocks.specs.Transactions.{begun_own}
-use Rattle.cacheless.specs.State.{ends_on_scan, running_of, lists_at, kept_spared, is_absent, is_in_accept, locks_accepted, locks_made, messages_in, rest_of, session_at}
+use Rattle.cacheless.specs.State.{running_of, lists_at, kept_spared, is_absent, is_in_accept, locks_accepted, locks_made, messages_in, rest_of, session_at}
 use Rattle.cacheless.specs.Holds.{ReadRight, Rests, HasEntered}
 use Rattle.cacheless.proofs.Tests.{not_both}
 use Rattle.cacheless.proofs.Written.WrittenMessages.{any_once}
@@ -83,7 +83,7 @@ done_written (stages.Altering altering) given is = alters_done altering given is
 done_written stage given is = absurd (cc)
 
 -- the session once the write of its command is made
-written_is : (p : Plan) (s : Session) → want_of p ≡ wants.Write → written p s ≡ record s { left = after_act [] p; opened = []; read = false }
+written_is : (p : Plan) (s : Session) → want_of p ≡ wants.Write → written p s ≡ record s { left = after_act [] p; opened = []; granted = false }
 written_is (Do (Write draft) rest) s is = refl
 written_is (Do (Lookup name mode) rest) s is = absurd (cc)
 written_is (Do (Open rel kind) rest) s is = absurd (cc)
@@ -100,7 +100,7 @@ abbrev pub wrote : Progress → Xid → List KeptScan → Held → Exec → Room
 wrote was xid kept lists exec locks = record was {
   exec = exec;
   opened = [];
-  read = false;
+  granted = false;
   due = dues.Nothing;
   running = Some (record (begun_own (was.finished + 1) was.running) { xid = Some xid });
   lists = lists;
@@ -125,9 +125,9 @@ write_holds scenario old was xid items messages new_oids first lists exec locked
     running = ap (λ o. Some (record (begun (was.finished + 1) o) { xid = Some xid.0 })) f.running ∙ runs_written (was.finished + 1) xid was.running;
     lists = ap (λ l. l ++ written_by old was.id (was.finished + 1) items ∷ []) f.lists ∙ sym listed;
     owed = refl;
-    usable = λ scan build. ap (λ t. t && (facts_of old was.id).usable scan) (sym (spared_alike old was.id items scan)) ∙ ap (λ l. is_spared scan l && (facts_of old was.id).usable scan) (sym are) ∙ ap (λ t. is_spared scan messages && t) (f.usable scan build) ∙ sym (is_kept-spared messages was.kept scan);
-    kept = all-spared (ReadRight after.rows) messages was.kept (λ i d within. let k = f.kept i d within in record { build = k.build; rows_are = k.rows_are });
-    given = λ is. absurd (not_both (ends_on_scan (plan_at exec)) is (ap ends_on_scan done));
+    usable = λ scan. ap (λ t. t && (facts_of old was.id).usable scan) (sym (spared_alike old was.id items scan)) ∙ ap (λ l. is_spared scan l && (facts_of old was.id).usable scan) (sym are) ∙ ap (λ t. is_spared scan messages && t) (f.usable scan) ∙ sym (is_kept-spared messages was.kept scan);
+    kept = all-spared (ReadRight after.rows) messages was.kept (λ i d within. let k = f.kept i d within in record { rows_are = k.rows_are });
+    given = λ is. absurd (cc is);
   };
   counts = counts_stay rests.holds.counts;
   order = subst (AllByRecursion (λ (list : Written). list.command ≤ was.finished + 1)) (sym listed)
@@ -158,6 +158,6 @@ write_holds scenario old was xid items messages new_oids first lists exec locked
     s : Session
     s = session_at was rests.holds.rest
 
-    whole : noted_after old was event rests.holds.rest ≡ record s { left = plan_at exec; opened = []; read = false; locks = locked.items; judged = length old + 1; last = length old + 1 }
+    whole : noted_after old was event rests.holds.rest ≡ record s { left = plan_at exec; opened = []; granted = false; locks = locked.items; judged = length old + 1; last = length old + 1 }
     whole = ap (λ (t : Session). record t { tally = s.tally; locks = was.locks.items ++ flat_map (locked_by (was.finished + 1)) items; judged = length old + 1; last = length old + 1 }) (written_is (plan_at was.exec) s wants_it)
-        ∙ (λ i. record s { left = sym goes i; opened = []; read = false; locks = (ap (λ l. was.locks.items ++ l) makes ∙ sym held) i; judged = length old + 1; last = length old + 1 })
+        ∙ (λ i. record s { left = sym goes i; opened = []; granted = false; locks = (ap (λ l. was.locks.items ++ l) makes ∙ sym held) i; judged = length old + 1; last = length old + 1 })

@@ -1,5 +1,5 @@
 -- What the code makes of an entry, by what its calls gave.
-use Rattle.std.proofs.Common.{◌≡◌, ◌+◌, ◌∙◌, ◌||◌, ℕ, Bool, true, false, None, Some, Option, List, [], ◌∷◌, ◌++◌, sym, ap, subst, length, filter, nat_lt, slice_get, Vec, Global}
+use Rattle.std.proofs.Common.{◌≡◌, ◌+◌, ◌∙◌, ℕ, Bool, true, false, None, Some, Option, List, [], ◌∷◌, ◌++◌, sym, ap, subst, length, filter, nat_lt, slice_get, Vec, Global}
 use Rattle.std.specs.List.{flat_map}
 use Rattle.event_kinds.specs.declared.entry.Event.TheVariants as events
 use Rattle.command_answers.specs.declared.error.CommandError.TheVariants as errors
@@ -18,14 +18,13 @@ use Rattle.cacheless.specs.declared.progress.Due.TheVariants as dues
 use Rattle.txn_blocks.specs.declared.transaction.RunningTransaction.{RunningTransaction}
 use Rattle.cacheless.specs.declared.progress.Progress.{Progress}
 use Rattle.cacheless.specs.Locks.{locked_by}
-use Rattle.cacheless.specs.Sessions.{is_wanted}
 use Rattle.txn_blocks.specs.Transactions.{begun_own, ends_own, released_own}
-use Rattle.cacheless.specs.State.{due_looked, due_fetched, one_if, lists_at, lists_left, kept_spared, named_spared, is_absent, is_full, is_in_accept, locks_accepted, locks_made, locks_written, messages_in, clash_event, error_of, failed_with, FailsWith, SearchesAgain}
-use Rattle.cacheless.specs.May.{is_next_at}
+use Rattle.cacheless.specs.State.{due_looked, due_fetched, one_if, lists_at, lists_left, kept_spared, row_next, is_full, is_in_accept, locks_accepted, locks_made, locks_written, messages_in, clash_event, error_of, failed_with, FailsWith, SearchesAgain}
+use Rattle.cacheless.specs.May.{lacks_any, is_lock_at, is_next_at}
 use Rattle.cacheless.specs.Holds.{Rests, HasEntered}
 use Rattle.cacheless.proofs.Entries.EnteredLooks.{looked, look_holds}
 use Rattle.cacheless.proofs.Entries.EnteredFetches.{fetched_first, fetched, fetch_holds, reset_holds}
-use Rattle.cacheless.proofs.Entries.EnteredScans.{next_lacks, named_scan, named_holds, built_scan, built_holds}
+use Rattle.cacheless.proofs.Entries.EnteredScans.{built_scan, built_holds}
 use Rattle.cacheless.proofs.Entries.EnteredLocks.{granted, granted_holds, refused_holds, clash_holds}
 use Rattle.cacheless.proofs.Entries.EnteredWrites.{wrote, write_holds}
 use Rattle.cacheless.proofs.Entries.EnteredEnds.{shown, visible_holds, publish_holds, taken_back, gone_holds, let_go, release_holds}
@@ -41,10 +40,8 @@ look_code was some_wait own due locks begins is items scenario seen rests =
 abbrev pub searched : Progress → ℕ → List Message → Exec → Progress
 searched was count messages exec = record was {
   exec = exec;
-  read = was.read || is_absent (plan_at was.exec);
   due = due_fetched count;
   running = Some (begun_own (was.finished + 1) was.running);
-  named = named_spared messages (plan_at was.exec) was.named;
   kept = kept_spared messages was.kept;
 }
 
@@ -56,12 +53,12 @@ fetched_once s = record s { tally = record s.tally { fetches = s.tally.fetches +
 abbrev pub fetched_more : Progress → ℕ → Roomy OwnLock → Progress
 fetched_more s full locks = record s { tally = record s.tally { fetches = s.tally.fetches + 1; full = s.tally.full + full }; locks = locks }
 
-pub fetch_code : (was : Progress) (messages : List Message) (count : ℕ) (own : RunningTransaction) (kept : List KeptScan) (named : Bool) (due : Due) (mid : Progress) (full : ℕ) (locks : Roomy OwnLock) → count ≡ length messages → own ≡ begun_own (was.finished + 1) was.running
-    → kept ≡ kept_spared messages was.kept → named ≡ named_spared messages (plan_at was.exec) was.named → due ≡ due_fetched count → SearchesAgain (record was { running = Some own; kept = kept; named = named; due = due }) mid
+pub fetch_code : (was : Progress) (messages : List Message) (count : ℕ) (own : RunningTransaction) (kept : List KeptScan) (due : Due) (mid : Progress) (full : ℕ) (locks : Roomy OwnLock) → count ≡ length messages → own ≡ begun_own (was.finished + 1) was.running
+    → kept ≡ kept_spared messages was.kept → due ≡ due_fetched count → SearchesAgain (record was { running = Some own; kept = kept; due = due }) mid
     → full ≡ one_if (is_full count (fetched_once mid))
     → locks.items ≡ locks_accepted (is_in_accept (fetched_more mid full mid.locks) (slice_get mid.commands mid.finished)) mid.locks.items
     → (scenario : Scenario) (seen : List Entry) → (rests : Rests scenario seen was) → messages ≡ fetched_by seen was.id (length messages) → HasEntered scenario seen was (events.Fetch (length messages)) rests (record (fetched_more mid full locks) { answer = None })
-fetch_code was messages count own kept named due mid full locks counted begins keeps names dues again counts items scenario seen rests are = subst Goal (sym state) canonical counts items
+fetch_code was messages count own kept due mid full locks counted begins keeps dues again counts items scenario seen rests are = subst Goal (sym state) canonical counts items
   where
     n : ℕ
     n = length messages
@@ -70,13 +67,13 @@ fetch_code was messages count own kept named due mid full locks counted begins k
     Goal m = full ≡ one_if (is_full count (fetched_once m)) → locks.items ≡ locks_accepted (is_in_accept (fetched_more m full m.locks) (slice_get m.commands m.finished)) m.locks.items → HasEntered scenario seen was (events.Fetch n) rests (record (fetched_more m full locks) { answer = None })
 
     state : mid ≡ searched was n messages mid.exec
-    state = again.is ∙ (λ i. record (searched was n messages mid.exec) { due = (dues ∙ ap due_fetched counted) i; running = Some (begins i); named = names i; kept = keeps i })
+    state = again.is ∙ (λ i. record (searched was n messages mid.exec) { due = (dues ∙ ap due_fetched counted) i; running = Some (begins i); kept = keeps i })
 
     canonical : Goal (searched was n messages mid.exec)
     canonical f l = subst (HasEntered scenario seen was (events.Fetch n) rests) (λ i. record (fetched was n messages mid.exec) { tally = record was.tally { fetches = was.tally.fetches + 1; full = was.tally.full + sym (f ∙ ap (λ c. one_if (is_full c (fetched_first was n messages mid.exec))) counted) i }; locks = locks })
         (fetch_holds scenario seen was n messages mid.exec locks rests are again.plan l)
 
-pub reset_code : (was : Progress) (own : RunningTransaction) (kept : List KeptScan) (mid : Progress) (locks : Roomy OwnLock) → own ≡ begun_own (was.finished + 1) was.running → kept ≡ [] → SearchesAgain (record was { running = Some own; kept = kept; named = false; due = dues.Nothing }) mid
+pub reset_code : (was : Progress) (own : RunningTransaction) (kept : List KeptScan) (mid : Progress) (locks : Roomy OwnLock) → own ≡ begun_own (was.finished + 1) was.running → kept ≡ [] → SearchesAgain (record was { running = Some own; kept = kept; due = dues.Nothing }) mid
     → locks.items ≡ locks_accepted (is_in_accept (fetched_once mid) (slice_get mid.commands mid.finished)) mid.locks.items
     → (scenario : Scenario) (seen : List Entry) → (rests : Rests scenario seen was) → HasEntered scenario seen was events.FetchReset rests (record (fetched_once mid) { locks = locks; answer = None })
 reset_code was own kept mid locks begins keeps again items scenario seen rests = subst Goal (sym state) (λ l. reset_holds scenario seen was mid.exec locks rests again.plan l) items
@@ -85,16 +82,16 @@ reset_code was own kept mid locks begins keeps again items scenario seen rests =
     Goal m = locks.items ≡ locks_accepted (is_in_accept (fetched_once m) (slice_get m.commands m.finished)) m.locks.items → HasEntered scenario seen was events.FetchReset rests (record (fetched_once m) { locks = locks; answer = None })
 
     canonical : Progress
-    canonical = record was { exec = mid.exec; read = was.read || is_absent (plan_at was.exec); due = dues.Nothing; running = Some (begun_own (was.finished + 1) was.running); named = false; kept = [] }
+    canonical = record was { exec = mid.exec; due = dues.Nothing; running = Some (begun_own (was.finished + 1) was.running); kept = [] }
 
     state : mid ≡ canonical
     state = again.is ∙ (λ i. record canonical { running = Some (begins i); kept = keeps i })
 
-pub granted_code : (was : Progress) (rel : Oid) (mode : Mode) (own : RunningTransaction) (locks : Roomy OwnLock) → own ≡ begun_own (was.finished + 1) was.running
+pub granted_code : (was : Progress) (rel : Oid) (mode : Mode) (own : RunningTransaction) (given : Option Row) (locks : Roomy OwnLock) → is_lock_at was (plan_at was.exec) rel mode ≡ true → lacks_any was ≡ false → own ≡ begun_own (was.finished + 1) was.running → given ≡ row_next was (plan_at was.exec)
     → locks.items ≡ was.locks.items ++ record { rel = rel; mode = mode; command = was.finished + 1; clear = false } ∷ []
-    → (scenario : Scenario) (seen : List Entry) → (rests : Rests scenario seen was) → HasEntered scenario seen was (events.LockOk rel mode) rests (record was { due = dues.Look; running = Some own; tally = record was.tally { grants = was.tally.grants + 1 }; locks = locks; answer = None })
-granted_code was rel mode own locks begins items scenario seen rests =
-    subst (HasEntered scenario seen was (events.LockOk rel mode) rests) (λ i. record (granted was locks) { running = Some (sym begins i) }) (granted_holds scenario seen was rel mode locks rests items)
+    → (scenario : Scenario) (seen : List Entry) → (rests : Rests scenario seen was) → HasEntered scenario seen was (events.LockOk rel mode) rests (record was { due = dues.Look; running = Some own; tally = record was.tally { grants = was.tally.grants + 1 }; granted = true; given = given; locks = locks; answer = None })
+granted_code was rel mode own given locks asks whole begins found items scenario seen rests =
+    subst (HasEntered scenario seen was (events.LockOk rel mode) rests) (λ i. record (granted was given locks) { running = Some (sym begins i) }) (granted_holds scenario seen was rel mode given locks rests asks whole found items)
 
 pub refused_code : (was now : Progress) (rel : Oid) (mode : Mode) (holder : ℕ) (held : Mode) → FailsWith (errors.Locked rel holder held) was now
     → (scenario : Scenario) (seen : List Entry) → (rests : Rests scenario seen was) → HasEntered scenario seen was (events.LockHeld rel mode holder held) rests now
@@ -104,32 +101,25 @@ pub clash_code : (was now : Progress) (name : List ℕ) (clash : Clash) (error :
     → (scenario : Scenario) (seen : List Entry) → (rests : Rests scenario seen was) → HasEntered scenario seen was (clash_event name clash) rests now
 clash_code was now name clash error is fails scenario seen rests = subst (HasEntered scenario seen was (clash_event name clash) rests) (sym (fails.is ∙ ap (λ e. record (failed_with e was) { locks = now.locks }) is)) (clash_holds scenario seen was name clash now.locks rests fails.locks)
 
-pub named_code : (was : Progress) (scan : Purpose) (given : Vec Row Global) (at : ℕ) (own : RunningTransaction) (locks : Roomy OwnLock) → own ≡ begun_own (was.finished + 1) was.running → is_wanted scan (plan_at was.exec) ≡ true
-    → locks.items ≡ locks_accepted (is_in_accept (record was { running = Some own; due = dues.Nothing }) (slice_get was.commands was.finished)) was.locks.items
-    → (scenario : Scenario) (seen : List Entry) (count : ℕ) → (rests : Rests scenario seen was) → given.items ≡ answer_of seen was.id scan
-    → HasEntered scenario seen was (events.Scan scan count) rests (record was { due = dues.Nothing; running = Some own; tally = record was.tally { scans = was.tally.scans + 1 }; read = true; named = true; given = given; given_at = at; locks = locks; answer = None })
-named_code was scan given at own locks begins wanted items scenario seen count rests are =
-    subst (HasEntered scenario seen was (events.Scan scan count) rests) (λ i. record (named_scan was given at) { running = Some (sym begins i); locks = locks }) (named_holds scenario seen was scan count given at locks rests wanted are items)
-
-pub built_code : (was : Progress) (scan : Purpose) (rows : Vec Row Global) (given : List Row) (at : ℕ) (own : RunningTransaction) (kept : List KeptScan) (locks : Roomy OwnLock) → own ≡ begun_own (was.finished + 1) was.running → is_wanted scan (plan_at was.exec) ≡ false → is_next_at scan was ≡ true
+pub built_code : (was : Progress) (scan : Purpose) (rows : Vec Row Global) (given : List Row) (at : ℕ) (own : RunningTransaction) (kept : List KeptScan) (locks : Roomy OwnLock) → own ≡ begun_own (was.finished + 1) was.running → is_next_at scan was ≡ true
     → given ≡ rows.items → kept ≡ was.kept ++ record { scan = scan; rows = given; at = at } ∷ []
     → locks.items ≡ locks_accepted (is_in_accept (record was { kept = kept; running = Some own; due = dues.Nothing }) (slice_get was.commands was.finished)) was.locks.items
     → (scenario : Scenario) (seen : List Entry) (count : ℕ) → (rests : Rests scenario seen was) → rows.items ≡ answer_of seen was.id scan
     → HasEntered scenario seen was (events.Scan scan count) rests (record was { due = dues.Nothing; running = Some own; tally = record was.tally { scans = was.tally.scans + 1 }; kept = kept; locks = locks; answer = None })
-built_code was scan rows given at own kept locks begins other next same pushed items scenario seen count rests are =
+built_code was scan rows given at own kept locks begins next same pushed items scenario seen count rests are =
     subst (HasEntered scenario seen was (events.Scan scan count) rests) (λ i. record (built_scan was kept) { running = Some (sym begins i); locks = locks })
-    (built_holds scenario seen was scan count given at kept locks rests (next_lacks was scan other next) (same ∙ are) pushed items)
+    (built_holds scenario seen was scan count given at kept locks rests next (same ∙ are) pushed items)
 
 pub write_code : (was : Progress) (xid : Xid) (messages : List Message) (new_oids : ℕ) (first : Oid) (own : RunningTransaction) (lists : Held) (kept : List KeptScan) (exec : Exec) (opened_none : List Opening) (locked locks : Roomy OwnLock)
     → own ≡ record (begun_own (was.finished + 1) was.running) { xid = Some xid } → want_of (plan_at was.exec) ≡ wants.Write → all_lists lists.lists ≡ lists_at was ++ with_messages messages (new_list (was.finished + 1)) ∷ []
     → kept ≡ kept_spared messages was.kept → plan_at exec ≡ after_act [] (plan_at was.exec) → opened_none ≡ [] → locked.items ≡ locks_written new_oids first (was.finished + 1) was.locks.items
-    → locks.items ≡ locks_accepted (is_in_accept (record was { lists = lists; kept = kept; running = Some own; due = dues.Nothing; exec = exec; opened = opened_none; read = false; locks = locked }) (slice_get was.commands was.finished)) locked.items
+    → locks.items ≡ locks_accepted (is_in_accept (record was { lists = lists; kept = kept; running = Some own; due = dues.Nothing; exec = exec; opened = opened_none; granted = false; locks = locked }) (slice_get was.commands was.finished)) locked.items
     → (scenario : Scenario) (seen : List Entry) (items : List Item) → (rests : Rests scenario seen was) → messages ≡ messages_in seen was.id items → flat_map (locked_by (was.finished + 1)) items ≡ locks_made new_oids first (was.finished + 1)
-    → HasEntered scenario seen was (events.Write xid items) rests (record was { lists = lists; kept = kept; running = Some own; due = dues.Nothing; exec = exec; opened = opened_none; read = false; locks = locks; answer = None })
+    → HasEntered scenario seen was (events.Write xid items) rests (record was { lists = lists; kept = kept; running = Some own; due = dues.Nothing; exec = exec; opened = opened_none; granted = false; locks = locks; answer = None })
 write_code was xid messages new_oids first own lists kept exec opened_none locked locks begins wants_it pushed keeps goes none held accepts scenario seen items rests are makes =
     subst (HasEntered scenario seen was (events.Write xid items) rests) (λ i. record (wrote was xid (sym keeps i) lists exec locks) { running = Some (sym begins i); opened = sym none i })
     (write_holds scenario seen was xid items messages new_oids first lists exec locked locks rests wants_it are makes pushed goes held
-    (accepts ∙ (λ i. locks_accepted (is_in_accept (record was { lists = lists; kept = keeps i; running = Some own; due = dues.Nothing; exec = exec; opened = none i; read = false; locks = locked }) (slice_get was.commands was.finished)) locked.items)))
+    (accepts ∙ (λ i. locks_accepted (is_in_accept (record was { lists = lists; kept = keeps i; running = Some own; due = dues.Nothing; exec = exec; opened = none i; granted = false; locks = locked }) (slice_get was.commands was.finished)) locked.items)))
 
 pub visible_code : (was : Progress) (xid : Xid) (own : RunningTransaction) (locks : Roomy OwnLock) → own ≡ begun_own (was.finished + 1) was.running
     → locks.items ≡ locks_accepted (is_in_accept (record was { running = Some (record own { visible = true }); due = dues.Nothing }) (slice_get was.commands was.finished)) was.locks.items
@@ -143,23 +133,19 @@ pub publish_code : (was : Progress) (count : ℕ) (own : RunningTransaction) (lo
 publish_code was count own locks begins items scenario seen rests =
     subst (λ o. HasEntered scenario seen was (events.Publish count) rests (record was { due = dues.Nothing; running = Some (record o { published = o.published + count }); locks = locks })) (sym begins) (publish_holds scenario seen was count locks rests items)
 
-pub gone_code : (was : Progress) (from : ℕ) (own : RunningTransaction) (cats rels cats_again rels_again : List Message) (kept_first kept : List KeptScan) (named_first named : Bool) (lists : Held) (locks : Roomy OwnLock) → own ≡ begun_own (was.finished + 1) was.running
-    → cats ≡ cats_in (lists_from from (lists_at was)) → rels ≡ rels_in (lists_from from (lists_at was)) → cats_again ≡ cats_in (lists_from from (lists_at was)) → rels_again ≡ rels_in (lists_from from (lists_at was))
-    → kept_first ≡ kept_spared cats was.kept → kept ≡ kept_spared rels kept_first → named_first ≡ named_spared cats_again (plan_at was.exec) was.named → named ≡ named_spared rels_again (plan_at was.exec) named_first
+pub gone_code : (was : Progress) (from : ℕ) (own : RunningTransaction) (cats rels : List Message) (kept_first kept : List KeptScan) (lists : Held) (locks : Roomy OwnLock) → own ≡ begun_own (was.finished + 1) was.running
+    → cats ≡ cats_in (lists_from from (lists_at was)) → rels ≡ rels_in (lists_from from (lists_at was))
+    → kept_first ≡ kept_spared cats was.kept → kept ≡ kept_spared rels kept_first
     → all_lists lists.lists ≡ lists_before from (lists_at was)
-    → locks.items ≡ locks_accepted (is_in_accept (record was { running = Some own; kept = kept; named = named; lists = lists; due = dues.Nothing }) (slice_get was.commands was.finished)) was.locks.items
-    → (scenario : Scenario) (seen : List Entry) → (rests : Rests scenario seen was) → HasEntered scenario seen was (events.Gone from) rests (record was { due = dues.Nothing; running = Some own; kept = kept; named = named; lists = lists; locks = locks })
-gone_code was from own cats rels cats_again rels_again kept_first kept named_first named lists locks begins cats_are rels_are cats_same rels_same first keeps named_one names before items scenario seen rests =
-    subst (HasEntered scenario seen was (events.Gone from) rests) (λ i. record (taken_back was cats rels lists) { running = Some (sym begins i); kept = sym kept_is i; named = sym named_is i; locks = locks })
+    → locks.items ≡ locks_accepted (is_in_accept (record was { running = Some own; kept = kept; lists = lists; due = dues.Nothing }) (slice_get was.commands was.finished)) was.locks.items
+    → (scenario : Scenario) (seen : List Entry) → (rests : Rests scenario seen was) → HasEntered scenario seen was (events.Gone from) rests (record was { due = dues.Nothing; running = Some own; kept = kept; lists = lists; locks = locks })
+gone_code was from own cats rels kept_first kept lists locks begins cats_are rels_are first keeps before items scenario seen rests =
+    subst (HasEntered scenario seen was (events.Gone from) rests) (λ i. record (taken_back was cats rels lists) { running = Some (sym begins i); kept = sym kept_is i; locks = locks })
     (gone_holds scenario seen was from cats rels lists locks rests cats_are rels_are before
-    (items ∙ (λ i. locks_accepted (is_in_accept (record was { running = Some own; kept = kept_is i; named = named_is i; lists = lists; due = dues.Nothing }) (slice_get was.commands was.finished)) was.locks.items)))
+    (items ∙ (λ i. locks_accepted (is_in_accept (record was { running = Some own; kept = kept_is i; lists = lists; due = dues.Nothing }) (slice_get was.commands was.finished)) was.locks.items)))
   where
     kept_is : kept ≡ kept_spared rels (kept_spared cats was.kept)
     kept_is = keeps ∙ ap (kept_spared rels) first
-
-    named_is : named ≡ named_spared rels (plan_at was.exec) (named_spared cats (plan_at was.exec) was.named)
-    named_is = names ∙ ap (named_spared rels_again (plan_at was.exec)) named_one
-        ∙ (λ i. named_spared ((rels_same ∙ sym rels_are) i) (plan_at was.exec) (named_spared ((cats_same ∙ sym cats_are) i) (plan_at was.exec) was.named))
 
 pub release_code : (was : Progress) (from : ℕ) (first : Bool) (begun : RunningTransaction) (own : Option RunningTransaction) (lists : Held) (held locks : Roomy OwnLock) → first ≡ ends_own from was.running → begun ≡ begun_own (was.finished + 1) was.running → own ≡ released_own from begun
     → all_lists lists.lists ≡ lists_left first (lists_at was) → held.items ≡ filter (λ lock. nat_lt lock.command from) was.locks.items

@@ -1,5 +1,6 @@
 -- A worked example: a backend has found a table, and holds no lock on it, while another sets the table's fillfactor. By the laws it still sees the table, and for the other, under its lock, no column has number 3.
-use Rattle.std.proofs.Common.{◌≡◌, ◌++◌, false, Some, None, List, [], ◌∷◌, codes, true, refl, arith}
+use Rattle.std.proofs.Common.{◌≡◌, ◌++◌, inl, false, Some, None, List, [], ◌∷◌, codes, true, refl, ap, arith}
+use Rattle.std.specs.Str.{bytes_eq}
 use Rattle.base_types.specs.declared.kind.Kind.TheVariants.{Table}
 use Rattle.base_types.specs.declared.mode.Mode.TheVariants.{ShareUpdateExclusive}
 use Rattle.base_types.specs.declared.row.Row.TheVariants.{Class}
@@ -12,7 +13,7 @@ use Rattle.history_model.specs.Prefixes.{EachEntry, EachFrom}
 use Rattle.history_model.specs.Orderly.{has_key, MayComeNext, IsSound}
 use Rattle.history_model.proofs.Prefixes.{EachEntry-prefix}
 use Rattle.history_model.proofs.Locked.{IsSeenAs}
-use Rattle.cacheless.specs.TableWrites.{WritesTables}
+use Rattle.cacheless.specs.TableWrites.{KeepsTables, WritesTables}
 use Rattle.cacheless.proofs.Plans.Given.{oid, xid, entry, wide_table}
 use Rattle.cacheless.proofs.StillSeen.{TakesNoneBack, relation_between}
 use Rattle.cacheless.proofs.NumberedColumns.{numbered_columns}
@@ -33,8 +34,29 @@ altered = entry 1 2 (Write (xid 2) (Put (Class (oid 16384) (codes "t") Table (So
 sound : IsSound (found ++ (locked ++ altered))
 sound = search arith
 
+names_differ : codes "aa" ≡ codes "ab" → ⊥
+names_differ is = let both : true ≡ false = ap (bytes_eq (codes "aa")) is in cc both
+
+table_kept : KeepsTables (entry 1 0 Start ∷ entry 2 0 Start ∷ []) 1 (wide_table 16384 (codes "t") 2)
+table_kept = record {
+  stay = refl;
+  names = (tt, (tt, (tt, tt)));
+  columns = refl;
+  called = ((tt, tt), ((inl refl, tt), ((inl refl, tt), tt)));
+  apart = (((λ are. are), ((λ are. are), tt)), (((λ are. names_differ are.1), tt), (tt, tt)));
+}
+
+fill_kept : KeepsTables (found ++ locked) 1 (Put (Class (oid 16384) (codes "t") Table (Some 70)) ∷ [])
+fill_kept = record {
+  stay = refl;
+  names = ((refl, refl), tt);
+  columns = refl;
+  called = ((tt, ((λ are. are), ((λ are. are), ((λ are. are), tt)))), tt);
+  apart = (tt, tt);
+}
+
 tables : EachEntry WritesTables (found ++ (locked ++ altered))
-tables = (tt, (tt, (record { stay = refl; names = (tt, (tt, (tt, tt))); columns = refl }, (tt, (tt, (tt, (tt, (tt, (tt, (tt, (tt, (record { stay = refl; names = ((refl, refl), tt); columns = refl }, (tt, tt)))))))))))))
+tables = (tt, (tt, (table_kept, (tt, (tt, (tt, (tt, (tt, (tt, (tt, (tt, (fill_kept, (tt, tt)))))))))))))
 
 none_back : EachFrom (TakesNoneBack 2) found (locked ++ altered)
 none_back = ((λ own. tt), ((λ own. tt), ((λ own. tt), tt)))

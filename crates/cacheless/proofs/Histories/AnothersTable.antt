@@ -274,7 +274,7 @@ pub show_of_anothers_table_queue : FollowsQueue 4096 stopped
 show_of_anothers_table_queue = (tt, (tt, (tt, (tt, (tt, (tt, (tt, (tt, (tt, (tt, (tt, (refl, (tt, (tt, (tt, (tt, (tt, (tt, (tt, (tt, (tt, (tt, (tt, (tt, (tt, (tt, (tt, (tt, (tt, tt)))))))))))))))))))))))))))))
 
 pub show_of_anothers_table_economical : IsEconomical stopped
-show_of_anothers_table_economical = (tt, (tt, (tt, (tt, (tt, (tt, (tt, (tt, (tt, (tt, (tt, (tt, (λ build. absurd (cc), (tt, (tt, (tt, (λ build. refl, (tt, (λ build. refl, (tt, (λ build. refl, (tt, (λ build. refl, (tt, (λ build. refl, (tt, (λ build. refl, (tt, (tt, tt)))))))))))))))))))))))))))))
+show_of_anothers_table_economical = (tt, (tt, (tt, (tt, (tt, (tt, (tt, (tt, (tt, (tt, (tt, (tt, (refl, (tt, (tt, (tt, (refl, (tt, (refl, (tt, (refl, (tt, (refl, (tt, (refl, (tt, (refl, (tt, (tt, tt)))))))))))))))))))))))))))))
 
 pub show_of_anothers_table_follows : FollowsSchedule show_of_anothers_table stopped
 show_of_anothers_table_follows = (refl, (refl, (refl, (refl, (refl, (refl, (refl, (refl, (refl, (refl, (refl, (refl, (refl, (refl, (refl, (refl, (refl, (refl, (refl, (refl, (refl, (refl, (refl, (refl, (refl, (refl, (refl, (refl, (refl, tt)))))))))))))))))))))))))))))

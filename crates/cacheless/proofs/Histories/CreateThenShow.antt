@@ -262,7 +262,7 @@ pub create_then_show_queue : FollowsQueue 4096 stopped
 create_then_show_queue = (tt, (tt, (tt, (tt, (tt, (tt, (tt, (tt, (refl, (tt, (tt, (tt, (tt, (tt, (tt, (tt, (tt, (tt, (tt, (tt, (tt, (tt, (tt, (tt, (tt, (tt, (tt, tt)))))))))))))))))))))))))))
 
 pub create_then_show_economical : IsEconomical stopped
-create_then_show_economical = (tt, (tt, (tt, (tt, (tt, (tt, (tt, (tt, (tt, (tt, (λ build. absurd (cc), (tt, (tt, (tt, (λ build. refl, (tt, (λ build. refl, (tt, (λ build. refl, (tt, (λ build. refl, (tt, (λ build. refl, (tt, (λ build. refl, (tt, (tt, tt)))))))))))))))))))))))))))
+create_then_show_economical = (tt, (tt, (tt, (tt, (tt, (tt, (tt, (tt, (tt, (tt, (refl, (tt, (tt, (tt, (refl, (tt, (refl, (tt, (refl, (tt, (refl, (tt, (refl, (tt, (refl, (tt, (tt, tt)))))))))))))))))))))))))))
 
 pub create_then_show_follows : FollowsSchedule create_then_show stopped
 create_then_show_follows = (refl, (refl, (refl, (refl, (refl, (refl, (refl, (refl, (refl, (refl, (refl, (refl, (refl, (refl, (refl, (refl, (refl, (refl, (refl, (refl, (refl, (refl, (refl, (refl, (refl, (refl, (refl, tt)))))))))))))))))))))))))))

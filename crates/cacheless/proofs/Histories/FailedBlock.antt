@@ -105,7 +105,7 @@ pub failed_block_queue : FollowsQueue 4096 stopped
 failed_block_queue = (tt, (tt, (tt, (tt, (tt, (tt, (tt, (tt, tt))))))))
 
 pub failed_block_economical : IsEconomical stopped
-failed_block_economical = (tt, (tt, (tt, (tt, (λ build. absurd (cc), (tt, (tt, (tt, tt))))))))
+failed_block_economical = (tt, (tt, (tt, (tt, (refl, (tt, (tt, (tt, tt))))))))
 
 pub failed_block_follows : FollowsSchedule failed_block stopped
 failed_block_follows = (refl, (refl, (refl, (refl, (refl, (refl, (refl, (refl, tt))))))))

@@ -177,7 +177,7 @@ pub fetch_of_exactly_32_queue : FollowsQueue 4096 writer_stopped
 fetch_of_exactly_32_queue = (tt, (tt, (tt, (tt, (tt, (tt, (tt, (tt, (tt, (refl, (tt, (tt, (tt, (tt, (tt, (tt, tt))))))))))))))))
 
 pub fetch_of_exactly_32_economical : IsEconomical writer_stopped
-fetch_of_exactly_32_economical = (tt, (tt, (tt, (tt, (tt, (tt, (tt, (tt, (tt, (tt, (tt, (tt, (λ build. absurd (cc), (tt, (tt, (tt, tt))))))))))))))))
+fetch_of_exactly_32_economical = (tt, (tt, (tt, (tt, (tt, (tt, (tt, (tt, (tt, (tt, (tt, (tt, (refl, (tt, (tt, (tt, tt))))))))))))))))
 
 pub fetch_of_exactly_32_follows : FollowsSchedule fetch_of_exactly_32 writer_stopped
 fetch_of_exactly_32_follows = (refl, (refl, (refl, (refl, (refl, (refl, (refl, (refl, (refl, (refl, (refl, (refl, (refl, (refl, (refl, (refl, tt))))))))))))))))

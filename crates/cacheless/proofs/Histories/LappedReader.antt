@@ -204,7 +204,7 @@ pub lapped_reader_queue : FollowsQueue 64 stopped
 lapped_reader_queue = (tt, (tt, (tt, (tt, (tt, (tt, (tt, (tt, (tt, (tt, (tt, (tt, (tt, (tt, (tt, (refl, (tt, (tt, (tt, (tt, tt))))))))))))))))))))
 
 pub lapped_reader_economical : IsEconomical stopped
-lapped_reader_economical = (tt, (tt, (tt, (λ build. absurd (cc), (tt, (tt, (tt, (tt, (tt, (tt, (tt, (tt, (tt, (tt, (tt, (tt, (λ build. absurd (cc), (tt, (tt, (tt, tt))))))))))))))))))))
+lapped_reader_economical = (tt, (tt, (tt, (refl, (tt, (tt, (tt, (tt, (tt, (tt, (tt, (tt, (tt, (tt, (tt, (tt, (refl, (tt, (tt, (tt, tt))))))))))))))))))))
 
 pub lapped_reader_follows : FollowsSchedule lapped_reader stopped
 lapped_reader_follows = (refl, (refl, (refl, (refl, (refl, (refl, (refl, (refl, (refl, (refl, (refl, (refl, (refl, (refl, (refl, (refl, (refl, (refl, (refl, (refl, tt))))))))))))))))))))

@@ -160,7 +160,7 @@ pub refused_lock_queue : FollowsQueue 4096 stopped
 refused_lock_queue = (tt, (tt, (tt, (tt, (tt, (tt, (tt, (tt, (tt, (tt, (tt, (tt, (tt, (tt, (tt, tt)))))))))))))))
 
 pub refused_lock_economical : IsEconomical stopped
-refused_lock_economical = (tt, (tt, (tt, (tt, (tt, (tt, (tt, (λ build. absurd (cc), (tt, (tt, (tt, (tt, (tt, (tt, (tt, tt)))))))))))))))
+refused_lock_economical = (tt, (tt, (tt, (tt, (tt, (tt, (tt, (refl, (tt, (tt, (tt, (tt, (tt, (tt, (tt, tt)))))))))))))))
 
 pub refused_lock_follows : FollowsSchedule refused_lock stopped
 refused_lock_follows = (refl, (refl, (refl, (refl, (refl, (refl, (refl, (refl, (refl, (refl, (refl, (refl, (refl, (refl, (refl, tt)))))))))))))))

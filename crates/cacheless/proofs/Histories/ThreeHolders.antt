@@ -232,7 +232,7 @@ pub holders_in_order_of_grant_queue : FollowsQueue 4096 third_released
 holders_in_order_of_grant_queue = (tt, (tt, (tt, (tt, (tt, (tt, (tt, (tt, (refl, (tt, (tt, (tt, (tt, (tt, (tt, (tt, (tt, (tt, (tt, (tt, (tt, (tt, (tt, (tt, (tt, tt)))))))))))))))))))))))))
 
 pub holders_in_order_of_grant_economical : IsEconomical third_released
-holders_in_order_of_grant_economical = (tt, (tt, (tt, (tt, (tt, (tt, (tt, (tt, (tt, (tt, (λ build. absurd (cc), (tt, (tt, (tt, (tt, (tt, (λ build. absurd (cc), (tt, (tt, (tt, (tt, (tt, (λ build. absurd (cc), (tt, (tt, tt)))))))))))))))))))))))))
+holders_in_order_of_grant_economical = (tt, (tt, (tt, (tt, (tt, (tt, (tt, (tt, (tt, (tt, (refl, (tt, (tt, (tt, (tt, (tt, (refl, (tt, (tt, (tt, (tt, (tt, (refl, (tt, (tt, tt)))))))))))))))))))))))))
 
 pub holders_in_order_of_grant_follows : FollowsSchedule holders_in_order_of_grant third_released
 holders_in_order_of_grant_follows = (refl, (refl, (refl, (refl, (refl, (refl, (refl, (refl, (refl, (refl, (refl, (refl, (refl, (refl, (refl, (refl, (refl, (refl, (refl, (refl, (refl, (refl, (refl, (refl, (refl, tt)))))))))))))))))))))))))

@@ -1,6 +1,7 @@
--- In which order a command does its acts: it looks up, opens the descriptor of the relation that it found, finds columns of it and reads scans for it, and writes.
+-- In which order a command does its acts: it looks up, opens the descriptor of the relation that it found, finds columns of it and reads scans for it, and writes; or it searches for columns of the relation that it found, or for an oid, and is over.
 use Rattle.std.proofs.Common.{◌≡◌, ◌∙◌, ◌<◌, ◌-◌, ◌+◌, ◌⊎◌, inl, inr, ℕ, ℤ, Bool, true, false, Option, Some, None, List, [], ◌∷◌, ◌++◌, ◌&&◌, Contains, refl, sym, ap, subst, map, length, nat_le, nat_lt, not, int_lt, negsuc, pos, arith}
 use Rattle.std.specs.Prelude.{⊤}
+use Rattle.std.specs.List.{filter_map, cons_option}
 use Rattle.base_types.specs.Fields.{has_field}
 use Rattle.base_types.specs.Modes.{conflicts}
 use Rattle.base_types.specs.Scans.{build_scans}
@@ -17,10 +18,13 @@ use Rattle.base_types.specs.declared.scan.Purpose.TheVariants as scans
 use Rattle.command_answers.specs.declared.error.CommandError.TheVariants as errors
 use Rattle.ddl_effect.specs.declared.told.Told.TheVariants as tells
 use Rattle.ddl_effect.specs.Plans.{Plan, Done, Fails, Absent, NotBuilt, Do, Lookup, Open, Search, Read, Lock, Write, is_built}
-use Rattle.ddl_effect.specs.Commands.{plan_of, found, looking_up, if_passes, if_no_column, first_twice, writing, opening, showing, showing_field, is_table, locking, new_table, altering, column_there, with_column, column_free, reading, changing, adding, add_column, dropping, drop_column, with_name, renaming, rename_column, targeting, set_statistics, filling, set_fillfactor}
+use Rattle.ddl_effect.specs.Commands.{plan_of, found, looking_up, if_passes, if_no_column, first_twice, writing, opening, showing, showing_field, is_table, locking, new_table, altering, column_there, with_column, column_free, reading, changing, adding, add_column, dropping, drop_column, with_name, renaming, rename_column, targeting, set_statistics, filling, set_fillfactor, live_column, listing_columns, telling_column, finding_column}
+use Rattle.history_model.proofs.FixedRows.{fixed}
 use Rattle.cacheless.specs.Types.{Oid, Mode, AccessExclusive, Kind, Row, Purpose, Command, CommandError, Draft, Opening, Told}
 use Rattle.cacheless.specs.ActsDone.{after_given, reached, made_first, made_in, opening_by, relation_by}
+use Rattle.cacheless.proofs.ColumnAnswers.{IsOfColumn, IsOfColumns}
 use Rattle.cacheless.proofs.Plans.EffectAlong.{plain_row, GoesByRelation}
+use Rattle.cacheless.proofs.Plans.Ways.{acts}
 
 -- the draft of `create table`
 pub record IsTableDraft (draft : Draft) : Type 0 where
@@ -44,16 +48,22 @@ TellsOf rel kind (tells.Field of as_kind field) = (of ≡ rel) × (as_kind ≡ k
 TellsOf rel kind (tells.Regclass oid) = ⊥
 TellsOf rel kind told = ⊤
 
--- what is told where none is open: of no relation's fields, and of no oid
+-- what is told where none is open and no oid was searched for: of no relation's fields, and of no oid
 abbrev pub TellsOfNone : Told → Type 0
 TellsOfNone (tells.Relation rel kind) = ⊥
 TellsOfNone (tells.Field rel kind field) = ⊥
 TellsOfNone (tells.Regclass oid) = ⊥
 TellsOfNone told = ⊤
 
--- the scan of a relation's column by its name
-abbrev pub IsOfColumn : Oid → Purpose → Type 0
-IsOfColumn rel scan = (name : List ℕ) × (scan ≡ scans.AttName rel name)
+-- what is told where none is open
+abbrev pub TellsNoField : Told → Type 0
+TellsNoField (tells.Relation rel kind) = ⊥
+TellsNoField (tells.Field rel kind field) = ⊥
+TellsNoField told = ⊤
+
+-- the scan of a relation by its oid
+abbrev pub IsOfOid : Oid → Purpose → Type 0
+IsOfOid oid scan = scan ≡ scans.RelOid oid
 
 -- a plan once the descriptor of a relation is open: at most so many acts come, which find columns of the relation, then a table, and read scans for its descriptor; and only the last one writes
 abbrev pub FollowsOpen : ℕ → Oid → Kind → Plan → Type 0
@@ -69,24 +79,33 @@ abbrev pub OpensUnder : Mode → Plan → Type 0
 OpensUnder mode (Done told) = ⊤
 OpensUnder mode plan = conflicts mode mode ≡ true
 
--- a plan once a relation is found and locked in this mode: it opens its descriptor, or is over
+-- a plan that is over
+abbrev pub IsEnded : Plan → Type 0
+IsEnded (Done told) = TellsOfNone told
+IsEnded (Fails error) = ⊤
+IsEnded plan = ⊥
+
+-- a plan once a relation is found and locked in this mode: it opens its descriptor, or it is a table of which it searches for columns and then is over, by what no weak mode may change of them, or it is over
 abbrev pub FollowsFound : Mode → Oid → Kind → Plan → Type 0
 FollowsFound mode rel kind (Done told) = TellsOfNone told
 FollowsFound mode rel kind (Fails error) = ⊤
+FollowsFound mode rel kind (Do (Search scan) rest) = IsOfColumns rel scan × (kind ≡ Table) × ((given : List Row) → rest given ≡ rest (map fixed given)) × ((given : List Row) → IsEnded (rest given))
 FollowsFound mode rel kind (Do (Open of as_kind) rest) = (of ≡ rel) × (as_kind ≡ kind) × ((given : List Row) → rest given ≡ rest []) × FollowsOpen 3 rel kind (rest []) × OpensUnder mode (rest [])
 FollowsFound mode rel kind plan = ⊥
 
--- a plan from its beginning: it looks up a relation, whose rows decide by the relation and its kind alone, or it writes a new table, or is over
+-- a plan from its beginning: it looks up a relation, whose rows decide by the relation and its kind alone, or it searches for an oid, of which it then tells, or it writes a new table, or is over
 abbrev pub FollowsOrder : Plan → Type 0
 FollowsOrder (Done told) = TellsOfNone told
 FollowsOrder (Fails error) = ⊤
 FollowsOrder (Do (Lookup name mode) rest) = ((given : List Row) → rest given ≡ found name (λ rel kind. rest (plain_row rel kind)) given) × ((rel : Oid) (kind : Kind) → FollowsFound mode rel kind (rest (plain_row rel kind)))
+FollowsOrder (Do (Search scan) rest) = (oid : Oid) × IsOfOid oid scan × ((given : List Row) → rest given ≡ Done (tells.Regclass oid))
 FollowsOrder (Do (Write draft) rest) = IsTableDraft draft × ((given : List Row) → rest given ≡ Done tells.Ok)
 FollowsOrder plan = ⊥
 
--- the same where a lookup may have found no relation
+-- the same where a lookup may have found no relation, or an oid was searched for
 abbrev pub FollowsUnfound : Plan → Type 0
 FollowsUnfound (Absent name) = ⊤
+FollowsUnfound (Done told) = TellsNoField told
 FollowsUnfound plan = FollowsOrder plan
 
 -- each former of plans makes such a plan of such plans
@@ -96,6 +115,36 @@ found_if_passes mode rel kind false error plan follows = tt
 
 found_opening : (mode : Mode) (rel : Oid) (kind : Kind) (plan : Plan) → FollowsOpen 3 rel kind plan → OpensUnder mode plan → FollowsFound mode rel kind (opening rel kind plan)
 found_opening mode rel kind plan follows under = (refl, refl, λ given. refl, follows, under)
+
+-- what is told of columns no weak mode may change
+live_fixed : (row : Row) → live_column (fixed row) ≡ live_column row
+live_fixed (rows.Class rel own kind fill) = refl
+live_fixed (rows.Att rel num own col_type stat true) = refl
+live_fixed (rows.Att rel num own col_type stat false) = refl
+live_fixed row = refl
+
+columns_fixed : (given : List Row) → filter_map live_column given ≡ filter_map live_column (map fixed given)
+columns_fixed [] = refl
+columns_fixed (row ∷ given) = ap (λ o. cons_option o (filter_map live_column given)) (sym (live_fixed row)) ∙ ap (cons_option (live_column (fixed row))) (columns_fixed given)
+
+column_fixed : (column : List ℕ) (given : List Row) → telling_column column given ≡ telling_column column (map fixed given)
+column_fixed column [] = refl
+column_fixed column (rows.Att rel num own col_type stat live ∷ more) = refl
+column_fixed column (rows.Class rel own kind fill ∷ more) = refl
+column_fixed column (row ∷ more) = refl
+
+column_ended : (column : List ℕ) (given : List Row) → IsEnded (telling_column column given)
+column_ended column [] = tt
+column_ended column (rows.Att rel num own col_type stat live ∷ more) = tt
+column_ended column (row ∷ more) = tt
+
+found_listing : (name : List ℕ) (rel : Oid) (kind : Kind) → FollowsFound AccessShare rel kind (listing_columns name rel kind)
+found_listing name rel Table = (inr refl, refl, λ given. ap (λ columns. Done (tells.Columns columns)) (columns_fixed given), λ given. tt)
+found_listing name rel kind = tt
+
+found_column : (name column : List ℕ) (rel : Oid) (kind : Kind) → FollowsFound AccessShare rel kind (finding_column name column rel kind)
+found_column name column rel Table = (inl (column, refl), refl, column_fixed column, column_ended column)
+found_column name column rel kind = tt
 
 opens_under : (mode : Mode) (plan : Plan) → conflicts mode mode ≡ true → OpensUnder mode plan
 opens_under mode (Done told) excludes = tt
@@ -186,6 +235,9 @@ follows_order held (commands.Show name (Some field)) built = order_looking_up na
     by_test : (rel : Oid) (kind : Kind) (t : Bool) → has_field kind field ≡ t → FollowsFound AccessShare rel kind (if_passes t (errors.NoField name field) (showing (Some field) rel kind))
     by_test rel kind true has = found_opening AccessShare rel kind (Done (tells.Field rel kind field)) (refl, refl, has) tt
     by_test rel kind false has = tt
+follows_order held (commands.Columns name) built = order_looking_up name AccessShare (listing_columns name) (found_listing name)
+follows_order held (commands.Column name column) built = order_looking_up name AccessShare (finding_column name column) (found_column name column)
+follows_order held (commands.Regclass oid) built = (oid, refl, λ given. refl)
 follows_order held (commands.LockTable name mode) built = order_looking_up name mode (locking name) (λ rel kind. found_if_passes mode rel kind (is_table kind) (errors.NotTable name) (Done tells.Ok) tt)
 follows_order held (commands.CreateTable name columns) built = order_creating (nat_le (length columns) MOST_COLUMNS) (first_twice [] (map (λ (c : NewColumn). c.name) columns)) name columns
 follows_order held (commands.AddColumn name column col_type) built = order_altering name AccessExclusive (add_column column col_type) refl (open_add_column column col_type)
@@ -208,6 +260,18 @@ goes_open most rel kind (Do (Read scan) rest) follows = λ given. goes_open (mos
 goes_open most rel kind (Do (Lock of mode) rest) follows = absurd follows
 goes_open most rel kind (Do (Write draft) rest) follows = tt
 
+-- a plan that is over does no act
+pub ended_acts : (plan : Plan) → IsEnded plan → acts plan ≡ false
+ended_acts (Done told) over = refl
+ended_acts (Fails error) over = refl
+ended_acts (Absent name) over = refl
+ended_acts NotBuilt over = refl
+ended_acts (Do act rest) over = absurd over
+
+goes_ended : (plan : Plan) → acts plan ≡ false → GoesByRelation plan
+goes_ended (Do act rest) over = absurd (cc over)
+goes_ended plan over = tt
+
 goes_found : (mode : Mode) (rel : Oid) (kind : Kind) (plan : Plan) → FollowsFound mode rel kind plan → GoesByRelation plan
 goes_found mode rel kind (Done told) follows = tt
 goes_found mode rel kind (Fails error) follows = tt
@@ -215,7 +279,7 @@ goes_found mode rel kind (Do (Open of as_kind) rest) follows = (follows.2, λ gi
 goes_found mode rel kind (Absent name) follows = absurd follows
 goes_found mode rel kind NotBuilt follows = absurd follows
 goes_found mode rel kind (Do (Lookup name as_mode) rest) follows = absurd follows
-goes_found mode rel kind (Do (Search scan) rest) follows = absurd follows
+goes_found mode rel kind (Do (Search scan) rest) follows = λ given. goes_ended (rest given) (ended_acts (rest given) (follows.3 given))
 goes_found mode rel kind (Do (Read scan) rest) follows = absurd follows
 goes_found mode rel kind (Do (Lock of as_mode) rest) follows = absurd follows
 goes_found mode rel kind (Do (Write draft) rest) follows = absurd follows
@@ -233,7 +297,7 @@ goes_order (Do (Write draft) rest) follows = tt
 goes_order (Absent name) follows = absurd follows
 goes_order NotBuilt follows = absurd follows
 goes_order (Do (Open of as_kind) rest) follows = absurd follows
-goes_order (Do (Search scan) rest) follows = absurd follows
+goes_order (Do (Search scan) rest) follows = λ given. goes_ended (rest given) (ap acts (follows.2 given))
 goes_order (Do (Read scan) rest) follows = absurd follows
 goes_order (Do (Lock of mode) rest) follows = absurd follows
 
@@ -296,6 +360,13 @@ come_open rel kind of as_kind gave plan same_rel same_kind stays =
     opened : Opening
     opened = record { rel = of; kind = as_kind }
 
+ended_found : (mode : Mode) (rel : Oid) (kind : Kind) (plan : Plan) → IsEnded plan → FollowsFound mode rel kind plan
+ended_found mode rel kind (Done told) over = over
+ended_found mode rel kind (Fails error) over = tt
+ended_found mode rel kind (Absent name) over = absurd over
+ended_found mode rel kind NotBuilt over = absurd over
+ended_found mode rel kind (Do act rest) over = absurd over
+
 come_found : (mode : Mode) (rel : Oid) (kind : Kind) (gave : List (List Row)) (plan : Plan) → FollowsFound mode rel kind plan → HasCome (record { rel = rel; kind = kind } ∷ made_in relation_by gave plan) (made_in opening_by gave plan) (reached gave plan)
 come_found mode rel kind [] plan follows = (mode, follows)
 come_found mode rel kind (given ∷ gave) (Done told) follows = come_found mode rel kind gave (Done told) follows
@@ -305,7 +376,7 @@ come_found mode rel kind (given ∷ gave) (Do (Open of as_kind) rest) follows = 
 come_found mode rel kind (given ∷ gave) (Absent name) follows = absurd follows
 come_found mode rel kind (given ∷ gave) NotBuilt follows = absurd follows
 come_found mode rel kind (given ∷ gave) (Do (Lookup name as_mode) rest) follows = absurd follows
-come_found mode rel kind (given ∷ gave) (Do (Search scan) rest) follows = absurd follows
+come_found mode rel kind (given ∷ gave) (Do (Search scan) rest) follows = come_found mode rel kind gave (rest given) (ended_found mode rel kind (rest given) (follows.3 given))
 come_found mode rel kind (given ∷ gave) (Do (Read scan) rest) follows = absurd follows
 come_found mode rel kind (given ∷ gave) (Do (Lock of as_mode) rest) follows = absurd follows
 come_found mode rel kind (given ∷ gave) (Do (Write draft) rest) follows = absurd follows
@@ -313,6 +384,10 @@ come_found mode rel kind (given ∷ gave) (Do (Write draft) rest) follows = absu
 come_absent : (name : List ℕ) (gave : List (List Row)) → HasCome (made_in relation_by gave (Absent name)) (made_in opening_by gave (Absent name)) (reached gave (Absent name))
 come_absent name [] = tt
 come_absent name (given ∷ gave) = come_absent name gave
+
+come_told : (told : Told) (gave : List (List Row)) → TellsNoField told → HasCome (made_in relation_by gave (Done told)) (made_in opening_by gave (Done told)) (reached gave (Done told))
+come_told told [] tells = tells
+come_told told (given ∷ gave) tells = come_told told gave tells
 
 come_lookup : (name : List ℕ) (mode : Mode) (rest : List Row → Plan) (given : List Row) (gave : List (List Row)) → FollowsOrder (Do (Lookup name mode) rest)
     → HasCome (relation_by (Lookup name mode) given ++ made_in relation_by gave (rest given)) (made_in opening_by gave (rest given)) (reached gave (rest given))
@@ -327,8 +402,14 @@ come_lookup name mode rest given gave follows = by_rows given (follows.0 given)
         (come_found mode rel kind gave (rest (plain_row rel kind)) (follows.1 rel kind))
     by_rows (row ∷ more) is = absent (row ∷ more) is
 
+tells_fewer : (told : Told) → TellsOfNone told → TellsNoField told
+tells_fewer (tells.Relation rel kind) none = none
+tells_fewer (tells.Field rel kind field) none = none
+tells_fewer told none = tt
+
 unfound : (plan : Plan) → FollowsOrder plan → FollowsUnfound plan
 unfound (Absent name) follows = absurd follows
+unfound (Done told) follows = tells_fewer told follows
 unfound plan follows = follows
 
 -- how far any acts bring a plan
@@ -341,7 +422,8 @@ has_come (given ∷ gave) (Do (Write draft) rest) follows = has_come gave (Do (W
 has_come (given ∷ gave) (Absent name) follows = absurd follows
 has_come (given ∷ gave) NotBuilt follows = absurd follows
 has_come (given ∷ gave) (Do (Open of as_kind) rest) follows = absurd follows
-has_come (given ∷ gave) (Do (Search scan) rest) follows = absurd follows
+has_come (given ∷ gave) (Do (Search scan) rest) follows =
+    subst (λ p. HasCome (made_in relation_by gave p) (made_in opening_by gave p) (reached gave p)) (sym (follows.2 given)) (come_told (tells.Regclass follows.0) gave tt)
 has_come (given ∷ gave) (Do (Read scan) rest) follows = absurd follows
 has_come (given ∷ gave) (Do (Lock of mode) rest) follows = absurd follows
 
@@ -360,15 +442,32 @@ at_opening (relation ∷ []) (one ∷ []) rel kind rest come = absurd come.follo
 at_opening relations opened rel kind rest come = absurd come
 
 -- a catalog cache is searched for a column of the relation found, which is a table, and its descriptor is open
-pub record SearchesColumn (relations : List Opening) (scan : Purpose) : Type 0 where
+pub record SearchesOpen (relations opened : List Opening) (scan : Purpose) : Type 0 where
   pub rel : Oid
   pub found_is : relations ≡ record { rel = rel; kind = Table } ∷ []
+  pub opened_is : opened ≡ record { rel = rel; kind = Table } ∷ []
   pub of : IsOfColumn rel scan
 
-pub at_search : (relations opened : List Opening) (scan : Purpose) (rest : List Row → Plan) → HasCome relations opened (Do (Search scan) rest) → SearchesColumn relations scan
-at_search [] [] scan rest come = absurd come
-at_search (relation ∷ []) [] scan rest come = absurd come.1
-at_search (relation ∷ []) (one ∷ []) scan rest come = record { rel = relation.rel; found_is = λ i. record { rel = relation.rel; kind = come.follows.2 i } ∷ []; of = come.follows.1 }
+-- or it isn't, and the plan goes on by what no weak mode may change of the columns
+pub record SearchesFound (relations : List Opening) (scan : Purpose) (rest : List Row → Plan) : Type 0 where
+  pub rel : Oid
+  pub found_is : relations ≡ record { rel = rel; kind = Table } ∷ []
+  pub of : IsOfColumns rel scan
+  pub by_fixed : (given : List Row) → rest given ≡ rest (map fixed given)
+
+-- or an oid is searched for, and the plan goes on whatever the rows are
+pub record SearchesOid (scan : Purpose) (rest : List Row → Plan) : Type 0 where
+  pub oid : Oid
+  pub of : IsOfOid oid scan
+  pub told : (given : List Row) → rest given ≡ Done (tells.Regclass oid)
+
+pub at_search : (relations opened : List Opening) (scan : Purpose) (rest : List Row → Plan) → HasCome relations opened (Do (Search scan) rest) → SearchesOpen relations opened scan ⊎ (SearchesFound relations scan rest ⊎ SearchesOid scan rest)
+at_search [] [] scan rest come = inr (inr (record { oid = come.0; of = come.1; told = come.2 }))
+at_search (relation ∷ []) [] scan rest come = inr (inl (record { rel = relation.rel; found_is = λ i. record { rel = relation.rel; kind = come.1.1 i } ∷ []; of = come.1.0; by_fixed = come.1.2 }))
+at_search (relation ∷ []) (one ∷ []) scan rest come = inl (record { rel = relation.rel; found_is = λ i. is i ∷ []; opened_is = ap (λ o. o ∷ []) (come.same ∙ is); of = come.follows.1 })
+  where
+    is : relation ≡ record { rel = relation.rel; kind = Table }
+    is = λ i. record { rel = relation.rel; kind = come.follows.2 i }
 at_search relations opened scan rest come = absurd come
 
 -- rows are read of one of the scans for the descriptor that is open
@@ -408,23 +507,21 @@ at_write (relation ∷ []) (one ∷ []) draft rest come = (come.follows.3, inr (
     is = λ i. record { rel = relation.rel; kind = come.follows.2 i }
 at_write relations opened draft rest come = absurd come
 
--- of a relation only what is open is told, a field only where the relation has it, and nothing of an oid
+-- of a relation only what is open is told, and a field only where the relation has it
 abbrev pub TellsOpen : List Opening → Told → Type 0
 TellsOpen opened (tells.Relation rel kind) = opened ≡ record { rel = rel; kind = kind } ∷ []
 TellsOpen opened (tells.Field rel kind field) = (opened ≡ record { rel = rel; kind = kind } ∷ []) × (has_field kind field ≡ true)
-TellsOpen opened (tells.Regclass oid) = ⊥
 TellsOpen opened told = ⊤
 
-tells_none : (told : Told) → TellsOfNone told → TellsOpen [] told
+tells_none : (told : Told) → TellsNoField told → TellsOpen [] told
 tells_none (tells.Relation rel kind) none = absurd none
 tells_none (tells.Field rel kind field) none = absurd none
-tells_none (tells.Regclass oid) none = absurd none
 tells_none told none = tt
 
 -- so it is with the answer of a plan that is done
 pub at_end : (relations opened : List Opening) (told : Told) → HasCome relations opened (Done told) → TellsOpen opened told
 at_end [] [] told come = tells_none told come
-at_end (relation ∷ []) [] told come = tells_none told come.1
+at_end (relation ∷ []) [] told come = tells_none told (tells_fewer told come.1)
 at_end (relation ∷ []) (one ∷ []) told come = by_told told come.follows
   where
     is : (rel : Oid) (kind : Kind) → rel ≡ relation.rel → kind ≡ relation.kind → one ∷ [] ≡ record { rel = rel; kind = kind } ∷ []
@@ -433,6 +530,5 @@ at_end (relation ∷ []) (one ∷ []) told come = by_told told come.follows
     by_told : (t : Told) → TellsOf relation.rel relation.kind t → TellsOpen (one ∷ []) t
     by_told (tells.Relation rel kind) of = is rel kind of.0 of.1
     by_told (tells.Field rel kind field) of = (is rel kind of.0 of.1, ap (λ k. has_field k field) of.1 ∙ of.2)
-    by_told (tells.Regclass oid) of = absurd of
     by_told t of = tt
 at_end relations opened told come = absurd come

@@ -8,8 +8,8 @@ use Rattle.cacheless.specs.Settled.{class_oid}
 use Rattle.cacheless.specs.ActsDone.{reached, made_in, opening_by, relation_by}
 use Rattle.cacheless.specs.OnCourse.{is_absent}
 use Rattle.cacheless.proofs.Plans.EffectAlong.{plain_row}
-use Rattle.cacheless.proofs.Plans.Ways.{goes_past, none_reached, write_stays}
-use Rattle.cacheless.proofs.Plans.ActOrder.{FollowsOpen, FollowsFound, FollowsOrder, HasCome, has_come, at_lookup}
+use Rattle.cacheless.proofs.Plans.Ways.{acts, goes_past, none_reached, write_stays}
+use Rattle.cacheless.proofs.Plans.ActOrder.{FollowsOpen, IsEnded, FollowsFound, FollowsOrder, HasCome, has_come, at_lookup}
 
 -- a plan in the order of acts hasn't failed to find a relation
 pub order_there : (plan : Plan) → FollowsOrder plan → is_absent plan ≡ false
@@ -24,7 +24,11 @@ open_there : (most : ℕ) (rel : Oid) (kind : Kind) (plan : Plan) → FollowsOpe
 open_there most rel kind (Absent name) follows = absurd follows
 open_there most rel kind plan follows = refl
 
--- nor has it after an act on the relation found
+ended_there : (plan : Plan) → IsEnded plan → is_absent plan ≡ false
+ended_there (Absent name) over = absurd over
+ended_there plan over = refl
+
+-- nor has it after an act on the relation found, or after an oid was searched for
 pub after_opening : (relations opened : List Opening) (rel : Oid) (kind : Kind) (rest : List Row → Plan) → HasCome relations opened (Do (Open rel kind) rest) → is_absent (rest []) ≡ false
 after_opening [] [] rel kind rest come = absurd come
 after_opening (relation ∷ []) [] rel kind rest come = open_there 3 relation.rel relation.kind (rest []) come.1.3
@@ -32,8 +36,8 @@ after_opening (relation ∷ []) (one ∷ []) rel kind rest come = absurd come.fo
 after_opening relations opened rel kind rest come = absurd come
 
 pub after_search : (relations opened : List Opening) (scan : Purpose) (rest : List Row → Plan) (given : List Row) → HasCome relations opened (Do (Search scan) rest) → is_absent (rest given) ≡ false
-after_search [] [] scan rest given come = absurd come
-after_search (relation ∷ []) [] scan rest given come = absurd come.1
+after_search [] [] scan rest given come = ap is_absent (come.2 given)
+after_search (relation ∷ []) [] scan rest given come = ended_there (rest given) (come.1.3 given)
 after_search (relation ∷ []) (one ∷ []) scan rest given come = open_there (come.most - 1) relation.rel relation.kind (rest given) (come.follows.3 given)
 after_search relations opened scan rest given come = absurd come
 
@@ -94,6 +98,6 @@ lookup_first (given ∷ gave) (Do (Write draft) more) name mode rest follows on 
 lookup_first (given ∷ gave) (Absent own) name mode rest follows on = absurd follows
 lookup_first (given ∷ gave) NotBuilt name mode rest follows on = absurd follows
 lookup_first (given ∷ gave) (Do (Open rel kind) more) name mode rest follows on = absurd follows
-lookup_first (given ∷ gave) (Do (Search scan) more) name mode rest follows on = absurd follows
+lookup_first (given ∷ gave) (Do (Search scan) more) name mode rest follows on = absurd (none_reached gave (more given) (Lookup name mode) rest (ap acts (follows.2 given)) on)
 lookup_first (given ∷ gave) (Do (Read scan) more) name mode rest follows on = absurd follows
 lookup_first (given ∷ gave) (Do (Lock rel as_mode) more) name mode rest follows on = absurd follows

@@ -1,30 +1,44 @@
--- By a clear lock that no two backends may hold a backend keeps out all who change the relation's rows, and so what it has read of them by a usable scan is the scan's answer.
-use Rattle.std.proofs.Common.{◌≡◌, ◌∙◌, ℕ, Bool, true, false, Some, List, [], ◌∷◌, ◌==◌, ◌||◌, ◌&&◌, refl, sym, ap, map, filter, cond}
+-- By a clear lock that no two backends may hold a backend keeps out all who change the relation's rows, and so what it has read of them by a usable scan is the scan's answer; and so by any clear lock of its columns, but for what a weak mode may change.
+use Rattle.std.proofs.Common.{◌≡◌, ◌∙◌, ℕ, Bool, true, false, Some, List, [], ◌∷◌, ◌++◌, ◌==◌, ◌||◌, ◌&&◌, refl, sym, ap, subst, map, filter, cond, take, drop}
+use Rattle.std.specs.Prelude.{⊤}
 use Rattle.std.specs.List.{AllByRecursion, list_any, list_all}
 use Rattle.std.specs.Option.{option_map_or}
-use Rattle.std.proofs.Math.Bool.{or-true}
+use Rattle.std.proofs.Math.Bool.{or-true, or-false}
 use Rattle.std.proofs.lemmas.Bool.{eqb-true, and_parts, and_from}
+use Rattle.std.proofs.lemmas.List.{take-append-drop}
 use Rattle.base_types.specs.Modes.{mode_number, conflicting_modes, conflicts, same_mode}
 use Rattle.base_types.specs.Scans.{same_oid}
 use Rattle.base_types.specs.Scenario.{Scenario}
+use Rattle.base_types.specs.declared.mode.Mode.TheVariants.{AccessShare, RowShare, RowExclusive, ShareUpdateExclusive, Share, ShareRowExclusive, Exclusive, AccessExclusive}
+use Rattle.base_types.specs.declared.scan.Purpose.TheVariants as scans
+use Rattle.event_kinds.specs.declared.entry.Event.TheVariants as events
 use Rattle.lock_modes.specs.Grants.{holds}
 use Rattle.lock_modes.specs.Own.{is_own, has_lock, cleared, clear_modes}
 use Rattle.ddl_effect.specs.Plans.{Plan, Act, Do}
 use Rattle.history_model.specs.Held.{held_of}
 use Rattle.history_model.specs.Orderly.{MayComeNext, IsSound}
-use Rattle.history_model.specs.Read.{rows_read, is_usable}
+use Rattle.history_model.specs.Prefixes.{EachEntry}
+use Rattle.history_model.specs.Read.{place_read, rows_read, is_usable}
 use Rattle.history_model.specs.Versions.{answer_of}
+use Rattle.history_model.proofs.Every.{every}
+use Rattle.history_model.proofs.FixedRows.{fixed}
 use Rattle.history_model.proofs.Locked.{changing_modes}
-use Rattle.history_model.proofs.Prefixes.{EachEntry-weaker}
+use Rattle.history_model.proofs.Observed.{LeavesRead}
+use Rattle.history_model.proofs.Prefixes.{EachEntry-weaker, EachEntry-more, EachEntry-prefix}
+use Rattle.history_model.proofs.Touched.{entry_of}
+use Rattle.history_model.proofs.WeakChanges.{column_apart, fixed_visible}
 use Rattle.cacheless.specs.Types.{Oid, Mode, Kind, Row, Purpose, OwnLock, Entry, Opening}
-use Rattle.cacheless.specs.ActsDone.{LockedRelation, locked_relation_by, reached, made_in, relation_by, IsHeld, WayHolds}
+use Rattle.cacheless.specs.ActsDone.{LockedRelation, locked_relation_by, reached, made_in, opening_by, relation_by, IsHeld, WayHolds}
 use Rattle.cacheless.specs.Plays.{Plays}
 use Rattle.cacheless.specs.Session.{Session}
 use Rattle.cacheless.specs.Sessions.{session_of}
+use Rattle.cacheless.specs.TableWrites.{WritesTables}
+use Rattle.cacheless.proofs.Answers.ReadPlaces.{read_at_place}
+use Rattle.cacheless.proofs.ColumnAnswers.{IsOfColumns, by_number, numbered_stay, numbered_same}
 use Rattle.cacheless.proofs.Plans.ActOrder.{FollowsOrder}
 use Rattle.cacheless.proofs.HeldLocks.{Follows, grant_of, locks_of, locks_are_held, lock_is_held}
-use Rattle.cacheless.proofs.Plans.LateActs.{comes_late, relation_only, locked_are_found, IsAlone, late_alone}
-use Rattle.cacheless.proofs.ProtectedFields.{AreKeptOut, kept_out_answers}
+use Rattle.cacheless.proofs.Plans.LateActs.{relation_only, locked_are_found, late_alone}
+use Rattle.cacheless.proofs.ProtectedFields.{AreKeptOut, kept_out_read, kept_out_answers}
 use Rattle.cacheless.proofs.Plans.StillAfter.{IsOf}
 use Rattle.cacheless.proofs.Plans.StillLocked.{excludes_changing, scans_ask}
 
@@ -74,25 +88,73 @@ pub alone_answers : (scenario : Scenario) (history : List Entry) (b : ℕ) (s : 
 alone_answers scenario history b s rel kind mode scan sound plays is clear has alone of usable =
     kept_out_answers scenario history b rel scan (scans_ask rel kind scan of) sound plays (alone_keeps_out scenario history b s rel mode is clear has alone) usable
 
+all_conflict : (mode : Mode) → conflicts AccessExclusive mode ≡ true
+all_conflict AccessShare = refl
+all_conflict RowShare = refl
+all_conflict RowExclusive = refl
+all_conflict ShareUpdateExclusive = refl
+all_conflict Share = refl
+all_conflict ShareRowExclusive = refl
+all_conflict Exclusive = refl
+all_conflict AccessExclusive = refl
+
+-- any clear lock keeps out all who change columns by more than a weak mode may
+lock_keeps_out : (scenario : Scenario) (history : List Entry) (b : ℕ) (s : Session) (rel : Oid) (mode : Mode) → session_of scenario history b ≡ Some s → map cleared s.locks ≡ s.locks → has_lock s.locks rel mode ≡ true → AreKeptOut scenario history b rel (AccessExclusive ∷ [])
+lock_keeps_out scenario history b s rel mode is clear has =
+    ap (λ o. list_any (conflicts AccessExclusive) (option_map_or (λ x. clear_modes x.locks rel) o []) && true) is ∙ ap (λ t. t && true) (clear_conflict AccessExclusive rel mode s.locks (all_conflict mode) clear has)
+
+columns_leave : (rel : Oid) (scan : Purpose) → IsOfColumns rel scan → LeavesRead (by_number rel) scan rel (AccessExclusive ∷ [])
+columns_leave rel scan of history a c xid b sound comes other none =
+    numbered_stay history (history ++ entry_of a c (events.Visible xid) ∷ []) b rel scan of sound (EachEntry-more MayComeNext history (entry_of a c (events.Visible xid)) sound comes)
+    (fixed_visible history a c xid b rel (scans.Attribute rel) (column_apart rel) sound comes other (sym (or-false (holds (held_of history) a rel AccessExclusive)) ∙ none))
+
+-- so what was read of a relation's columns by a usable scan is the scan's answer, but for what a weak mode may change
+pub columns_answer : (scenario : Scenario) (history : List Entry) (b : ℕ) (s : Session) (rel : Oid) (mode : Mode) (scan : Purpose) → IsSound history → EachEntry WritesTables history → Plays scenario history → session_of scenario history b ≡ Some s → map cleared s.locks ≡ s.locks
+    → has_lock s.locks rel mode ≡ true → IsOfColumns rel scan → is_usable history b scan ≡ true → map fixed (answer_of history b scan) ≡ map fixed (rows_read history b scan)
+columns_answer scenario history b s rel mode scan sound tables plays is clear has of usable =
+    numbered_same before history b rel scan of (EachEntry-prefix MayComeNext before rest (subst IsSound whole sound)) (EachEntry-prefix WritesTables before rest (subst (EachEntry WritesTables) whole tables)) sound tables (same ∙ ap (by_number rel) (sym read)) ∙ ap (map fixed) read
+  where
+    before : List Entry
+    before = take (place_read history b scan) history
+
+    rest : List Entry
+    rest = drop (place_read history b scan) history
+
+    whole : history ≡ before ++ rest
+    whole = sym (take-append-drop (place_read history b scan) history)
+
+    read : answer_of before b scan ≡ rows_read history b scan
+    read = read_at_place history b scan
+
+    same : by_number rel (answer_of history b scan) ≡ by_number rel (rows_read history b scan)
+    same = kept_out_read scenario history b rel (by_number rel) scan (AccessExclusive ∷ []) (columns_leave rel scan of) sound plays (lock_keeps_out scenario history b s rel mode is clear has) usable
+
 -- what a session holds the history says too
 pub session_holds : (scenario : Scenario) (history : List Entry) (b : ℕ) (s : Session) → IsSound history → session_of scenario history b ≡ Some s → (rel : Oid) (mode : Mode) → holds (held_of history) b rel mode ≡ has_lock s.locks rel mode
 session_holds scenario history b s sound is rel mode = lock_is_held b rel mode (held_of history) s.locks
     (locks_are_held scenario history b (EachEntry-weaker MayComeNext Follows (λ before e comes. comes.follows.life) history sound) ∙ ap (λ o. map (grant_of b) (locks_of o)) is)
 
--- the lock of the one relation that a command found, which nobody else may hold
-record TheLock (history : List Entry) (b : ℕ) (rel : Oid) : Type 0 where
+-- the lock of the one relation that a command found
+record TheLock (history : List Entry) (b : ℕ) (rel : Oid) (P : Mode → Type 0) : Type 0 where
   mode : Mode
   held : holds (held_of history) b rel mode ≡ true
-  alone : conflicts mode mode ≡ true
+  such : P mode
 
-the_lock : (history : List Entry) (b : ℕ) (one : Opening) (locked : List LockedRelation) → map relation_only locked ≡ one ∷ [] → AllByRecursion (IsHeld history b) locked → AllByRecursion IsAlone locked → TheLock history b one.rel
-the_lock history b one [] is held alone = absurd (cc is)
-the_lock history b one (o ∷ others) is held alone =
-    let same : relation_only o ≡ one = cc is in record { mode = o.mode; held = ap (λ (r : Opening). holds (held_of history) b r.rel o.mode) (sym same) ∙ held.0; alone = alone.0 }
+the_lock : (history : List Entry) (b : ℕ) (one : Opening) (P : Mode → Type 0) (locked : List LockedRelation) → map relation_only locked ≡ one ∷ [] → AllByRecursion (IsHeld history b) locked → AllByRecursion (λ o. P o.mode) locked → TheLock history b one.rel P
+the_lock history b one P [] is held such = absurd (cc is)
+the_lock history b one P (o ∷ others) is held such =
+    let same : relation_only o ≡ one = cc is in record { mode = o.mode; held = ap (λ (r : Opening). holds (held_of history) b r.rel o.mode) (sym same) ∙ held.0; such = such.0 }
 
--- so what it read by a usable scan of that relation is the scan's answer, once it goes on with its descriptor open and its locks clear
+-- so what it read by a usable scan of that relation is the scan's answer, once its descriptor is open and the command's locks are clear
 pub late_answers : (scenario : Scenario) (history : List Entry) (b : ℕ) (s : Session) (gave : List (List Row)) (plan : Plan) (act : Act) (rest : List Row → Plan) (one : Opening) (scan : Purpose) → IsSound history → Plays scenario history → session_of scenario history b ≡ Some s → map cleared s.locks ≡ s.locks
-    → FollowsOrder plan → WayHolds history b gave plan → reached gave plan ≡ Do act rest → comes_late act ≡ true → made_in relation_by gave plan ≡ one ∷ [] → IsOf one.rel one.kind scan → is_usable history b scan ≡ true → answer_of history b scan ≡ rows_read history b scan
-late_answers scenario history b s gave plan act rest one scan sound plays is clear follows way on late found of usable =
-    let lock = the_lock history b one (made_in locked_relation_by gave plan) (locked_are_found gave plan ∙ found) way.locked (late_alone gave plan act rest follows on late) in
-    alone_answers scenario history b s one.rel one.kind lock.mode scan sound plays is clear (sym (session_holds scenario history b s sound is one.rel lock.mode) ∙ lock.held) lock.alone of usable
+    → FollowsOrder plan → WayHolds history b gave plan → reached gave plan ≡ Do act rest → made_in relation_by gave plan ≡ one ∷ [] → made_in opening_by gave plan ≡ one ∷ [] → IsOf one.rel one.kind scan → is_usable history b scan ≡ true → answer_of history b scan ≡ rows_read history b scan
+late_answers scenario history b s gave plan act rest one scan sound plays is clear follows way on found opens of usable =
+    let lock = the_lock history b one (λ mode. conflicts mode mode ≡ true) (made_in locked_relation_by gave plan) (locked_are_found gave plan ∙ found) way.locked (late_alone gave plan act rest one follows on opens) in
+    alone_answers scenario history b s one.rel one.kind lock.mode scan sound plays is clear (sym (session_holds scenario history b s sound is one.rel lock.mode) ∙ lock.held) lock.such of usable
+
+-- and where it searches for columns before that, what it goes by of their rows is the answer's
+pub found_columns : (scenario : Scenario) (history : List Entry) (b : ℕ) (s : Session) (gave : List (List Row)) (plan : Plan) (one : Opening) (scan : Purpose) → IsSound history → EachEntry WritesTables history → Plays scenario history → session_of scenario history b ≡ Some s → map cleared s.locks ≡ s.locks
+    → WayHolds history b gave plan → made_in relation_by gave plan ≡ one ∷ [] → IsOfColumns one.rel scan → is_usable history b scan ≡ true → map fixed (answer_of history b scan) ≡ map fixed (rows_read history b scan)
+found_columns scenario history b s gave plan one scan sound tables plays is clear way found of usable =
+    let lock = the_lock history b one (λ mode. ⊤) (made_in locked_relation_by gave plan) (locked_are_found gave plan ∙ found) way.locked (every (λ o. ⊤) (λ o. tt) (made_in locked_relation_by gave plan)) in
+    columns_answer scenario history b s one.rel lock.mode scan sound tables plays is clear (sym (session_holds scenario history b s sound is one.rel lock.mode) ∙ lock.held) of usable

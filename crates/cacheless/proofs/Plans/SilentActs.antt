@@ -1,7 +1,6 @@
 -- An act whose rows are at hand keeps a command on its way.
-use Rattle.std.proofs.Common.{◌≡◌, ◌∙◌, inl, inr, ℕ, Bool, true, false, not, Option, Some, None, List, [], ◌∷◌, ◌++◌, cond, if◌then◌else◌, refl, sym, ap, subst, map, length}
+use Rattle.std.proofs.Common.{◌≡◌, ◌⊎◌, ◌∙◌, inl, inr, ℕ, Bool, true, false, not, Option, Some, None, List, [], ◌∷◌, ◌++◌, cond, refl, sym, ap, subst, map, length}
 use Rattle.std.specs.List.{AllByRecursion}
-use Rattle.std.proofs.lemmas.Bool.{and_parts}
 use Rattle.base_types.specs.declared.kind.Kind.TheVariants.{Table}
 use Rattle.base_types.specs.declared.row.Row.TheVariants as rows
 use Rattle.base_types.specs.declared.scan.Purpose.TheVariants as scans
@@ -10,11 +9,14 @@ use Rattle.ddl_effect.specs.declared.told.Told.TheVariants as tells
 use Rattle.ddl_effect.specs.Plans.{Act, Lookup, Open, Search, Read, Lock, Write, Plan, Done, Fails, Absent, NotBuilt, Do}
 use Rattle.ddl_effect.specs.Commands.{plan_of}
 use Rattle.ddl_effect.specs.Effects.{effect_at}
-use Rattle.history_model.specs.Read.{rows_read}
+use Rattle.history_model.specs.Orderly.{IsSound}
+use Rattle.history_model.specs.Prefixes.{EachEntry}
+use Rattle.history_model.specs.Read.{rows_read, is_usable}
 use Rattle.history_model.specs.Versions.{answer_of}
 use Rattle.history_model.specs.Writes.{is_empty}
 use Rattle.history_model.proofs.Every.{every-append}
-use Rattle.cacheless.specs.Types.{Mode, Row, Purpose, Scenario, Command, CommandError, OwnLock, Entry}
+use Rattle.history_model.proofs.FixedRows.{fixed}
+use Rattle.cacheless.specs.Types.{Mode, Row, Purpose, Opening, Scenario, Command, CommandError, OwnLock, Entry}
 use Rattle.cacheless.specs.ActsDone.{after_given, reached, made_in, made_first, opening_by, relation_by, locked_relation_by, IsHeld, ComeAlike, IsFirstStill}
 use Rattle.cacheless.specs.Facts.{Facts, facts_of}
 use Rattle.cacheless.specs.OnCourse.{is_absent, OnItsWay, Way, Begun, Wrote, Unbuilt, Over, GaveNow, IsFirstSeen, NamedFits, WasSought, FollowsPlan}
@@ -23,9 +25,11 @@ use Rattle.cacheless.specs.Played.{IsPlayed}
 use Rattle.cacheless.specs.Session.{Session, none_open, outcome_of, is_settled}
 use Rattle.cacheless.specs.Sessions.{session_of}
 use Rattle.cacheless.specs.Settled.{class_oid, if_locked, looked_up, gives, opened_by, found_by, act_done, done_here}
-use Rattle.cacheless.proofs.Plans.ActOrder.{HasCome, ReadsOpen, FollowsOrder, follows_order, has_come, at_lookup, SearchesColumn, at_search, at_read}
+use Rattle.cacheless.specs.TableWrites.{WritesTables}
+use Rattle.cacheless.proofs.NamedSeen.{usable_named_seen}
+use Rattle.cacheless.proofs.Plans.ActOrder.{HasCome, ReadsOpen, FollowsOrder, follows_order, has_come, at_lookup, SearchesOpen, SearchesFound, SearchesOid, at_search, at_read}
 use Rattle.cacheless.proofs.Plans.AfterActs.{IsUnfound, after_opening, after_search, after_reading, after_lookup, lookup_first, no_lock, opening_alike}
-use Rattle.cacheless.proofs.Plans.AloneLocks.{late_answers, session_holds}
+use Rattle.cacheless.proofs.Plans.AloneLocks.{late_answers, found_columns, session_holds}
 use Rattle.cacheless.proofs.Plans.StillAfter.{still-push}
 use Rattle.cacheless.proofs.Plans.Ways.{acts, none_reached, reached-push, made_in-push}
 
@@ -36,6 +40,9 @@ both_empty (x ∷ xs) ys none = absurd (cc none)
 pub empty_list : {X : Type 0} (xs : List X) → is_empty xs ≡ true → xs ≡ []
 empty_list [] is = refl
 empty_list (x ∷ xs) is = absurd (cc is)
+
+pub some_is : {X : Type 0} (x y : X) → Some x ≡ Some y → x ≡ y
+some_is x y is = cc is
 
 -- a command of which an act is left was refused by nothing
 pub unrefused : (seen : List Entry) (b : ℕ) (s : Session) (command : Command) (act : Act) (rest : List Row → Plan) → FollowsPlan seen b s command → s.left ≡ Do act rest → s.refused ≡ None
@@ -64,14 +71,16 @@ pub its_place : (seen : List Entry) (b : ℕ) (s : Session) (command : Command) 
 its_place seen b s command act rest way at = subst (HasCome (made_in relation_by way.gave (plan_of none_open command)) (made_in opening_by way.gave (plan_of none_open command))) (sym way.plan ∙ at)
     (has_come way.gave (plan_of none_open command) (its_order seen b s command way))
 
--- where its scan isn't owed, a lookup's or a column's is made
-pub made_already : (t : Bool) (scan : Purpose) → (if t then [] else scan ∷ []) ≡ [] → t ≡ true
-made_already true scan none = refl
-made_already false scan none = absurd (cc none)
-
+-- a scan that isn't owed is usable
 kept_already : (t : Bool) (scan : Purpose) → cond (not t) (scan ∷ []) [] ≡ [] → t ≡ true
 kept_already true scan none = refl
 kept_already false scan none = absurd (cc none)
+
+-- so a lookup that goes on sees the relation that the last scan of its name gave, and one whose lock is granted does so anyway
+pub lookup_seen : (history : List Entry) (b : ℕ) (name : List ℕ) (mode : Mode) (rest : List Row → Plan) (granted : Bool) → IsSound history → EachEntry WritesTables history → act_owed (facts_of history b) granted (Do (Lookup name mode) rest) ≡ []
+    → NamedFits history b (Do (Lookup name mode) rest) granted → IsFirstSeen history b (rows_read history b (scans.RelName name))
+lookup_seen history b name mode rest true sound tables none fits = fits
+lookup_seen history b name mode rest false sound tables none fits = usable_named_seen history b name sound tables (kept_already (is_usable history b (scans.RelName name)) (scans.RelName name) none)
 
 -- a played history in which the session of a backend has these locks, which are clear
 pub record HoldsClear (scenario : Scenario) (seen : List Entry) (b : ℕ) (locks : List OwnLock) : Type 0 where
@@ -82,39 +91,39 @@ pub record HoldsClear (scenario : Scenario) (seen : List Entry) (b : ℕ) (locks
   pub clear : map cleared locks ≡ locks
 
 -- what a lookup gave that is done here
-lookup_gave : (scenario : Scenario) (seen : List Entry) (b : ℕ) (locks : List OwnLock) (name : List ℕ) (mode : Mode) (given : List Row) → HoldsClear scenario seen b locks → IsFirstSeen seen b given → looked_up locks mode given ≡ Some given → (rest : List Row → Plan) → GaveNow seen b (Lookup name mode) rest given
-lookup_gave scenario seen b locks name mode [] holds sees gave rest = record { locked = tt; still = tt }
-lookup_gave scenario seen b locks name mode (rows.Class rel own kind fill ∷ more) holds sees gave rest = record {
-  locked = (session_holds scenario seen b holds.session holds.played.sound holds.is rel mode ∙ ap (λ l. has_lock l rel mode) holds.holds ∙ by_lock (has_lock locks rel mode) gave, tt);
-  still = record { name = sees.name; fill = sees.fill; more = []; are = sees.row };
-}
+lookup_gave : (scenario : Scenario) (seen : List Entry) (b : ℕ) (locks : List OwnLock) (name : List ℕ) (mode : Mode) (read given : List Row) → HoldsClear scenario seen b locks → IsFirstSeen seen b read → looked_up locks mode read ≡ Some given → (rest : List Row → Plan) → GaveNow seen b (Lookup name mode) rest given
+lookup_gave scenario seen b locks name mode [] given holds sees gave rest = subst (GaveNow seen b (Lookup name mode) rest) (some_is [] given gave) (record { locked = tt; still = tt })
+lookup_gave scenario seen b locks name mode (rows.Class rel own kind fill ∷ more) given holds sees gave rest = by_lock (has_lock locks rel mode) refl gave
   where
-    by_lock : (t : Bool) → if_locked t (rows.Class rel own kind fill ∷ more) ≡ Some (rows.Class rel own kind fill ∷ more) → t ≡ true
-    by_lock true is = refl
-    by_lock false is = absurd (cc is)
-lookup_gave scenario seen b locks name mode (row ∷ more) holds sees gave rest = record { locked = tt; still = tt }
+    by_lock : (t : Bool) → has_lock locks rel mode ≡ t → if_locked t (rows.Class rel own kind fill ∷ []) ≡ Some given → GaveNow seen b (Lookup name mode) rest given
+    by_lock true has is = subst (GaveNow seen b (Lookup name mode) rest) (some_is (rows.Class rel own kind fill ∷ []) given is) (record {
+      locked = (session_holds scenario seen b holds.session holds.played.sound holds.is rel mode ∙ ap (λ l. has_lock l rel mode) holds.holds ∙ has, tt);
+      still = record { name = sees.name; fill = sees.fill; more = []; are = sees.row };
+    })
+    by_lock false has is = absurd (cc is)
+lookup_gave scenario seen b locks name mode (row ∷ more) given holds sees gave rest = subst (GaveNow seen b (Lookup name mode) rest) (some_is (row ∷ []) given gave) (record { locked = tt; still = tt })
 
--- a lookup gives the rows of its scan
-gives_rows : (locks : List OwnLock) (mode : Mode) (read given : List Row) → looked_up locks mode read ≡ Some given → read ≡ given
-gives_rows locks mode [] given is = cc is
-gives_rows locks mode (rows.Class rel own kind fill ∷ more) given is = by_lock (has_lock locks rel mode) is
+-- a lookup gives the relation of its scan
+gives_class : (locks : List OwnLock) (mode : Mode) (read given : List Row) → looked_up locks mode read ≡ Some given → class_oid read ≡ class_oid given
+gives_class locks mode [] given is = ap class_oid (some_is [] given is)
+gives_class locks mode (rows.Class rel own kind fill ∷ more) given is = by_lock (has_lock locks rel mode) is
   where
-    by_lock : (t : Bool) → if_locked t (rows.Class rel own kind fill ∷ more) ≡ Some given → rows.Class rel own kind fill ∷ more ≡ given
-    by_lock true gave = cc gave
+    by_lock : (t : Bool) → if_locked t (rows.Class rel own kind fill ∷ []) ≡ Some given → Some rel ≡ class_oid given
+    by_lock true gave = ap class_oid (some_is (rows.Class rel own kind fill ∷ []) given gave)
     by_lock false gave = absurd (cc gave)
-gives_rows locks mode (row ∷ more) given is = cc is
+gives_class locks mode (row ∷ more) given is = ap class_oid (some_is (row ∷ []) given is)
 
 -- an act that is done here: nothing is owed before it, and it gives these rows
 pub record IsDoneHere (facts : Facts) (s : Session) (act : Act) (rest : List Row → Plan) (given : List Row) : Type 0 where
   pub builds : builds_owed facts s.opened ≡ []
-  pub owed : act_owed facts s.locks s.read (Do act rest) ≡ []
+  pub owed : act_owed facts s.granted (Do act rest) ≡ []
   pub gave : gives facts s.locks act ≡ Some given
 
 pub is_done_here : (facts : Facts) (s : Session) (act : Act) (rest : List Row → Plan) (given : List Row) → done_here facts s act (Do act rest) ≡ Some given → IsDoneHere facts s act rest given
-is_done_here facts s act rest given is = by_test (is_empty (builds_owed facts s.opened ++ act_owed facts s.locks s.read (Do act rest))) refl is
+is_done_here facts s act rest given is = by_test (is_empty (builds_owed facts s.opened ++ act_owed facts s.granted (Do act rest))) refl is
   where
-    by_test : (t : Bool) → is_empty (builds_owed facts s.opened ++ act_owed facts s.locks s.read (Do act rest)) ≡ t → elim t as (λ x. Option (List Row)) [ true ↦ gives facts s.locks act | false ↦ None ] ≡ Some given → IsDoneHere facts s act rest given
-    by_test true none gave = let both = both_empty (builds_owed facts s.opened) (act_owed facts s.locks s.read (Do act rest)) (empty_list _ none) in record { builds = both.0; owed = both.1; gave = gave }
+    by_test : (t : Bool) → is_empty (builds_owed facts s.opened ++ act_owed facts s.granted (Do act rest)) ≡ t → elim t as (λ x. Option (List Row)) [ true ↦ gives facts s.locks act | false ↦ None ] ≡ Some given → IsDoneHere facts s act rest given
+    by_test true none gave = let both = both_empty (builds_owed facts s.opened) (act_owed facts s.granted (Do act rest)) (empty_list _ none) in record { builds = both.0; owed = both.1; gave = gave }
     by_test false some gave = absurd (cc gave)
 
 -- it isn't a write
@@ -127,30 +136,39 @@ alike_now : (now : Purpose → List Row) (scan : Purpose) (rest : List Row → P
 alike_now now scan rest given is = λ rows found. ap (λ l. effect_at rows found (rest l)) (sym is)
 
 -- what an act gave that is done here is so
-act_gave : (scenario : Scenario) (seen : List Entry) (b : ℕ) (s : Session) (command : Command) (act : Act) (rest : List Row → Plan) (given : List Row) → HoldsClear scenario seen b s.locks → (way : OnItsWay seen b s command) → s.left ≡ Do act rest → NamedFits seen b (Do act rest) s.read
+act_gave : (scenario : Scenario) (seen : List Entry) (b : ℕ) (s : Session) (command : Command) (act : Act) (rest : List Row → Plan) (given : List Row) → HoldsClear scenario seen b s.locks → (way : OnItsWay seen b s command) → s.left ≡ Do act rest → NamedFits seen b (Do act rest) s.granted
     → IsDoneHere (facts_of seen b) s act rest given → GaveNow seen b act rest given
 act_gave scenario seen b s command (Lookup name mode) rest given holds way at named done =
-    subst (GaveNow seen b (Lookup name mode) rest) same
-    (lookup_gave scenario seen b s.locks name mode (rows_read seen b (scans.RelName name)) holds (subst (NamedFits seen b (Do (Lookup name mode) rest)) read named) (done.gave ∙ ap Some (sym same)) rest)
-  where
-    same : rows_read seen b (scans.RelName name) ≡ given
-    same = gives_rows s.locks mode (rows_read seen b (scans.RelName name)) given done.gave
-
-    read : s.read ≡ true
-    read = (and_parts s.read _ (made_already _ (scans.RelName name) done.owed)).0
+    lookup_gave scenario seen b s.locks name mode (rows_read seen b (scans.RelName name)) given holds (lookup_seen seen b name mode rest s.granted holds.played.sound holds.played.tables done.owed named) done.gave rest
 act_gave scenario seen b s command (Open rel kind) rest given holds way at named done = record { locked = tt; still = tt }
-act_gave scenario seen b s command (Search scan) rest given holds way at named done = record { locked = tt; still = alike_now (answer_of seen b) scan rest given (late ∙ gave) }
+act_gave scenario seen b s command (Search scan) rest given holds way at named done = record {
+  locked = tt;
+  still = by_place (at_search relations opened scan rest (its_place seen b s command (Search scan) rest way at));
+}
   where
-    column : SearchesColumn (made_in relation_by way.gave (plan_of none_open command)) scan
-    column = at_search _ (made_in opening_by way.gave (plan_of none_open command)) scan rest (its_place seen b s command (Search scan) rest way at)
+    relations : List Opening
+    relations = made_in relation_by way.gave (plan_of none_open command)
+
+    opened : List Opening
+    opened = made_in opening_by way.gave (plan_of none_open command)
 
     gave : rows_read seen b scan ≡ given
-    gave = let is : Some (rows_read seen b scan) ≡ Some given = done.gave in cc is
+    gave = some_is (rows_read seen b scan) given done.gave
 
-    late : answer_of seen b scan ≡ rows_read seen b scan
-    late = late_answers scenario seen b holds.session way.gave (plan_of none_open command) (Search scan) rest (record { rel = column.rel; kind = Table }) scan holds.played.sound holds.played.plays holds.is
-        (subst (λ l. map cleared l ≡ l) (sym holds.holds) holds.clear) (its_order seen b s command way) way.holds (sym way.plan ∙ at) refl column.found_is (inl column.of)
-        (and_parts s.read _ (made_already _ scan done.owed)).1
+    by_place : SearchesOpen relations opened scan ⊎ (SearchesFound relations scan rest ⊎ SearchesOid scan rest) → ComeAlike (rest given) (rest (answer_of seen b scan))
+    by_place (inl column) = alike_now (answer_of seen b) scan rest given (late ∙ gave)
+      where
+        late : answer_of seen b scan ≡ rows_read seen b scan
+        late = late_answers scenario seen b holds.session way.gave (plan_of none_open command) (Search scan) rest (record { rel = column.rel; kind = Table }) scan holds.played.sound holds.played.plays holds.is
+            (subst (λ l. map cleared l ≡ l) (sym holds.holds) holds.clear) (its_order seen b s command way) way.holds (sym way.plan ∙ at) column.found_is column.opened_is (inl column.of)
+            (kept_already _ scan done.owed)
+    by_place (inr (inl columns)) = λ rows found. ap (effect_at rows found)
+        (ap rest (sym gave) ∙ columns.by_fixed (rows_read seen b scan) ∙ ap rest (sym same) ∙ sym (columns.by_fixed (answer_of seen b scan)))
+      where
+        same : map fixed (answer_of seen b scan) ≡ map fixed (rows_read seen b scan)
+        same = found_columns scenario seen b holds.session way.gave (plan_of none_open command) (record { rel = columns.rel; kind = Table }) scan holds.played.sound holds.played.tables holds.played.plays holds.is
+            (subst (λ l. map cleared l ≡ l) (sym holds.holds) holds.clear) way.holds columns.found_is columns.of (kept_already _ scan done.owed)
+    by_place (inr (inr oid)) = λ rows found. ap (effect_at rows found) (oid.told given ∙ sym (oid.told (answer_of seen b scan)))
 act_gave scenario seen b s command (Read scan) rest given holds way at named done = record { locked = tt; still = alike_now (answer_of seen b) scan rest given (late ∙ gave) }
   where
     come : HasCome (made_in relation_by way.gave (plan_of none_open command)) (made_in opening_by way.gave (plan_of none_open command)) (Do (Read scan) rest)
@@ -160,11 +178,11 @@ act_gave scenario seen b s command (Read scan) rest given holds way at named don
     reads = at_read _ _ scan rest come
 
     gave : rows_read seen b scan ≡ given
-    gave = let is : Some (rows_read seen b scan) ≡ Some given = done.gave in cc is
+    gave = some_is (rows_read seen b scan) given done.gave
 
     late : answer_of seen b scan ≡ rows_read seen b scan
     late = late_answers scenario seen b holds.session way.gave (plan_of none_open command) (Read scan) rest (record { rel = reads.rel; kind = reads.kind }) scan holds.played.sound holds.played.plays holds.is
-        (subst (λ l. map cleared l ≡ l) (sym holds.holds) holds.clear) (its_order seen b s command way) way.holds (sym way.plan ∙ at) refl reads.found_is (inr reads.of)
+        (subst (λ l. map cleared l ≡ l) (sym holds.holds) holds.clear) (its_order seen b s command way) way.holds (sym way.plan ∙ at) reads.found_is reads.opened_is (inr reads.of)
         (kept_already _ scan done.owed)
 act_gave scenario seen b s command (Lock rel mode) rest given holds way at named done = absurd (no_lock _ _ rel mode rest (its_place seen b s command (Lock rel mode) rest way at))
 act_gave scenario seen b s command (Write draft) rest given holds way at named done = absurd (let no : None ≡ Some given = done.gave in cc no)
@@ -188,12 +206,12 @@ way-act seen b s command act rest given at passes now way = record {
     made : {X : Type 0} (makes : Act → List Row → List X) → made_in makes (way.gave ++ given ∷ []) (plan_of none_open command) ≡ made_in makes way.gave (plan_of none_open command) ++ makes act given
     made makes = made_in-push makes way.gave given (plan_of none_open command) ∙ ap (λ p. made_in makes way.gave (plan_of none_open command) ++ made_first makes given p) (sym way.plan ∙ at)
 
--- where no scan of a name is made for the next act, nothing is said of one
-pub named_unread : (seen : List Entry) (b : ℕ) (plan : Plan) → is_absent plan ≡ false → NamedFits seen b plan false
-named_unread seen b (Absent name) there = absurd (cc there)
-named_unread seen b (Do (Lookup name mode) rest) there = tt
-named_unread seen b (Do act rest) there = tt
-named_unread seen b plan there = tt
+-- where no lock is granted for the next act, nothing is said of a scan
+pub named_ungranted : (seen : List Entry) (b : ℕ) (plan : Plan) → is_absent plan ≡ false → NamedFits seen b plan false
+named_ungranted seen b (Absent name) there = absurd (cc there)
+named_ungranted seen b (Do (Lookup name mode) rest) there = tt
+named_ungranted seen b (Do act rest) there = tt
+named_ungranted seen b plan there = tt
 
 -- what is left of a plan after an act: where it failed to find a relation, the act was its first one, and gave none
 record FailsToFind (seen : List Entry) (b : ℕ) (s : Session) (command : Command) (act : Act) (rest : List Row → Plan) (given : List Row) : Type 0 where
@@ -213,7 +231,7 @@ there_or_fails seen b s command (Lookup name mode) rest given way at done absent
   mode = mode;
   lookup = refl;
   is = unfound.is;
-  none = ap class_oid (gives_rows s.locks mode (rows_read seen b (scans.RelName name)) given done.gave) ∙ unfound.none;
+  none = gives_class s.locks mode (rows_read seen b (scans.RelName name)) given done.gave ∙ unfound.none;
   first = way.plan ∙ ap (λ g. reached g (plan_of none_open command)) none_gave;
   found = way.found ∙ ap (λ g. made_in found_by g (plan_of none_open command)) none_gave;
   opened = way.opened ∙ ap (λ g. made_in opening_by g (plan_of none_open command)) none_gave;
@@ -252,11 +270,11 @@ act_follows scenario seen b s command act rest given holds at done follows = rec
     way = on_its_way seen b s command act rest follows at
 
     gave : GaveNow seen b act rest given
-    gave = act_gave scenario seen b s command act rest given holds way at (subst (λ p. NamedFits seen b p s.read) at follows.named) done
+    gave = act_gave scenario seen b s command act rest given holds way at (subst (λ p. NamedFits seen b p s.granted) at follows.named) done
 
     by_test : (t : Bool) → is_absent (rest given) ≡ t → NamedFits seen b (rest given) false
     by_test true absent = let fails = there_or_fails seen b s command act rest given way at done absent in subst (λ p. NamedFits seen b p false) (sym fails.is) fails.none
-    by_test false there = named_unread seen b (rest given) there
+    by_test false there = named_ungranted seen b (rest given) there
 
     was_sought : (name : List ℕ) → rest given ≡ Absent name → FailsToFind seen b s command act rest given → WasSought seen b (act_done act given (rest given) s) command name
     was_sought name is fails = subst (λ a. WasSought seen b (act_done a given (rest given) s) command name) (sym fails.lookup) (record {

@@ -1,5 +1,5 @@
 -- What acts gave is so still later, if the rows of the relation found stay.
-use Rattle.std.proofs.Common.{◌≡◌, ◌-◌, ◌⊎◌, inl, inr, ℕ, true, false, List, [], ◌∷◌, ◌++◌, Contains, refl, sym, subst}
+use Rattle.std.proofs.Common.{◌≡◌, ◌∙◌, ◌-◌, ◌⊎◌, inl, inr, ℕ, true, false, List, [], ◌∷◌, ◌++◌, Contains, refl, sym, ap, subst, map}
 use Rattle.std.specs.List.{AllByRecursion}
 use Rattle.base_types.specs.Modes.{conflicts}
 use Rattle.base_types.specs.Scans.{build_scans}
@@ -7,25 +7,38 @@ use Rattle.base_types.specs.declared.row.Row.TheVariants as rows
 use Rattle.base_types.specs.declared.scan.Purpose.TheVariants as scans
 use Rattle.ddl_effect.specs.Plans.{Plan, Done, Fails, Absent, NotBuilt, Do, Lookup, Open, Search, Read, Lock, Write}
 use Rattle.ddl_effect.specs.Commands.{found}
+use Rattle.ddl_effect.specs.Effects.{effect_at}
 use Rattle.history_model.proofs.Every.{every-append}
+use Rattle.history_model.proofs.FixedRows.{fixed}
 use Rattle.cacheless.specs.Types.{Oid, Mode, Kind, Row, Purpose, Opening}
 use Rattle.cacheless.specs.ActsDone.{LockedRelation, locked_relation_by, after_given, reached, made_first, made_in, relation_by, BeginWith, ComeAlike, IsStill, IsFirstStill, AreStill}
+use Rattle.cacheless.proofs.ColumnAnswers.{IsOfColumn, IsOfColumns}
 use Rattle.cacheless.proofs.Plans.EffectAlong.{plain_row}
 use Rattle.cacheless.proofs.Plans.Ways.{acts}
-use Rattle.cacheless.proofs.Plans.ActOrder.{IsOfColumn, OpensUnder, FollowsOpen, FollowsFound, FollowsOrder}
+use Rattle.cacheless.proofs.Plans.ActOrder.{OpensUnder, FollowsOpen, FollowsFound, FollowsOrder, ended_acts}
 
 -- a scan for a column of a relation, or for its descriptor
 abbrev pub IsOf : Oid → Kind → Purpose → Type 0
 IsOf rel kind scan = IsOfColumn rel scan ⊎ Contains (build_scans kind rel) scan
 
--- a relation stays found, and under a lock that no two backends may hold all its rows stay
+-- a relation stays found, and so do its columns but for what a weak mode may change, and under a lock that no two backends may hold all its rows stay
 pub record RowsStay (now later : Purpose → List Row) (o : LockedRelation) : Type 0 where
   pub relation : BeginWith o.rel o.kind (now (scans.Class o.rel)) → BeginWith o.rel o.kind (later (scans.Class o.rel))
+  pub columns : (scan : Purpose) → IsOfColumns o.rel scan → map fixed (later scan) ≡ map fixed (now scan)
   pub rows_of : conflicts o.mode o.mode ≡ true → (scan : Purpose) → IsOf o.rel o.kind scan → later scan ≡ now scan
 
 -- where the rows of a scan stay, the rest of a plan makes of them what it made
 alike_later : (now later : Purpose → List Row) (scan : Purpose) (rest : List Row → Plan) (given : List Row) → later scan ≡ now scan → ComeAlike (rest given) (rest (now scan)) → ComeAlike (rest given) (rest (later scan))
 alike_later now later scan rest given same alike = subst (λ l. ComeAlike (rest given) (rest l)) (sym same) alike
+
+-- and so where they stay but for what it doesn't go by
+alike_but : (now later : Purpose → List Row) (scan : Purpose) (rest : List Row → Plan) (given : List Row) → map fixed (later scan) ≡ map fixed (now scan) → ((given : List Row) → rest given ≡ rest (map fixed given)) → ComeAlike (rest given) (rest (now scan))
+    → ComeAlike (rest given) (rest (later scan))
+alike_but now later scan rest given same by_fixed alike = subst (ComeAlike (rest given)) (by_fixed (now scan) ∙ ap rest (sym same) ∙ sym (by_fixed (later scan))) alike
+
+-- a plan that goes on whatever it is given
+alike_anyway : (later : Purpose → List Row) (scan : Purpose) (rest : List Row → Plan) (given : List Row) → rest given ≡ rest (later scan) → ComeAlike (rest given) (rest (later scan))
+alike_anyway later scan rest given same = λ rows found. ap (effect_at rows found) same
 
 still_over : (later : Purpose → List Row) (gave : List (List Row)) (plan : Plan) → acts plan ≡ false → AreStill later plan gave
 still_over later [] plan over = tt
@@ -68,7 +81,8 @@ still_found now later o (given ∷ gave) (Do (Open of as_kind) rest) stays follo
 still_found now later o (given ∷ gave) (Absent name) stays follows still = absurd follows
 still_found now later o (given ∷ gave) NotBuilt stays follows still = absurd follows
 still_found now later o (given ∷ gave) (Do (Lookup name mode) rest) stays follows still = absurd follows
-still_found now later o (given ∷ gave) (Do (Search scan) rest) stays follows still = absurd follows
+still_found now later o (given ∷ gave) (Do (Search scan) rest) stays follows still =
+    (alike_but now later scan rest given (stays.columns scan follows.0) follows.2 still.0, still_over later gave (rest given) (ended_acts (rest given) (follows.3 given)))
 still_found now later o (given ∷ gave) (Do (Read scan) rest) stays follows still = absurd follows
 still_found now later o (given ∷ gave) (Do (Lock of mode) rest) stays follows still = absurd follows
 still_found now later o (given ∷ gave) (Do (Write draft) rest) stays follows still = absurd follows
@@ -100,7 +114,8 @@ still_after now later (given ∷ gave) (Do (Write draft) rest) follows stay stil
 still_after now later (given ∷ gave) (Absent name) follows stay still = absurd follows
 still_after now later (given ∷ gave) NotBuilt follows stay still = absurd follows
 still_after now later (given ∷ gave) (Do (Open of as_kind) rest) follows stay still = absurd follows
-still_after now later (given ∷ gave) (Do (Search scan) rest) follows stay still = absurd follows
+still_after now later (given ∷ gave) (Do (Search scan) rest) follows stay still =
+    (alike_anyway later scan rest given (follows.2 given ∙ sym (follows.2 (later scan))), still_over later gave (rest given) (ap acts (follows.2 given)))
 still_after now later (given ∷ gave) (Do (Read scan) rest) follows stay still = absurd follows
 still_after now later (given ∷ gave) (Do (Lock of mode) rest) follows stay still = absurd follows
 

@@ -1,24 +1,34 @@
 -- What a command's acts gave is so still after one more entry, under the locks of the relations that it found.
-use Rattle.std.proofs.Common.{◌≡◌, ◌∙◌, inl, inr, ℕ, Bool, true, false, List, [], ◌∷◌, ◌++◌, ◌==◌, sym, ap, subst, refl}
+use Rattle.std.proofs.Common.{◌≡◌, ◌∙◌, inl, inr, ℕ, Bool, true, false, List, [], ◌∷◌, ◌++◌, ◌==◌, sym, ap, subst, refl, map}
 use Rattle.std.specs.List.{AllByRecursion, list_all}
+use Rattle.std.proofs.Math.Bool.{or-false}
 use Rattle.std.proofs.lemmas.List.Elements.{All-contains, All-from_recursion}
 use Rattle.base_types.specs.Modes.{conflicts}
 use Rattle.base_types.specs.Scans.{build_scans}
 use Rattle.base_types.specs.declared.kind.Kind.TheVariants.{Table, Index}
 use Rattle.base_types.specs.declared.mode.Mode.TheVariants.{ShareUpdateExclusive, ShareRowExclusive, Exclusive, AccessExclusive}
 use Rattle.base_types.specs.declared.scan.Purpose.TheVariants as scans
+use Rattle.event_kinds.specs.declared.entry.Event.TheVariants as events
 use Rattle.ddl_effect.specs.Plans.{Plan}
 use Rattle.lock_modes.specs.Grants.{is_lock, holds}
 use Rattle.history_model.specs.Held.{held_of}
 use Rattle.history_model.specs.Orderly.{MayComeNext, IsSound}
 use Rattle.history_model.specs.Versions.{answer_of}
+use Rattle.history_model.proofs.Answers.{other_answers}
 use Rattle.history_model.proofs.Every.{every-weaker}
+use Rattle.history_model.proofs.FixedRows.{fixed}
 use Rattle.history_model.proofs.Granted.{lock_parts}
-use Rattle.history_model.proofs.Locked.{changing_modes, held_bars_all, held_bars_exclusive, locked_answers, IsNoChange, IsIdle, quiet_keeps, unchanged_answers, grant_kept, found_stays, found_first}
+use Rattle.history_model.proofs.Locked.{changing_modes, held_bars_all, held_bars_exclusive, none_held, locked_answers, IsNoChange, IsIdle, quiet_keeps, unchanged_answers, grant_kept, found_stays, found_first}
+use Rattle.history_model.proofs.Ordered.{locks_exclude}
+use Rattle.history_model.proofs.Prefixes.{EachEntry-more}
 use Rattle.history_model.proofs.Reading.{held_of-more as held-more}
-use Rattle.history_model.proofs.WeakChanges.{AsksOf, asks_of}
-use Rattle.cacheless.specs.Types.{Oid, Mode, Kind, Row, Purpose, Entry}
+use Rattle.history_model.proofs.Touched.{entry_of}
+use Rattle.history_model.proofs.WeakChanges.{AsksOf, asks_of, column_apart, fixed_visible}
+use Rattle.cacheless.specs.Types.{Oid, Mode, Kind, Row, Purpose, Entry, Event}
 use Rattle.cacheless.specs.ActsDone.{LockedRelation, locked_relation_by, made_in, IsHeld, WayHolds}
+use Rattle.cacheless.specs.TableWrites.{WritesTables}
+use Rattle.cacheless.proofs.StillSeen.{MayCome}
+use Rattle.cacheless.proofs.ColumnAnswers.{IsOfColumns, columns_stay}
 use Rattle.cacheless.proofs.Plans.ActOrder.{FollowsOrder}
 use Rattle.cacheless.proofs.Plans.StillAfter.{IsOf, RowsStay, still_after}
 
@@ -45,27 +55,40 @@ scans_ask rel kind scan (inr among) = All-contains (λ d. AsksOf d rel) (build_s
 held_stays : (history : List Entry) (e : Entry) (b : ℕ) (o : LockedRelation) → IsIdle b history e → IsHeld history b o → IsHeld (history ++ e ∷ []) b o
 held_stays history e b o idle held = ap (λ l. holds l b o.rel o.mode) (held-more history e) ∙ grant_kept e.backend e.command e.event (held_of history) b (is_lock b o.rel o.mode) (λ g is. (lock_parts b o.rel o.mode g is).0) idle held
 
+-- the columns of a relation that a backend has locked stay after another's entry, but for what a weak mode may change
+columns_held : (history : List Entry) (a c : ℕ) (event : Event) (b : ℕ) (rel : Oid) (mode : Mode) → IsSound history → MayComeNext history (entry_of a c event) → (a == b) ≡ false → holds (held_of history) b rel mode ≡ true
+    → map fixed (answer_of (history ++ entry_of a c event ∷ []) b (scans.Attribute rel)) ≡ map fixed (answer_of history b (scans.Attribute rel))
+columns_held history a c (events.Visible xid) b rel mode sound comes other held = fixed_visible history a c xid b rel (scans.Attribute rel) (column_apart rel) sound comes other
+    (sym (or-false (holds (held_of history) a rel AccessExclusive)) ∙ none_held (held_of history) b a rel (AccessExclusive ∷ []) (locks_exclude history sound).agree other (held_bars_exclusive (held_of history) b rel mode held))
+columns_held history a c event b rel mode sound comes other held = ap (map fixed) (other_answers history (entry_of a c event) b (scans.Attribute rel) sound comes other tt)
+
 -- its rows stay after one more entry that is no change of the backend's own
-rows_stay : (history : List Entry) (e : Entry) (b : ℕ) (o : LockedRelation) → IsSound history → MayComeNext history e → IsIdle b history e → IsHeld history b o → RowsStay (answer_of history b) (answer_of (history ++ e ∷ []) b) o
-rows_stay history e b o sound comes idle held = record {
+rows_stay : (history : List Entry) (e : Entry) (b : ℕ) (o : LockedRelation) → MayCome history e → IsIdle b history e → IsHeld history b o → RowsStay (answer_of history b) (answer_of (history ++ e ∷ []) b) o
+rows_stay history e b o may idle held = record {
   relation = λ begins.
-      let seen = found_stays history e b o.rel begins.name o.kind sound comes (held_bars_exclusive (held_of history) b o.rel o.mode held, unchanged)
-      (found_first history b (scans.Class o.rel) o.rel begins.name o.kind begins.fill begins.more sound begins.are) in
+      let seen = found_stays history e b o.rel begins.name o.kind may.sound may.comes (held_bars_exclusive (held_of history) b o.rel o.mode held, unchanged)
+      (found_first history b (scans.Class o.rel) o.rel begins.name o.kind begins.fill begins.more may.sound begins.are) in
       record { name = begins.name; fill = seen.0; more = []; are = seen.1 };
+  columns = λ scan of. columns_by scan of (e.backend == b) refl;
   rows_of = λ alone scan of. by_owner alone scan (scans_ask o.rel o.kind scan of) (e.backend == b) refl;
 }
   where
     unchanged : (e.backend == b) ≡ true → IsNoChange e.event
     unchanged own = quiet_keeps e.event (idle own)
 
+    columns_by : (scan : Purpose) → IsOfColumns o.rel scan → (t : Bool) → (e.backend == b) ≡ t → map fixed (answer_of (history ++ e ∷ []) b scan) ≡ map fixed (answer_of history b scan)
+    columns_by scan of true own = ap (map fixed) (unchanged_answers history e b scan may.sound may.comes own (unchanged own))
+    columns_by scan of false other = columns_stay history (history ++ e ∷ []) b o.rel scan of may.sound may.tables (EachEntry-more MayComeNext history e may.sound may.comes) (EachEntry-more WritesTables history e may.tables may.keeps)
+        (columns_held history e.backend e.command e.event b o.rel o.mode may.sound may.comes other held)
+
     by_owner : conflicts o.mode o.mode ≡ true → (scan : Purpose) → AsksOf scan o.rel → (t : Bool) → (e.backend == b) ≡ t → answer_of (history ++ e ∷ []) b scan ≡ answer_of history b scan
-    by_owner alone scan asks true own = unchanged_answers history e b scan sound comes own (unchanged own)
-    by_owner alone scan asks false other = locked_answers history e b o.rel scan sound comes other asks (held_bars_all (held_of history) b o.rel o.mode changing_modes held (excludes_changing o.mode alone))
+    by_owner alone scan asks true own = unchanged_answers history e b scan may.sound may.comes own (unchanged own)
+    by_owner alone scan asks false other = locked_answers history e b o.rel scan may.sound may.comes other asks (held_bars_all (held_of history) b o.rel o.mode changing_modes held (excludes_changing o.mode alone))
 
 -- what holds on the way of a command holds still after one more entry that is no write, no taking back and no release of the backend's own
-pub way_stays : (history : List Entry) (e : Entry) (b : ℕ) (gave : List (List Row)) (plan : Plan) → IsSound history → MayComeNext history e → IsIdle b history e → FollowsOrder plan → WayHolds history b gave plan → WayHolds (history ++ e ∷ []) b gave plan
-way_stays history e b gave plan sound comes idle follows way = record {
+pub way_stays : (history : List Entry) (e : Entry) (b : ℕ) (gave : List (List Row)) (plan : Plan) → MayCome history e → IsIdle b history e → FollowsOrder plan → WayHolds history b gave plan → WayHolds (history ++ e ∷ []) b gave plan
+way_stays history e b gave plan may idle follows way = record {
   locked = every-weaker (IsHeld history b) (IsHeld (history ++ e ∷ []) b) (λ o is. held_stays history e b o idle is) (made_in locked_relation_by gave plan) way.locked;
   still = still_after (answer_of history b) (answer_of (history ++ e ∷ []) b) gave plan follows
-      (every-weaker (IsHeld history b) (RowsStay (answer_of history b) (answer_of (history ++ e ∷ []) b)) (λ o is. rows_stay history e b o sound comes idle is) (made_in locked_relation_by gave plan) way.locked) way.still;
+      (every-weaker (IsHeld history b) (RowsStay (answer_of history b) (answer_of (history ++ e ∷ []) b)) (λ o is. rows_stay history e b o may idle is) (made_in locked_relation_by gave plan) way.locked) way.still;
 }

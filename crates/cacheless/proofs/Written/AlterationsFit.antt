@@ -7,6 +7,8 @@ use Rattle.std.specs.Option.{IfSome}
 use Rattle.std.proofs.Math.Bool.{and-false}
 use Rattle.std.proofs.Math.Dec.{leb-suc-zero}
 use Rattle.std.proofs.lemmas.Bool.{or_left, eq-eqb}
+use Rattle.base_types.specs.Commands.{IsCommand}
+use Rattle.base_types.specs.Names.{IsName}
 use Rattle.base_types.specs.RowKeys.{key_of}
 use Rattle.base_types.specs.declared.change.Change.{Change}
 use Rattle.base_types.specs.declared.change.Change.TheVariants.{Insert, Replace, Delete}
@@ -29,16 +31,18 @@ use Rattle.history_model.specs.Names.{new_name, new_names}
 use Rattle.history_model.specs.Orderly.{IsSound}
 use Rattle.history_model.specs.Prefixes.{EachEntry}
 use Rattle.history_model.specs.Sent.{cats_by, rels_by, messages_written}
-use Rattle.history_model.specs.Versions.{answer_of, old_row}
+use Rattle.history_model.specs.Versions.{rows_of, answer_of, old_row}
 use Rattle.history_model.specs.Writes.{has_row, modes_enough}
 use Rattle.history_model.proofs.Asking.{oid_eq}
+use Rattle.history_model.proofs.InOrder.{IsIn}
 use Rattle.history_model.proofs.Locked.{changing_modes, held_bars_all}
 use Rattle.cacheless.specs.Types.{Oid, Mode, AccessExclusive, Row, Command, Draft, Opening, Entry, Item}
 use Rattle.cacheless.specs.Locks.{locked_by}
 use Rattle.cacheless.specs.Plays.{drafted}
-use Rattle.cacheless.specs.TableWrites.{HaveOneName, gives_key, KeepsTables, WritesTables}
+use Rattle.cacheless.specs.TableWrites.{HaveOneName, gives_key, IsCalledApart, KeepsTables, WritesTables}
 use Rattle.cacheless.proofs.Plans.ActOrder.{rows_draft}
 use Rattle.cacheless.proofs.Written.FitToWrite.{IsFit, all_fit, IsOfTable, same_bytes, strong_enough, weak_enough_fill, weak_enough_stat, put_fits, remove_fits, add_fits, table_told, no_default}
+use Rattle.cacheless.proofs.Written.NewNames.{class_called, kept_called, free_called, dropped_called}
 use Rattle.cacheless.proofs.Written.NewTableItems.{next_number}
 use Rattle.cacheless.proofs.NumberedColumns.{AreNumbered, numbered_columns}
 use Rattle.cacheless.proofs.Written.SeenRows.{IsGiven, first_given, found_holds, seen_is_old, ColumnSeen, column_seen}
@@ -94,6 +98,7 @@ record Replaces (before : List Entry) (b : ℕ) (rel : Oid) (old new : Row) : Ty
   stays : IsOfTable rel new
   named : HaveOneName old new
   nameless : new_name (Some old) (Some new) ≡ []
+  called : IsCalledApart before b new
   enough : list_any (holds (held_of before) b rel) (modes_enough (Some old) (forms.Put new)) ≡ true
 
 name_kept : (before : List Entry) (b : ℕ) (rel : Oid) (old new : Row) → Replaces before b rel old new → IfSome (old_row before b (forms.Put new)) (λ was. HaveOneName was new)
@@ -105,7 +110,7 @@ none_named before b rel old new r = ap (λ o. new_name o (Some new)) r.was ∙ r
 replaced : (before : List Entry) (b : ℕ) (rel : Oid) (old new : Row) → Replaces before b rel old new → MayBeWritten before b (rows_draft (Replace new ∷ []))
 replaced before b rel old new r = by_items before b (Replace new ∷ []) (record {
   fit = all_fit before b (forms.Put new ∷ []) refl (put_fits before b rel _ old new r.was r.of r.stays r.enough (written_tell before b (forms.Put new ∷ [])).0, tt);
-  keeps = record { stay = refl; names = (name_kept before b rel old new r, tt); columns = refl };
+  keeps = record { stay = refl; names = (name_kept before b rel old new r, tt); columns = refl; called = (r.called, tt); apart = (tt, tt) };
   nameless = ap (λ l. l ++ []) (none_named before b rel old new r);
   lockless = λ c. refl;
   some = omega arith;
@@ -119,16 +124,21 @@ LeavesColumn rel old new = (key_of new ≡ key_of old) × IsOfTable rel new × (
 abbrev LeaveColumns : Oid → (Row → Row) → Type 0
 LeaveColumns rel f = (num : ℕ) (name : List ℕ) (col_type : ColType) (stat : ℤ) (live : Bool) → LeavesColumn rel (rows.Att rel num name col_type stat live) (f (rows.Att rel num name col_type stat live))
 
+-- and whose name is that of no other column of the relation that is seen
+abbrev CallColumns : List Entry → ℕ → Oid → (Row → Row) → Type 0
+CallColumns before b rel f = (num : ℕ) (name : List ℕ) (col_type : ColType) (stat : ℤ) (live : Bool) → IsIn (rows.Att rel num name col_type stat live) (rows_of before b) → IsCalledApart before b (f (rows.Att rel num name col_type stat live))
+
 -- a column that is seen and given another row
-column_replaced : (before : List Entry) (b : ℕ) (rel : Oid) (row : Row) (f : Row → Row) → IsSound before → ColumnSeen before b rel row → LeaveColumns rel f
+column_replaced : (before : List Entry) (b : ℕ) (rel : Oid) (row : Row) (f : Row → Row) → IsSound before → ColumnSeen before b rel row → LeaveColumns rel f → CallColumns before b rel f
     → ((num : ℕ) (name : List ℕ) (col_type : ColType) (stat : ℤ) (live : Bool) → list_any (holds (held_of before) b rel) (modes_enough (Some (rows.Att rel num name col_type stat live)) (forms.Put (f (rows.Att rel num name col_type stat live)))) ≡ true)
     → Replaces before b rel row (f row)
-column_replaced before b rel row f sound column leaves enough = subst (λ r. Replaces before b rel r (f r)) (sym column.is) (record {
+column_replaced before b rel row f sound column leaves calls enough = subst (λ r. Replaces before b rel r (f r)) (sym column.is) (record {
   was = seen_is_old before b (forms.Put (f was)) was sound (ap Some (leaves column.num column.name column.col_type column.stat column.live).0) column.seen;
   of = refl;
   stays = (leaves column.num column.name column.col_type column.stat column.live).1;
   named = tt;
   nameless = (leaves column.num column.name column.col_type column.stat column.live).2;
+  called = calls column.num column.name column.col_type column.stat column.live column.seen;
   enough = enough column.num column.name column.col_type column.stat column.live;
 })
   where
@@ -136,17 +146,19 @@ column_replaced before b rel row f sound column leaves enough = subst (λ r. Rep
     was = rows.Att rel column.num column.name column.col_type column.stat column.live
 
 -- what `rename column` writes may be written
-renamed_fits : (before : List Entry) (b : ℕ) (relations : List Opening) (column to : List ℕ) (draft : Draft) → IsSound before → (writes : RenamesColumn (answer_of before b) relations column to draft) → holds (held_of before) b writes.rel AccessExclusive ≡ true
+renamed_fits : (before : List Entry) (b : ℕ) (relations : List Opening) (column to : List ℕ) (draft : Draft) → IsSound before → IsName to → (writes : RenamesColumn (answer_of before b) relations column to draft) → holds (held_of before) b writes.rel AccessExclusive ≡ true
     → MayBeWritten before b draft
-renamed_fits before b relations column to draft sound writes has = subst (MayBeWritten before b) (sym writes.is) (replaced before b writes.rel writes.row (with_name to writes.row)
+renamed_fits before b relations column to draft sound spelled writes has = subst (MayBeWritten before b) (sym writes.is) (replaced before b writes.rel writes.row (with_name to writes.row)
     (column_replaced before b writes.rel writes.row (with_name to) sound (column_seen before b writes.rel column writes.row writes.more writes.there) (λ num name col_type stat live. (refl, refl, refl))
+    (λ num name col_type stat live seen. free_called before b writes.rel num to col_type stat live spelled writes.free)
     (λ num name col_type stat live. strong_enough (holds (held_of before) b writes.rel) (Some (rows.Att writes.rel num name col_type stat live)) (forms.Put (rows.Att writes.rel num to col_type stat live)) has)))
 
 -- and so what `set statistics` writes
-targeted_fits : (before : List Entry) (b : ℕ) (relations : List Opening) (column : List ℕ) (target : ℤ) (draft : Draft) → IsSound before → (writes : SetsStatistics (answer_of before b) relations column target draft)
+targeted_fits : (before : List Entry) (b : ℕ) (relations : List Opening) (column : List ℕ) (target : ℤ) (draft : Draft) → IsSound before → EachEntry WritesTables before → (writes : SetsStatistics (answer_of before b) relations column target draft)
     → holds (held_of before) b writes.rel ShareUpdateExclusive ≡ true → MayBeWritten before b draft
-targeted_fits before b relations column target draft sound writes has = subst (MayBeWritten before b) (sym writes.is) (replaced before b writes.rel writes.row (with_stat (int_min target most_stat) writes.row)
+targeted_fits before b relations column target draft sound tables writes has = subst (MayBeWritten before b) (sym writes.is) (replaced before b writes.rel writes.row (with_stat (int_min target most_stat) writes.row)
     (column_replaced before b writes.rel writes.row (with_stat (int_min target most_stat)) sound (column_seen before b writes.rel column writes.row writes.more writes.there) (λ num name col_type stat live. (refl, refl, refl))
+    (λ num name col_type stat live seen. kept_called before b writes.rel num name col_type col_type stat (int_min target most_stat) live live sound tables seen)
     (λ num name col_type stat live. weak_enough_stat (holds (held_of before) b writes.rel) writes.rel num name col_type stat (int_min target most_stat) live has)))
 
 -- and what `set (fillfactor = N)` writes
@@ -158,6 +170,7 @@ filled_fits before b relations fill draft sound writes has = subst (MayBeWritten
   stays = (refl, refl);
   named = (refl, refl);
   nameless = ap (λ t. if t then [] else writes.begins.name ∷ []) (same_bytes writes.begins.name);
+  called = class_called before b rel writes.begins.name Table (Some fill);
   enough = weak_enough_fill (holds (held_of before) b rel) rel writes.begins.name Table writes.begins.fill (Some fill) has;
 }))
   where
@@ -168,11 +181,17 @@ filled_fits before b relations fill draft sound writes has = subst (MayBeWritten
     was = rows.Class writes.rel writes.begins.name Table writes.begins.fill
 
 -- so may what `add column` writes
-added_fits : (before : List Entry) (b : ℕ) (relations : List Opening) (column : List ℕ) (col_type : ColType) (draft : Draft) → (writes : AddsColumn (answer_of before b) relations column col_type draft) → holds (held_of before) b writes.rel AccessExclusive ≡ true
+added_fits : (before : List Entry) (b : ℕ) (relations : List Opening) (column : List ℕ) (col_type : ColType) (draft : Draft) → IsName column → (writes : AddsColumn (answer_of before b) relations column col_type draft) → holds (held_of before) b writes.rel AccessExclusive ≡ true
     → AreNumbered before b writes.rel → MayBeWritten before b draft
-added_fits before b relations column col_type draft writes has numbered = subst (MayBeWritten before b) (sym writes.is) (by_items before b (Insert new ∷ []) (record {
+added_fits before b relations column col_type draft spelled writes has numbered = subst (MayBeWritten before b) (sym writes.is) (by_items before b (Insert new ∷ []) (record {
   fit = all_fit before b (forms.Add new ∷ []) refl (add_fits before b writes.rel _ (count + 1) column col_type (negsuc 0) true numbered.free has (written_tell before b (forms.Add new ∷ [])).0, tt);
-  keeps = record { stay = refl; names = (tt, tt); columns = ap (λ t. t && true) (next_number count is_there (of numbered.last)) };
+  keeps = record {
+    stay = refl;
+    names = (tt, tt);
+    columns = ap (λ t. t && true) (next_number count is_there (of numbered.last));
+    called = (free_called before b writes.rel (count + 1) column col_type (negsuc 0) true spelled writes.free, tt);
+    apart = (tt, tt);
+  };
   nameless = refl;
   lockless = λ c. refl;
   some = omega arith;
@@ -192,9 +211,9 @@ added_fits before b relations column col_type draft writes has numbered = subst 
     of (inr seen) = inr (or_left (has_row before b (keys.Att writes.rel count)) _ seen)
 
 -- and what `drop column` writes
-dropped_fits : (before : List Entry) (b : ℕ) (relations : List Opening) (column : List ℕ) (draft : Draft) → IsSound before → (writes : DropsColumn (answer_of before b) relations column draft) → holds (held_of before) b writes.rel AccessExclusive ≡ true
+dropped_fits : (before : List Entry) (b : ℕ) (relations : List Opening) (column : List ℕ) (draft : Draft) → IsSound before → EachEntry WritesTables before → (writes : DropsColumn (answer_of before b) relations column draft) → holds (held_of before) b writes.rel AccessExclusive ≡ true
     → MayBeWritten before b draft
-dropped_fits before b relations column draft sound writes has = subst (MayBeWritten before b) (sym writes.is) (of (find (is_default_of (column_number writes.row)) defaults) refl)
+dropped_fits before b relations column draft sound tables writes has = subst (MayBeWritten before b) (sym writes.is) (of (find (is_default_of (column_number writes.row)) defaults) refl)
   where
     rel : Oid
     rel = writes.rel
@@ -207,6 +226,7 @@ dropped_fits before b relations column draft sound writes has = subst (MayBeWrit
 
     r : Replaces before b rel writes.row new
     r = column_replaced before b rel writes.row as_dropped sound (column_seen before b rel column writes.row writes.more writes.there) (λ num name col_type stat live. (refl, refl, refl))
+        (λ num name col_type stat live seen. dropped_called before b rel num name col_type stat live sound tables seen)
         (λ num name col_type stat live. strong_enough (holds (held_of before) b rel) (Some (rows.Att rel num name col_type stat live)) (forms.Put (as_dropped (rows.Att rel num name col_type stat live))) has)
 
     with_default : (oid own : Oid) (num : ℕ) (word : List ℕ) → IsGiven before b (scans.AttrDef rel) (rows.Def oid own num word) → MayBeWritten before b (rows_draft (Delete (keys.Def oid) ∷ Replace new ∷ []))
@@ -215,7 +235,7 @@ dropped_fits before b relations column draft sound writes has = subst (MayBeWrit
         remove_fits before b messages oid own num word was (ap (λ o. holds (held_of before) b o AccessExclusive) of_table ∙ has) (table_told before b rel messages new (scans.AttrDef own) r.stays tells.1.0 (eq-eqb rel.0 own.0 (ap (λ o. o.0) (sym of_table)))),
         (put_fits before b rel messages writes.row new r.was r.of r.stays r.enough tells.1.0, tt),
       );
-      keeps = record { stay = refl; names = (tt, (name_kept before b rel writes.row new r, tt)); columns = refl };
+      keeps = record { stay = refl; names = (tt, (name_kept before b rel writes.row new r, tt)); columns = refl; called = (tt, (r.called, tt)); apart = ((tt, tt), (tt, tt)) };
       nameless = (λ i. new_name (was i) None ++ (none_named before b rel writes.row new r i ++ []));
       lockless = λ c. refl;
       some = omega arith;
@@ -264,15 +284,15 @@ abbrev pub IsHeldIn : List Entry → ℕ → Mode → Opening → Type 0
 IsHeldIn before b mode o = holds (held_of before) b o.rel mode ≡ true
 
 -- what each alteration writes may be written, where its table is locked in its mode and all writes before kept tables
-pub alteration_fits : (before : List Entry) (b : ℕ) (relations : List Opening) (command : Command) (draft : Draft) → IsSound before → EachEntry WritesTables before → IsAlteration command → WritesBy (answer_of before b) relations command draft
+pub alteration_fits : (before : List Entry) (b : ℕ) (relations : List Opening) (command : Command) (draft : Draft) → IsSound before → EachEntry WritesTables before → IsCommand command → IsAlteration command → WritesBy (answer_of before b) relations command draft
     → AllByRecursion (IsHeldIn before b (altering_mode command)) relations → MayBeWritten before b draft
-alteration_fits before b relations (commands.AddColumn name column col_type) draft sound tables alters writes locked =
+alteration_fits before b relations (commands.AddColumn name column col_type) draft sound tables spelled alters writes locked =
     let has = (subst (AllByRecursion (IsHeldIn before b AccessExclusive)) writes.found_is locked).0 in
-    added_fits before b relations column col_type draft writes has (numbered_columns before b writes.rel sound tables (held_bars_all (held_of before) b writes.rel AccessExclusive changing_modes has refl))
-alteration_fits before b relations (commands.DropColumn name column) draft sound tables alters writes locked = dropped_fits before b relations column draft sound writes (subst (AllByRecursion (IsHeldIn before b AccessExclusive)) writes.found_is locked).0
-alteration_fits before b relations (commands.RenameColumn name column to) draft sound tables alters writes locked = renamed_fits before b relations column to draft sound writes (subst (AllByRecursion (IsHeldIn before b AccessExclusive)) writes.found_is locked).0
-alteration_fits before b relations (commands.SetStatistics name column stat) draft sound tables alters writes locked =
-    targeted_fits before b relations column stat draft sound writes (subst (AllByRecursion (IsHeldIn before b ShareUpdateExclusive)) writes.found_is locked).0
-alteration_fits before b relations (commands.SetFillfactor name fill) draft sound tables alters writes locked =
+    added_fits before b relations column col_type draft spelled.1 writes has (numbered_columns before b writes.rel sound tables (held_bars_all (held_of before) b writes.rel AccessExclusive changing_modes has refl))
+alteration_fits before b relations (commands.DropColumn name column) draft sound tables spelled alters writes locked = dropped_fits before b relations column draft sound tables writes (subst (AllByRecursion (IsHeldIn before b AccessExclusive)) writes.found_is locked).0
+alteration_fits before b relations (commands.RenameColumn name column to) draft sound tables spelled alters writes locked = renamed_fits before b relations column to draft sound spelled.2 writes (subst (AllByRecursion (IsHeldIn before b AccessExclusive)) writes.found_is locked).0
+alteration_fits before b relations (commands.SetStatistics name column stat) draft sound tables spelled alters writes locked =
+    targeted_fits before b relations column stat draft sound tables writes (subst (AllByRecursion (IsHeldIn before b ShareUpdateExclusive)) writes.found_is locked).0
+alteration_fits before b relations (commands.SetFillfactor name fill) draft sound tables spelled alters writes locked =
     filled_fits before b relations fill draft sound writes (subst (AllByRecursion (IsHeldIn before b ShareUpdateExclusive)) writes.found_is locked).0
-alteration_fits before b relations command draft sound tables alters writes locked = absurd alters
+alteration_fits before b relations command draft sound tables spelled alters writes locked = absurd alters

@@ -2,6 +2,7 @@
 use Rattle.std.proofs.Common.{◌≡◌, ◌∙◌, ℕ, List, [], ◌∷◌, refl, sym, ap, subst, map}
 use Rattle.std.specs.Prelude.{⊤}
 use Rattle.std.specs.List.{AllByRecursion}
+use Rattle.base_types.specs.Commands.{IsCommand}
 use Rattle.base_types.specs.declared.command.Command.TheVariants as commands
 use Rattle.base_types.specs.declared.mode.Mode.TheVariants.{ShareUpdateExclusive}
 use Rattle.base_types.specs.declared.row.Row.TheVariants as rows
@@ -40,7 +41,7 @@ first_in_own held (commands.SetFillfactor name fill) gave alters = first_locked 
 first_in_own held command gave alters = absurd alters
 
 -- an alteration that writes has found one relation
-one_found : (now : Purpose → List Row) (relations : List Opening) (command : Command) (draft : Draft) → IsAlteration command → WritesBy now relations command draft → (o : Opening) × (relations ≡ o ∷ [])
+pub one_found : (now : Purpose → List Row) (relations : List Opening) (command : Command) (draft : Draft) → IsAlteration command → WritesBy now relations command draft → (o : Opening) × (relations ≡ o ∷ [])
 one_found now relations (commands.AddColumn name column col_type) draft alters writes = (_, writes.found_is)
 one_found now relations (commands.DropColumn name column) draft alters writes = (_, writes.found_is)
 one_found now relations (commands.RenameColumn name column to) draft alters writes = (_, writes.found_is)
@@ -55,10 +56,10 @@ held_in before b mode (l ∷ []) o one first held = (ap (holds (held_of before) 
 held_in before b mode (l ∷ other ∷ others) o one first held = absurd (let no : relation_only l ∷ relation_only other ∷ map relation_only others ≡ o ∷ [] = one in cc no)
 
 -- what an alteration is about to write may be written: while what its acts gave is so still, the relation that its lookup found is locked in the lookup's mode, and all writes before kept tables
-pub alteration_may_write : (before : List Entry) (b : ℕ) (held : List Oid) (command : Command) (gave : List (List Row)) (draft : Draft) (rest : List Row → Plan) → IsSound before → EachEntry WritesTables before → IsAlteration command
+pub alteration_may_write : (before : List Entry) (b : ℕ) (held : List Oid) (command : Command) (gave : List (List Row)) (draft : Draft) (rest : List Row → Plan) → IsSound before → EachEntry WritesTables before → IsCommand command → IsAlteration command
     → WayHolds before b gave (plan_of held command) → reached gave (plan_of held command) ≡ Do (Write draft) rest
     → MayBeWritten before b draft
-alteration_may_write before b held command gave draft rest sound tables alters way on = alteration_fits before b relations command draft sound tables alters writes
+alteration_may_write before b held command gave draft rest sound tables spelled alters way on = alteration_fits before b relations command draft sound tables spelled alters writes
     (subst (AllByRecursion (IsHeldIn before b (altering_mode command))) (locked_are_found gave plan)
     (held_in before b (altering_mode command) (made_in locked_relation_by gave plan) one.0 (locked_are_found gave plan ∙ one.1) (first_in_own held command gave alters) way.locked))
   where

@@ -1,5 +1,5 @@
 -- A list of messages is of a command that has written.
-use Rattle.std.proofs.Common.{◌≡◌, ◌≤◌, ◌<◌, ◌+◌, ◌∙◌, ◌==◌, ◌&&◌, ◌||◌, ℕ, Bool, true, false, List, [], ◌∷◌, ◌++◌, refl, sym, ap, subst, arith}
+use Rattle.std.proofs.Common.{◌≡◌, ◌≤◌, ◌<◌, ◌∙◌, ◌==◌, ◌&&◌, ◌||◌, ℕ, Bool, true, false, List, [], ◌∷◌, ◌++◌, refl, sym, ap, subst, arith}
 use Rattle.std.specs.List.{AllByRecursion}
 use Rattle.std.proofs.Math.Bool.{or-true}
 use Rattle.std.proofs.lemmas.Bool.{eq-eqb, eqb-true, eqb-false}
@@ -9,7 +9,7 @@ use Rattle.history_model.specs.Orderly.{MayComeNext, IsSound}
 use Rattle.history_model.specs.Sent.{ends_transaction, lists_by, lists_of, written_by}
 use Rattle.history_model.specs.Transactions.{running_transaction_of}
 use Rattle.history_model.specs.Writes.{has_written, is_write}
-use Rattle.history_model.proofs.Every.{every, every-append, every-both, every-filter, every-weaker}
+use Rattle.history_model.proofs.Every.{every-append, every-both, every-filter, every-weaker}
 use Rattle.history_model.proofs.Prefixes.{each-keeps}
 use Rattle.history_model.proofs.Reading.{has_written-more, lists_of-own, lists_of-other}
 use Rattle.cacheless.specs.Types.{Entry, Event}

@@ -1,5 +1,5 @@
 -- The items of a new table; and that they keep tables.
-use Rattle.std.proofs.Common.{◌≡◌, ◌∙◌, ◌+◌, ◌-◌, ◌⊎◌, inl, inr, ℕ, zero, suc, negsuc, Bool, true, None, List, [], ◌∷◌, ◌==◌, ◌||◌, ◌&&◌, refl, sym, ap, subst, map, nat_lt, arith, append-nil}
+use Rattle.std.proofs.Common.{◌≡◌, ◌∙◌, ◌+◌, ◌-◌, ◌⊎◌, inl, inr, ℕ, zero, suc, negsuc, Bool, true, None, List, [], ◌∷◌, ◌==◌, ◌||◌, ◌&&◌, refl, ap, map, nat_lt, arith, append-nil}
 use Rattle.std.specs.List.{AllByRecursion, list_any, list_all, enumerate_from}
 use Rattle.std.proofs.lemmas.Bool.{and_from, or_left, or_right, eq-eqb, le-leb}
 use Rattle.base_types.specs.declared.command.NewColumn.{NewColumn}
@@ -10,11 +10,10 @@ use Rattle.event_kinds.specs.declared.entry.Item.TheVariants as forms
 use Rattle.ddl_effect.specs.Commands.{new_table, new_column}
 use Rattle.ddl_effect.specs.Drawing.{drawn_change}
 use Rattle.history_model.specs.Changes.{item_of}
-use Rattle.history_model.specs.Drawn.{next_oid}
 use Rattle.history_model.specs.Writes.{has_row}
 use Rattle.cacheless.specs.Types.{Oid, Entry, Item}
 use Rattle.cacheless.specs.Plays.{drafted}
-use Rattle.cacheless.specs.TableWrites.{takes_no_table, KeepsName, gives_key, is_next_column, KeepsTables}
+use Rattle.cacheless.specs.TableWrites.{takes_no_table, KeepsName, gives_key, is_next_column}
 
 -- the item of a column
 abbrev pub column_item : Oid → ℕ × NewColumn → Item
@@ -58,17 +57,19 @@ columns_next before b rel items n (column ∷ columns) last among = and_from (is
     (inr (or_right (has_row before b (keys.Att rel (n + 1))) _ (among (gives_key (keys.Att rel (n + 1))) (or_left (gives_key (keys.Att rel (n + 1)) (column_item rel (n + 1, column))) _ (and_from (rel.0 == rel.0) (n + 1 == n + 1) (eq-eqb rel.0 rel.0 refl) (eq-eqb (n + 1) (n + 1) refl))))))
     (λ p is. among p (or_right (p (column_item rel (n + 1, column))) _ is)))
 
--- what `create table` writes keeps tables
-pub new_table_keeps : (before : List Entry) (b : ℕ) (name : List ℕ) (columns : List NewColumn) → KeepsTables before b (drafted (next_oid before) (new_table name columns))
-new_table_keeps before b name columns = subst (KeepsTables before b) (sym (drafted_is (next_oid before) name columns)) (record {
+-- what the items of a new table keep of tables, but for its columns' names
+pub record TableKeeps (before : List Entry) (b : ℕ) (items : List Item) : Type 0 where
+  pub stay : list_all takes_no_table items ≡ true
+  pub names : AllByRecursion (KeepsName before b) items
+  pub columns : list_all (is_next_column before b items) items ≡ true
+
+pub new_table_keeps : (before : List Entry) (b : ℕ) (rel : Oid) (name : List ℕ) (columns : List NewColumn) → TableKeeps before b (table_items rel name (enumerate_from 1 columns))
+new_table_keeps before b rel name columns = record {
   stay = stay.0;
   names = (tt, stay.1);
   columns = columns_next before b rel items 0 columns (inl refl) (λ p is. or_right (p (forms.Add (rows.Class rel name Table None))) _ is);
-})
+}
   where
-    rel : Oid
-    rel = record { 0 = next_oid before }
-
     items : List Item
     items = table_items rel name (enumerate_from 1 columns)
 

@@ -159,6 +159,9 @@ puts_creating opened name columns true None = ((tt, puts_columns opened (enumera
 puts_plan : (opened : List Opening) (command : Command) → PutsOpened opened (plan_of none_open command)
 puts_plan opened (commands.Show name None) = puts_sought opened (findings.Show name)
 puts_plan opened (commands.Show name (Some field)) = puts_sought opened (findings.ShowField name field)
+puts_plan opened (commands.Columns name) = puts_sought opened (findings.Columns name)
+puts_plan opened (commands.Column name column) = puts_sought opened (findings.Column name column)
+puts_plan opened (commands.Regclass oid) = λ given asked. tt
 puts_plan opened (commands.LockTable name mode) = puts_sought opened (findings.LockTable name mode)
 puts_plan opened (commands.CreateTable name columns) = puts_creating opened name columns (nat_le (length columns) MOST_COLUMNS) (first_twice [] (map (λ c. c.name) columns))
 puts_plan opened (commands.AddColumn name column col_type) = puts_finding opened name (alterations.AddColumn column col_type)

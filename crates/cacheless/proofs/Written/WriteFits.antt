@@ -1,35 +1,45 @@
 -- What a command is about to write, a new table or an alteration of one, may be written.
 use Rattle.std.proofs.Common.{◌≡◌, ◌∙◌, ◌⊎◌, inl, inr, ℕ, Bool, true, false, Option, Some, None, List, [], ◌∷◌, ◌++◌, refl, sym, ap, subst, map, length, nat_le, ◌<◌, arith}
-use Rattle.std.specs.List.{list_any, flat_map}
+use Rattle.std.specs.List.{AllByRecursion, list_any, flat_map, enumerate_from}
+use Rattle.std.specs.Option.{IfSome}
 use Rattle.std.specs.Str.{bytes_eq}
 use Rattle.std.proofs.lemmas.List.{append-nil}
+use Rattle.base_types.specs.Commands.{IsCommand}
 use Rattle.base_types.specs.Fields.{has_field}
+use Rattle.base_types.specs.Names.{IsName}
 use Rattle.base_types.specs.declared.command.Command.TheVariants as commands
 use Rattle.base_types.specs.declared.command.NewColumn.{NewColumn}
 use Rattle.base_types.specs.declared.dropped.TheConstants.{MOST_COLUMNS}
+use Rattle.base_types.specs.declared.kind.Kind.TheVariants.{Table}
 use Rattle.base_types.specs.declared.mode.Mode.TheVariants.{AccessShare, AccessExclusive}
 use Rattle.base_types.specs.declared.row.Row.TheVariants as rows
+use Rattle.base_types.specs.declared.scan.Purpose.TheVariants as scans
 use Rattle.command_answers.specs.declared.error.CommandError.TheVariants as errors
 use Rattle.ddl_effect.specs.declared.told.Told.TheVariants as tells
-use Rattle.ddl_effect.specs.Plans.{Plan, Do, Done, Write}
-use Rattle.ddl_effect.specs.Commands.{plan_of, looking_up, if_passes, if_no_column, first_twice, writing, showing, showing_field, is_table, locking, new_table}
+use Rattle.ddl_effect.specs.Plans.{Plan, Do, Done, Fails, Write}
+use Rattle.ddl_effect.specs.Effects.{no_changes}
+use Rattle.ddl_effect.specs.Commands.{plan_of, looking_up, if_passes, if_no_column, first_twice, writing, showing, showing_field, is_table, locking, searching, telling_columns, listing_columns, telling_column, finding_column, regclass_of, new_table}
 use Rattle.cacheless.specs.Runs.{runs}
 use Rattle.history_model.specs.Drawn.{next_oid}
 use Rattle.history_model.specs.Names.{new_names}
 use Rattle.history_model.specs.Orderly.{IsSound}
 use Rattle.history_model.specs.Prefixes.{EachEntry}
+use Rattle.history_model.specs.Versions.{added_row, answer_of}
+use Rattle.history_model.proofs.DrawnRows.{rows_drawn}
 use Rattle.cacheless.specs.ActsDone.{reached, made_in, opening_by, relation_by, WayHolds}
 use Rattle.cacheless.specs.Facts.{Facts}
 use Rattle.cacheless.specs.Locks.{locked_by, locks_written}
 use Rattle.cacheless.specs.Plays.{names_of, drafted}
 use Rattle.cacheless.specs.Session.{none_open}
-use Rattle.cacheless.specs.TableWrites.{WritesTables, KeepsTables}
+use Rattle.cacheless.specs.TableWrites.{AreNamesakes, WritesTables, KeepsTables}
 use Rattle.cacheless.proofs.Plans.ActOrder.{IsTableDraft, IsRowsDraft, HasCome, WritesTable, WritesRows, follows_order, has_come, at_write}
 use Rattle.cacheless.proofs.Written.AlterationsFit.{MayBeWritten, IsAlteration}
-use Rattle.cacheless.proofs.Written.AlteringLocks.{alteration_may_write}
-use Rattle.cacheless.proofs.Written.NewTableItems as tables
-use Rattle.cacheless.proofs.Plans.Ways.{NeverWrites, never_reaches, none_reached, made_in-over}
-use Rattle.cacheless.specs.Types.{Oid, Mode, Kind, Row, Command, CommandError, Draft, Entry, Opening, OwnLock}
+use Rattle.cacheless.proofs.Written.AlteringLocks.{one_found, alteration_may_write}
+use Rattle.cacheless.proofs.Written.NewNames.{class_called, table_called, table_apart}
+use Rattle.cacheless.proofs.Written.NewTableItems.{column_item, table_items, drafted_is, TableKeeps, new_table_keeps}
+use Rattle.cacheless.proofs.Written.WrittenBy.{writes_by}
+use Rattle.cacheless.proofs.Plans.Ways.{NeverWrites, never_reaches, none_reached, write_stays, made_in-over}
+use Rattle.cacheless.specs.Types.{Oid, Mode, Kind, Row, Command, CommandError, Draft, Entry, Item, Opening, OwnLock}
 use Rattle.cacheless.proofs.Written.FitToWrite.{IsFit}
 use Rattle.cacheless.proofs.Written.NewTable.{new_table_fits, new_table_locks, new_table_names}
 
@@ -41,17 +51,50 @@ pub record WriteFits (history : List Entry) (b c : ℕ) (facts : Facts) (draft :
   pub names : (name : List ℕ) → list_any (bytes_eq name) (new_names history b (drafted (next_oid history) draft)) ≡ true → list_any (bytes_eq name) (flat_map (names_of facts) (drafted (next_oid history) draft)) ≡ true
   pub locks : (rel : Oid) (locks : List OwnLock) → rel.0 ≡ next_oid history → locks ++ flat_map (locked_by c) (drafted (next_oid history) draft) ≡ locks_written draft.new_oids rel c locks
 
+-- the command makes a new table, and this is its draft
+abbrev MakesTable : Command → Draft → Type 0
+MakesTable (commands.CreateTable name columns) draft = (draft ≡ new_table name columns) × (first_twice [] (map (λ column. column.name) columns) ≡ None)
+MakesTable command draft = ⊥
+
+table_keeps : (history : List Entry) (b : ℕ) (name : List ℕ) (columns : List NewColumn) → IsSound history → AllByRecursion (λ column. IsName column.name) columns → first_twice [] (map (λ column. column.name) columns) ≡ None
+    → KeepsTables history b (drafted (next_oid history) (new_table name columns))
+table_keeps history b name columns sound spelled distinct = subst (KeepsTables history b) (sym (drafted_is (next_oid history) name columns)) (record {
+  stay = keeps.stay;
+  names = keeps.names;
+  columns = keeps.columns;
+  called = (class_called history b rel name Table None, table_called history b rel 1 columns (rows_drawn history sound) spelled);
+  apart = (alone (map (column_item rel) (enumerate_from 1 columns)), table_apart rel 1 [] columns distinct);
+})
+  where
+    rel : Oid
+    rel = record { 0 = next_oid history }
+
+    keeps : TableKeeps history b (table_items rel name (enumerate_from 1 columns))
+    keeps = new_table_keeps history b rel name columns
+
+    any_row : (o : Option Row) → IfSome o (λ other. AreNamesakes (rows.Class rel name Table None) other → ⊥)
+    any_row None = tt
+    any_row (Some other) = λ are. are
+
+    alone : (items : List Item) → AllByRecursion (λ later. IfSome (added_row later) (λ other. AreNamesakes (rows.Class rel name Table None) other → ⊥)) items
+    alone [] = tt
+    alone (item ∷ items) = (any_row (added_row item), alone items)
+
 -- a new table
-table_fits : (history : List Entry) (b c : ℕ) (facts : Facts) (draft : Draft) → IsSound history → IsTableDraft draft → WriteFits history b c facts draft
-table_fits history b c facts draft sound table = record {
+table_fits : (history : List Entry) (b c : ℕ) (facts : Facts) (command : Command) (draft : Draft) → IsSound history → IsCommand command → MakesTable command draft → WriteFits history b c facts draft
+table_fits history b c facts (commands.CreateTable name columns) draft sound spelled makes = record {
   fit = new_table_fits history b draft sound table;
   some = subst (λ d. 0 < length (drafted (next_oid history) d)) (sym table.is) (omega arith);
-  keeps = subst (λ d. KeepsTables history b (drafted (next_oid history) d)) (sym table.is) (tables.new_table_keeps history b table.name table.columns);
+  keeps = subst (λ d. KeepsTables history b (drafted (next_oid history) d)) (sym table.is) (table_keeps history b name columns sound spelled.1 makes.1);
   names = λ name is. ap (list_any (bytes_eq name)) (sym (new_table_names history b facts draft table)) ∙ is;
   locks = λ rel locks first.
       ap (λ l. locks ++ l) (new_table_locks c (next_oid history) draft table ∙ (λ i. record { rel = record { 0 = sym first i }; mode = AccessExclusive; command = c; clear = true } ∷ []))
       ∙ sym (ap (λ d. locks_written d.new_oids rel c locks) table.is);
 }
+  where
+    table : IsTableDraft draft
+    table = record { name = name; columns = columns; is = makes.0 }
+table_fits history b c facts command draft sound spelled makes = absurd makes
 
 -- an alteration
 rows_fit : (history : List Entry) (b c : ℕ) (facts : Facts) (draft : Draft) → IsRowsDraft draft → MayBeWritten history b draft → WriteFits history b c facts draft
@@ -73,6 +116,11 @@ passes_never : (passes : Bool) (error : CommandError) (plan : Plan) → NeverWri
 passes_never true error plan never = never
 passes_never false error plan never = tt
 
+told_never : (column : List ℕ) (given : List Row) → NeverWrites (telling_column column given)
+told_never column [] = tt
+told_never column (rows.Att rel num own col_type stat live ∷ more) = tt
+told_never column (row ∷ more) = tt
+
 -- `create table` finds no relation
 write_finds_none : (gave : List (List Row)) (draft : Draft) (rest : List Row → Plan) → made_in relation_by gave (Do (Write draft) rest) ≡ []
 write_finds_none [] draft rest = refl
@@ -83,30 +131,49 @@ creates_finds_none gave true None draft = write_finds_none gave draft (λ given.
 creates_finds_none gave true (Some name) draft = made_in-over relation_by gave _ refl
 creates_finds_none gave false twice draft = made_in-over relation_by gave _ refl
 
--- a command that found a relation and is about to write alters it
-alters : (command : Command) (gave : List (List Row)) (draft : Draft) (rest : List Row → Plan) (o : Opening) → runs command ≡ true → reached gave (plan_of none_open command) ≡ Do (Write draft) rest → made_in relation_by gave (plan_of none_open command) ≡ o ∷ [] → IsAlteration command
-alters commands.Begin gave draft rest o built on one = absurd (none_reached gave (Done tells.Ok) (Write draft) rest refl on)
-alters commands.Commit gave draft rest o built on one = absurd (none_reached gave (Done tells.Commit) (Write draft) rest refl on)
-alters commands.Rollback gave draft rest o built on one = absurd (none_reached gave (Done tells.Ok) (Write draft) rest refl on)
-alters (commands.Show name None) gave draft rest o built on one = absurd (never_reaches gave (looking_up name AccessShare (showing None)) draft rest (lookup_never name AccessShare (showing None) (λ rel kind given. tt)) on)
-alters (commands.Show name (Some field)) gave draft rest o built on one =
+abbrev draft_next : Plan → Draft
+draft_next (Do (Write draft) rest) = draft
+draft_next plan = no_changes
+
+-- a plan of `create table` that is about to write
+creates_table : (gave : List (List Row)) (passes : Bool) (twice : Option (List ℕ)) (new draft : Draft) (rest : List Row → Plan) → reached gave (if_passes passes errors.TooManyColumns (if_no_column twice (writing new))) ≡ Do (Write draft) rest → (draft ≡ new) × (twice ≡ None)
+creates_table gave true None new draft rest on = (ap draft_next (sym on ∙ write_stays gave new (λ given. Done tells.Ok)), refl)
+creates_table gave true (Some name) new draft rest on = absurd (none_reached gave _ (Write draft) rest refl on)
+creates_table gave false twice new draft rest on = absurd (none_reached gave (Fails errors.TooManyColumns) (Write draft) rest refl on)
+
+-- a command that is about to write alters a table or makes one
+alters_or_makes : (command : Command) (gave : List (List Row)) (draft : Draft) (rest : List Row → Plan) → runs command ≡ true → reached gave (plan_of none_open command) ≡ Do (Write draft) rest → IsAlteration command ⊎ MakesTable command draft
+alters_or_makes commands.Begin gave draft rest built on = absurd (none_reached gave (Done tells.Ok) (Write draft) rest refl on)
+alters_or_makes commands.Commit gave draft rest built on = absurd (none_reached gave (Done tells.Commit) (Write draft) rest refl on)
+alters_or_makes commands.Rollback gave draft rest built on = absurd (none_reached gave (Done tells.Ok) (Write draft) rest refl on)
+alters_or_makes (commands.Show name None) gave draft rest built on = absurd (never_reaches gave (looking_up name AccessShare (showing None)) draft rest (lookup_never name AccessShare (showing None) (λ rel kind given. tt)) on)
+alters_or_makes (commands.Show name (Some field)) gave draft rest built on =
     absurd (never_reaches gave (looking_up name AccessShare (showing_field name field)) draft rest (lookup_never name AccessShare (showing_field name field) (λ rel kind. passes_never (has_field kind field) (errors.NoField name field) (showing (Some field) rel kind) (λ given. tt))) on)
-alters (commands.LockTable name mode) gave draft rest o built on one =
+alters_or_makes (commands.Columns name) gave draft rest built on =
+    absurd (never_reaches gave (looking_up name AccessShare (listing_columns name)) draft rest (lookup_never name AccessShare (listing_columns name) (λ rel kind. passes_never (is_table kind) (errors.NotTable name) (searching (scans.AttList rel) telling_columns) (λ given. tt))) on)
+alters_or_makes (commands.Column name column) gave draft rest built on =
+    absurd (never_reaches gave (looking_up name AccessShare (finding_column name column)) draft rest (lookup_never name AccessShare (finding_column name column) (λ rel kind. passes_never (is_table kind) (errors.NotTable name) (searching (scans.AttName rel column) (telling_column column)) (told_never column))) on)
+alters_or_makes (commands.Regclass oid) gave draft rest built on = absurd (never_reaches gave (regclass_of oid) draft rest (λ given. tt) on)
+alters_or_makes (commands.LockTable name mode) gave draft rest built on =
     absurd (never_reaches gave (looking_up name mode (locking name)) draft rest (lookup_never name mode (locking name) (λ rel kind. passes_never (is_table kind) (errors.NotTable name) (Done tells.Ok) tt)) on)
-alters (commands.CreateTable name columns) gave draft rest o built on one =
-    absurd (let no : [] ≡ o ∷ [] = sym (creates_finds_none gave (nat_le (length columns) MOST_COLUMNS) (first_twice [] (map (λ (c : NewColumn). c.name) columns)) (new_table name columns)) ∙ one in cc no)
-alters (commands.AddColumn name column col_type) gave draft rest o built on one = tt
-alters (commands.DropColumn name column) gave draft rest o built on one = tt
-alters (commands.RenameColumn name column to) gave draft rest o built on one = tt
-alters (commands.SetStatistics name column stat) gave draft rest o built on one = tt
-alters (commands.SetFillfactor name fill) gave draft rest o built on one = tt
-alters command gave draft rest o built on one = absurd (cc)
+alters_or_makes (commands.CreateTable name columns) gave draft rest built on = inr (creates_table gave (nat_le (length columns) MOST_COLUMNS) (first_twice [] (map (λ (c : NewColumn). c.name) columns)) (new_table name columns) draft rest on)
+alters_or_makes (commands.AddColumn name column col_type) gave draft rest built on = inl tt
+alters_or_makes (commands.DropColumn name column) gave draft rest built on = inl tt
+alters_or_makes (commands.RenameColumn name column to) gave draft rest built on = inl tt
+alters_or_makes (commands.SetStatistics name column stat) gave draft rest built on = inl tt
+alters_or_makes (commands.SetFillfactor name fill) gave draft rest built on = inl tt
+alters_or_makes command gave draft rest built on = absurd (cc)
+
+-- one that makes a table finds no relation
+makes_finds_none : (command : Command) (gave : List (List Row)) (draft : Draft) → MakesTable command draft → made_in relation_by gave (plan_of none_open command) ≡ []
+makes_finds_none (commands.CreateTable name columns) gave draft makes = creates_finds_none gave (nat_le (length columns) MOST_COLUMNS) (first_twice [] (map (λ (c : NewColumn). c.name) columns)) (new_table name columns)
+makes_finds_none command gave draft makes = absurd makes
 
 -- what a command is about to write, by its way
-pub write_fits : (history : List Entry) (b c : ℕ) (facts : Facts) (command : Command) (gave : List (List Row)) (draft : Draft) (rest : List Row → Plan) → IsSound history → EachEntry WritesTables history → runs command ≡ true → WayHolds history b gave (plan_of none_open command)
+pub write_fits : (history : List Entry) (b c : ℕ) (facts : Facts) (command : Command) (gave : List (List Row)) (draft : Draft) (rest : List Row → Plan) → IsSound history → EachEntry WritesTables history → IsCommand command → runs command ≡ true → WayHolds history b gave (plan_of none_open command)
     → reached gave (plan_of none_open command) ≡ Do (Write draft) rest → WriteFits history b c facts draft
-write_fits history b c facts command gave draft rest sound kept built way on = by_write
-    (at_write relations opened draft rest (subst (HasCome relations opened) on (has_come gave (plan_of none_open command) (follows_order none_open command built)))).1
+write_fits history b c facts command gave draft rest sound kept spelled built way on = by_write
+    (at_write relations opened draft rest (subst (HasCome relations opened) on (has_come gave (plan_of none_open command) (follows_order none_open command built)))).1 (alters_or_makes command gave draft rest built on)
   where
     relations : List Opening
     relations = made_in relation_by gave (plan_of none_open command)
@@ -114,7 +181,10 @@ write_fits history b c facts command gave draft rest sound kept built way on = b
     opened : List Opening
     opened = made_in opening_by gave (plan_of none_open command)
 
-    by_write : WritesTable relations opened draft ⊎ WritesRows relations opened draft → WriteFits history b c facts draft
-    by_write (inl table) = table_fits history b c facts draft sound table.table
-    by_write (inr altered) = rows_fit history b c facts draft altered.rows_are
-        (alteration_may_write history b none_open command gave draft rest sound kept (alters command gave draft rest _ built on altered.found_is) way on)
+    by_write : WritesTable relations opened draft ⊎ WritesRows relations opened draft → IsAlteration command ⊎ MakesTable command draft → WriteFits history b c facts draft
+    by_write (inl table) (inr makes) = table_fits history b c facts command draft sound spelled makes
+    by_write (inr altered) (inl alters) = rows_fit history b c facts draft altered.rows_are (alteration_may_write history b none_open command gave draft rest sound kept spelled alters way on)
+    by_write (inl table) (inl alters) =
+        let one = one_found (answer_of history b) relations command draft alters (writes_by (answer_of history b) none_open command gave draft rest way.still on) in
+        absurd (let no : [] ≡ one.0 ∷ [] = sym table.unfound ∙ one.1 in cc no)
+    by_write (inr altered) (inr makes) = absurd (let no : [] ≡ record { rel = altered.rel; kind = Table } ∷ [] = sym (makes_finds_none command gave draft makes) ∙ altered.found_is in cc no)

@@ -1,5 +1,5 @@
 use Rattle.std.proofs.lemmas.List.{take_rest}
-use Rattle.cacheless.proofs.KeptByRelation.{since_place}
+use Rattle.cacheless.proofs.KeptStarts.{since_place}
 use Rattle.cacheless.proofs.kept_scans.since.Goals as goal
 
 pub returns : goal.returns

@@ -1,6 +1,6 @@
 use Rattle.std.proofs.Common.{nat_lt, rules, of_calls}
 use Rattle.std.proofs.lemmas.Fn.{always_returns_same}
-use Rattle.cacheless.proofs.KeptByRelation.{since_halves}
+use Rattle.cacheless.proofs.KeptStarts.{since_halves}
 use Rattle.cacheless.proofs.kept_scans.since_place.Goals as goal
 
 pub returns-then-sorted-clause-earlier : goal.returns-then-sorted-clause-earlier

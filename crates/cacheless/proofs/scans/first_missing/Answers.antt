@@ -3,7 +3,7 @@ use Rattle.std.specs.List.{find}
 use Rattle.base_types.specs.Scans.{build_scans}
 use Rattle.base_types.specs.declared.kind.Kind.TheVariants.{Table, Index}
 use Rattle.cacheless.specs.State.{is_kept}
-use Rattle.cacheless.proofs.KeptByRelation.{missing_in_part}
+use Rattle.cacheless.proofs.KeptStarts.{missing_in_part}
 use Rattle.cacheless.proofs.scans.first_missing.Goals as goal
 
 pub returns-in-Table : goal.returns-in-Table

@@ -2,4 +2,4 @@ use Rattle.backend_core.proofs.Silent.{act_goes}
 use Rattle.backend_core.proofs.backend.Backend.act.Goals as goal
 
 pub returns-clause-keeps : goal.returns-clause-keeps
-returns-clause-keeps c = act_goes c.args.self.now _ _ c.act.ensures.acts c.act.ensures.kept c.act.ensures.given_at c.act.ensures.answer
+returns-clause-keeps c = act_goes c.args.self.now _ _ c.act.ensures.acts c.act.ensures.kept c.act.ensures.answer

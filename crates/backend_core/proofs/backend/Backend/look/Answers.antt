@@ -5,4 +5,4 @@ pub looked-requires-clause-call : goal.looked-requires-clause-call
 looked-requires-clause-call g c = look_call _ _ c.args.self.now _ c.requires.ready.waits c.requires.ready.played c.requires.next c.waits-some_wait.ensures
 
 pub returns-clause-enters : goal.returns-clause-enters
-returns-clause-enters g c = look_enters _ _ _ _ _ c.args.self.now _ _ c.requires.ready.waits c.requires.ready.played c.requires.ready.course c.requires.next c.waits-some_wait.ensures (c.enter_look.ensures.holds _ _ c.requires.ready.waits.rests) c.enter_look.ensures.kept c.enter_look.ensures.given_at c.enter_look.ensures.answer c.looked.ensures.appends
+returns-clause-enters g c = look_enters _ _ _ _ _ c.args.self.now _ _ c.requires.ready.waits c.requires.ready.played c.requires.ready.course c.requires.next c.waits-some_wait.ensures (c.enter_look.ensures.holds _ _ c.requires.ready.waits.rests) c.enter_look.ensures.kept c.enter_look.ensures.answer c.looked.ensures.appends

@@ -6,4 +6,4 @@ looked-requires-clause-call g c = look_before_call _ _ c.args.self.now _ c.args.
 
 pub returns-clause-enters : goal.returns-clause-enters
 returns-clause-enters g c = look_before_enters _ _ _ _ _ c.args.self.now _ _ c.args.builds _ _ c.requires.ready.waits c.requires.ready.played c.requires.ready.course c.requires.next c.waits-some_wait.ensures c.looked_with-self.ensures c.looked_with-self-2.ensures
-    (c.enter_look.ensures.holds _ _ c.requires.ready.waits.rests) c.enter_look.ensures.kept c.enter_look.ensures.given_at c.enter_look.ensures.answer c.looked.ensures.appends
+    (c.enter_look.ensures.holds _ _ c.requires.ready.waits.rests) c.enter_look.ensures.kept c.enter_look.ensures.answer c.looked.ensures.appends

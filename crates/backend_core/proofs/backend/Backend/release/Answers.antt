@@ -9,4 +9,4 @@ pub enter_release-requires : goal.enter_release-requires
 enter_release-requires g c = record { few = is_few _ _ c.args.self.now c.requires.ready.waits }
 
 pub returns-clause-enters : goal.returns-clause-enters
-returns-clause-enters g c = release_enters _ _ _ _ _ c.args.self.now _ _ c.requires.ready.waits c.requires.ready.played c.requires.ready.course c.requires.next (c.enter_release.ensures.holds _ _ c.requires.ready.waits.rests) c.enter_release.ensures.kept c.enter_release.ensures.given_at c.enter_release.ensures.answer c.release.ensures.appends
+returns-clause-enters g c = release_enters _ _ _ _ _ c.args.self.now _ _ c.requires.ready.waits c.requires.ready.played c.requires.ready.course c.requires.next (c.enter_release.ensures.holds _ _ c.requires.ready.waits.rests) c.enter_release.ensures.kept c.enter_release.ensures.answer c.release.ensures.appends

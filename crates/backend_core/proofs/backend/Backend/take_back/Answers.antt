@@ -9,4 +9,4 @@ pub enter_gone-requires : goal.enter_gone-requires
 enter_gone-requires g c = record { few = is_few _ _ c.args.self.now c.requires.ready.waits }
 
 pub returns-clause-enters : goal.returns-clause-enters
-returns-clause-enters g c = take_back_enters _ _ _ _ _ c.args.self.now _ _ c.requires.ready.waits c.requires.ready.played c.requires.ready.course c.requires.next (c.enter_gone.ensures.holds _ _ c.requires.ready.waits.rests) c.enter_gone.ensures.kept c.enter_gone.ensures.given_at c.enter_gone.ensures.answer c.gone.ensures.appends
+returns-clause-enters g c = take_back_enters _ _ _ _ _ c.args.self.now _ _ c.requires.ready.waits c.requires.ready.played c.requires.ready.course c.requires.next (c.enter_gone.ensures.holds _ _ c.requires.ready.waits.rests) c.enter_gone.ensures.kept c.enter_gone.ensures.answer c.gone.ensures.appends

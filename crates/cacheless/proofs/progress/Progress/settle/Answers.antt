@@ -8,7 +8,6 @@ settling-init c = record {
   holds = λ scenario seen holds. holds;
   goes = λ scenario seen held now places. none_goes scenario seen c.args.self.now held c.args.lines.now now places;
   kept = refl;
-  given_at = refl;
   same = refl;
 }
 
@@ -18,7 +17,6 @@ settling-preserved c = record {
   goes = λ scenario seen held now places. let on = c.settling.invariant.goes scenario seen held now places in
       goes_further scenario seen _ _ _ held _ _ _ on (pass_goes scenario seen c.settling.self _ on.holds c.settling.lines _ _ (c.in_ok-finish-in-Finish.ensures.passes scenario seen on.holds) c.in_ok-finish-in-Finish.ensures.kept c.in_ok-finish-in-Finish.ensures.answer c.in_ok-finish-in-Finish.ensures.line c.in_ok-push-in-Finish.ensures.ok on.tells on.places);
   kept = c.in_ok-finish-in-Finish.ensures.kept ∙ c.settling.invariant.kept;
-  given_at = c.in_ok-finish-in-Finish.ensures.given_at ∙ c.settling.invariant.given_at;
   same = c.in_ok-finish-in-Finish.ensures.same ∙ c.settling.invariant.same;
 }
 
@@ -26,9 +24,8 @@ pub settling-preserved-in_ok-act-in-Act : goal.settling-preserved-in_ok-act-in-A
 settling-preserved-in_ok-act-in-Act c = record {
   holds = λ scenario seen holds. (c.in_ok-act-in-Act.ensures.acts scenario seen (c.settling.invariant.holds scenario seen holds)).holds;
   goes = λ scenario seen held now places. let on = c.settling.invariant.goes scenario seen held now places in
-      goes_further scenario seen _ _ _ held _ _ _ on (act_goes scenario seen c.settling.self _ on.holds c.settling.lines (c.in_ok-act-in-Act.ensures.acts scenario seen on.holds) c.in_ok-act-in-Act.ensures.kept c.in_ok-act-in-Act.ensures.given_at c.in_ok-act-in-Act.ensures.answer on.tells on.places);
+      goes_further scenario seen _ _ _ held _ _ _ on (act_goes scenario seen c.settling.self _ on.holds c.settling.lines (c.in_ok-act-in-Act.ensures.acts scenario seen on.holds) c.in_ok-act-in-Act.ensures.kept c.in_ok-act-in-Act.ensures.answer on.tells on.places);
   kept = c.in_ok-act-in-Act.ensures.kept ∙ c.settling.invariant.kept;
-  given_at = c.in_ok-act-in-Act.ensures.given_at ∙ c.settling.invariant.given_at;
   same = c.in_ok-act-in-Act.ensures.same ∙ c.settling.invariant.same;
 }
 
@@ -38,7 +35,6 @@ settling-preserved-in_ok-answer-in-Answer c = let has = c.in_ok-answer-in-Answer
   goes = λ scenario seen held now places. let on = c.settling.invariant.goes scenario seen held now places in
       goes_further scenario seen _ _ _ held _ _ _ on (answer_goes scenario seen c.settling.self _ on.holds c.settling.lines (subst (IsSilentOf c.settling.self) c.in-Answer.is c.silent.ensures) has on.tells on.places);
   kept = ap (λ p. p.kept) has.is ∙ c.settling.invariant.kept;
-  given_at = ap (λ p. p.given_at) has.is ∙ c.settling.invariant.given_at;
   same = ap (λ p. p.commands) has.is ∙ c.settling.invariant.same;
 }
 
@@ -48,6 +44,5 @@ returns-in-Rest c = let settled = subst (IsSilentOf c.settling.self) c.in-Rest.i
   answered = settled.answered;
   goes_on = c.settling.invariant.goes;
   kept = c.settling.invariant.kept;
-  given_at = c.settling.invariant.given_at;
   same = c.settling.invariant.same;
 }

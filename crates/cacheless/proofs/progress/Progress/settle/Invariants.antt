@@ -11,7 +11,6 @@ invariant-settling l = record {
   holds : (scenario : Scenario) (seen : List Entry) → Holds scenario seen l.fn.self → Holds scenario seen l.self;
   goes : (scenario : Scenario) (seen : List Entry) (held : Holds scenario seen l.fn.self) → TellsNow scenario seen l.fn.self held → PlacesFit seen l.fn.self → HasGoneOn scenario seen l.fn.self held l.fn.lines l.self l.lines;
   kept : l.self.kept ≡ l.fn.self.kept;
-  given_at : l.self.given_at ≡ l.fn.self.given_at;
   same : l.self.commands ≡ l.fn.self.commands;
 }
 

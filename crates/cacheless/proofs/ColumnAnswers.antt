@@ -1,0 +1,317 @@
+-- What the scans of a relation's columns by their names give is given by its columns: but for what a weak mode may change it stays, where they stay.
+use Rattle.std.proofs.Common.{Ordering, Less, Equal, Greater, ◌≡◌, ◌∙◌, ◌⊎◌, inl, inr, ℕ, zero, suc, Bool, true, false, List, [], ◌∷◌, ◌==◌, refl, sym, ap, subst, map, filter, fold, cond}
+use Rattle.std.specs.Prelude.{⊤}
+use Rattle.std.specs.Cmp.Lexicographic.{slice_cmp}
+use Rattle.std.specs.List.{AllByRecursion, insert, position_or_len}
+use Rattle.std.specs.Ordering.{nat_cmp, is_lt, is_eq, ordering_reverse}
+use Rattle.std.specs.Str.{bytes_eq}
+use Rattle.std.proofs.lemmas.Bool.{eqb-true, and_parts}
+use Rattle.std.proofs.lemmas.Cmp.{nat_list_cmp_total}
+use Rattle.std.proofs.lemmas.Map.Text.{is_eq-slice_cmp}
+use Rattle.base_types.specs.RowKeys.{key_of}
+use Rattle.base_types.specs.Scans.{same_oid, selects, row_number, row_name, goes_before, put_in_order, scan_of, IsInOrder}
+use Rattle.base_types.specs.declared.row.Row.TheVariants as rows
+use Rattle.base_types.specs.declared.scan.Purpose.TheVariants as scans
+use Rattle.base_types.proofs.ScanOrder.{scan_of-answers}
+use Rattle.history_model.specs.Orderly.{IsSound}
+use Rattle.history_model.specs.Prefixes.{EachEntry}
+use Rattle.history_model.specs.Versions.{versions_of, sees, rows_of, answer_of}
+use Rattle.history_model.proofs.Asking.{bytes_same, oid_eq}
+use Rattle.history_model.proofs.Every.{every-weaker, every, every-map, every-filter, every-both, SomeOf, some-weaker, some-map, some-unmap, some-filter, from_some}
+use Rattle.history_model.proofs.FixedRows.{fixed}
+use Rattle.history_model.proofs.InOrder.{IsIn, Differ, every_given, some_given, scan_same}
+use Rattle.history_model.proofs.Ordered.{one_version, one_seen}
+use Rattle.history_model.proofs.Seen.{Pairwise, pair-weaker, pair-map, pair-filter}
+use Rattle.history_model.proofs.WeakChanges.{column_apart, every_self}
+use Rattle.cacheless.specs.Types.{Oid, Row, Purpose, Entry}
+use Rattle.cacheless.specs.TableWrites.{AreNamesakes, WritesTables}
+use Rattle.cacheless.proofs.NamedColumns.{seen_apart}
+use Rattle.cacheless.proofs.StillSeen.{given_seen, row_given}
+
+-- the scan of a relation's column by its name
+abbrev pub IsOfColumn : Oid → Purpose → Type 0
+IsOfColumn rel scan = (name : List ℕ) × (scan ≡ scans.AttName rel name)
+
+-- the same, or the scan of all its columns by their names
+abbrev pub IsOfColumns : Oid → Purpose → Type 0
+IsOfColumns rel scan = IsOfColumn rel scan ⊎ (scan ≡ scans.AttList rel)
+
+-- what such a scan asks for
+column_asks : (rel : Oid) (scan : Purpose) → IsOfColumns rel scan → (row : Row) → selects scan row ≡ true → selects (scans.Attribute rel) row ≡ true
+column_asks rel scan (inl (name, is)) row asks = of row (ap (λ d. selects d row) (sym is) ∙ asks)
+  where
+    of : (r : Row) → selects (scans.AttName rel name) r ≡ true → selects (scans.Attribute rel) r ≡ true
+    of (rows.Att own num called col_type stat live) asked = (and_parts (same_oid own rel) (bytes_eq called name) asked).0
+    of r asked = absurd (cc asked)
+column_asks rel scan (inr is) row asks = of row (ap (λ d. selects d row) (sym is) ∙ asks)
+  where
+    of : (r : Row) → selects (scans.AttList rel) r ≡ true → selects (scans.Attribute rel) r ≡ true
+    of (rows.Att own num called col_type stat live) asked = asked
+    of r asked = absurd (cc asked)
+
+-- no weak mode may change it
+column_fixes : (rel : Oid) (scan : Purpose) → IsOfColumns rel scan → (row : Row) → selects scan (fixed row) ≡ selects scan row
+column_fixes rel scan (inl (name, is)) row = ap (λ d. selects d (fixed row)) is ∙ of row ∙ ap (λ d. selects d row) (sym is)
+  where
+    of : (r : Row) → selects (scans.AttName rel name) (fixed r) ≡ selects (scans.AttName rel name) r
+    of (rows.Class own called kind fill) = refl
+    of (rows.Att own num called col_type stat live) = refl
+    of r = refl
+column_fixes rel scan (inr is) row = ap (λ d. selects d (fixed row)) is ∙ of row ∙ ap (λ d. selects d row) (sym is)
+  where
+    of : (r : Row) → selects (scans.AttList rel) (fixed r) ≡ selects (scans.AttList rel) r
+    of (rows.Class own called kind fill) = refl
+    of (rows.Att own num called col_type stat live) = refl
+    of r = refl
+
+name_fixed : (row : Row) → row_name (fixed row) ≡ row_name row
+name_fixed (rows.Class own called kind fill) = refl
+name_fixed (rows.Att own num called col_type stat live) = refl
+name_fixed row = refl
+
+number_fixed : (row : Row) → row_number (fixed row) ≡ row_number row
+number_fixed (rows.Class own called kind fill) = refl
+number_fixed (rows.Att own num called col_type stat live) = refl
+number_fixed row = refl
+
+-- neither of two names comes before the other: they are one
+names_tie : (name other : List ℕ) → is_lt (slice_cmp nat_cmp name other) ≡ false → is_lt (slice_cmp nat_cmp other name) ≡ false → name ≡ other
+names_tie name other first second = bytes_same name other (sym (is_eq-slice_cmp name other) ∙ ap is_eq (tie (slice_cmp nat_cmp name other) first (sym (ap is_lt (nat_list_cmp_total.antisymm other name)) ∙ second)))
+  where
+    tie : (o : Ordering) → is_lt o ≡ false → is_lt (ordering_reverse o) ≡ false → o ≡ Equal
+    tie Less one two = absurd (cc one)
+    tie Equal one two = refl
+    tie Greater one two = absurd (cc two)
+
+-- so of two rows that such a scan asks for and gives in any order the names are one
+rows_tie : (rel : Oid) (scan : Purpose) → IsOfColumns rel scan → (row other : Row) → selects scan row ≡ true → selects scan other ≡ true → goes_before scan row other ≡ false → goes_before scan other row ≡ false → row_name row ≡ row_name other
+rows_tie rel scan (inl (name, is)) row other asks also first second = named row (ap (λ d. selects d row) (sym is) ∙ asks) ∙ sym (named other (ap (λ d. selects d other) (sym is) ∙ also))
+  where
+    named : (r : Row) → selects (scans.AttName rel name) r ≡ true → row_name r ≡ name
+    named (rows.Att own num called col_type stat live) asked = bytes_same called name (and_parts (same_oid own rel) (bytes_eq called name) asked).1
+    named r asked = absurd (cc asked)
+rows_tie rel scan (inr is) row other asks also first second =
+    names_tie (row_name row) (row_name other) (ap (λ d. goes_before d row other) (sym is) ∙ first) (ap (λ d. goes_before d other row) (sym is) ∙ second)
+
+before_fixed : (rel : Oid) (scan : Purpose) → IsOfColumns rel scan → (row other : Row) → goes_before scan (fixed row) (fixed other) ≡ goes_before scan row other
+before_fixed rel scan (inl (name, is)) row other = ap (λ d. goes_before d (fixed row) (fixed other)) is ∙ ap (λ d. goes_before d row other) (sym is)
+before_fixed rel scan (inr is) row other =
+    ap (λ d. goes_before d (fixed row) (fixed other)) is ∙ (λ i. is_lt (slice_cmp nat_cmp (name_fixed row i) (name_fixed other i))) ∙ ap (λ d. goes_before d row other) (sym is)
+
+-- two rows have different names
+abbrev NamesDiffer : Row → Row → Type 0
+NamesDiffer row other = row_name row ≡ row_name other → ⊥
+
+-- two lists of the same rows in one order, where rows of different names are in order, are one
+one_order : (before : Row → Row → Bool) (P : Row → Type 0) → ((row other : Row) → P row → P other → before row other ≡ false → before other row ≡ false → row_name row ≡ row_name other) → (us vs : List Row) → AllByRecursion P us → AllByRecursion P vs
+    → IsInOrder before us → IsInOrder before vs → Pairwise NamesDiffer us → Pairwise NamesDiffer vs → AllByRecursion (λ u. IsIn u vs) us → AllByRecursion (λ v. IsIn v us) vs → us ≡ vs
+one_order before P tied [] [] ps qs order order' apart apart' all also = refl
+one_order before P tied [] (v ∷ vs) ps qs order order' apart apart' all also = absurd also.0
+one_order before P tied (u ∷ us) [] ps qs order order' apart apart' all also = absurd all.0
+one_order before P tied (u ∷ us) (v ∷ vs) ps qs order order' apart apart' all also =
+    (λ i. first i ∷ one_order before P tied us vs ps.1 qs.1 order.1 order'.1 apart.1 apart'.1 (rest us vs u v (sym first) apart.0 all.1) (rest vs us v u first apart'.0 also.1) i)
+  where
+    holds_at : (Q : Row → Type 0) (row : Row) (others : List Row) → AllByRecursion Q others → IsIn row others → Q row
+    holds_at Q row others every' is = from_some (λ other. row ≡ other) (Q row) others (every-weaker Q (λ other. row ≡ other → Q row) (λ other holds same. subst Q (sym same) holds) others every') is
+
+    of : (u ≡ v) ⊎ IsIn u vs → (v ≡ u) ⊎ IsIn v us → u ≡ v
+    of (inl same) other = same
+    of (inr later) (inl same) = sym same
+    of (inr later) (inr also') =
+        absurd (holds_at (NamesDiffer v) u vs apart'.0 later (sym (tied u v ps.0 qs.0 (holds_at (λ row. before row v ≡ false) u vs order'.0 later) (holds_at (λ row. before row u ≡ false) v us order.0 also'))))
+
+    first : u ≡ v
+    first = of all.0 also.0
+
+    rest : (xs ys : List Row) (x y : Row) → y ≡ x → AllByRecursion (NamesDiffer x) xs → AllByRecursion (λ w. IsIn w (y ∷ ys)) xs → AllByRecursion (λ w. IsIn w ys) xs
+    rest [] ys x y same differ in_ = tt
+    rest (w ∷ xs) ys x y same differ in_ = (tail in_.0, rest xs ys x y same differ.1 in_.1)
+      where
+        tail : (w ≡ y) ⊎ IsIn w ys → IsIn w ys
+        tail (inl is) = absurd (differ.0 (ap row_name (sym same ∙ sym is)))
+        tail (inr later) = later
+
+-- what holds of each two rows, in either order, holds of each two that a scan gives of them
+pair_inserted : (R : Row → Row → Type 0) → ((row other : Row) → R row other → R other row) → (given : List Row) (n : ℕ) (row : Row) → Pairwise R given → AllByRecursion (R row) given → Pairwise R (insert given n row)
+pair_inserted R back given zero row pairs all = (all, pairs)
+pair_inserted R back [] (suc n) row pairs all = (tt, tt)
+pair_inserted R back (x ∷ given) (suc n) row pairs all = (all_inserted given n pairs.0, pair_inserted R back given n row pairs.1 all.1)
+  where
+    all_inserted : (others : List Row) (m : ℕ) → AllByRecursion (R x) others → AllByRecursion (R x) (insert others m row)
+    all_inserted others zero every' = (back row x all.0, every')
+    all_inserted [] (suc m) every' = (back row x all.0, tt)
+    all_inserted (y ∷ others) (suc m) every' = (every'.0, all_inserted others m every'.1)
+
+pair_given : (R : Row → Row → Type 0) → ((row other : Row) → R row other → R other row) → (d : Purpose) (given found : List Row) → Pairwise R given → AllByRecursion (λ row. AllByRecursion (R row) given) found → Pairwise R found → Pairwise R (fold (put_in_order d) given found)
+pair_given R back d given [] pairs apart also = pairs
+pair_given R back d given (row ∷ found) pairs apart also =
+    pair_given R back d (put_in_order d given row) found (pair_inserted R back given (position_or_len (goes_before d row) given) row pairs apart.0) (with_row found apart.1 also.0) also.1
+  where
+    one_more : (x : Row) (others : List Row) (n : ℕ) → AllByRecursion (R x) others → R row x → AllByRecursion (R x) (insert others n row)
+    one_more x others zero every' is = (back row x is, every')
+    one_more x [] (suc n) every' is = (back row x is, tt)
+    one_more x (y ∷ others) (suc n) every' is = (every'.0, one_more x others n every'.1 is)
+
+    with_row : (later : List Row) → AllByRecursion (λ x. AllByRecursion (R x) given) later → AllByRecursion (R row) later → AllByRecursion (λ x. AllByRecursion (R x) (put_in_order d given row)) later
+    with_row [] every' is = tt
+    with_row (x ∷ later) every' is = (one_more x given (position_or_len (goes_before d row) given) every'.0 is.0, with_row later every'.1 is.1)
+
+-- of a relation's columns that a backend sees no two have one number
+numbers_differ : (history : List Entry) (b : ℕ) (rel : Oid) → IsSound history → Pairwise (λ row other. selects (scans.Attribute rel) row ≡ true → selects (scans.Attribute rel) other ≡ true → Differ row other) (rows_of history b)
+numbers_differ history b rel sound = pair-map Numbered (λ v. v.row) (filter (sees history b) (versions_of history)) (pair-filter (λ v w. Numbered v.row w.row) (sees history b) (versions_of history)
+    (pair-weaker (λ v. ⊤) (λ v w. key_of v.row ≡ key_of w.row → sees history b v ≡ true → sees history b w ≡ true → ⊥) (λ v w. sees history b v ≡ true → sees history b w ≡ true → Numbered v.row w.row)
+    (λ v w _ _ one seen also asks asked same. one ((column_apart rel).keyed v.row w.row asks asked same) seen also) (versions_of history) (every (λ v. ⊤) (λ v. tt) (versions_of history)) (one_seen history b (versions_of history) (one_version history sound))))
+  where
+    Numbered : Row → Row → Type 0
+    Numbered row other = selects (scans.Attribute rel) row ≡ true → selects (scans.Attribute rel) other ≡ true → Differ row other
+
+differ_back : (row other : Row) → Differ row other → Differ other row
+differ_back row other differ same = differ (sym same)
+
+given_differ : (history : List Entry) (b : ℕ) (rel : Oid) (scan : Purpose) → IsOfColumns rel scan → IsSound history → Pairwise Differ (answer_of history b scan)
+given_differ history b rel scan of sound = pair_given Differ differ_back scan [] (filter (selects scan) (rows_of history b)) tt (every (λ row. ⊤) (λ row. tt) (filter (selects scan) (rows_of history b)))
+    (pair-filter Differ (selects scan) (rows_of history b) (pair-weaker (λ row. ⊤) (λ row other. selects (scans.Attribute rel) row ≡ true → selects (scans.Attribute rel) other ≡ true → Differ row other)
+    (λ row other. selects scan row ≡ true → selects scan other ≡ true → Differ row other) (λ row other _ _ differ asks also. differ (column_asks rel scan of row asks) (column_asks rel scan of other also)) (rows_of history b) (every (λ row. ⊤) (λ row. tt) (rows_of history b))
+    (numbers_differ history b rel sound)))
+
+-- two columns of a relation with different numbers that aren't namesakes have different names
+names_of_columns : (rel : Oid) (row other : Row) → selects (scans.Attribute rel) row ≡ true → selects (scans.Attribute rel) other ≡ true → Differ row other → (AreNamesakes row other → ⊥) → NamesDiffer row other
+names_of_columns rel (rows.Att own num name col_type stat live) (rows.Att of other called col_type' stat' live') asks also differ apart same = by_number (num == other) refl
+  where
+    by_number : (t : Bool) → (num == other) ≡ t → ⊥
+    by_number true is = differ (eqb-true num other is)
+    by_number false is = apart (oid_eq own rel asks ∙ sym (oid_eq of rel also), same, is)
+names_of_columns rel (rows.Att own num name col_type stat live) other asks also differ apart same = absurd (cc also)
+names_of_columns rel row other asks also differ apart same = absurd (cc asks)
+
+pair-both : {X : Type 0} (R S : X → X → Type 0) (xs : List X) → Pairwise R xs → Pairwise S xs → Pairwise (λ x y. R x y × S x y) xs
+pair-both R S [] one two = tt
+pair-both R S (x ∷ xs) one two = (joined xs one.0 two.0, pair-both R S xs one.1 two.1)
+  where
+    joined : (ys : List _) → AllByRecursion (R x) ys → AllByRecursion (S x) ys → AllByRecursion (λ y. R x y × S x y) ys
+    joined [] r s = tt
+    joined (y ∷ ys) r s = ((r.0, s.0), joined ys r.1 s.1)
+
+given_named : (history : List Entry) (b : ℕ) (rel : Oid) (scan : Purpose) → IsOfColumns rel scan → IsSound history → EachEntry WritesTables history → Pairwise NamesDiffer (answer_of history b scan)
+given_named history b rel scan of sound tables = pair_given NamesDiffer (λ row other differ same. differ (sym same)) scan [] (filter (selects scan) (rows_of history b)) tt (every (λ row. ⊤) (λ row. tt) (filter (selects scan) (rows_of history b)))
+    (pair-filter NamesDiffer (selects scan) (rows_of history b) (pair-weaker (λ row. ⊤) (λ row other. (selects (scans.Attribute rel) row ≡ true → selects (scans.Attribute rel) other ≡ true → Differ row other) × (AreNamesakes row other → ⊥))
+    (λ row other. selects scan row ≡ true → selects scan other ≡ true → NamesDiffer row other)
+    (λ row other _ _ h asks also. let first = column_asks rel scan of row asks in let second = column_asks rel scan of other also in names_of_columns rel row other first second (h.0 first second) h.1) (rows_of history b) (every (λ row. ⊤) (λ row. tt) (rows_of history b))
+    (pair-both (λ row other. selects (scans.Attribute rel) row ≡ true → selects (scans.Attribute rel) other ≡ true → Differ row other) (λ row other. AreNamesakes row other → ⊥) (rows_of history b) (numbers_differ history b rel sound) (seen_apart history b sound tables))))
+
+-- each row is there too, but for what a weak mode may change
+abbrev AreAmong : List Row → List Row → Type 0
+AreAmong given others = AllByRecursion (λ row. SomeOf (λ other. fixed row ≡ fixed other) others) given
+
+-- what a scan gives is what it asks for
+given_asked : (history : List Entry) (b : ℕ) (scan : Purpose) → AllByRecursion (λ row. selects scan row ≡ true) (answer_of history b scan)
+given_asked history b scan = every-weaker (λ row. IsIn row (rows_of history b) × (selects scan row ≡ true)) (λ row. selects scan row ≡ true) (λ row is. is.1) (answer_of history b scan) (given_seen history b scan)
+
+-- where the columns stay, so does what such a scan gives
+columns_among : (history later : List Entry) (b : ℕ) (rel : Oid) (scan : Purpose) → IsOfColumns rel scan → map fixed (answer_of later b (scans.Attribute rel)) ≡ map fixed (answer_of history b (scans.Attribute rel)) → AreAmong (answer_of later b scan) (answer_of history b scan)
+columns_among history later b rel scan of same = every-weaker (λ row. IsIn row (rows_of later b) × (selects scan row ≡ true)) (λ row. SomeOf (λ other. fixed row ≡ fixed other) (answer_of history b scan)) found (answer_of later b scan) (given_seen later b scan)
+  where
+    found : (row : Row) → IsIn row (rows_of later b) × (selects scan row ≡ true) → SomeOf (λ other. fixed row ≡ fixed other) (answer_of history b scan)
+    found row is = row_given Alike history b scan asks (from_some Alike (SomeOf Alike (rows_of history b)) (answer_of history b (scans.Attribute rel))
+        (every-weaker (λ other. IsIn other (rows_of history b) × (selects (scans.Attribute rel) other ≡ true)) (λ other. Alike other → SomeOf Alike (rows_of history b))
+        (λ other there alike. some-weaker (λ r. other ≡ r) Alike (λ r one. subst Alike one alike) (rows_of history b) there.0) (answer_of history b (scans.Attribute rel)) (given_seen history b (scans.Attribute rel)))
+        (some-unmap (λ x. fixed row ≡ x) fixed (answer_of history b (scans.Attribute rel)) (subst (SomeOf (λ x. fixed row ≡ x)) same (some-map (λ x. fixed row ≡ x) fixed (answer_of later b (scans.Attribute rel)) column_there))))
+      where
+        Alike : Row → Type 0
+        Alike other = fixed row ≡ fixed other
+
+        column_there : SomeOf (λ other. fixed row ≡ fixed other) (answer_of later b (scans.Attribute rel))
+        column_there = some-weaker (λ other. row ≡ other) Alike (λ other one. ap fixed one) (answer_of later b (scans.Attribute rel))
+            (row_given (λ other. row ≡ other) later b (scans.Attribute rel) (λ other one. subst (λ r. selects (scans.Attribute rel) r ≡ true) one (column_asks rel scan of row is.1)) is.0)
+
+        asks : (other : Row) → Alike other → selects scan other ≡ true
+        asks other alike = sym (column_fixes rel scan of other) ∙ ap (selects scan) (sym alike) ∙ column_fixes rel scan of row ∙ is.1
+
+-- in the order of the columns' names
+in_order : (history : List Entry) (b : ℕ) (rel : Oid) (scan : Purpose) → IsOfColumns rel scan → IsInOrder (goes_before scan) (map fixed (answer_of history b scan))
+in_order history b rel scan of = mapped (answer_of history b scan) (scan_of-answers scan (rows_of history b)).order
+  where
+    mapped : (given : List Row) → IsInOrder (goes_before scan) given → IsInOrder (goes_before scan) (map fixed given)
+    mapped [] order = tt
+    mapped (row ∷ given) order = (
+      every-map (λ other. goes_before scan other (fixed row) ≡ false) fixed given (every-weaker (λ other. goes_before scan other row ≡ false) (λ other. goes_before scan (fixed other) (fixed row) ≡ false) (λ other is. before_fixed rel scan of other row ∙ is) given order.0),
+      mapped given order.1,
+    )
+
+-- two histories' answers of such a scan that have the same columns are one, but for what a weak mode may change
+among_same : (history later : List Entry) (b : ℕ) (rel : Oid) (scan : Purpose) → IsOfColumns rel scan → IsSound history → EachEntry WritesTables history → IsSound later → EachEntry WritesTables later
+    → AreAmong (answer_of later b scan) (answer_of history b scan) → AreAmong (answer_of history b scan) (answer_of later b scan) → map fixed (answer_of later b scan) ≡ map fixed (answer_of history b scan)
+among_same history later b rel scan of sound tables sound' tables' among also =
+    one_order (goes_before scan) (λ row. selects scan row ≡ true) (rows_tie rel scan of) (map fixed (answer_of later b scan)) (map fixed (answer_of history b scan)) (asked later) (asked history) (in_order later b rel scan of) (in_order history b rel scan of)
+    (named later sound' tables') (named history sound tables) (in_other (answer_of later b scan) (answer_of history b scan) among) (in_other (answer_of history b scan) (answer_of later b scan) also)
+  where
+    asked : (h : List Entry) → AllByRecursion (λ row. selects scan row ≡ true) (map fixed (answer_of h b scan))
+    asked h = every-map (λ row. selects scan row ≡ true) fixed (answer_of h b scan) (every-weaker (λ row. selects scan row ≡ true) (λ row. selects scan (fixed row) ≡ true) (λ row is. column_fixes rel scan of row ∙ is) (answer_of h b scan) (given_asked h b scan))
+
+    named : (h : List Entry) → IsSound h → EachEntry WritesTables h → Pairwise NamesDiffer (map fixed (answer_of h b scan))
+    named h well keeps = pair-map NamesDiffer fixed (answer_of h b scan) (pair-weaker (λ row. ⊤) NamesDiffer (λ row other. NamesDiffer (fixed row) (fixed other))
+        (λ row other _ _ differ same. differ (sym (name_fixed row) ∙ same ∙ name_fixed other)) (answer_of h b scan) (every (λ row. ⊤) (λ row. tt) (answer_of h b scan)) (given_named h b rel scan of well keeps))
+
+    in_other : (given others : List Row) → AreAmong given others → AllByRecursion (λ row. IsIn row (map fixed others)) (map fixed given)
+    in_other given others all = every-map (λ row. IsIn row (map fixed others)) fixed given (every-weaker (λ row. SomeOf (λ other. fixed row ≡ fixed other) others) (λ row. IsIn (fixed row) (map fixed others)) (λ row is. some-map (λ other. fixed row ≡ other) fixed others is) given all)
+
+-- where the columns of a relation stay, but for what a weak mode may change, so does what a scan of them by their names gives
+pub columns_stay : (history later : List Entry) (b : ℕ) (rel : Oid) (scan : Purpose) → IsOfColumns rel scan → IsSound history → EachEntry WritesTables history → IsSound later → EachEntry WritesTables later
+    → map fixed (answer_of later b (scans.Attribute rel)) ≡ map fixed (answer_of history b (scans.Attribute rel)) → map fixed (answer_of later b scan) ≡ map fixed (answer_of history b scan)
+columns_stay history later b rel scan of sound tables sound' tables' same =
+    among_same history later b rel scan of sound tables sound' tables' (columns_among history later b rel scan of same) (columns_among later history b rel scan of (sym same))
+
+-- rows in order of number, but for what a weak mode may change
+abbrev pub by_number : Oid → List Row → List Row
+by_number rel given = map fixed (scan_of (scans.Attribute rel) given)
+
+-- so it is with the columns in order of number, whatever their names are
+pub numbered_stay : (history later : List Entry) (b : ℕ) (rel : Oid) (scan : Purpose) → IsOfColumns rel scan → IsSound history → IsSound later → map fixed (answer_of later b (scans.Attribute rel)) ≡ map fixed (answer_of history b (scans.Attribute rel))
+    → by_number rel (answer_of later b scan) ≡ by_number rel (answer_of history b scan)
+numbered_stay history later b rel scan of sound sound' same =
+    scan_same (scans.Attribute rel) fixed number_fixed (answer_of later b scan) (answer_of history b scan) ((column_apart rel).by_number (answer_of later b scan)) ((column_apart rel).by_number (answer_of history b scan)) (differ later sound') (differ history sound)
+    (among later history (columns_among history later b rel scan of same)) (among history later (columns_among later history b rel scan of (sym same)))
+  where
+    d : Purpose
+    d = scans.Attribute rel
+
+    differ : (h : List Entry) → IsSound h → Pairwise Differ (filter (selects d) (answer_of h b scan))
+    differ h well = pair-filter Differ (selects d) (answer_of h b scan) (pair-weaker (λ row. ⊤) Differ (λ row other. selects d row ≡ true → selects d other ≡ true → Differ row other) (λ row other _ _ apart asks also. apart) (answer_of h b scan) (every (λ row. ⊤) (λ row. tt) (answer_of h b scan)) (given_differ h b rel scan of well))
+
+    all_asked : (h : List Entry) → filter (selects d) (answer_of h b scan) ≡ answer_of h b scan
+    all_asked h = kept (answer_of h b scan) (given_asked h b scan)
+      where
+        kept : (given : List Row) → AllByRecursion (λ row. selects scan row ≡ true) given → filter (selects d) given ≡ given
+        kept [] all = refl
+        kept (row ∷ given) all = ap (λ t. cond t (row ∷ filter (selects d) given) (filter (selects d) given)) (column_asks rel scan of row all.0) ∙ ap (λ l. row ∷ l) (kept given all.1)
+
+    among : (h other : List Entry) → AreAmong (answer_of h b scan) (answer_of other b scan) → AreAmong (filter (selects d) (answer_of h b scan)) (filter (selects d) (answer_of other b scan))
+    among h other all = subst (λ l. AreAmong l (filter (selects d) (answer_of other b scan))) (sym (all_asked h)) (subst (AreAmong (answer_of h b scan)) (sym (all_asked other)) all)
+
+-- and if they are the same in order of number, they are so in the scan's own
+pub numbered_same : (history later : List Entry) (b : ℕ) (rel : Oid) (scan : Purpose) → IsOfColumns rel scan → IsSound history → EachEntry WritesTables history → IsSound later → EachEntry WritesTables later
+    → by_number rel (answer_of later b scan) ≡ by_number rel (answer_of history b scan) → map fixed (answer_of later b scan) ≡ map fixed (answer_of history b scan)
+numbered_same history later b rel scan of sound tables sound' tables' same =
+    among_same history later b rel scan of sound tables sound' tables' (among later (answer_of history b scan) same) (among history (answer_of later b scan) (sym same))
+  where
+    d : Purpose
+    d = scans.Attribute rel
+
+    among : (h : List Entry) (others : List Row) → by_number rel (answer_of h b scan) ≡ by_number rel others → AreAmong (answer_of h b scan) others
+    among h others one = every-weaker (λ row. IsIn row (answer_of h b scan) × (selects scan row ≡ true)) (λ row. SomeOf (λ other. fixed row ≡ fixed other) others) found (answer_of h b scan)
+        (every-both (λ row. IsIn row (answer_of h b scan)) (λ row. selects scan row ≡ true) (answer_of h b scan) (every_self (answer_of h b scan)) (given_asked h b scan))
+      where
+        found : (row : Row) → IsIn row (answer_of h b scan) × (selects scan row ≡ true) → SomeOf (λ other. fixed row ≡ fixed other) others
+        found row is = from_some Alike (SomeOf Alike others) (scan_of d others) given_back
+            (some-unmap (λ x. fixed row ≡ x) fixed (scan_of d others) (subst (SomeOf (λ x. fixed row ≡ x)) one (some-map (λ x. fixed row ≡ x) fixed (scan_of d (answer_of h b scan)) there)))
+          where
+            Alike : Row → Type 0
+            Alike other = fixed row ≡ fixed other
+
+            there : SomeOf Alike (scan_of d (answer_of h b scan))
+            there = some_given Alike d [] (filter (selects d) (answer_of h b scan))
+                (inr (some-filter Alike (selects d) (answer_of h b scan) (some-weaker (λ other. row ≡ other) (λ other. (selects d other ≡ true) × Alike other) (λ other same'. (subst (λ r. selects d r ≡ true) same' (column_asks rel scan of row is.1), ap fixed same')) (answer_of h b scan) is.0)))
+
+            given_back : AllByRecursion (λ other. Alike other → SomeOf Alike others) (scan_of d others)
+            given_back = every-weaker (λ other. IsIn other others) (λ other. Alike other → SomeOf Alike others) (λ other there' alike. some-weaker (λ r. other ≡ r) Alike (λ r same'. subst Alike same' alike) others there') (scan_of d others)
+                (every_given (λ other. IsIn other others) d [] (filter (selects d) others) tt (every-filter (λ other. IsIn other others) (selects d) others (every-weaker (λ other. IsIn other others) (λ other. selects d other ≡ true → IsIn other others) (λ other is asks. is) others (every_self others))))
