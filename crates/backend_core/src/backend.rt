@@ -56,10 +56,10 @@ impl Backend {
     }
 
     /// Makes its next entry, and goes on as far as it can without another. Conditions: it stands in the
-    /// segment's history, which is legal and was played by the script's commands, these have forms that lines
-    /// may have, a place in the history is promised to it, and it hasn't left. It takes at most one promised place, and none of another
-    /// backend. Out of memory, nothing has changed but the backend itself, or its entry is made; then the
-    /// backend may not be used any more, and others go on.
+    /// segment's history, which is legal and was played by the script's commands, these have forms that
+    /// lines may have, a place in the history is promised to it, and it hasn't left. It takes at most one
+    /// promised place, and none of another backend. Out of memory, nothing has changed but the backend
+    /// itself, or its entry is made; then the backend may not be used any more, and others go on.
     pub fn step<L: Seg>(&mut self, alloc: Global, seg: &mut L) -> Result<(), NoMemory>
         requires stands { Stands (L.script seg.old) (L.history seg.old) self.old }
         requires spelled { AreSpelled (L.script seg.old) }

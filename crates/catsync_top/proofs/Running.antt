@@ -8,6 +8,7 @@ use Rattle.script_text.specs.declared.fault.Rest.TheVariants.{Refused}
 use Rattle.history_model.specs.Orderly.{IsSound}
 use Rattle.cacheless.specs.Lines.{lines_of}
 use Rattle.cacheless.specs.Output.{IsOutput}
+use Rattle.backend_core.specs.Agrees.{AreSpelled}
 use Rattle.backend_core.specs.declared.backend.Backend.{Backend}
 use Rattle.walk_run.specs.Built.{is_built}
 use Rattle.walk_run.specs.Sessions.{AreSessions}
@@ -20,9 +21,9 @@ use Rattle.catsync_top.specs.Top.{Ran}
 -- a script that was read and can be walked, and an output for it that was written, whose entries and lines are typed
 pub has_run : (left rest taken now : Option (List ℕ)) (Writes : Option (List ℕ) → Option (List ℕ) → List ℕ → Type 0) (items input output : List ℕ) (reading : Reading) (built : Bool) (answers : List Line) (sessions backends : List Backend)
     → ReadsAll left rest 1048576 items → length items ≤ 1048576 → input ≡ items → script_of Refused input ≡ Ok reading → built ≡ is_built reading.script → built ≡ true
-    → (is : IsOutput reading.script output) → IsSound is.history → All IsTyped is.history → All IsLine (lines_of reading.script is.history)
+    → (is : IsOutput reading.script output) → IsSound is.history → AreSpelled reading.script → All IsTyped is.history → All IsLine (lines_of reading.script is.history)
     → AreSessions reading.script is.history answers backends → answers ≡ lines_of reading.script is.history → sessions ≡ backends → Writes taken now output → Ran left rest taken now Writes sessions
-has_run left rest taken now Writes items input output reading built answers sessions backends all short same spelled are test is sound entries lines have as_defined handed written = record {
+has_run left rest taken now Writes items input output reading built answers sessions backends all short same spelled are test is sound commands entries lines have as_defined handed written = record {
   input = items;
   whole = record { read = all.consumed; ended = all.ended short; short = short };
   reading = reading;
@@ -31,7 +32,7 @@ has_run left rest taken now Writes items input output reading built answers sess
   output = output;
   is = is;
   sound = sound;
-  entries = all_read is.history entries (allowed_changes reading.script is.history is.allowed);
+  entries = all_read is.history entries (allowed_changes reading.script is.history commands is.allowed);
   answers = lines;
   only = spells_only output is.history (lines_of reading.script is.history) is.text_is entries lines;
   are = subst (AreSessions reading.script is.history (lines_of reading.script is.history)) (sym handed) (subst (λ l. AreSessions reading.script is.history l backends) as_defined have);

@@ -103,7 +103,7 @@ impl Session {
             Event::Fetch { count } => self.fetch(segment, *count as usize)?,
             Event::FetchReset => self.reset(segment)?,
             Event::Scan { purpose, rows } => self.scan(segment, purpose, *rows)?,
-            Event::LockOk { rel, mode } => self.lock(*rel, *mode)?,
+            Event::LockOk { rel, mode } => self.lock(segment, *rel, *mode)?,
             Event::Write { xid, items } => self.write(segment, *xid, items.as_slice())?,
             Event::Publish { count } => self.publish(segment, *count)?,
             _ => self.enter_alone(event)?,
@@ -150,11 +150,15 @@ impl Session {
             .ok()
     }
 
-    fn lock(&mut self, rel: Oid, mode: Mode) -> Option<()> {
+    fn lock(&mut self, segment: &Segment, rel: Oid, mode: Mode) -> Option<()> {
         if self.progress.reserve_lock().is_err() {
             return None;
         }
         if !is_countable(&self.progress) || self.progress.locks.state(rel, mode).is_some() {
+            return None;
+        }
+        let event = Event::LockOk { rel, mode };
+        if !self.progress.may_play(segment.next_oid, &event) {
             return None;
         }
         self.progress.enter_lock(rel, mode);

@@ -12,7 +12,7 @@ use Rattle.backend_core.specs.declared.backend.Backend.{Backend}
 use Rattle.backend_core.specs.Agrees.{IsNew, Stands}
 use Rattle.backend_core.proofs.NewFacts.{facts_none}
 use Rattle.walk_run.specs.Built.{is_built}
-use Rattle.walk_run.specs.Walks.{AllStand, StandsAt}
+use Rattle.walk_run.specs.Walks.{StandsAt}
 use Rattle.walk_run.proofs.ScheduleSteps.{StandsAs}
 
 -- a command can be run
@@ -104,11 +104,3 @@ begins_more s bs n y commands built few copies begins within new = record {
     by_place i x (inr last) =
         let here : n + 1 ≡ i + 1 = omega (arith, last.0, begins.count) in
         subst (StandsAt s [] (i + 1)) last.1 (record { id = new.progress.number ∙ here; stands = new_stands s y (n + 1) built few (omega arith, omega (arith, within)) (subst (IsNew y (n + 1)) copies new) })
-
--- all backends stand before the first entry
-pub begins_stand : (s : Scenario) (bs : List Backend) → Begins s bs s.backends → AllStand s [] bs
-begins_stand s bs begins = record {
-  entered = tt;
-  count = begins.count;
-  each = begins.each;
-}

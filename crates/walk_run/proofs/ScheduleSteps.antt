@@ -69,6 +69,7 @@ same_or_not i j = of (eqb_tells i j)
 -- the backends stand after a step of one of them
 pub stand_more : (s : Scenario) (h h' : List Entry) (had has : ℕ → ℕ) (bs : List Backend) (i : ℕ) (was now : Backend) → AllStand s h bs → slice_get bs i ≡ Some was → Steps s h h' had has was now → AllStand s h' (slice_set bs i now)
 stand_more s h h' had has bs i was now stand is steps = record {
+  spelled = stand.spelled;
   entered = entered_more s h h' had has was.progress.id stand.entered steps.makes;
   count = length-set bs i now ∙ stand.count;
   each = λ j backend at. by_place j backend at (same_or_not i j);

@@ -42,6 +42,7 @@ ended_walk s h bs stand end = record {
     economical = EachEntry-weaker (MayEnter s) (λ before e. ScansOnlyIfNeeded before e.backend e.event) (λ before e may. may.suits.needed) h stand.entered;
   };
   sound = played.sound;
+  spelled = stand.spelled;
   follows = end.0;
   looks = EachEntry-weaker (MayEnter s) (λ before e. LooksTruly before e.backend e.event) (λ before e may. may.suits.truly) h stand.entered;
   complete = end.1;
@@ -49,7 +50,7 @@ ended_walk s h bs stand end = record {
 }
   where
     played : IsPlayed s h
-    played = entered_played s h stand.entered
+    played = entered_played s h stand.spelled stand.entered
 
 -- by the schedule
 pub scheduled_walk : (s : Scenario) (start h : List Entry) (bs : List Backend) (steps : List (List Turns)) → steps ≡ s.steps → (length steps == 0) ≡ false → start ≡ [] → Goes s start h bs (schedule_of s) → IsWalk s h (transcripts_of bs)

@@ -11,13 +11,14 @@ use Rattle.cacheless.specs.Schedule.{FollowsSchedule, AreLooksTrue, IsComplete, 
 use Rattle.cacheless.specs.Lines.{lines_of}
 use Rattle.backend_core.specs.declared.backend.Backend.{Backend}
 use Rattle.backend_core.specs.Words.{has_left}
-use Rattle.backend_core.specs.Agrees.{Stands}
+use Rattle.backend_core.specs.Agrees.{AreSpelled, Stands}
 use Rattle.backend_core.specs.Steps.{Steps}
 
--- a walk's history is allowed and sound, so that each law of sound histories is one of it; it follows the schedule to its end, and its looks see all that was sent; the lines are those of the history
+-- a walk's history is allowed and sound, and the script's commands have forms that lines may have, so that each law of such histories is one of it; it follows the schedule to its end, and its looks see all that was sent; the lines are those of the history
 pub record IsWalk (scenario : Scenario) (history : List Entry) (lines : List Line) : Type 0 where
   pub allowed : IsAllowed scenario history
   pub sound : IsSound history
+  pub spelled : AreSpelled scenario
   pub follows : FollowsSchedule scenario history
   pub looks : AreLooksTrue history
   pub complete : IsComplete scenario history
@@ -28,8 +29,9 @@ pub record StandsAt (scenario : Scenario) (history : List Entry) (b : ℕ) (back
   pub id : backend.progress.id ≡ b
   pub stands : Stands scenario history backend
 
--- each entry of the history was one that might be made, and each backend of the script stands in it
+-- the script's commands have forms that lines may have, each entry of the history was one that might be made, and each backend of the script stands in it
 pub record AllStand (scenario : Scenario) (history : List Entry) (backends : List Backend) : Type 0 where
+  pub spelled : AreSpelled scenario
   pub entered : EachEntry (MayEnter scenario) history
   pub count : length backends ≡ scenario.backends
   pub each : (i : ℕ) (backend : Backend) → slice_get backends i ≡ Some backend → StandsAt scenario history (i + 1) backend

@@ -2,16 +2,20 @@ use Rattle.std.proofs.Common.{◌<◌, sym, subst, arith}
 use Rattle.history_model.specs.Legal.{IsLegal}
 use Rattle.history_model.proofs.Sound.{sound_is_legal}
 use Rattle.cacheless.specs.Plays.{Plays}
+use Rattle.backend_core.specs.Agrees.{AreSpelled}
 use Rattle.backend_core.proofs.Played.{entered_played}
 use Rattle.walk_run.proofs.ScheduleSteps.{found_at, stands_there, step_makes}
 use Rattle.walk_run.proofs.walking.Walker.make_step.Goals as goal
 
+pub step-requires-clause-spelled : goal.step-requires-clause-spelled
+step-requires-clause-spelled g c = subst AreSpelled (sym c.promise.ensures.script) c.requires.stand.spelled
+
 pub step-requires-clause-legal : goal.step-requires-clause-legal
-step-requires-clause-legal g c = subst IsLegal (sym c.promise.ensures.promises.entries) (sound_is_legal _ (entered_played _ _ c.requires.stand.entered).sound)
+step-requires-clause-legal g c = subst IsLegal (sym c.promise.ensures.promises.entries) (sound_is_legal _ (entered_played _ _ c.requires.stand.spelled c.requires.stand.entered).sound)
 
 pub step-requires-clause-plays : goal.step-requires-clause-plays
 step-requires-clause-plays g c =
-    subst (λ s. Plays s (g.L.Seg.history c.promise.new.self)) (sym c.promise.ensures.script) (subst (Plays (g.L.Seg.script c.args.seg.now)) (sym c.promise.ensures.promises.entries) (entered_played _ _ c.requires.stand.entered).plays)
+    subst (λ s. Plays s (g.L.Seg.history c.promise.new.self)) (sym c.promise.ensures.script) (subst (Plays (g.L.Seg.script c.args.seg.now)) (sym c.promise.ensures.promises.entries) (entered_played _ _ c.requires.stand.spelled c.requires.stand.entered).plays)
 
 pub step-requires-clause-place : goal.step-requires-clause-place
 step-requires-clause-place g c =
