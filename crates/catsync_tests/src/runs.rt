@@ -130,7 +130,7 @@ const REFUSED: &[(&[&str], &[u8], u8, &str)] = &[
     ),
     (
         &["walk"],
-        b"backends 1\n1: begin\n1: columns t\nend\n",
+        b"backends 1\n1: begin\n1: drop table t\nend\n",
         9,
         "the script holds",
     ),
@@ -317,12 +317,12 @@ fn lines_of_largest(alloc: Global) -> Result<usize, NoMemory> {
 }
 
 // The first backend makes the table in 6 entries, and fetches its own messages in one more; the others start
-// later, so none wait for them. Each `show` takes 6 entries, and a backend's first one makes 6 scans more, each
-// after a look; each backend starts and stops.
+// later, so none wait for them. Each `show` takes 4 entries, and a backend's first one makes 7 scans more, that of
+// the name and 6 for the descriptor, each after a look; each backend starts and stops.
 #[test]
 fn the_largest_script_is_walked(rt: HostRuntime) -> Result<(), Fail> {
     let lines = lines_of_largest(rt.alloc())?;
-    assert!(rt; lines == 6 + 1 + 19_999 * 6 + 64 * (6 * 2 + 2) + 20_000 + 1);
+    assert!(rt; lines == 6 + 1 + 19_999 * 4 + 64 * (2 + 6 * 2 + 2) + 20_000 + 1);
     Ok(())
 }
 
