@@ -32,6 +32,7 @@ has_run left rest taken now Writes items input output reading built answers sess
   output = output;
   is = is;
   sound = sound;
+  commands = commands;
   entries = all_read is.history entries (allowed_changes reading.script is.history commands is.allowed);
   answers = lines;
   only = spells_only output is.history (lines_of reading.script is.history) is.text_is entries lines;

@@ -3,7 +3,8 @@ use Rattle.std.specs.Prelude.{◌≡◌, ◌≤◌, ◌<◌, ◌+◌, ⊤, ℕ, 
 use Rattle.std.specs.Io.KnownBytes.{Consumes, IsAtEnd}
 use Rattle.edge_io.specs.Causes.{Rose}
 use Rattle.edge_io.specs.declared.reading.TheConstants.{PIECE}
-use Rattle.std.specs.List.{All}
+use Rattle.std.specs.List.{All, AllByRecursion}
+use Rattle.base_types.specs.Commands.{IsCommand}
 use Rattle.event_kinds.specs.Entries.{IsEntry}
 use Rattle.history_model.specs.Orderly.{IsSound}
 use Rattle.out_text.specs.Typed.{IsLine, SpellsOnly}
@@ -40,7 +41,7 @@ pub record IsInput (left rest : Option (List ℕ)) (input : List ℕ) : Type 0 w
   pub ended : IsAtEnd rest
   pub short : length input ≤ MOST_INPUT
 
--- the input is a script that can be walked; an output of the program for that script was written, or a prefix of one; its history is sound, so that each law of sound histories is one of it; its entries and lines are such as a reader of texts takes, and that output spells them alone; and the sessions are the backends that were run, with their parts of the answers
+-- the input is a script that can be walked; an output of the program for that script was written, or a prefix of one; its history is sound, and the script's commands have forms that lines may have, so that each law of such histories is one of it; its entries and lines are such as a reader of texts takes, and that output spells them alone; and the sessions are the backends that were run, with their parts of the answers
 pub record Ran (left rest : Option (List ℕ)) (taken now : Option (List ℕ)) (Writes : Option (List ℕ) → Option (List ℕ) → List ℕ → Type 0) (sessions : List Backend) : Type 0 where
   pub input : List ℕ
   pub whole : IsInput left rest input
@@ -50,6 +51,7 @@ pub record Ran (left rest : Option (List ℕ)) (taken now : Option (List ℕ)) (
   pub output : List ℕ
   pub is : IsOutput reading.script output
   pub sound : IsSound is.history
+  pub commands : AllByRecursion (λ p. IsCommand p.command) reading.script.commands
   pub entries : All IsEntry is.history
   pub answers : All IsLine (lines_of reading.script is.history)
   pub only : SpellsOnly output is.history (lines_of reading.script is.history)

@@ -1,5 +1,6 @@
 //! Enters histories into the sessions of their backends (`cacheless`), entry by entry, whoever made them:
-//! `./prove` does that with those of `tests/session`.
+//! `./prove` does that with those of `tests/session`. What it says may come next holds of any history, the
+//! answer lines of those that are legal.
 //!
 //! Standard input has cases, one after another: a script with its `end` line, and then lines of a history
 //! until one more `end` line. Such a line is the text of an entry. One of backend 0 is a write, and its new
