@@ -1,11 +1,10 @@
 -- The facts of a backend before its first entry.
-use Rattle.std.proofs.Common.{ℕ, List, [], sym, ap, subst, All}
+use Rattle.std.proofs.Common.{ℕ, List, [], sym, ap, subst}
 use Rattle.std.proofs.lemmas.Bool.{both_ways}
-use Rattle.std.proofs.lemmas.List.Elements.{All-nil}
 use Rattle.command_lists.specs.Lists.{all_lists}
 use Rattle.history_model.specs.Read.{rows_read}
 use Rattle.cacheless.specs.Facts.{facts_of}
-use Rattle.cacheless.specs.Holds.{ReadRight, FactsFit}
+use Rattle.cacheless.specs.Holds.{AreRight, FactsFit}
 use Rattle.cacheless.specs.State.{owed_at, running_of, is_kept, IsNew}
 use Rattle.backend_core.specs.Types.{Command, Progress}
 
@@ -16,6 +15,6 @@ facts_none b commands p new = record {
   lists = sym (ap all_lists new.lists);
   owed = sym (ap owed_at new.due);
   usable = λ scan. sym (ap (λ k. is_kept k scan) new.kept);
-  kept = subst (All (ReadRight (rows_read [] b))) (sym new.kept) (All-nil (ReadRight (rows_read [] b)));
+  kept = subst (AreRight (rows_read [] b)) (sym new.kept) (λ scan. tt);
   given = λ is. absurd (both_ways _ new.granted is);
 }

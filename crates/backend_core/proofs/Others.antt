@@ -1,5 +1,5 @@
 -- Another backend's entry changes nothing of where a backend is.
-use Rattle.std.proofs.Common.{◌≡◌, ◌∙◌, ◌==◌, ℕ, false, Option, Some, None, List, [], ◌∷◌, ◌++◌, sym, ap, subst, drop, All, get_or, refl}
+use Rattle.std.proofs.Common.{◌≡◌, ◌∙◌, ◌==◌, ℕ, false, Option, Some, None, List, [], ◌∷◌, ◌++◌, sym, ap, subst, drop, refl}
 use Rattle.std.specs.Option.{option_map_or}
 use Rattle.base_types.specs.Scenario.{Scenario}
 use Rattle.ddl_effect.specs.Commands.{commands_of}
@@ -12,15 +12,17 @@ use Rattle.cacheless.proofs.Answers.JudgedLines.{session_placed, finished_lines-
 use Rattle.cacheless.proofs.Entries.Others.{holds-other, not_started-other}
 use Rattle.cacheless.proofs.Reading.{facts_of-other, session_of-other}
 use Rattle.cacheless.proofs.Allowed.StaysOnCourse.{has_written-other}
-use Rattle.backend_core.specs.Types.{Entry, KeptScan, Life, Backend}
+use Rattle.cacheless.specs.State.{kept_at}
+use Rattle.backend_core.specs.Types.{Entry, Kept, Life, Backend}
 use Rattle.backend_core.specs.declared.life.Life.TheVariants as lives
-use Rattle.backend_core.specs.Agrees.{KeptAt, command_at, AwaitsEntry, HasNotJoined, HasLeft, Stands}
+use Rattle.backend_core.specs.Agrees.{AreLastScans, command_at, AwaitsEntry, HasNotJoined, HasLeft, Stands}
 use Rattle.backend_core.specs.Fits.{Fits}
+use Rattle.backend_core.proofs.Fitting.Entered.{kept_same}
 use Rattle.backend_core.proofs.Own.{waiting, waiting_is}
 
 -- the places of the scans that are kept
-kept-other : (history : List Entry) (e : Entry) (b : ℕ) (kept : List KeptScan) → (e.backend == b) ≡ false → All (KeptAt history b) kept → All (KeptAt (history ++ e ∷ []) b) kept
-kept-other history e b kept other fits = λ i d within. place_read-other history e b (get_or kept i d).scan other ∙ fits i d within
+kept-other : (history : List Entry) (e : Entry) (b : ℕ) (kept : Kept) → (e.backend == b) ≡ false → AreLastScans history b kept → AreLastScans (history ++ e ∷ []) b kept
+kept-other history e b kept other at = kept_same history (history ++ e ∷ []) b kept (λ scan. place_read-other history e b scan other) at
 
 awaits-other : (scenario : Scenario) (seen : List Entry) (e : Entry) (s : Backend) → (e.backend == s.progress.id) ≡ false → AwaitsEntry scenario seen s → AwaitsEntry scenario (seen ++ e ∷ []) s
 awaits-other scenario seen e s other waits = record {
@@ -29,7 +31,7 @@ awaits-other scenario seen e s other waits = record {
     life = record { last = k.life.last; alive = life_of-other seen e s.progress.id other ∙ k.life.alive; most = k.life.most };
     built = k.built;
     places = record {
-      kept = kept-other seen e s.progress.id s.progress.kept other k.places.kept;
+      kept = kept-other seen e s.progress.id (kept_at s.progress) other k.places.kept;
       absent = λ name missed whole. k.places.absent name missed (record { untaken = λ from gone. whole.untaken from (last_event_of-other seen e s.progress.id other ∙ gone); going = whole.going });
     };
   };
@@ -76,7 +78,7 @@ lines-other scenario seen e b other = ap (λ o. lines_from scenario (seen ++ e �
 left-other : (scenario : Scenario) (seen : List Entry) (e : Entry) (s : Backend) → (e.backend == s.progress.id) ≡ false → HasLeft scenario seen s → HasLeft scenario (seen ++ e ∷ []) s
 left-other scenario seen e s other left = record {
   holds = holds-other scenario seen e s.progress other left.holds;
-  kept = kept-other seen e s.progress.id s.progress.kept other left.kept;
+  kept = kept-other seen e s.progress.id (kept_at s.progress) other left.kept;
   life = life_of-other seen e s.progress.id other ∙ left.life;
   lines = left.lines ∙ sym (lines-other scenario seen e s.progress.id other);
 }

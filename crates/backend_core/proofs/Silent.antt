@@ -10,7 +10,7 @@ use Rattle.cacheless.specs.Runs.{runs}
 use Rattle.cacheless.specs.Answering.{IsToldText}
 use Rattle.cacheless.specs.Session.{Session, outcome_of, is_settled}
 use Rattle.cacheless.specs.Silently.{is_to_answer, IsSettled, Answers, HasAnswered, IsLineOf}
-use Rattle.cacheless.specs.State.{session_at}
+use Rattle.cacheless.specs.State.{kept_at, session_at}
 use Rattle.cacheless.proofs.Answers.Telling.{act_places, act_tells, act_lines, with_answer, answer_holds, answer_tells, answer_places, pass_places, pass_tells, pass_lines}
 use Rattle.backend_core.specs.Types.{Command, Scenario, Entry, Line, Progress, Backend}
 use Rattle.backend_core.specs.Agrees.{command_at, AgreesNow, GoesOn, AwaitsEntry}
@@ -26,7 +26,7 @@ acts_going scenario seen b s command course at unsettled = by_ended s.ended refl
     by_ended true is = absurd (both_ways _ unsettled (and_parts (is_settled (outcome_of s.left)) _ (and_parts (is_settled (outcome_of s.left) && _) _ (course.ends command at is)).0).0)
 
 -- it does an act
-act_agrees : (scenario : Scenario) (seen : List Entry) (was : Backend) (p : Progress) (now : AgreesNow scenario seen was) → HasActed scenario seen was.progress now.holds p → p.kept ≡ was.progress.kept → p.answer ≡ was.progress.answer → AgreesNow scenario seen (record was { progress = p })
+act_agrees : (scenario : Scenario) (seen : List Entry) (was : Backend) (p : Progress) (now : AgreesNow scenario seen was) → HasActed scenario seen was.progress now.holds p → kept_at p ≡ kept_at was.progress → p.answer ≡ was.progress.answer → AgreesNow scenario seen (record was { progress = p })
 act_agrees scenario seen was p now acted kept same = record {
   keeps = record {
     alive = now.keeps.alive;
@@ -54,7 +54,7 @@ act_agrees scenario seen was p now acted kept same = record {
         (ap (slice_get (commands_of scenario was.progress.id)) now.holds.count ∙ ap (λ l. slice_get l was.progress.finished) (sym now.holds.commands) ∙ acted.at) (ap (λ x. is_settled (outcome_of x)) acted.left)
 
 -- the same of a call that may have been refused memory
-pub act_goes : {E : Type 0} (was : Backend) (p : Progress) (result : Result (Unit {0}) E) → OnOk result ((scenario : Scenario) (seen : List Entry) (held : Holds scenario seen was.progress) → HasActed scenario seen was.progress held p) → OnOk result (p.kept ≡ was.progress.kept) → OnOk result (p.answer ≡ was.progress.answer)
+pub act_goes : {E : Type 0} (was : Backend) (p : Progress) (result : Result (Unit {0}) E) → OnOk result ((scenario : Scenario) (seen : List Entry) (held : Holds scenario seen was.progress) → HasActed scenario seen was.progress held p) → OnOk result (kept_at p ≡ kept_at was.progress) → OnOk result (p.answer ≡ was.progress.answer)
     → OnOk result ((scenario : Scenario) (seen : List Entry) → AgreesNow scenario seen was → GoesOn scenario seen was (record was { progress = p }))
 act_goes was p (Ok x) acted kept same = λ scenario seen now. record { agrees = act_agrees scenario seen was p now (acted scenario seen now.holds) kept same; id = (acted scenario seen now.holds).moves.id }
 act_goes was p (Err e) acted kept same = tt
@@ -76,7 +76,7 @@ answer_goes was p (Ok x) asked has = λ scenario seen now. subst (λ x. GoesOn s
 answer_goes was p (Err e) asked has = tt
 
 -- it passes to its next command
-pass_agrees : (scenario : Scenario) (seen : List Entry) (was : Backend) (p : Progress) (lines : List Line) (line : Line) (now : AgreesNow scenario seen was) → HasPassed scenario seen was.progress now.holds p → p.kept ≡ was.progress.kept → p.answer ≡ None
+pass_agrees : (scenario : Scenario) (seen : List Entry) (was : Backend) (p : Progress) (lines : List Line) (line : Line) (now : AgreesNow scenario seen was) → HasPassed scenario seen was.progress now.holds p → kept_at p ≡ kept_at was.progress → p.answer ≡ None
     → IsLineOf was.progress line → lines ≡ was.lines ++ line ∷ [] → AgreesNow scenario seen (record was { progress = p; lines = lines; looked = false; looked_to_build = false })
 pass_agrees scenario seen was p lines line now passed kept none says pushed = record {
   keeps = record {
@@ -100,7 +100,7 @@ pass_agrees scenario seen was p lines line now passed kept none says pushed = re
     next_command : slice_get p.commands p.finished ≡ next
     next_command = ap (λ l. slice_get l p.finished) passed.commands ∙ ap (slice_get was.progress.commands) passed.finished
 
-pub pass_goes : (was : Backend) (p : Progress) (lines : List Line) (line : Line) → ((scenario : Scenario) (seen : List Entry) (held : Holds scenario seen was.progress) → HasPassed scenario seen was.progress held p) → p.kept ≡ was.progress.kept → p.answer ≡ None → IsLineOf was.progress line → lines ≡ was.lines ++ line ∷ []
+pub pass_goes : (was : Backend) (p : Progress) (lines : List Line) (line : Line) → ((scenario : Scenario) (seen : List Entry) (held : Holds scenario seen was.progress) → HasPassed scenario seen was.progress held p) → kept_at p ≡ kept_at was.progress → p.answer ≡ None → IsLineOf was.progress line → lines ≡ was.lines ++ line ∷ []
     → (scenario : Scenario) (seen : List Entry) → AgreesNow scenario seen was → GoesOn scenario seen was (record was { progress = p; lines = lines; looked = false; looked_to_build = false })
 pass_goes was p lines line passes kept none says pushed scenario seen now = record { agrees = pass_agrees scenario seen was p lines line now (passes scenario seen now.holds) kept none says pushed; id = (passes scenario seen now.holds).id }
 

@@ -2,7 +2,7 @@
 use Rattle.std.specs.Prelude.{◌≡◌, ◌≤◌, ◌+◌, ℕ, true, false, Option, None, List, [], slice_get, is_some, All}
 use Rattle.history_model.specs.Lives.{Life, Unstarted, Alive, Stopped, life_of}
 use Rattle.history_model.specs.Writes.{has_written}
-pub use Rattle.cacheless.specs.Answering.{KeptAt, IsWhole, KeepsAbsent, PlacesFit}
+pub use Rattle.cacheless.specs.Answering.{AreLastScans, IsWhole, KeepsAbsent, PlacesFit}
 use Rattle.cacheless.specs.Facts.{facts_of}
 use Rattle.cacheless.specs.Holds.{Holds, Rests, HasNotStarted}
 use Rattle.cacheless.specs.Lines.{lines_of_backend}
@@ -11,7 +11,7 @@ pub use Rattle.cacheless.specs.Played.{AreSpelled, IsPlayed}
 use Rattle.cacheless.specs.Runs.{runs}
 use Rattle.cacheless.specs.Sessions.{session_of}
 use Rattle.cacheless.specs.Silently.{is_to_answer_at}
-use Rattle.cacheless.specs.State.{session_at}
+use Rattle.cacheless.specs.State.{kept_at, session_at}
 use Rattle.cacheless.specs.State as progress
 use Rattle.cacheless.specs.Telling.{Tells, AreLines, TellsNow}
 use Rattle.backend_core.specs.Types.{Command, Scenario, Entry, Backend}
@@ -84,7 +84,7 @@ pub record HasNotJoined (scenario : Scenario) (seen : List Entry) (s : Backend) 
 -- a backend that has left: what it has read it keeps, and its lines are those of all its commands
 pub record HasLeft (scenario : Scenario) (seen : List Entry) (s : Backend) : Type 0 where
   pub holds : Holds scenario seen s.progress
-  pub kept : All (KeptAt seen s.progress.id) s.progress.kept
+  pub kept : AreLastScans seen s.progress.id (kept_at s.progress)
   pub life : life_of seen s.progress.id ≡ Stopped
   pub lines : s.lines ≡ lines_of_backend scenario seen s.progress.id
 

@@ -9,7 +9,7 @@ use Rattle.seg_calls.specs.Calls.{IsUnchanged}
 use Rattle.cacheless.specs.declared.progress.Due.TheVariants as dues
 use Rattle.cacheless.specs.May.{is_next_at, lacks_any, owes_nothing, may_lock_at, may_end_at, is_next_of_end, is_next_of_commit, is_next_of_back}
 use Rattle.cacheless.specs.MayEnter.{MayEnter}
-use Rattle.cacheless.specs.State.{owed_first, unsent_at, is_out, end_of_running}
+use Rattle.cacheless.specs.State.{kept_at, owed_first, unsent_at, is_out, end_of_running}
 use Rattle.backend_core.specs.Types.{Oid, Mode, Purpose, Command, Scenario, Entry, Event, Next, Progress, Backend}
 use Rattle.backend_core.specs.declared.next.Next.TheVariants as nexts
 use Rattle.backend_core.specs.Agrees.{AgreesNow, Stands}
@@ -62,7 +62,7 @@ pub record IsScanNext (s : Progress) (scan : Purpose) (builds : Bool) : Type 0 w
   pub free : IsFree s command
   pub lacks : lacks_any s ≡ true
   pub next : is_next_at scan s ≡ true
-  pub first : (other : Purpose) → build_first s.kept s.opened ≡ Some other → scan ≡ other
+  pub first : (other : Purpose) → build_first (kept_at s) s.opened ≡ Some other → scan ≡ other
   pub kind : is_build_scan scan ≡ builds
 
 -- this lock comes next

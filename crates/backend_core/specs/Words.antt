@@ -9,8 +9,8 @@ use Rattle.lock_modes.specs.Own.{has_lock}
 use Rattle.inval_messages.specs.Messages.{covers}
 use Rattle.ddl_effect.specs.Plans.{Plan, Do, Open}
 use Rattle.ddl_effect.specs.Stages.{plan_at}
-use Rattle.cacheless.specs.State.{is_kept}
-use Rattle.backend_core.specs.Types.{Oid, Mode, Message, Purpose, Row, Opening, OwnLock, KeptScan, Life, Progress, Backend}
+use Rattle.cacheless.specs.State.{kept_at, is_kept}
+use Rattle.backend_core.specs.Types.{Oid, Mode, Message, Purpose, Row, Opening, OwnLock, Kept, Life, Progress, Backend}
 use Rattle.backend_core.specs.declared.life.Life.TheVariants as lives
 
 -- the backend has left
@@ -34,21 +34,21 @@ relation_to_open (Do (Open rel kind) rest) = Some rel
 relation_to_open plan = None
 
 -- the first of these descriptors that lacks a scan
-abbrev pub lacking_first : List KeptScan → List Opening → Option Opening
+abbrev pub lacking_first : Kept → List Opening → Option Opening
 lacking_first kept opened = find (λ o. is_some (find (λ scan. not (is_kept kept scan)) (build_scans o.kind o.rel))) opened
 
 -- the first scan that these descriptors lack
-abbrev pub build_first : List KeptScan → List Opening → Option Purpose
+abbrev pub build_first : Kept → List Opening → Option Purpose
 build_first kept opened = elim (lacking_first kept opened) [ Some o ↦ find (λ scan. not (is_kept kept scan)) (build_scans o.kind o.rel) | None ↦ None ]
 
 -- the relation of the descriptor that is being built: the first opened one that lacks a scan, or the one that is to be opened
 abbrev pub built_relation : Progress → Option Oid
-built_relation s = elim (lacking_first s.kept s.opened) [ Some o ↦ Some o.rel | None ↦ relation_to_open (plan_at s.exec) ]
+built_relation s = elim (lacking_first (kept_at s) s.opened) [ Some o ↦ Some o.rel | None ↦ relation_to_open (plan_at s.exec) ]
 
 -- the descriptor that is being built has made its first scan
 abbrev pub has_begun : Progress → Bool
-has_begun s = option_map_or (λ rel. is_kept s.kept (scans.Class rel)) (built_relation s) false
+has_begun s = option_map_or (λ rel. is_kept (kept_at s) (scans.Class rel)) (built_relation s) false
 
 -- messages mark the descriptor that is being built: its first scan is made, and one of them is for its relation, so that the build starts over, with another look
 abbrev pub marks_build : Progress → List Message → Bool
-marks_build s messages = option_map_or (λ rel. is_kept s.kept (scans.Class rel) && list_any (covers (scans.Class rel)) messages) (built_relation s) false
+marks_build s messages = option_map_or (λ rel. is_kept (kept_at s) (scans.Class rel) && list_any (covers (scans.Class rel)) messages) (built_relation s) false

@@ -12,10 +12,12 @@ ghost use Rattle.backend_core.specs.Steps.{IsNextOf, IsFree, IsScanNext, ComesOf
 
 use crate::{Backend, Next};
 use base_types::{Command, Mode, Name, Oid, Purpose, Row, Xid};
-use cacheless::{Due, Ending, first_lacking, first_missing};
+use cacheless::{Due, Ending, first_lacking};
 use ddl_effect::Want;
 
 impl Backend {
+    ghost use Rattle.cacheless.specs.State.{kept_at};
+
     // What it does next. Conditions: nothing is left to be done without an entry, and what its plan reads
     // is of a descriptor that it has opened.
     pub(crate) fn next(&self) -> Next
@@ -97,11 +99,11 @@ impl Backend {
 
     // The first scan that its opened descriptors lack.
     fn first_build(&self) -> Option<Purpose>
-        ensures { result ≡ build_first self.now.progress.kept self.now.progress.opened }
+        ensures { result ≡ build_first (kept_at self.now.progress) self.now.progress.opened }
     {
-        let kept = &self.progress.kept;
-        match first_lacking(kept, self.progress.opened.as_slice()) {
-            Some(o) => first_missing(kept, o.kind, o.rel),
+        let caches = &self.progress.caches;
+        match first_lacking(caches, self.progress.opened.as_slice()) {
+            Some(o) => caches.first_missing(o.kind, o.rel),
             None => None,
         }
     }
@@ -114,13 +116,13 @@ impl Backend {
         requires free { IsFree self.now.progress command.now }
         requires want { want_of (plan_at self.now.progress.exec) ≡ want.now }
         requires goes { has_failed self.now.progress ≡ false }
-        requires whole { lacks_opened self.now.progress.kept self.now.progress.opened ≡ false }
+        requires whole { lacks_opened (kept_at self.now.progress) self.now.progress.opened ≡ false }
         ensures { IsNextOf self.now result }
     {
         match want {
             Want::Lookup { name, mode } => self.next_of_lookup(command, *name, *mode),
             Want::Search(scan) => self.next_of_name(*scan),
-            Want::Open { rel, kind } => match first_missing(&self.progress.kept, *kind, *rel) {
+            Want::Open { rel, kind } => match self.progress.caches.first_missing(*kind, *rel) {
                 Some(scan) => self.next_of_build(scan),
                 None => unreachable!(),
             },
@@ -169,7 +171,7 @@ impl Backend {
         requires still { IsAtRest self.now.progress }
         requires free { IsFree self.now.progress command.now }
         requires want { want_of (plan_at self.now.progress.exec) ≡ Want.Lookup name mode }
-        requires whole { lacks_opened self.now.progress.kept self.now.progress.opened ≡ false }
+        requires whole { lacks_opened (kept_at self.now.progress) self.now.progress.opened ≡ false }
         ensures { IsNextOf self.now result }
     {
         if !self.progress.owes_nothing(command) {

@@ -5,25 +5,27 @@
 // it, and ends the acceptance.
 
 ghost use Rattle.std.specs.Prelude.{◌≡◌, ◌≤◌, ◌<◌, ◌&&◌, ◌||◌, [], None, List, not, length};
+ghost use Rattle.std.specs.List.{list_any};
 ghost use Rattle.base_types.specs.Scenario.{Scenario};
+ghost use Rattle.base_types.specs.declared.scan.Purpose.TheVariants as scans;
+ghost use Rattle.inval_messages.specs.Messages.{covers};
 ghost use Rattle.event_kinds.specs.declared.entry.Entry.{Entry};
 ghost use Rattle.backend_core.specs.Words.{built_relation as relation_built, has_begun, marks_build};
 
 use crate::Backend;
 use arrayvec::ArrayVec;
 use base_types::{Fetched, Oid, Purpose};
-use cacheless::{first_lacking, has_kept, is_covered};
+use cacheless::first_lacking;
 use ddl_effect::Want;
 use inval_messages::Message;
 use seg_calls::Seg;
-use std::alloc::Global;
 
 impl Backend {
     ghost use Rattle.event_kinds.specs.declared.entry.Event.TheVariants as events;
     ghost use Rattle.history_model.specs.Log.{fetched_by};
     ghost use Rattle.cacheless.specs.Holds.{Rests, HasEntered};
     ghost use Rattle.cacheless.specs.May.{HasRoom};
-    ghost use Rattle.cacheless.specs.State.{kept_spared};
+    ghost use Rattle.cacheless.specs.State.{kept_at, nothing_kept, kept_spared};
     ghost use Rattle.backend_core.specs.Agrees.{IsReady};
     ghost use Rattle.backend_core.specs.declared.next.Next.TheVariants as nexts;
     ghost use Rattle.backend_core.specs.Steps.{Enters, IsNextOf};
@@ -41,7 +43,7 @@ impl Backend {
         self.progress.enter_look(some_wait);
     }
 
-    // The look before a scan, for a descriptor or of a name.
+    // The look before a scan, for a descriptor or of a catalog cache.
     pub(crate) fn look_before_scan<L: Seg>(&mut self, seg: &mut L, builds: bool)
         requires ready { IsReady (L.script seg.old) (L.history seg.old) self.old }
         requires place { 0 < L.promised seg.old self.old.progress.id }
@@ -58,7 +60,7 @@ impl Backend {
 
     // The fetch of messages that wait. What they cover isn't relied on any more, and after a reset
     // nothing is.
-    pub(crate) fn fetch<L: Seg>(&mut self, alloc: Global, seg: &mut L)
+    pub(crate) fn fetch<L: Seg>(&mut self, seg: &mut L)
         requires ready { IsReady (L.script seg.old) (L.history seg.old) self.old }
         requires place { 0 < L.promised seg.old self.old.progress.id }
         requires next { IsNextOf self.old (nexts.Fetch) }
@@ -68,7 +70,7 @@ impl Backend {
         let mut messages = ArrayVec::new();
         match seg.fetch(self.progress.id, self.progress.finished + 1, &mut messages) {
             Fetched::Messages(_) => self.take_messages(messages.as_slice()),
-            Fetched::Reset => self.take_reset(alloc),
+            Fetched::Reset => self.take_reset(),
         }
     }
 
@@ -78,7 +80,7 @@ impl Backend {
         requires room { HasRoom self.old.progress }
         ensures holds { (scenario : Scenario) (seen : List Entry) → (rests : Rests scenario seen self.old.progress) → messages.now ≡ fetched_by seen self.old.progress.id (length messages.now) → HasEntered scenario seen self.old.progress (events.Fetch (length messages.now)) rests self.new.progress }
         ensures is { self.new ≡ record self.old { progress = self.new.progress; looked_to_build = self.old.looked_to_build && not (marks_build self.old.progress messages.now) } }
-        ensures kept { self.new.progress.kept ≡ kept_spared messages.now self.old.progress.kept }
+        ensures kept { kept_at self.new.progress ≡ kept_spared messages.now (kept_at self.old.progress) }
         ensures answer { self.new.progress.answer ≡ None }
     {
         let marked = self.is_marked(messages);
@@ -89,16 +91,16 @@ impl Backend {
     // It takes a reset: all that it has read goes (`InvalidateSystemCaches` in
     // `src/backend/utils/cache/inval.c`, `RelationCacheInvalidate` in
     // `src/backend/utils/cache/relcache.c`).
-    fn take_reset(&mut self, alloc: Global)
+    fn take_reset(&mut self)
         requires few { self.old.progress.finished ≤ 20000 }
         requires room { HasRoom self.old.progress }
         ensures holds { (scenario : Scenario) (seen : List Entry) → (rests : Rests scenario seen self.old.progress) → HasEntered scenario seen self.old.progress events.FetchReset rests self.new.progress }
         ensures is { self.new ≡ record self.old { progress = self.new.progress; looked_to_build = self.old.looked_to_build && not (has_begun self.old.progress) } }
-        ensures kept { self.new.progress.kept ≡ [] }
+        ensures kept { kept_at self.new.progress ≡ nothing_kept }
         ensures answer { self.new.progress.answer ≡ None }
     {
         let marked = self.has_begun_build();
-        self.progress.enter_reset(alloc);
+        self.progress.enter_reset();
         self.looked_to_build = still_looked(self.looked_to_build, marked);
     }
 
@@ -109,10 +111,7 @@ impl Backend {
         ensures { result ≡ marks_build self.now.progress messages.now }
     {
         match self.built_relation() {
-            Some(rel) => {
-                let first = Purpose::Class(rel);
-                has_kept(&self.progress.kept, &first) && is_covered(messages, &first)
-            }
+            Some(rel) => self.progress.caches.has(&Purpose::Class(rel)) && tells_of(messages, rel),
             None => false,
         }
     }
@@ -122,7 +121,7 @@ impl Backend {
         ensures { result ≡ has_begun self.now.progress }
     {
         match self.built_relation() {
-            Some(rel) => has_kept(&self.progress.kept, &Purpose::Class(rel)),
+            Some(rel) => self.progress.caches.has(&Purpose::Class(rel)),
             None => false,
         }
     }
@@ -132,7 +131,7 @@ impl Backend {
     fn built_relation(&self) -> Option<Oid>
         ensures { result ≡ relation_built self.now.progress }
     {
-        match first_lacking(&self.progress.kept, self.progress.opened.as_slice()) {
+        match first_lacking(&self.progress.caches, self.progress.opened.as_slice()) {
             Some(o) => Some(o.rel),
             None => match self.progress.exec.next() {
                 Want::Open { rel, .. } => Some(rel),
@@ -140,6 +139,15 @@ impl Backend {
             },
         }
     }
+}
+
+// Whether one of the messages is for the relation's descriptor.
+fn tells_of(messages: &[Message], rel: Oid) -> bool
+    ensures { result ≡ list_any (covers (scans.Class rel)) messages.now }
+{
+    messages
+        .iter()
+        .any(|message| message.is_same(Message::Rel { rel }))
 }
 
 // Whether a look counts for the next scan, with one more that may be for it.

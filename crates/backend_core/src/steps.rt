@@ -41,7 +41,7 @@ impl Backend {
         match next {
             Next::Look => self.look(seg),
             Next::LookBeforeScan { builds } => self.look_before_scan(seg, *builds),
-            Next::Fetch => self.fetch(alloc, seg),
+            Next::Fetch => self.fetch(seg),
             Next::Scan { scan, builds } => self.scan(seg, scan, *builds)?,
             Next::Lock { rel, mode } => self.lock(seg, *rel, *mode)?,
             Next::Write => self.write(alloc, seg)?,

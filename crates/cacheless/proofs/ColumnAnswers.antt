@@ -1,15 +1,15 @@
 -- What the scans of a relation's columns by their names give is given by its columns: but for what a weak mode may change it stays, where they stay.
-use Rattle.std.proofs.Common.{Ordering, Less, Equal, Greater, ◌≡◌, ◌∙◌, ◌⊎◌, inl, inr, ℕ, zero, suc, Bool, true, false, List, [], ◌∷◌, ◌==◌, refl, sym, ap, subst, map, filter, fold, cond}
+use Rattle.std.proofs.Common.{Ordering, Less, Equal, Greater, ◌≡◌, ◌∙◌, ◌⊎◌, inl, inr, ℕ, Bool, true, false, List, [], ◌∷◌, ◌==◌, refl, sym, ap, subst, map, filter}
 use Rattle.std.specs.Prelude.{⊤}
 use Rattle.std.specs.Cmp.Lexicographic.{slice_cmp}
-use Rattle.std.specs.List.{AllByRecursion, insert, position_or_len}
+use Rattle.std.specs.List.{AllByRecursion}
 use Rattle.std.specs.Ordering.{nat_cmp, is_lt, is_eq, ordering_reverse}
 use Rattle.std.specs.Str.{bytes_eq}
 use Rattle.std.proofs.lemmas.Bool.{eqb-true, and_parts}
 use Rattle.std.proofs.lemmas.Cmp.{nat_list_cmp_total}
 use Rattle.std.proofs.lemmas.Map.Text.{is_eq-slice_cmp}
 use Rattle.base_types.specs.RowKeys.{key_of}
-use Rattle.base_types.specs.Scans.{same_oid, selects, row_number, row_name, goes_before, put_in_order, scan_of, IsInOrder}
+use Rattle.base_types.specs.Scans.{same_oid, selects, row_name, goes_before, scan_of, IsInOrder}
 use Rattle.base_types.specs.declared.row.Row.TheVariants as rows
 use Rattle.base_types.specs.declared.scan.Purpose.TheVariants as scans
 use Rattle.base_types.proofs.ScanOrder.{scan_of-answers}
@@ -17,62 +17,22 @@ use Rattle.history_model.specs.Orderly.{IsSound}
 use Rattle.history_model.specs.Prefixes.{EachEntry}
 use Rattle.history_model.specs.Versions.{versions_of, sees, rows_of, answer_of}
 use Rattle.history_model.proofs.Asking.{bytes_same, oid_eq}
+use Rattle.history_model.proofs.ColumnsKept.{IsOfColumns, column_asks, column_fixes, AreAmong, columns_among, by_number}
 use Rattle.history_model.proofs.Every.{every-weaker, every, every-map, every-filter, every-both, SomeOf, some-weaker, some-map, some-unmap, some-filter, from_some}
 use Rattle.history_model.proofs.FixedRows.{fixed}
-use Rattle.history_model.proofs.InOrder.{IsIn, Differ, every_given, some_given, scan_same}
+use Rattle.history_model.proofs.GivenRows.{given_asked}
+use Rattle.history_model.proofs.InOrder.{IsIn, Differ, every_given, some_given, pair_given}
 use Rattle.history_model.proofs.Ordered.{one_version, one_seen}
 use Rattle.history_model.proofs.Seen.{Pairwise, pair-weaker, pair-map, pair-filter}
 use Rattle.history_model.proofs.WeakChanges.{column_apart, every_self}
 use Rattle.cacheless.specs.Types.{Oid, Row, Purpose, Entry}
 use Rattle.cacheless.specs.TableWrites.{AreNamesakes, WritesTables}
 use Rattle.cacheless.proofs.NamedColumns.{seen_apart}
-use Rattle.cacheless.proofs.StillSeen.{given_seen, row_given}
-
--- the scan of a relation's column by its name
-abbrev pub IsOfColumn : Oid → Purpose → Type 0
-IsOfColumn rel scan = (name : List ℕ) × (scan ≡ scans.AttName rel name)
-
--- the same, or the scan of all its columns by their names
-abbrev pub IsOfColumns : Oid → Purpose → Type 0
-IsOfColumns rel scan = IsOfColumn rel scan ⊎ (scan ≡ scans.AttList rel)
-
--- what such a scan asks for
-column_asks : (rel : Oid) (scan : Purpose) → IsOfColumns rel scan → (row : Row) → selects scan row ≡ true → selects (scans.Attribute rel) row ≡ true
-column_asks rel scan (inl (name, is)) row asks = of row (ap (λ d. selects d row) (sym is) ∙ asks)
-  where
-    of : (r : Row) → selects (scans.AttName rel name) r ≡ true → selects (scans.Attribute rel) r ≡ true
-    of (rows.Att own num called col_type stat live) asked = (and_parts (same_oid own rel) (bytes_eq called name) asked).0
-    of r asked = absurd (cc asked)
-column_asks rel scan (inr is) row asks = of row (ap (λ d. selects d row) (sym is) ∙ asks)
-  where
-    of : (r : Row) → selects (scans.AttList rel) r ≡ true → selects (scans.Attribute rel) r ≡ true
-    of (rows.Att own num called col_type stat live) asked = asked
-    of r asked = absurd (cc asked)
-
--- no weak mode may change it
-column_fixes : (rel : Oid) (scan : Purpose) → IsOfColumns rel scan → (row : Row) → selects scan (fixed row) ≡ selects scan row
-column_fixes rel scan (inl (name, is)) row = ap (λ d. selects d (fixed row)) is ∙ of row ∙ ap (λ d. selects d row) (sym is)
-  where
-    of : (r : Row) → selects (scans.AttName rel name) (fixed r) ≡ selects (scans.AttName rel name) r
-    of (rows.Class own called kind fill) = refl
-    of (rows.Att own num called col_type stat live) = refl
-    of r = refl
-column_fixes rel scan (inr is) row = ap (λ d. selects d (fixed row)) is ∙ of row ∙ ap (λ d. selects d row) (sym is)
-  where
-    of : (r : Row) → selects (scans.AttList rel) (fixed r) ≡ selects (scans.AttList rel) r
-    of (rows.Class own called kind fill) = refl
-    of (rows.Att own num called col_type stat live) = refl
-    of r = refl
 
 name_fixed : (row : Row) → row_name (fixed row) ≡ row_name row
 name_fixed (rows.Class own called kind fill) = refl
 name_fixed (rows.Att own num called col_type stat live) = refl
 name_fixed row = refl
-
-number_fixed : (row : Row) → row_number (fixed row) ≡ row_number row
-number_fixed (rows.Class own called kind fill) = refl
-number_fixed (rows.Att own num called col_type stat live) = refl
-number_fixed row = refl
 
 -- neither of two names comes before the other: they are one
 names_tie : (name other : List ℕ) → is_lt (slice_cmp nat_cmp name other) ≡ false → is_lt (slice_cmp nat_cmp other name) ≡ false → name ≡ other
@@ -131,31 +91,6 @@ one_order before P tied (u ∷ us) (v ∷ vs) ps qs order order' apart apart' al
         tail (inl is) = absurd (differ.0 (ap row_name (sym same ∙ sym is)))
         tail (inr later) = later
 
--- what holds of each two rows, in either order, holds of each two that a scan gives of them
-pair_inserted : (R : Row → Row → Type 0) → ((row other : Row) → R row other → R other row) → (given : List Row) (n : ℕ) (row : Row) → Pairwise R given → AllByRecursion (R row) given → Pairwise R (insert given n row)
-pair_inserted R back given zero row pairs all = (all, pairs)
-pair_inserted R back [] (suc n) row pairs all = (tt, tt)
-pair_inserted R back (x ∷ given) (suc n) row pairs all = (all_inserted given n pairs.0, pair_inserted R back given n row pairs.1 all.1)
-  where
-    all_inserted : (others : List Row) (m : ℕ) → AllByRecursion (R x) others → AllByRecursion (R x) (insert others m row)
-    all_inserted others zero every' = (back row x all.0, every')
-    all_inserted [] (suc m) every' = (back row x all.0, tt)
-    all_inserted (y ∷ others) (suc m) every' = (every'.0, all_inserted others m every'.1)
-
-pair_given : (R : Row → Row → Type 0) → ((row other : Row) → R row other → R other row) → (d : Purpose) (given found : List Row) → Pairwise R given → AllByRecursion (λ row. AllByRecursion (R row) given) found → Pairwise R found → Pairwise R (fold (put_in_order d) given found)
-pair_given R back d given [] pairs apart also = pairs
-pair_given R back d given (row ∷ found) pairs apart also =
-    pair_given R back d (put_in_order d given row) found (pair_inserted R back given (position_or_len (goes_before d row) given) row pairs apart.0) (with_row found apart.1 also.0) also.1
-  where
-    one_more : (x : Row) (others : List Row) (n : ℕ) → AllByRecursion (R x) others → R row x → AllByRecursion (R x) (insert others n row)
-    one_more x others zero every' is = (back row x is, every')
-    one_more x [] (suc n) every' is = (back row x is, tt)
-    one_more x (y ∷ others) (suc n) every' is = (every'.0, one_more x others n every'.1 is)
-
-    with_row : (later : List Row) → AllByRecursion (λ x. AllByRecursion (R x) given) later → AllByRecursion (R row) later → AllByRecursion (λ x. AllByRecursion (R x) (put_in_order d given row)) later
-    with_row [] every' is = tt
-    with_row (x ∷ later) every' is = (one_more x given (position_or_len (goes_before d row) given) every'.0 is.0, with_row later every'.1 is.1)
-
 -- of a relation's columns that a backend sees no two have one number
 numbers_differ : (history : List Entry) (b : ℕ) (rel : Oid) → IsSound history → Pairwise (λ row other. selects (scans.Attribute rel) row ≡ true → selects (scans.Attribute rel) other ≡ true → Differ row other) (rows_of history b)
 numbers_differ history b rel sound = pair-map Numbered (λ v. v.row) (filter (sees history b) (versions_of history)) (pair-filter (λ v w. Numbered v.row w.row) (sees history b) (versions_of history)
@@ -164,15 +99,6 @@ numbers_differ history b rel sound = pair-map Numbered (λ v. v.row) (filter (se
   where
     Numbered : Row → Row → Type 0
     Numbered row other = selects (scans.Attribute rel) row ≡ true → selects (scans.Attribute rel) other ≡ true → Differ row other
-
-differ_back : (row other : Row) → Differ row other → Differ other row
-differ_back row other differ same = differ (sym same)
-
-given_differ : (history : List Entry) (b : ℕ) (rel : Oid) (scan : Purpose) → IsOfColumns rel scan → IsSound history → Pairwise Differ (answer_of history b scan)
-given_differ history b rel scan of sound = pair_given Differ differ_back scan [] (filter (selects scan) (rows_of history b)) tt (every (λ row. ⊤) (λ row. tt) (filter (selects scan) (rows_of history b)))
-    (pair-filter Differ (selects scan) (rows_of history b) (pair-weaker (λ row. ⊤) (λ row other. selects (scans.Attribute rel) row ≡ true → selects (scans.Attribute rel) other ≡ true → Differ row other)
-    (λ row other. selects scan row ≡ true → selects scan other ≡ true → Differ row other) (λ row other _ _ differ asks also. differ (column_asks rel scan of row asks) (column_asks rel scan of other also)) (rows_of history b) (every (λ row. ⊤) (λ row. tt) (rows_of history b))
-    (numbers_differ history b rel sound)))
 
 -- two columns of a relation with different numbers that aren't namesakes have different names
 names_of_columns : (rel : Oid) (row other : Row) → selects (scans.Attribute rel) row ≡ true → selects (scans.Attribute rel) other ≡ true → Differ row other → (AreNamesakes row other → ⊥) → NamesDiffer row other
@@ -184,7 +110,8 @@ names_of_columns rel (rows.Att own num name col_type stat live) (rows.Att of oth
 names_of_columns rel (rows.Att own num name col_type stat live) other asks also differ apart same = absurd (cc also)
 names_of_columns rel row other asks also differ apart same = absurd (cc asks)
 
-pair-both : {X : Type 0} (R S : X → X → Type 0) (xs : List X) → Pairwise R xs → Pairwise S xs → Pairwise (λ x y. R x y × S x y) xs
+-- two things that hold of each two elements
+pub pair-both : {X : Type 0} (R S : X → X → Type 0) (xs : List X) → Pairwise R xs → Pairwise S xs → Pairwise (λ x y. R x y × S x y) xs
 pair-both R S [] one two = tt
 pair-both R S (x ∷ xs) one two = (joined xs one.0 two.0, pair-both R S xs one.1 two.1)
   where
@@ -193,39 +120,11 @@ pair-both R S (x ∷ xs) one two = (joined xs one.0 two.0, pair-both R S xs one.
     joined (y ∷ ys) r s = ((r.0, s.0), joined ys r.1 s.1)
 
 given_named : (history : List Entry) (b : ℕ) (rel : Oid) (scan : Purpose) → IsOfColumns rel scan → IsSound history → EachEntry WritesTables history → Pairwise NamesDiffer (answer_of history b scan)
-given_named history b rel scan of sound tables = pair_given NamesDiffer (λ row other differ same. differ (sym same)) scan [] (filter (selects scan) (rows_of history b)) tt (every (λ row. ⊤) (λ row. tt) (filter (selects scan) (rows_of history b)))
+given_named history b rel scan of sound tables = pair_given NamesDiffer (λ row other differ same. differ (sym same)) scan (filter (selects scan) (rows_of history b))
     (pair-filter NamesDiffer (selects scan) (rows_of history b) (pair-weaker (λ row. ⊤) (λ row other. (selects (scans.Attribute rel) row ≡ true → selects (scans.Attribute rel) other ≡ true → Differ row other) × (AreNamesakes row other → ⊥))
     (λ row other. selects scan row ≡ true → selects scan other ≡ true → NamesDiffer row other)
     (λ row other _ _ h asks also. let first = column_asks rel scan of row asks in let second = column_asks rel scan of other also in names_of_columns rel row other first second (h.0 first second) h.1) (rows_of history b) (every (λ row. ⊤) (λ row. tt) (rows_of history b))
     (pair-both (λ row other. selects (scans.Attribute rel) row ≡ true → selects (scans.Attribute rel) other ≡ true → Differ row other) (λ row other. AreNamesakes row other → ⊥) (rows_of history b) (numbers_differ history b rel sound) (seen_apart history b sound tables))))
-
--- each row is there too, but for what a weak mode may change
-abbrev AreAmong : List Row → List Row → Type 0
-AreAmong given others = AllByRecursion (λ row. SomeOf (λ other. fixed row ≡ fixed other) others) given
-
--- what a scan gives is what it asks for
-given_asked : (history : List Entry) (b : ℕ) (scan : Purpose) → AllByRecursion (λ row. selects scan row ≡ true) (answer_of history b scan)
-given_asked history b scan = every-weaker (λ row. IsIn row (rows_of history b) × (selects scan row ≡ true)) (λ row. selects scan row ≡ true) (λ row is. is.1) (answer_of history b scan) (given_seen history b scan)
-
--- where the columns stay, so does what such a scan gives
-columns_among : (history later : List Entry) (b : ℕ) (rel : Oid) (scan : Purpose) → IsOfColumns rel scan → map fixed (answer_of later b (scans.Attribute rel)) ≡ map fixed (answer_of history b (scans.Attribute rel)) → AreAmong (answer_of later b scan) (answer_of history b scan)
-columns_among history later b rel scan of same = every-weaker (λ row. IsIn row (rows_of later b) × (selects scan row ≡ true)) (λ row. SomeOf (λ other. fixed row ≡ fixed other) (answer_of history b scan)) found (answer_of later b scan) (given_seen later b scan)
-  where
-    found : (row : Row) → IsIn row (rows_of later b) × (selects scan row ≡ true) → SomeOf (λ other. fixed row ≡ fixed other) (answer_of history b scan)
-    found row is = row_given Alike history b scan asks (from_some Alike (SomeOf Alike (rows_of history b)) (answer_of history b (scans.Attribute rel))
-        (every-weaker (λ other. IsIn other (rows_of history b) × (selects (scans.Attribute rel) other ≡ true)) (λ other. Alike other → SomeOf Alike (rows_of history b))
-        (λ other there alike. some-weaker (λ r. other ≡ r) Alike (λ r one. subst Alike one alike) (rows_of history b) there.0) (answer_of history b (scans.Attribute rel)) (given_seen history b (scans.Attribute rel)))
-        (some-unmap (λ x. fixed row ≡ x) fixed (answer_of history b (scans.Attribute rel)) (subst (SomeOf (λ x. fixed row ≡ x)) same (some-map (λ x. fixed row ≡ x) fixed (answer_of later b (scans.Attribute rel)) column_there))))
-      where
-        Alike : Row → Type 0
-        Alike other = fixed row ≡ fixed other
-
-        column_there : SomeOf (λ other. fixed row ≡ fixed other) (answer_of later b (scans.Attribute rel))
-        column_there = some-weaker (λ other. row ≡ other) Alike (λ other one. ap fixed one) (answer_of later b (scans.Attribute rel))
-            (row_given (λ other. row ≡ other) later b (scans.Attribute rel) (λ other one. subst (λ r. selects (scans.Attribute rel) r ≡ true) one (column_asks rel scan of row is.1)) is.0)
-
-        asks : (other : Row) → Alike other → selects scan other ≡ true
-        asks other alike = sym (column_fixes rel scan of other) ∙ ap (selects scan) (sym alike) ∙ column_fixes rel scan of row ∙ is.1
 
 -- in the order of the columns' names
 in_order : (history : List Entry) (b : ℕ) (rel : Oid) (scan : Purpose) → IsOfColumns rel scan → IsInOrder (goes_before scan) (map fixed (answer_of history b scan))
@@ -260,33 +159,6 @@ pub columns_stay : (history later : List Entry) (b : ℕ) (rel : Oid) (scan : Pu
     → map fixed (answer_of later b (scans.Attribute rel)) ≡ map fixed (answer_of history b (scans.Attribute rel)) → map fixed (answer_of later b scan) ≡ map fixed (answer_of history b scan)
 columns_stay history later b rel scan of sound tables sound' tables' same =
     among_same history later b rel scan of sound tables sound' tables' (columns_among history later b rel scan of same) (columns_among later history b rel scan of (sym same))
-
--- rows in order of number, but for what a weak mode may change
-abbrev pub by_number : Oid → List Row → List Row
-by_number rel given = map fixed (scan_of (scans.Attribute rel) given)
-
--- so it is with the columns in order of number, whatever their names are
-pub numbered_stay : (history later : List Entry) (b : ℕ) (rel : Oid) (scan : Purpose) → IsOfColumns rel scan → IsSound history → IsSound later → map fixed (answer_of later b (scans.Attribute rel)) ≡ map fixed (answer_of history b (scans.Attribute rel))
-    → by_number rel (answer_of later b scan) ≡ by_number rel (answer_of history b scan)
-numbered_stay history later b rel scan of sound sound' same =
-    scan_same (scans.Attribute rel) fixed number_fixed (answer_of later b scan) (answer_of history b scan) ((column_apart rel).by_number (answer_of later b scan)) ((column_apart rel).by_number (answer_of history b scan)) (differ later sound') (differ history sound)
-    (among later history (columns_among history later b rel scan of same)) (among history later (columns_among later history b rel scan of (sym same)))
-  where
-    d : Purpose
-    d = scans.Attribute rel
-
-    differ : (h : List Entry) → IsSound h → Pairwise Differ (filter (selects d) (answer_of h b scan))
-    differ h well = pair-filter Differ (selects d) (answer_of h b scan) (pair-weaker (λ row. ⊤) Differ (λ row other. selects d row ≡ true → selects d other ≡ true → Differ row other) (λ row other _ _ apart asks also. apart) (answer_of h b scan) (every (λ row. ⊤) (λ row. tt) (answer_of h b scan)) (given_differ h b rel scan of well))
-
-    all_asked : (h : List Entry) → filter (selects d) (answer_of h b scan) ≡ answer_of h b scan
-    all_asked h = kept (answer_of h b scan) (given_asked h b scan)
-      where
-        kept : (given : List Row) → AllByRecursion (λ row. selects scan row ≡ true) given → filter (selects d) given ≡ given
-        kept [] all = refl
-        kept (row ∷ given) all = ap (λ t. cond t (row ∷ filter (selects d) given) (filter (selects d) given)) (column_asks rel scan of row all.0) ∙ ap (λ l. row ∷ l) (kept given all.1)
-
-    among : (h other : List Entry) → AreAmong (answer_of h b scan) (answer_of other b scan) → AreAmong (filter (selects d) (answer_of h b scan)) (filter (selects d) (answer_of other b scan))
-    among h other all = subst (λ l. AreAmong l (filter (selects d) (answer_of other b scan))) (sym (all_asked h)) (subst (AreAmong (answer_of h b scan)) (sym (all_asked other)) all)
 
 -- and if they are the same in order of number, they are so in the scan's own
 pub numbered_same : (history later : List Entry) (b : ℕ) (rel : Oid) (scan : Purpose) → IsOfColumns rel scan → IsSound history → EachEntry WritesTables history → IsSound later → EachEntry WritesTables later

@@ -26,7 +26,6 @@ use Rattle.history_model.specs.Transactions.{is_visible}
 use Rattle.history_model.specs.Sent.{unsent_in}
 use Rattle.history_model.specs.Writes.{is_empty}
 use Rattle.cacheless.specs.Types.{Oid, Xid, Mode, Kind, Message, Row, Purpose, Command, Scenario, Entry, Item, Event, Opening}
-use Rattle.cacheless.specs.declared.kept_scan.KeptScan.{KeptScan}
 use Rattle.txn_blocks.specs.declared.transaction.RunningTransaction.{RunningTransaction}
 use Rattle.cacheless.specs.declared.progress.Progress.{Progress}
 use Rattle.cacheless.specs.Facts.{Facts, facts_of}
@@ -36,7 +35,7 @@ use Rattle.cacheless.specs.Ends.{End, Ends, Commits, TakesBack, xid_of, next_sen
 use Rattle.cacheless.specs.Plays.{IsLock, drafted, IsWrite, names_of, IsClash, IsEnd, IsLastEnd, MayPlay, MayPlayLast, MayPlayIn}
 use Rattle.cacheless.specs.Puts.{is_opened, PutOpened, PutsOpened}
 use Rattle.cacheless.specs.Settled.{class_oid}
-use Rattle.cacheless.specs.State.{owed_at, owed_first, running_of, is_visible_at, published_at, xid_at, unsent_at, has_write_since, is_kept, row_sought, missing, builds_missing, act_missing, scans_missing, end_of_running, end_at, Rest, session_at}
+use Rattle.cacheless.specs.State.{owed_at, owed_first, running_of, is_visible_at, published_at, xid_at, unsent_at, has_write_since, Kept, kept_at, is_kept, row_sought, missing, builds_missing, act_missing, scans_missing, end_of_running, end_at, Rest, session_at}
 use Rattle.cacheless.specs.May.{may_look_at, is_next_at, has_looked_at, lacks_any, owes_nothing, names_relation, is_lock_at, is_write_at, names_by, is_clash_at, releases, shows, publishes, takes_back, is_next_sent, is_next_of_commit, is_next_of_back, is_next_of_end, owes_no_end, may_end_at, may_play_at, may_end_last, may_last_at, may_play_now}
 use Rattle.cacheless.specs.Holds.{FactsFit, Holds}
 use Rattle.cacheless.proofs.Tests.{and_true, empty_is, right_none}
@@ -86,7 +85,7 @@ lock_decides facts s (Do (Lookup name wanted) rest) rel mode fits at none =
     both_decide (names_relation rel (row_sought s name)) (same_mode mode wanted) (subst (λ o. Decides (names_relation rel o) (class_oid (facts.rows (scans.RelName name)) ≡ Some rel)) found (named_decides rel (facts.rows (scans.RelName name)))) (mode_decides mode wanted)
   where
     found : slice_get (facts.rows (scans.RelName name)) 0 ≡ row_sought s name
-    found = sought_same facts s name wanted rest fits at (right_none (builds_missing s.kept s.opened) (act_missing s (Do (Lookup name wanted) rest)) (lacks_none s (Lookup name wanted) rest at none))
+    found = sought_same facts s name wanted rest fits at (right_none (builds_missing (kept_at s) s.opened) (act_missing s (Do (Lookup name wanted) rest)) (lacks_none s (Lookup name wanted) rest at none))
 lock_decides facts s (Do (Lock other wanted) rest) rel mode fits at none = both_decide (same_oid rel other) (same_mode mode wanted) (oid_decides rel other) (mode_decides mode wanted)
 lock_decides facts s p rel mode fits at none = never (λ is. is)
 
@@ -111,7 +110,7 @@ one_kept true scan more is = refl
 one_kept false scan more is = absurd (cc)
 
 -- the scan of a relation's row is kept where an opened descriptor lacks none
-first_kept : (kept : List KeptScan) (kind : Kind) (rel : Oid) → missing kept (build_scans kind rel) ≡ [] → is_kept kept (scans.Class rel) ≡ true
+first_kept : (kept : Kept) (kind : Kind) (rel : Oid) → missing kept (build_scans kind rel) ≡ [] → is_kept kept (scans.Class rel) ≡ true
 first_kept kept Table rel none = one_kept (is_kept kept (scans.Class rel)) (scans.Class rel) (missing kept (scans.Attribute rel ∷ scans.AttrDef rel ∷ scans.Constraint rel ∷ scans.Index rel ∷ scans.Trigger rel ∷ [])) none
 first_kept kept Index rel none = one_kept (is_kept kept (scans.Class rel)) (scans.Class rel) (missing kept (scans.IndexRow rel ∷ [])) none
 
@@ -119,7 +118,7 @@ left_none : {X : Type 0} (xs ys : List X) → xs ++ ys ≡ [] → xs ≡ []
 left_none [] ys none = refl
 left_none (x ∷ xs) ys none = absurd (cc)
 
-opened_kept : (kept : List KeptScan) (opened : List Opening) (rel : Oid) → is_opened opened rel ≡ true → builds_missing kept opened ≡ [] → is_kept kept (scans.Class rel) ≡ true
+opened_kept : (kept : Kept) (opened : List Opening) (rel : Oid) → is_opened opened rel ≡ true → builds_missing kept opened ≡ [] → is_kept kept (scans.Class rel) ≡ true
 opened_kept kept [] rel is none = absurd (cc)
 opened_kept kept (o ∷ opened) rel is none = by_same (same_oid o.rel rel) refl is (opened_kept kept opened rel)
   where
@@ -128,12 +127,12 @@ opened_kept kept (o ∷ opened) rel is none = by_same (same_oid o.rel rel) refl 
     by_same false other any later = later any (right_none (missing kept (build_scans o.kind o.rel)) (builds_missing kept opened) none)
 
 -- the names that a draft gives
-change_names : (facts : Facts) (s : Progress) (next new_oids : ℕ) (change : Change) → FactsFit facts s → builds_missing s.kept s.opened ≡ [] → PutOpened s.opened new_oids change → names_of facts (item_of (drawn_change next new_oids change)) ≡ names_by s.kept change
+change_names : (facts : Facts) (s : Progress) (next new_oids : ℕ) (change : Change) → FactsFit facts s → builds_missing (kept_at s) s.opened ≡ [] → PutOpened s.opened new_oids change → names_of facts (item_of (drawn_change next new_oids change)) ≡ names_by (kept_at s) change
 change_names facts s next new_oids (changes.Insert (rows.Class oid name kind fill)) fits none puts = refl
 change_names facts s next new_oids (changes.Insert row) fits none puts = refl
 change_names facts s next new_oids (changes.Replace (rows.Class oid name kind fill)) fits none puts =
     ap (λ o. if list_any (has_name name) (facts.rows (scans.Class o)) then [] else name ∷ []) (puts.1 next)
-    ∙ ap (λ l. if list_any (has_name name) l then [] else name ∷ []) (kept_rows facts.rows s.kept (scans.Class oid) fits.kept (opened_kept s.kept s.opened oid puts.0 none))
+    ∙ ap (λ l. if list_any (has_name name) l then [] else name ∷ []) (kept_rows facts.rows (kept_at s) (scans.Class oid) fits.kept (opened_kept (kept_at s) s.opened oid puts.0 none))
 change_names facts s next new_oids (changes.Replace row) fits none puts = refl
 change_names facts s next new_oids (changes.Delete key) fits none puts = refl
 
@@ -141,18 +140,18 @@ forced_names : (facts : Facts) (forced : List Oid) → flat_map (names_of facts)
 forced_names facts [] = refl
 forced_names facts (rel ∷ forced) = forced_names facts forced
 
-all_names : (facts : Facts) (s : Progress) (next new_oids : ℕ) (given : List Change) (forced : List Oid) → FactsFit facts s → builds_missing s.kept s.opened ≡ [] → AllByRecursion (PutOpened s.opened new_oids) given
-    → flat_map (names_of facts) (items_of (map (drawn_change next new_oids) given) forced) ≡ flat_map (names_by s.kept) given
+all_names : (facts : Facts) (s : Progress) (next new_oids : ℕ) (given : List Change) (forced : List Oid) → FactsFit facts s → builds_missing (kept_at s) s.opened ≡ [] → AllByRecursion (PutOpened s.opened new_oids) given
+    → flat_map (names_of facts) (items_of (map (drawn_change next new_oids) given) forced) ≡ flat_map (names_by (kept_at s)) given
 all_names facts s next new_oids [] forced fits none puts = forced_names facts forced
 all_names facts s next new_oids (change ∷ given) forced fits none puts =
     ap (λ l. l ++ flat_map (names_of facts) (items_of (map (drawn_change next new_oids) given) forced)) (change_names facts s next new_oids change fits none puts.0)
-    ∙ ap (λ l. names_by s.kept change ++ l) (all_names facts s next new_oids given forced fits none puts.1)
+    ∙ ap (λ l. names_by (kept_at s) change ++ l) (all_names facts s next new_oids given forced fits none puts.1)
 
-clash_decides : (facts : Facts) (s : Progress) (next : ℕ) (name : List ℕ) (p : Plan) → FactsFit facts s → plan_at s.exec ≡ p → scans_missing s ≡ [] → PutsOpened s.opened p → Decides (is_clash_at s.kept name p) (IsClash facts next p name)
+clash_decides : (facts : Facts) (s : Progress) (next : ℕ) (name : List ℕ) (p : Plan) → FactsFit facts s → plan_at s.exec ≡ p → scans_missing s ≡ [] → PutsOpened s.opened p → Decides (is_clash_at (kept_at s) name p) (IsClash facts next p name)
 clash_decides facts s next name (Do (Write draft) rest) fits at none puts = by_path (ap (list_any (bytes_eq name)) (all_names facts s next draft.new_oids draft.changes draft.forced fits builds puts.0))
   where
-    builds : builds_missing s.kept s.opened ≡ []
-    builds = left_none (builds_missing s.kept s.opened) (act_missing s (Do (Write draft) rest)) (ap (λ q. elim (outcome_of q) as (λ x. List Purpose) [ Badly ↦ [] | other ↦ builds_missing s.kept s.opened ++ act_missing s q ]) (sym at) ∙ none)
+    builds : builds_missing (kept_at s) s.opened ≡ []
+    builds = left_none (builds_missing (kept_at s) s.opened) (act_missing s (Do (Write draft) rest)) (ap (λ q. elim (outcome_of q) as (λ x. List Purpose) [ Badly ↦ [] | other ↦ builds_missing (kept_at s) s.opened ++ act_missing s q ]) (sym at) ∙ none)
 clash_decides facts s next name p fits at none puts = never (λ is. is)
 
 -- the entries of an end
@@ -271,8 +270,8 @@ may_decides next facts command s rest (events.Scan scan n) fits puts count = dec
 may_decides next facts command s rest (events.LockOk rel mode) fits puts count = owed_decides (IsLock facts (plan_at s.exec) rel mode) facts command s rest (is_lock_at s (plan_at s.exec) rel mode) fits (lock_decides facts s (plan_at s.exec) rel mode fits refl)
 may_decides next facts command s rest (events.LockHeld rel mode holder held) fits puts count = owed_decides (IsLock facts (plan_at s.exec) rel mode) facts command s rest (is_lock_at s (plan_at s.exec) rel mode) fits (lock_decides facts s (plan_at s.exec) rel mode fits refl)
 may_decides next facts command s rest (events.Write xid written) fits puts count = owed_decides (IsWrite next (plan_at s.exec) written) facts command s rest (is_write_at next written (plan_at s.exec)) fits (λ none. write_decides next written (plan_at s.exec))
-may_decides next facts command s rest (events.ClashRow name rel) fits puts count = owed_decides (IsClash facts next (plan_at s.exec) name) facts command s rest (is_clash_at s.kept name (plan_at s.exec)) fits (λ none. clash_decides facts s next name (plan_at s.exec) fits refl none puts)
-may_decides next facts command s rest (events.ClashRunning name xid) fits puts count = owed_decides (IsClash facts next (plan_at s.exec) name) facts command s rest (is_clash_at s.kept name (plan_at s.exec)) fits (λ none. clash_decides facts s next name (plan_at s.exec) fits refl none puts)
+may_decides next facts command s rest (events.ClashRow name rel) fits puts count = owed_decides (IsClash facts next (plan_at s.exec) name) facts command s rest (is_clash_at (kept_at s) name (plan_at s.exec)) fits (λ none. clash_decides facts s next name (plan_at s.exec) fits refl none puts)
+may_decides next facts command s rest (events.ClashRunning name xid) fits puts count = owed_decides (IsClash facts next (plan_at s.exec) name) facts command s rest (is_clash_at (kept_at s) name (plan_at s.exec)) fits (λ none. clash_decides facts s next name (plan_at s.exec) fits refl none puts)
 may_decides next facts command s rest (events.Visible xid) fits puts count = end_decides facts command s rest (events.Visible xid) fits count
 may_decides next facts command s rest (events.Publish n) fits puts count = end_decides facts command s rest (events.Publish n) fits count
 may_decides next facts command s rest (events.Gone from) fits puts count = end_decides facts command s rest (events.Gone from) fits count

@@ -15,7 +15,9 @@ pub mod NoField
 pub mod WeakTargets
 pub mod LockedColumns
 pub mod AlteredTable
+pub mod DroppedTable
 pub mod ProtectedColumns
+pub mod CatalogCaches
 pub mod WrongEntries
 pub mod WrongPlays
 pub mod WrongResets

@@ -21,10 +21,11 @@ use Rattle.history_model.proofs.Locked.{IsSeenAs, found_first}
 use Rattle.history_model.proofs.Prefixes.{EachEntry-more, EachFrom-both, each-keeps}
 use Rattle.history_model.proofs.Reading.{is_usable-own, is_usable-other, rows_read-own, rows_read-other}
 use Rattle.history_model.proofs.Touched.{entry_of}
+use Rattle.history_model.proofs.GivenRows.{given_seen, row_given}
 use Rattle.cacheless.specs.Types.{Oid, Kind, Row, Purpose, Entry, Event}
 use Rattle.cacheless.specs.OnCourse.{IsFirstSeen}
 use Rattle.cacheless.specs.TableWrites.{WritesTables}
-use Rattle.cacheless.proofs.StillSeen.{MayCome, IsNoGone, TakesNoneBack, IsRelation, given_seen, version_seen, row_seen, row_given, relation_seen, seen_relation, relation_stays}
+use Rattle.cacheless.proofs.StillSeen.{MayCome, IsNoGone, TakesNoneBack, IsRelation, version_seen, row_seen, relation_seen, seen_relation, relation_stays}
 
 -- the first relation that a scan of the name gave is seen under this name, and with the kind that it gave
 abbrev IsSeenBy : List Entry → ℕ → List ℕ → List Row → Type 0

@@ -1,7 +1,7 @@
 -- A backend that keeps others from changing a table sees its columns numbered from 1, and none has the number after the last.
 use Rattle.std.proofs.Common.{◌≡◌, ◌≤◌, ◌<◌, ◌∙◌, ◌⊎◌, inl, inr, ℕ, Bool, true, false, not, Option, Some, None, List, [], ◌∷◌, ◌++◌, ◌==◌, ◌||◌, ◌&&◌, ◌+◌, ◌-◌, cond, refl, sym, ap, subst, map, filter, fold, length, arith}
 use Rattle.std.specs.Prelude.{⊤, nat_le, nat_lt}
-use Rattle.std.specs.List.{AllByRecursion, list_any, find}
+use Rattle.std.specs.List.{AllByRecursion, list_any, list_all, find}
 use Rattle.std.specs.Option.{option_map_or, IfSome}
 use Rattle.std.proofs.lemmas.Bool.{eqb-true, eq-eqb, both_ways, or_cases, or_left, or_right, and_parts, and_from, not-true, ltb-true, leb-true, le-leb, false_from_ne_true}
 use Rattle.base_types.specs.declared.ids.Xid.{Xid}
@@ -27,7 +27,7 @@ use Rattle.history_model.specs.Held.{held_of}
 use Rattle.history_model.specs.Sent.{lists_of}
 use Rattle.history_model.specs.Writes.{has_row}
 use Rattle.history_model.specs.Orderly.{has_key, main_rel, MayComeNext, IsSound}
-use Rattle.history_model.proofs.Prefixes.{each-keeps}
+use Rattle.history_model.proofs.Prefixes.{EachEntry-weaker, each-keeps}
 use Rattle.history_model.proofs.Reading.{is_committed-kept, running_transaction_of-own as running-own, versions_of-more as versions-more}
 use Rattle.history_model.proofs.Every.{every-weaker, every, every-append, every-map, every-filter, every-both, SomeOf, some-weaker, some_with, from_some, some-right}
 use Rattle.history_model.proofs.Asking.{oid_eq}
@@ -43,10 +43,12 @@ use Rattle.history_model.proofs.Ordered.{Ordered, Ordered-start, Ordered-more, a
 use Rattle.history_model.proofs.Steady.{find_some}
 use Rattle.history_model.proofs.WeakChanges.{column_apart, asked_differ}
 use Rattle.history_model.proofs.Locked.{changing_modes, bars, IsBarred, AreBarred}
+use Rattle.history_model.proofs.GivenRows.{given_seen, row_given}
 use Rattle.cacheless.specs.Types.{Oid, Row, Purpose, Entry, Event, Item}
 use Rattle.cacheless.specs.TableWrites.{is_table_key, gives_key, is_next_column, KeepsTablesBy, WritesTables}
-use Rattle.cacheless.proofs.Successors.{IsKept, by_kept, along_tables, counted_seen}
-use Rattle.cacheless.proofs.StillSeen.{IsSpared, some_written, some_stays, given_seen, version_seen, row_seen, row_given}
+use Rattle.cacheless.proofs.AlongSound.{along_sound}
+use Rattle.cacheless.proofs.Successors.{IsKept, by_kept, counted_seen}
+use Rattle.cacheless.proofs.StillSeen.{IsSpared, some_written, some_stays, version_seen, row_seen}
 
 -- the transaction of a stamp is committed, or a backend runs it
 abbrev pub Lasts : List Entry → Stamp → Row → Type 0
@@ -144,7 +146,7 @@ column_kept rel num = record { table = λ row is. ap is_table_key is; replaced =
 abbrev pub GoesFirst : List Entry → Stamp → Stamp → Type 0
 GoesFirst history s t = (is_committed history s.xid.0 ≡ true) ⊎ ((s.xid.0 ≡ t.xid.0) × (s.command ≤ t.command))
 
-first_then : (history : List Entry) (s t u : Stamp) → GoesFirst history s t → GoesFirst history t u → GoesFirst history s u
+pub first_then : (history : List Entry) (s t u : Stamp) → GoesFirst history s t → GoesFirst history t u → GoesFirst history s u
 first_then history s t u (inl was) next = inl was
 first_then history s t u (inr same) (inl was) = inl (subst (λ x. is_committed history x ≡ true) (sym same.0) was)
 first_then history s t u (inr same) (inr also) = inr (same.0 ∙ also.0, omega (arith, same.1, also.1))
@@ -305,18 +307,27 @@ numbered_new history b c xid items k comes numbered = new
     new (forms.Add (rows.Att rel num name col_type stat live)) there next = column rel num next
     new item there next = tt
 
-numbered_by : (history : List Entry) (b c : ℕ) (event : Event) → Ordered history → MayComeNext history (entry_of b c event) → KeepsTablesBy history b event → AllByRecursion (Numbered history) (versions_of history)
+-- if the event is a write, the columns that it adds have the next numbers
+abbrev pub NumbersBy : List Entry → ℕ → Event → Type 0
+NumbersBy before b (events.Write xid items) = list_all (is_next_column before b items) items ≡ true
+NumbersBy before b event = ⊤
+
+-- so it is with the event of the entry
+abbrev pub WritesNumbered : List Entry → Entry → Type 0
+WritesNumbered before e = NumbersBy before e.backend e.event
+
+numbered_by : (history : List Entry) (b c : ℕ) (event : Event) → Ordered history → MayComeNext history (entry_of b c event) → NumbersBy history b event → AllByRecursion (Numbered history) (versions_of history)
     → AllByRecursion (Numbered (history ++ entry_of b c event ∷ [])) (versions_by history b c event (versions_of history))
-numbered_by history b c (events.Write xid items) k comes keeps numbered =
+numbered_by history b c (events.Write xid items) k comes numbers numbered =
     every_written (λ row s. HasPrevious after (key_of row) s) history b (record { xid = xid; command = c }) items (versions_of history)
     (every-weaker (λ item. IfSome (ended_key item) (λ key. has_row history b key ≡ true) × (is_next_column history b items item ≡ true)) (λ item. IfSome (added_row item) (λ row. HasPrevious after (key_of row) (record { xid = xid; command = c })))
     (λ item h. numbered_new history b c xid items k comes numbered item h.0 h.1) items
-    (every-both (λ item. IfSome (ended_key item) (λ key. has_row history b key ≡ true)) (λ item. is_next_column history b items item ≡ true) items (all_kept (has_row history b) ended_key items comes.follows.event.there) (all_each (is_next_column history b items) items keeps.columns)))
+    (every-both (λ item. IfSome (ended_key item) (λ key. has_row history b key ≡ true)) (λ item. is_next_column history b items item ≡ true) items (all_kept (has_row history b) ended_key items comes.follows.event.there) (all_each (is_next_column history b items) items numbers)))
     (every-weaker (Numbered history) (Numbered after) (λ v has. previous_on history b c (events.Write xid items) (key_of v.row) v.by k.runs (lawful_of history (entry_of b c (events.Write xid items)) k comes) tt has) (versions_of history) numbered)
   where
     after : List Entry
     after = history ++ entry_of b c (events.Write xid items) ∷ []
-numbered_by history b c (events.Gone from) k comes keeps numbered =
+numbered_by history b c (events.Gone from) k comes numbers numbered =
     every-map (Numbered after) (end_back back) (filter (λ v. not (back v.by)) (versions_of history))
     (every-filter (λ v. Numbered after (end_back back v)) (λ v. not (back v.by)) (versions_of history)
     (every-weaker (Numbered history) (λ v. not (back v.by) ≡ true → Numbered after (end_back back v))
@@ -327,13 +338,13 @@ numbered_by history b c (events.Gone from) k comes keeps numbered =
 
     back : Stamp → Bool
     back = is_back history b from
-numbered_by history b c event k comes keeps numbered =
+numbered_by history b c event k comes numbers numbered =
     every-weaker (Numbered history) (Numbered (history ++ entry_of b c event ∷ [])) (λ v has. previous_on history b c event (key_of v.row) v.by k.runs (lawful_of history (entry_of b c event) k comes) tt has) (versions_of history) numbered
 
--- where writes keep tables each column has number 1 or one of the number before it
-pub numbered_all : (history : List Entry) → IsSound history → EachEntry WritesTables history → AllByRecursion (Numbered history) (versions_of history)
-numbered_all = along_tables (λ h. AllByRecursion (Numbered h) (versions_of h)) tt
-    (λ before e k comes keeps numbered. subst (AllByRecursion (Numbered (before ++ e ∷ []))) (sym (versions-more before e)) (numbered_by before e.backend e.command e.event k comes keeps numbered))
+-- where writes number columns so, each column has number 1 or there is one of the number before it
+numbered_all : (history : List Entry) → IsSound history → EachEntry WritesNumbered history → AllByRecursion (Numbered history) (versions_of history)
+numbered_all = along_sound WritesNumbered (λ h. AllByRecursion (Numbered h) (versions_of h)) tt
+    (λ before e sound comes numbers numbered. subst (AllByRecursion (Numbered (before ++ e ∷ []))) (sym (versions-more before e)) (numbered_by before e.backend e.command e.event (sound_ordered before sound) comes numbers numbered))
 
 -- of rows that rise, each of which has the number after a smaller one or after that of another, the last has the number that counts them
 record AreInStep (low : ℕ) (given : List Row) : Type 0 where
@@ -369,7 +380,8 @@ in_step low (row ∷ given) rises above steps = of (in_step (low + 1) given rise
         by_last (inl none) = inl (omega (arith, first, none))
         by_last (inr there) = inr (some-weaker (λ other. row_number other ≡ low + 1 + length given) (λ other. row_number other ≡ low + length (row ∷ given)) (λ other is. omega (arith, is)) given there)
 
-any_some : {X : Type 0} (p : X → Bool) (xs : List X) → list_any p xs ≡ true → SomeOf (λ x. p x ≡ true) xs
+-- an element that passes the test
+pub any_some : {X : Type 0} (p : X → Bool) (xs : List X) → list_any p xs ≡ true → SomeOf (λ x. p x ≡ true) xs
 any_some p [] some = absurd (cc)
 any_some p (x ∷ xs) some = of (or_cases (p x) (list_any p xs) some) (any_some p xs)
   where
@@ -391,9 +403,11 @@ pub record AreNumbered (history : List Entry) (b : ℕ) (rel : Oid) : Type 0 whe
   pub free : has_key history (keys.Att rel (length (answer_of history b (scans.Attribute rel)) + 1)) ≡ false
   pub last : (length (answer_of history b (scans.Attribute rel)) ≡ 0) ⊎ (has_row history b (keys.Att rel (length (answer_of history b (scans.Attribute rel)))) ≡ true)
 
--- so it is where the backend keeps others from holding each mode under which rows of the table are changed
-pub numbered_columns : (history : List Entry) (b : ℕ) (rel : Oid) → IsSound history → EachEntry WritesTables history → AreBarred (held_of history) b rel changing_modes → AreNumbered history b rel
-numbered_columns history b rel sound tables barred = record {
+-- so it is where the backend sees each column of which it counts a version, and keeps others from holding each mode under which rows of the table are changed
+pub numbered_where : (history : List Entry) (b : ℕ) (rel : Oid) → IsSound history → EachEntry WritesNumbered history
+    → ((num : ℕ) → SomeOf (λ v. IsColumn rel num v.row × (counts history b v.by ≡ true)) (versions_of history) → SomeOf (λ v. IsColumn rel num v.row × (sees history b v ≡ true)) (versions_of history)) → AreBarred (held_of history) b rel changing_modes
+    → AreNumbered history b rel
+numbered_where history b rel sound numbers seen barred = record {
   free = false_from_ne_true (has_key history (keys.Att rel (n + 1))) (λ has.
       from_some (λ row. row_number row ≡ n + 1) ⊥ given (every-weaker (λ row. row_number row ≤ 0 + n) (λ row. row_number row ≡ n + 1 → ⊥) (λ row most is. omega (arith, most, is)) given step.most)
       (there (n + 1) (some-weaker (λ v. same_key (key_of v.row) (keys.Att rel (n + 1)) ≡ true) (λ v. IsColumn rel (n + 1) v.row) (λ v is. key_eq (key_of v.row) (keys.Att rel (n + 1)) is) (versions_of history)
@@ -413,7 +427,7 @@ numbered_columns history b rel sound tables barred = record {
     -- a column of which there is a version is given
     there : (num : ℕ) → SomeOf (λ v. IsColumn rel num v.row) (versions_of history) → SomeOf (λ row. row_number row ≡ num) given
     there num some = some-weaker (IsColumn rel num) (λ row. row_number row ≡ num) number given
-        (row_given (IsColumn rel num) history b d asks (row_seen (IsColumn rel num) history b (counted_seen (IsColumn rel num) (column_kept rel num) history b sound tables
+        (row_given (IsColumn rel num) history b d asks (row_seen (IsColumn rel num) history b (seen num
         (some_with (λ v. IsColumn rel num v.row) (λ v. main_rel v.row ≡ rel → counts history b v.by ≡ true) (λ v. IsColumn rel num v.row × (counts history b v.by ≡ true)) (λ v is counted. (is, counted (main v.row is))) (versions_of history)
         (barred_counts history b rel sound barred) some))))
       where
@@ -435,11 +449,11 @@ numbered_columns history b rel sound tables barred = record {
 
     -- a column that is given has number 1, or that of the number before it is given too
     previous : (row : Row) → IsIn row (rows_of history b) → selects d row ≡ true → (row_number row ≡ 0 + 1) ⊎ SomeOf (λ other. row_number row ≡ row_number other + 1) given
-    previous row seen asks =
+    previous row there' asks =
         from_some (λ v. IsColumn rel (row_number row) v.row) ((row_number row ≡ 0 + 1) ⊎ SomeOf (λ other. row_number row ≡ row_number other + 1) given) (versions_of history)
         (every-weaker (Numbered history) (λ v. IsColumn rel (row_number row) v.row → (row_number row ≡ 0 + 1) ⊎ SomeOf (λ other. row_number row ≡ row_number other + 1) given) (λ v has is. of v.by (subst (λ key. HasPrevious history key v.by) is has)) (versions_of history)
-        (numbered_all history sound tables))
-        (some-weaker (λ v. (row ≡ v.row) × (sees history b v ≡ true)) (λ v. IsColumn rel (row_number row) v.row) (λ v h. subst (IsColumn rel (row_number row)) h.0 (column row asks)) (versions_of history) (version_seen (λ r. row ≡ r) history b seen))
+        (numbered_all history sound numbers))
+        (some-weaker (λ v. (row ≡ v.row) × (sees history b v ≡ true)) (λ v. IsColumn rel (row_number row) v.row) (λ v h. subst (IsColumn rel (row_number row)) h.0 (column row asks)) (versions_of history) (version_seen (λ r. row ≡ r) history b there'))
       where
         of : (s : Stamp) → HasPrevious history (keys.Att rel (row_number row)) s → (row_number row ≡ 0 + 1) ⊎ SomeOf (λ other. row_number row ≡ row_number other + 1) given
         of s (inl one) = inl one
@@ -467,3 +481,13 @@ numbered_columns history b rel sound tables barred = record {
         (λ row h is. let last : row_number row ≡ n = omega (arith, is) in some_found (λ r. same_key (key_of r) (keys.Att rel n)) (rows_of history b)
         (some-weaker (λ r. row ≡ r) (λ r. same_key (key_of r) (keys.Att rel n) ≡ true)
         (λ r same. subst (λ key. same_key key (keys.Att rel n) ≡ true) (sym (ap key_of (sym same) ∙ column row h.1 ∙ ap (keys.Att rel) last)) (key_refl (keys.Att rel n))) (rows_of history b) h.0)) given (given_seen history b d)) some)
+
+tables_numbered : (before : List Entry) (b : ℕ) (event : Event) → KeepsTablesBy before b event → NumbersBy before b event
+tables_numbered before b (events.Write xid items) keeps = keeps.columns
+tables_numbered before b event keeps = tt
+
+-- and so it is where writes keep tables
+pub numbered_columns : (history : List Entry) (b : ℕ) (rel : Oid) → IsSound history → EachEntry WritesTables history → AreBarred (held_of history) b rel changing_modes → AreNumbered history b rel
+numbered_columns history b rel sound tables barred =
+    numbered_where history b rel sound (EachEntry-weaker WritesTables WritesNumbered (λ before e keeps. tables_numbered before e.backend e.event keeps) history tables)
+    (λ num. counted_seen (IsColumn rel num) (column_kept rel num) history b sound tables) barred

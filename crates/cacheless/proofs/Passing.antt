@@ -5,6 +5,8 @@ use Rattle.std.proofs.lemmas.Option.{slice_get_within}
 use Rattle.std.specs.List.{cons_option}
 use Rattle.base_types.specs.Scans.{selects}
 use Rattle.base_types.specs.declared.row.Row.TheVariants as rows
+use Rattle.local_caches.specs.Caches.{kept_of}
+use Rattle.local_caches.specs.declared.local_caches.LocalCaches.{LocalCaches}
 use Rattle.lock_modes.specs.Own.{has_lock}
 use Rattle.inval_messages.specs.Lists.{Written}
 use Rattle.txn_blocks.specs.Blocks.{Blocks}
@@ -17,6 +19,7 @@ use Rattle.history_model.specs.Read.{is_scan_of, rows_by, rows_read}
 use Rattle.history_model.specs.Versions.{answer_of}
 use Rattle.history_model.proofs.Every.{every-weaker}
 use Rattle.history_model.proofs.Prefixes.{along-keeps}
+use Rattle.history_model.proofs.GivenRows.{given_seen}
 use Rattle.cacheless.specs.Types.{Mode, Row, Purpose, Command, CommandError, Scenario, Entry, Opening, OwnLock, Exec}
 use Rattle.cacheless.specs.declared.progress.Counts.{Counts}
 use Rattle.cacheless.specs.declared.progress.Progress.{Progress}
@@ -24,13 +27,12 @@ use Rattle.cacheless.specs.Facts.{Facts, facts_of}
 use Rattle.cacheless.specs.Session.{Session, first_of, plan_first, refused_first}
 use Rattle.cacheless.specs.Settled.{next_session, blocks_after, finished_as, looked_up, if_locked, opened_by, sought_by, act_done, settled}
 use Rattle.cacheless.specs.Puts.{AreGivenBy, PutsOpened}
-use Rattle.cacheless.specs.State.{blocks_passed, lists_at, no_counts, is_kept, rows_kept, builds_missing, act_missing, row_sought, row_next, is_absent, is_out, end_at, rest_of, session_at}
+use Rattle.cacheless.specs.State.{blocks_passed, lists_at, no_counts, kept_at, is_kept, rows_kept, builds_missing, act_missing, row_sought, row_next, is_absent, is_out, end_at, rest_of, session_at}
 use Rattle.cacheless.specs.May.{owes_nothing}
 use Rattle.cacheless.specs.Silently.{gives_at, gives_next, is_ends, is_finished_at, rows_for, rows_given, opened_for, Acts, Finishes}
-use Rattle.cacheless.specs.Holds.{FactsFit, Holds, HasActed, HasPassed}
+use Rattle.cacheless.specs.Holds.{AreRight, FactsFit, Holds, HasActed, HasPassed}
 use Rattle.cacheless.proofs.Settling.{settled-act, settled-finish, acted-out}
 use Rattle.cacheless.proofs.Plans.SilentActs.{some_is}
-use Rattle.cacheless.proofs.StillSeen.{given_seen}
 use Rattle.cacheless.proofs.Tests.{and_true, right_none, not_both}
 use Rattle.cacheless.proofs.Resting.{first_left, left_command, kept_rows, cond_none, Free, free_now, lacks_none, here, finished_same}
 use Rattle.cacheless.proofs.Written.Putting.{puts_first}
@@ -57,9 +59,9 @@ gave_asked : (seen : List Entry) (b : ℕ) (s : Progress) (act : Act) (plan : Li
 gave_asked seen b s (Lookup name mode) plan gave fits at none gives puts = subst (λ l. PutsOpened l (plan gave)) (sym (append-nil s.opened)) (puts gave)
 gave_asked seen b s (Open rel kind) plan gave fits at none gives puts = puts gave
 gave_asked seen b s (Search scan) plan gave fits at none gives puts = subst (λ l. PutsOpened l (plan gave)) (sym (append-nil s.opened))
-    (puts gave (subst (AreGivenBy scan) (kept_rows (facts_of seen b).rows s.kept scan fits.kept (cond_none (is_kept s.kept scan) scan none) ∙ some_is (rows_kept s.kept scan) gave gives) (rows_asked seen b scan)))
+    (puts gave (subst (AreGivenBy scan) (kept_rows (facts_of seen b).rows (kept_at s) scan fits.kept (cond_none (is_kept (kept_at s) scan) scan none) ∙ some_is (rows_kept (kept_at s) scan) gave gives) (rows_asked seen b scan)))
 gave_asked seen b s (Read scan) plan gave fits at none gives puts = subst (λ l. PutsOpened l (plan gave)) (sym (append-nil s.opened))
-    (puts gave (subst (AreGivenBy scan) (kept_rows (facts_of seen b).rows s.kept scan fits.kept (cond_none (is_kept s.kept scan) scan none) ∙ some_is (rows_kept s.kept scan) gave gives) (rows_asked seen b scan)))
+    (puts gave (subst (AreGivenBy scan) (kept_rows (facts_of seen b).rows (kept_at s) scan fits.kept (cond_none (is_kept (kept_at s) scan) scan none) ∙ some_is (rows_kept (kept_at s) scan) gave gives) (rows_asked seen b scan)))
 gave_asked seen b s (Lock rel mode) plan gave fits at none gives puts = subst (λ l. PutsOpened l (plan gave)) (sym (append-nil s.opened)) (puts gave)
 gave_asked seen b s (Write draft) plan gave fits at none gives puts = absurd (cc)
 
@@ -84,10 +86,10 @@ pub out_of : (command : Command) (s : Progress) → is_finished_at command s ≡
 out_of command s is = (and_true (is_out s) (s.ended || is_ends (end_at s command)) (and_true (is_out s && (s.ended || is_ends (end_at s command))) (owes_nothing command s) is).0).0
 
 -- an act that needs no entry, whichever it is
-pub act_keeps : (scenario : Scenario) (seen : List Entry) (was : Progress) (exec : Exec) (opened : List Opening) (command : Command) (act : Act) (plan : List Row → Plan) (gave : List Row) → Holds scenario seen was → slice_get was.commands was.finished ≡ Some command
-    → owes_nothing command was ≡ true → plan_at was.exec ≡ Do act plan → gives_at was act ≡ Some gave → plan_at exec ≡ plan gave → ((name : List ℕ) → plan_at exec ≡ Absent name → plan_again exec ≡ plan_at was.exec) → opened ≡ was.opened ++ opened_by act
-    → Holds scenario seen (record was { exec = exec; opened = opened; granted = false })
-act_keeps scenario seen was exec opened command act plan gave holds has owes at gives_it on again opens = record {
+pub act_keeps : (scenario : Scenario) (seen : List Entry) (was : Progress) (exec : Exec) (opened : List Opening) (caches : LocalCaches) (command : Command) (act : Act) (plan : List Row → Plan) (gave : List Row) → Holds scenario seen was → slice_get was.commands was.finished ≡ Some command
+    → owes_nothing command was ≡ true → plan_at was.exec ≡ Do act plan → gives_at was act ≡ Some gave → plan_at exec ≡ plan gave → ((name : List ℕ) → plan_at exec ≡ Absent name → plan_again exec ≡ plan_at was.exec) → opened ≡ was.opened ++ opened_by act → kept_of caches ≡ kept_at was
+    → Holds scenario seen (record was { exec = exec; opened = opened; caches = caches; granted = false })
+act_keeps scenario seen was exec opened caches command act plan gave holds has owes at gives_it on again opens keeps = record {
   number = holds.number;
   commands = holds.commands;
   few = holds.few;
@@ -104,8 +106,8 @@ act_keeps scenario seen was exec opened command act plan gave holds has owes at 
     running = f.running;
     lists = f.lists;
     owed = f.owed;
-    usable = f.usable;
-    kept = f.kept;
+    usable = λ scan. f.usable scan ∙ ap (λ k. is_kept k scan) (sym keeps);
+    kept = subst (AreRight facts.rows) (sym keeps) f.kept;
     given = λ is. absurd (cc is);
   };
   counts = holds.counts;
@@ -121,7 +123,7 @@ act_keeps scenario seen was exec opened command act plan gave holds has owes at 
     free = free_now facts command was holds.rest holds.facts owes
 
     none : act_missing was (Do act plan) ≡ []
-    none = right_none (builds_missing was.kept was.opened) (act_missing was (Do act plan)) (lacks_none was act plan at free.scans)
+    none = right_none (builds_missing (kept_at was) was.opened) (act_missing was (Do act plan)) (lacks_none was act plan at free.scans)
 
     seeks : (name : List ℕ) → plan_at exec ≡ Absent name → Seeks name (Do act plan)
     seeks name missed = subst (Seeks name) (again name missed ∙ at) (seeks_again exec name missed)
@@ -130,12 +132,12 @@ act_keeps scenario seen was exec opened command act plan gave holds has owes at 
     left = left_command was command has
 
 -- and its session is that after the act
-pub act_acts : (scenario : Scenario) (seen : List Entry) (was : Progress) (exec : Exec) (opened : List Opening) (command : Command) (act : Act) (plan : List Row → Plan) (gave : List Row) (held : Holds scenario seen was) → slice_get was.commands was.finished ≡ Some command
-    → owes_nothing command was ≡ true → plan_at was.exec ≡ Do act plan → gives_at was act ≡ Some gave → plan_at exec ≡ plan gave → ((name : List ℕ) → plan_at exec ≡ Absent name → plan_again exec ≡ plan_at was.exec) → opened ≡ was.opened ++ opened_by act
-    → HasActed scenario seen was held (record was { exec = exec; opened = opened; granted = false })
+pub act_acts : (scenario : Scenario) (seen : List Entry) (was : Progress) (exec : Exec) (opened : List Opening) (caches : LocalCaches) (command : Command) (act : Act) (plan : List Row → Plan) (gave : List Row) (held : Holds scenario seen was) → slice_get was.commands was.finished ≡ Some command
+    → owes_nothing command was ≡ true → plan_at was.exec ≡ Do act plan → gives_at was act ≡ Some gave → plan_at exec ≡ plan gave → ((name : List ℕ) → plan_at exec ≡ Absent name → plan_again exec ≡ plan_at was.exec) → opened ≡ was.opened ++ opened_by act → kept_of caches ≡ kept_at was
+    → HasActed scenario seen was held (record was { exec = exec; opened = opened; caches = caches; granted = false })
 unfolding act_keeps
-act_acts scenario seen was exec opened command act plan gave held has owes at gives_it on again opens = record {
-  holds = act_keeps scenario seen was exec opened command act plan gave held has owes at gives_it on again opens;
+act_acts scenario seen was exec opened caches command act plan gave held has owes at gives_it on again opens keeps = record {
+  holds = act_keeps scenario seen was exec opened caches command act plan gave held has owes at gives_it on again opens keeps;
   command = command;
   at = has;
   free = free.first;
@@ -152,15 +154,15 @@ act_acts scenario seen was exec opened command act plan gave held has owes at gi
     free = free_now (facts_of seen was.id) command was held.rest held.facts owes
 
 -- the state at the next command
-abbrev pub at_next : Progress → Exec → Bool → Blocks → List Opening → Progress
-at_next was exec blocked blocks opened = record was { finished = was.finished + 1; exec = exec; blocked = blocked; ended = false; blocks = blocks; granted = false; opened = opened; tally = no_counts; answer = None }
+abbrev pub at_next : Progress → Exec → Bool → Blocks → List Opening → LocalCaches → Progress
+at_next was exec blocked blocks opened caches = record was { finished = was.finished + 1; exec = exec; blocked = blocked; ended = false; blocks = blocks; granted = false; opened = opened; caches = caches; tally = no_counts; answer = None }
 
 -- a finished command is passed over
-pub finish_keeps : (scenario : Scenario) (seen : List Entry) (was : Progress) (exec : Exec) (blocked : Bool) (blocks : Blocks) (opened : List Opening) (command : Command) → Holds scenario seen was → slice_get was.commands was.finished ≡ Some command → is_finished_at command was ≡ true
-    → blocks ≡ blocks_passed (plan_at was.exec) (was.finished + 1) command was.blocks → opened ≡ []
+pub finish_keeps : (scenario : Scenario) (seen : List Entry) (was : Progress) (exec : Exec) (blocked : Bool) (blocks : Blocks) (opened : List Opening) (caches : LocalCaches) (command : Command) → Holds scenario seen was → slice_get was.commands was.finished ≡ Some command → is_finished_at command was ≡ true
+    → blocks ≡ blocks_passed (plan_at was.exec) (was.finished + 1) command was.blocks → opened ≡ [] → kept_of caches ≡ kept_at was
     → plan_at exec ≡ plan_first blocks (slice_get was.commands (was.finished + 1)) → blocked ≡ is_some (refused_first blocks (slice_get was.commands (was.finished + 1)))
-    → Holds scenario seen (at_next was exec blocked blocks opened)
-finish_keeps scenario seen was exec blocked blocks opened command holds has finished passes none on refuses = record {
+    → Holds scenario seen (at_next was exec blocked blocks opened caches)
+finish_keeps scenario seen was exec blocked blocks opened caches command holds has finished passes none keeps on refuses = record {
   number = holds.number;
   commands = holds.commands;
   few = holds.few;
@@ -172,7 +174,14 @@ finish_keeps scenario seen was exec blocked blocks opened command holds has fini
       ∙ settled-finish facts command (drop (was.finished + 1) was.commands) (session_at was holds.rest) (acted-out facts command (session_at was holds.rest) (out_of command was finished)) (finished_same facts command was holds.rest holds.facts holds.count ∙ finished)
       ∙ ap (settled facts (drop (was.finished + 1) was.commands)) same
       );
-  facts = let f = holds.facts in record { running = f.running; lists = f.lists; owed = f.owed; usable = f.usable; kept = f.kept; given = λ is. absurd (cc is) };
+  facts = let f = holds.facts in record {
+    running = f.running;
+    lists = f.lists;
+    owed = f.owed;
+    usable = λ scan. f.usable scan ∙ ap (λ k. is_kept k scan) (sym keeps);
+    kept = subst (AreRight facts.rows) (sym keeps) f.kept;
+    given = λ is. absurd (cc is);
+  };
   counts = record { looks = omega arith; scans = omega arith; grants = omega arith; fetches = omega arith; full = omega arith };
   order = every-weaker (λ (list : Written). list.command ≤ was.finished + 1) (λ (list : Written). list.command ≤ was.finished + 1 + 1) (λ list low. omega (arith, low)) (lists_at was) holds.order;
   sought = λ is. absurd (not_both (is_absent (plan_at exec)) is found);
@@ -191,7 +200,7 @@ finish_keeps scenario seen was exec blocked blocks opened command holds has fini
     blocks_are : blocks_after command (session_at was holds.rest) ≡ blocks
     blocks_are = ap (λ n. blocks_passed (plan_at was.exec) (n + 1) command was.blocks) holds.count ∙ sym passes
 
-    same : next_session command (first_of (drop (was.finished + 1) was.commands)) (session_at was holds.rest) ≡ session_at (at_next was exec blocked blocks opened) (rest_of next)
+    same : next_session command (first_of (drop (was.finished + 1) was.commands)) (session_at was holds.rest) ≡ session_at (at_next was exec blocked blocks opened caches) (rest_of next)
     same = ap (λ o. next_session command o (session_at was holds.rest)) (first_left was.commands (was.finished + 1))
         ∙ (λ i. record next {
           blocks = blocks_are i;
@@ -201,13 +210,13 @@ finish_keeps scenario seen was exec blocked blocks opened command holds has fini
         })
 
 -- and its session is that at the next command
-pub finish_passes : (scenario : Scenario) (seen : List Entry) (was : Progress) (exec : Exec) (blocked : Bool) (blocks : Blocks) (opened : List Opening) (command : Command) (held : Holds scenario seen was) → slice_get was.commands was.finished ≡ Some command → is_finished_at command was ≡ true
-    → blocks ≡ blocks_passed (plan_at was.exec) (was.finished + 1) command was.blocks → opened ≡ []
+pub finish_passes : (scenario : Scenario) (seen : List Entry) (was : Progress) (exec : Exec) (blocked : Bool) (blocks : Blocks) (opened : List Opening) (caches : LocalCaches) (command : Command) (held : Holds scenario seen was) → slice_get was.commands was.finished ≡ Some command → is_finished_at command was ≡ true
+    → blocks ≡ blocks_passed (plan_at was.exec) (was.finished + 1) command was.blocks → opened ≡ [] → kept_of caches ≡ kept_at was
     → plan_at exec ≡ plan_first blocks (slice_get was.commands (was.finished + 1)) → blocked ≡ is_some (refused_first blocks (slice_get was.commands (was.finished + 1)))
-    → HasPassed scenario seen was held (at_next was exec blocked blocks opened)
+    → HasPassed scenario seen was held (at_next was exec blocked blocks opened caches)
 unfolding finish_keeps
-finish_passes scenario seen was exec blocked blocks opened command held has finished passes none on refuses = record {
-  holds = finish_keeps scenario seen was exec blocked blocks opened command held has finished passes none on refuses;
+finish_passes scenario seen was exec blocked blocks opened caches command held has finished passes none keeps on refuses = record {
+  holds = finish_keeps scenario seen was exec blocked blocks opened caches command held has finished passes none keeps on refuses;
   command = command;
   at = has;
   over = finished_same (facts_of seen was.id) command was held.rest held.facts held.count ∙ finished;
@@ -274,7 +283,7 @@ act_left exec act rest at = acts_some exec (λ scan is. never_done act scan (sym
     never_absent a name is = absurd (cc)
 
 -- the rows that the code gives an act
-pub given_is : (s : Progress) (p : Plan) → rows_for (want_of p) (row_next s p) s.kept ≡ rows_given s (want_of p)
+pub given_is : (s : Progress) (p : Plan) → rows_for (want_of p) (row_next s p) (kept_at s) ≡ rows_given s (want_of p)
 given_is s (Do (Lookup name mode) rest) = refl
 given_is s (Do (Open rel kind) rest) = refl
 given_is s (Do (Search scan) rest) = refl
@@ -295,32 +304,33 @@ act_is_left s acts = by_plan (plan_at s.exec) refl (and_true (owes_nothing acts.
     by_plan NotBuilt at is = absurd (cc)
 
 -- the act that is done without an entry
-pub acted_keeps : (was : Progress) (exec : Exec) (opened : List Opening) (want : Want) (acts : Acts was) → want ≡ want_of (plan_at was.exec)
-    → plan_at exec ≡ after_act (rows_given was want) (plan_at was.exec) → ((name : List ℕ) → 0 < acts_left was.exec → plan_at exec ≡ Absent name → plan_again exec ≡ plan_at was.exec) → opened ≡ was.opened ++ opened_for want
-    → (scenario : Scenario) (seen : List Entry) (held : Holds scenario seen was) → HasActed scenario seen was held (record was { exec = exec; opened = opened; granted = false })
-acted_keeps was exec opened want acts wants on again opens scenario seen held = by_plan (plan_at was.exec) refl (and_true (owes_nothing acts.command was) (gives_next was (plan_at was.exec)) acts.acts)
+pub acted_keeps : (was : Progress) (exec : Exec) (opened : List Opening) (caches : LocalCaches) (want : Want) (acts : Acts was) → want ≡ want_of (plan_at was.exec)
+    → plan_at exec ≡ after_act (rows_given was want) (plan_at was.exec) → ((name : List ℕ) → 0 < acts_left was.exec → plan_at exec ≡ Absent name → plan_again exec ≡ plan_at was.exec) → opened ≡ was.opened ++ opened_for want → kept_of caches ≡ kept_at was
+    → (scenario : Scenario) (seen : List Entry) (held : Holds scenario seen was) → HasActed scenario seen was held (record was { exec = exec; opened = opened; caches = caches; granted = false })
+acted_keeps was exec opened caches want acts wants on again opens keeps scenario seen held = by_plan (plan_at was.exec) refl (and_true (owes_nothing acts.command was) (gives_next was (plan_at was.exec)) acts.acts)
   where
-    by_plan : (p : Plan) → plan_at was.exec ≡ p → (owes_nothing acts.command was ≡ true) × (gives_next was (plan_at was.exec) ≡ true) → HasActed scenario seen was held (record was { exec = exec; opened = opened; granted = false })
+    by_plan : (p : Plan) → plan_at was.exec ≡ p → (owes_nothing acts.command was ≡ true) × (gives_next was (plan_at was.exec) ≡ true) → HasActed scenario seen was held (record was { exec = exec; opened = opened; caches = caches; granted = false })
     by_plan (Do act plan) at parts =
         let want_is : want ≡ want_of (Do act plan) = wants ∙ ap want_of at in
-        act_acts scenario seen was exec opened acts.command act plan (rows_given was (want_of (Do act plan))) held acts.at parts.0 at
+        act_acts scenario seen was exec opened caches acts.command act plan (rows_given was (want_of (Do act plan))) held acts.at parts.0 at
         (gave_is was act plan (sym (ap (gives_next was) at) ∙ parts.1))
         (on ∙ ap (after_act (rows_given was want)) at ∙ ap (λ w. plan (rows_given was w)) want_is)
         (λ name. again name (act_is_left was acts))
         (opens ∙ ap (λ w. was.opened ++ opened_for w) want_is ∙ ap (λ l. was.opened ++ l) (opened_is act plan))
+        keeps
     by_plan (Done told) at parts = absurd (let both : false ≡ true = sym (ap (gives_next was) at) ∙ parts.1 in cc)
     by_plan (Fails error) at parts = absurd (let both : false ≡ true = sym (ap (gives_next was) at) ∙ parts.1 in cc)
     by_plan (Absent name) at parts = absurd (let both : false ≡ true = sym (ap (gives_next was) at) ∙ parts.1 in cc)
     by_plan NotBuilt at parts = absurd (let both : false ≡ true = sym (ap (gives_next was) at) ∙ parts.1 in cc)
 
 -- the code's step to the next command
-pub finish_code : (was : Progress) (exec : Exec) (blocked : Bool) (blocks : Blocks) (tally : Counts) (opened : List Opening) (answer : Option (List ℕ)) (commands : List Command) (command : Command) → Finishes was → slice_get was.commands was.finished ≡ Some command
-    → blocks ≡ blocks_passed (plan_at was.exec) (was.finished + 1) command was.blocks → commands ≡ was.commands → plan_at exec ≡ plan_first blocks (slice_get commands (was.finished + 1)) → blocked ≡ is_some (refused_first blocks (slice_get commands (was.finished + 1))) → tally ≡ no_counts → opened ≡ [] → answer ≡ None
+pub finish_code : (was : Progress) (exec : Exec) (blocked : Bool) (blocks : Blocks) (tally : Counts) (opened : List Opening) (caches : LocalCaches) (answer : Option (List ℕ)) (commands : List Command) (command : Command) → Finishes was → slice_get was.commands was.finished ≡ Some command
+    → blocks ≡ blocks_passed (plan_at was.exec) (was.finished + 1) command was.blocks → commands ≡ was.commands → plan_at exec ≡ plan_first blocks (slice_get commands (was.finished + 1)) → blocked ≡ is_some (refused_first blocks (slice_get commands (was.finished + 1))) → tally ≡ no_counts → opened ≡ [] → kept_of caches ≡ kept_at was → answer ≡ None
     → (scenario : Scenario) (seen : List Entry) (held : Holds scenario seen was)
-    → HasPassed scenario seen was held (record was { finished = was.finished + 1; exec = exec; blocked = blocked; ended = false; tally = tally; blocks = blocks; granted = false; opened = opened; answer = answer })
-finish_code was exec blocked blocks tally opened answer commands command finishes at passes same on refuses fresh none taken scenario seen held =
-    subst (HasPassed scenario seen was held) (λ i. record (at_next was exec blocked blocks opened) { tally = sym fresh i; answer = sym taken i })
-    (finish_passes scenario seen was exec blocked blocks opened command held at (subst (λ c. is_finished_at c was ≡ true) one finishes.finished) passes none
+    → HasPassed scenario seen was held (record was { finished = was.finished + 1; exec = exec; blocked = blocked; ended = false; tally = tally; blocks = blocks; granted = false; opened = opened; caches = caches; answer = answer })
+finish_code was exec blocked blocks tally opened caches answer commands command finishes at passes same on refuses fresh none keeps taken scenario seen held =
+    subst (HasPassed scenario seen was held) (λ i. record (at_next was exec blocked blocks opened caches) { tally = sym fresh i; answer = sym taken i })
+    (finish_passes scenario seen was exec blocked blocks opened caches command held at (subst (λ c. is_finished_at c was ≡ true) one finishes.finished) passes none keeps
     (on ∙ ap (λ l. plan_first blocks (slice_get l (was.finished + 1))) same) (refuses ∙ ap (λ l. is_some (refused_first blocks (slice_get l (was.finished + 1)))) same))
   where
     one : finishes.command ≡ command

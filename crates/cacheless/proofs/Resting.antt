@@ -1,28 +1,26 @@
 -- Where the code finds nothing to do without an entry, its session is settled.
-use Rattle.std.proofs.Common.{◌≡◌, ◌≤◌, ◌<◌, ◌+◌, ◌∙◌, ◌&&◌, ◌||◌, ◌⊎◌, inl, inr, ℕ, Bool, true, false, not, Option, Some, None, List, [], ◌∷◌, ◌++◌, refl, sym, ap, subst, length, drop, is_none, is_some, slice_get, arith, All, cond, suc, get_or, if◌then◌else◌}
+use Rattle.std.proofs.Common.{◌≡◌, ◌≤◌, ◌<◌, ◌+◌, ◌∙◌, ◌&&◌, ◌||◌, ◌⊎◌, inl, inr, ℕ, Bool, true, false, not, Option, Some, None, List, [], ◌∷◌, ◌++◌, refl, sym, ap, subst, length, drop, is_none, is_some, slice_get, cond, get_or, IfSome, if◌then◌else◌}
 use Rattle.std.specs.Option.{option_map_or}
-use Rattle.std.specs.List.{cons_option, find}
+use Rattle.std.specs.List.{cons_option}
 use Rattle.std.proofs.lemmas.List.{drop_more, drop_all}
 use Rattle.std.proofs.lemmas.Option.{slice_get_cases, slice_get_within, get_or_from_slice_get}
-use Rattle.base_types.specs.Scans.{same_scan}
 use Rattle.base_types.specs.declared.row.Row.TheVariants as rows
 use Rattle.base_types.specs.declared.scan.Purpose.TheVariants as scans
-use Rattle.base_types.proofs.SameScan.{same_scan-true}
+use Rattle.local_caches.specs.Kept.{Read as KeptRead}
 use Rattle.ddl_effect.specs.Plans.{Plan, Act, Done, Fails, Absent, Do, NotBuilt, Lookup, Open, Search, Read, Lock, Write}
 use Rattle.ddl_effect.specs.Stages.{plan_at}
 use Rattle.history_model.specs.Writes.{is_empty}
 use Rattle.cacheless.specs.Types.{Mode, Row, Purpose, Command, OwnLock, Scenario, Entry, Event}
-use Rattle.cacheless.specs.declared.kept_scan.KeptScan.{KeptScan}
 use Rattle.cacheless.specs.declared.progress.Progress.{Progress}
 use Rattle.cacheless.specs.Facts.{Facts, facts_of}
 use Rattle.cacheless.specs.Session.{Session, Badly, outcome_of, is_settled, first_of}
 use Rattle.cacheless.specs.Owed.{owed_at_start, owed_after, builds_owed, act_owed, owed_of}
 use Rattle.cacheless.specs.Ends.{End, Ends, Commits, TakesBack, end_left, end_of, next_of_end}
 use Rattle.cacheless.specs.Settled.{gives, looked_up, act_done, done_here, acted_on, is_finished, settled}
-use Rattle.cacheless.specs.State.{owed_at, owed_first, running_of, rows_kept, row_sought, is_kept, missing, builds_missing, act_missing, scans_missing, end_at, Rest, session_at}
+use Rattle.cacheless.specs.State.{owed_at, owed_first, running_of, Kept, kept_at, rows_kept, row_sought, is_kept, missing, builds_missing, act_missing, scans_missing, end_at, Rest, session_at}
 use Rattle.cacheless.specs.May.{lacks_any, owes_nothing}
 use Rattle.cacheless.specs.Silently.{gives_at, gives_next, acts_on, is_ends, is_finished_at}
-use Rattle.cacheless.specs.Holds.{ReadRight, GivenFits, FactsFit, Holds, Rests}
+use Rattle.cacheless.specs.Holds.{AreRight, GivenFits, FactsFit, Holds, Rests}
 use Rattle.cacheless.proofs.Settling.{settled-waits}
 use Rattle.cacheless.proofs.Tests.{and_true, empty_is, right_none}
 use Rattle.cacheless.proofs.Same.{start_owed, builds_same, act_same, scans_same, lacks_any_is, owes_nothing_is, empty_append}
@@ -40,13 +38,12 @@ pub left_command : (s : Progress) (command : Command) → slice_get s.commands s
 left_command s command at = drop_more s.commands s.finished command (slice_get_within s.commands s.finished command at) ∙ ap (λ y. y ∷ drop (s.finished + 1) s.commands) (get_or_from_slice_get s.commands s.finished command command at)
 
 -- what is kept of a scan is what it gave
-pub kept_rows : (facts : Purpose → List Row) (kept : List KeptScan) (scan : Purpose) → All (ReadRight facts) kept → is_kept kept scan ≡ true → facts scan ≡ rows_kept kept scan
-kept_rows facts [] scan right is = absurd (cc)
-kept_rows facts (k ∷ kept) scan right is = by_same (kept_rows facts kept scan (λ i d within. right (suc i) d (omega (arith, within)))) (same_scan k.scan scan) refl is
+pub kept_rows : (facts : Purpose → List Row) (kept : Kept) (scan : Purpose) → AreRight facts kept → is_kept kept scan ≡ true → facts scan ≡ rows_kept kept scan
+kept_rows facts kept scan right is = by_read (kept scan) (right scan) is
   where
-    by_same : (is_kept kept scan ≡ true → facts scan ≡ rows_kept kept scan) → (t : Bool) → same_scan k.scan scan ≡ t → (t || is_kept kept scan) ≡ true → facts scan ≡ option_map_or (λ k. k.rows) (cond t (Some k) (find (λ k. same_scan k.scan scan) kept)) []
-    by_same later true same any = ap facts (sym (same_scan-true k.scan scan same)) ∙ sym (right 0 k (omega arith)).rows_are
-    by_same later false other any = later any
+    by_read : (o : Option KeptRead) → IfSome o (λ read. read.rows ≡ facts scan) → is_some o ≡ true → facts scan ≡ option_map_or (λ read. read.rows) o []
+    by_read None given has = absurd (cc)
+    by_read (Some read) given has = sym given
 
 pub cond_none : (t : Bool) (scan : Purpose) → cond (not t) (scan ∷ []) [] ≡ [] → t ≡ true
 cond_none true scan none = refl
@@ -62,16 +59,16 @@ first_only locks mode (row ∷ more) = refl
 pub sought_same : (facts : Facts) (s : Progress) (name : List ℕ) (mode : Mode) (rest : List Row → Plan) → FactsFit facts s → plan_at s.exec ≡ Do (Lookup name mode) rest → act_missing s (Do (Lookup name mode) rest) ≡ [] → slice_get (facts.rows (scans.RelName name)) 0 ≡ row_sought s name
 sought_same facts s name mode rest fits at none = by_granted s.granted refl none
   where
-    by_granted : (t : Bool) → s.granted ≡ t → (if t then [] else missing s.kept (scans.RelName name ∷ [])) ≡ [] → slice_get (facts.rows (scans.RelName name)) 0 ≡ (if t then s.given else slice_get (rows_kept s.kept (scans.RelName name)) 0)
+    by_granted : (t : Bool) → s.granted ≡ t → (if t then [] else missing (kept_at s) (scans.RelName name ∷ [])) ≡ [] → slice_get (facts.rows (scans.RelName name)) 0 ≡ (if t then s.given else slice_get (rows_kept (kept_at s) (scans.RelName name)) 0)
     by_granted true is lacks = (subst (λ p. GivenFits facts p s.given) at (fits.given is)).0
-    by_granted false is lacks = ap (λ l. slice_get l 0) (kept_rows facts.rows s.kept (scans.RelName name) fits.kept (cond_none (is_kept s.kept (scans.RelName name)) (scans.RelName name) lacks))
+    by_granted false is lacks = ap (λ l. slice_get l 0) (kept_rows facts.rows (kept_at s) (scans.RelName name) fits.kept (cond_none (is_kept (kept_at s) (scans.RelName name)) (scans.RelName name) lacks))
 
 -- an act that lacks no scan gives what the code works out
 pub gives_same : (facts : Facts) (s : Progress) (act : Act) (rest : List Row → Plan) → FactsFit facts s → plan_at s.exec ≡ Do act rest → act_missing s (Do act rest) ≡ [] → gives facts s.locks.items act ≡ gives_at s act
 gives_same facts s (Lookup name mode) rest fits at none = first_only s.locks.items mode (facts.rows (scans.RelName name)) ∙ ap (λ o. looked_up s.locks.items mode (cons_option o [])) (sought_same facts s name mode rest fits at none)
 gives_same facts s (Open rel kind) rest fits at none = refl
-gives_same facts s (Search scan) rest fits at none = ap Some (kept_rows facts.rows s.kept scan fits.kept (cond_none (is_kept s.kept scan) scan none))
-gives_same facts s (Read scan) rest fits at none = ap Some (kept_rows facts.rows s.kept scan fits.kept (cond_none (is_kept s.kept scan) scan none))
+gives_same facts s (Search scan) rest fits at none = ap Some (kept_rows facts.rows (kept_at s) scan fits.kept (cond_none (is_kept (kept_at s) scan) scan none))
+gives_same facts s (Read scan) rest fits at none = ap Some (kept_rows facts.rows (kept_at s) scan fits.kept (cond_none (is_kept (kept_at s) scan) scan none))
 gives_same facts s (Lock rel mode) rest fits at none = refl
 gives_same facts s (Write draft) rest fits at none = refl
 
@@ -90,21 +87,21 @@ free_now facts command s rest fits is = let parts = and_true (is_empty (owed_fir
 }
 
 -- no scan is missing before an act: so none of the act is
-pub lacks_none : (s : Progress) (act : Act) (plan : List Row → Plan) → plan_at s.exec ≡ Do act plan → scans_missing s ≡ [] → builds_missing s.kept s.opened ++ act_missing s (Do act plan) ≡ []
-lacks_none s act plan at none = ap (λ p. elim (outcome_of p) as (λ x. List Purpose) [ Badly ↦ [] | other ↦ builds_missing s.kept s.opened ++ act_missing s p ]) (sym at) ∙ none
+pub lacks_none : (s : Progress) (act : Act) (plan : List Row → Plan) → plan_at s.exec ≡ Do act plan → scans_missing s ≡ [] → builds_missing (kept_at s) s.opened ++ act_missing s (Do act plan) ≡ []
+lacks_none s act plan at none = ap (λ p. elim (outcome_of p) as (λ x. List Purpose) [ Badly ↦ [] | other ↦ builds_missing (kept_at s) s.opened ++ act_missing s p ]) (sym at) ∙ none
 
 -- then what it gives decides
 pub here : (facts : Facts) (s : Progress) (rest : Rest) (act : Act) (plan : List Row → Plan) → FactsFit facts s → plan_at s.exec ≡ Do act plan → scans_missing s ≡ [] → done_here facts (session_at s rest) act (Do act plan) ≡ gives_at s act
 here facts s rest act plan fits at none =
     ap (λ l. elim (is_empty l) [ true ↦ gives facts s.locks.items act | false ↦ None ]) same
-    ∙ gives_same facts s act plan fits at (right_none (builds_missing s.kept s.opened) (act_missing s (Do act plan)) lacks)
+    ∙ gives_same facts s act plan fits at (right_none (builds_missing (kept_at s) s.opened) (act_missing s (Do act plan)) lacks)
   where
-    lacks : builds_missing s.kept s.opened ++ act_missing s (Do act plan) ≡ []
+    lacks : builds_missing (kept_at s) s.opened ++ act_missing s (Do act plan) ≡ []
     lacks = lacks_none s act plan at none
 
     same : builds_owed facts s.opened ++ act_owed facts s.granted (Do act plan) ≡ []
     same = ap (λ l. l ++ act_owed facts s.granted (Do act plan)) (builds_same facts s fits)
-        ∙ ap (λ l. builds_missing s.kept s.opened ++ l) (ap (act_owed facts s.granted) (sym at) ∙ act_same facts s fits ∙ ap (act_missing s) at) ∙ lacks
+        ∙ ap (λ l. builds_missing (kept_at s) s.opened ++ l) (ap (act_owed facts s.granted) (sym at) ∙ act_same facts s fits ∙ ap (act_missing s) at) ∙ lacks
 
 -- the tests of a finished command
 over_same : (facts : Facts) (command : Command) (s : Progress) (r : Rest) → facts.running ≡ running_of s.running → length r.finished ≡ s.finished → is_none (end_left facts command (session_at s r)) ≡ (s.ended || is_ends (end_at s command))

@@ -17,10 +17,9 @@ use Rattle.cacheless.specs.Session.{Outcome, Unsettled, Well, Badly, outcome_of}
 use Rattle.cacheless.specs.Owed.{OwesLook, OwesFetch, OwesScan, owed_at_start, owed_after, unusable, builds_owed, act_owed, scans_owed, owed_of, act_next, is_next_scan, owes_build, owes_build_scan, owes_accept}
 use Rattle.cacheless.specs.Plays.{has_looked, may_look}
 use Rattle.cacheless.specs.Types.{Kind, Oid, Command, Purpose, Opening}
-use Rattle.cacheless.specs.declared.kept_scan.KeptScan.{KeptScan}
 use Rattle.txn_blocks.specs.declared.transaction.RunningTransaction.{RunningTransaction}
 use Rattle.cacheless.specs.declared.progress.Progress.{Progress}
-use Rattle.cacheless.specs.State.{owed_at, one_if, running_of, is_kept, missing, builds_missing, act_missing, scans_missing, lacks_builds, is_full, is_in_accept, begins_in, owed_first, Rest, session_at}
+use Rattle.cacheless.specs.State.{owed_at, one_if, running_of, Kept, kept_at, is_kept, missing, builds_missing, act_missing, scans_missing, lacks_builds, is_full, is_in_accept, begins_in, owed_first, Rest, session_at}
 use Rattle.cacheless.specs.May.{may_look_at, has_looked_at, is_first_missing, is_missing, is_next_of_act, is_next_at, has_failed, lacks_opened, lacks_to_build, lacks_any, owes_nothing}
 use Rattle.cacheless.specs.Holds.{FactsFit}
 use Rattle.cacheless.proofs.ReadsBuilds.{ReadsBuilds, stage_reads}
@@ -34,35 +33,35 @@ pub start_owed : (facts : Facts) (command : Command) (s : Progress) (rest : Rest
 start_owed facts command s rest fits = ap (λ t. elim (begins_in s.blocks s.ended command && t) [ true ↦ OwesLook ∷ [] | false ↦ [] ]) (ap is_none fits.running ∙ none_running s.running)
 
 -- the scans that are owed are those that it misses
-pub unusable-missing : (facts : Facts) (kept : List KeptScan) → ((scan : Purpose) → facts.usable scan ≡ is_kept kept scan) → (wanted : List Purpose) → unusable facts wanted ≡ missing kept wanted
+pub unusable-missing : (facts : Facts) (kept : Kept) → ((scan : Purpose) → facts.usable scan ≡ is_kept kept scan) → (wanted : List Purpose) → unusable facts wanted ≡ missing kept wanted
 unusable-missing facts kept usable [] = refl
 unusable-missing facts kept usable (scan ∷ wanted) =
     ap (λ t. cond (not t) (scan ∷ unusable facts wanted) (unusable facts wanted)) (usable scan)
     ∙ ap (λ l. cond (not (is_kept kept scan)) (scan ∷ l) l) (unusable-missing facts kept usable wanted)
 
-builds-missing : (facts : Facts) (kept : List KeptScan) → ((scan : Purpose) → facts.usable scan ≡ is_kept kept scan) → (opened : List Opening) → builds_owed facts opened ≡ builds_missing kept opened
+builds-missing : (facts : Facts) (kept : Kept) → ((scan : Purpose) → facts.usable scan ≡ is_kept kept scan) → (opened : List Opening) → builds_owed facts opened ≡ builds_missing kept opened
 builds-missing facts kept usable [] = refl
 builds-missing facts kept usable (o ∷ opened) = ap (λ l. l ++ builds_owed facts opened) (unusable-missing facts kept usable (build_scans o.kind o.rel)) ∙ ap (λ l. missing kept (build_scans o.kind o.rel) ++ l) (builds-missing facts kept usable opened)
 
-pub builds_same : (facts : Facts) (s : Progress) → FactsFit facts s → builds_owed facts s.opened ≡ builds_missing s.kept s.opened
-builds_same facts s fits = builds-missing facts s.kept fits.usable s.opened
+pub builds_same : (facts : Facts) (s : Progress) → FactsFit facts s → builds_owed facts s.opened ≡ builds_missing (kept_at s) s.opened
+builds_same facts s fits = builds-missing facts (kept_at s) fits.usable s.opened
 
 -- the scans that the next act or the answer lacks
 act-missing : (facts : Facts) (s : Progress) (p : Plan) → FactsFit facts s → act_owed facts s.granted p ≡ act_missing s p
-act-missing facts s (Do (Lookup name mode) rest) fits = ap (λ l. if s.granted then [] else l) (unusable-missing facts s.kept fits.usable (scans.RelName name ∷ []))
-act-missing facts s (Do (Open rel kind) rest) fits = unusable-missing facts s.kept fits.usable (build_scans kind rel)
-act-missing facts s (Do (Search scan) rest) fits = unusable-missing facts s.kept fits.usable (scan ∷ [])
-act-missing facts s (Do (Read scan) rest) fits = unusable-missing facts s.kept fits.usable (scan ∷ [])
+act-missing facts s (Do (Lookup name mode) rest) fits = ap (λ l. if s.granted then [] else l) (unusable-missing facts (kept_at s) fits.usable (scans.RelName name ∷ []))
+act-missing facts s (Do (Open rel kind) rest) fits = unusable-missing facts (kept_at s) fits.usable (build_scans kind rel)
+act-missing facts s (Do (Search scan) rest) fits = unusable-missing facts (kept_at s) fits.usable (scan ∷ [])
+act-missing facts s (Do (Read scan) rest) fits = unusable-missing facts (kept_at s) fits.usable (scan ∷ [])
 act-missing facts s (Do (Lock rel mode) rest) fits = refl
 act-missing facts s (Do (Write draft) rest) fits = refl
-act-missing facts s p fits = unusable-missing facts s.kept fits.usable (left_rests_on p)
+act-missing facts s p fits = unusable-missing facts (kept_at s) fits.usable (left_rests_on p)
 
 pub act_same : (facts : Facts) (s : Progress) → FactsFit facts s → act_owed facts s.granted (plan_at s.exec) ≡ act_missing s (plan_at s.exec)
 act_same facts s fits = act-missing facts s (plan_at s.exec) fits
 
 pub scans_same : (facts : Facts) (s : Progress) (rest : Rest) → FactsFit facts s → scans_owed facts (session_at s rest) ≡ scans_missing s
 scans_same facts s rest fits = ap (λ l. elim (outcome_of (plan_at s.exec)) as (λ x. List Purpose) [ Badly ↦ [] | other ↦ l ])
-    (ap (λ l. l ++ act_owed facts s.granted (plan_at s.exec)) (builds_same facts s fits) ∙ ap (λ l. builds_missing s.kept s.opened ++ l) (act_same facts s fits))
+    (ap (λ l. l ++ act_owed facts s.granted (plan_at s.exec)) (builds_same facts s fits) ∙ ap (λ l. builds_missing (kept_at s) s.opened ++ l) (act_same facts s fits))
 
 -- its opened descriptors lack scans
 pub lacks_same : (facts : Facts) (s : Progress) (rest : Rest) → FactsFit facts s → owes_build facts (session_at s rest) ≡ lacks_builds s
@@ -95,11 +94,11 @@ any_first scan p (x ∷ l) = by_test (any_first scan p l) (p x)
     by_test more true = or-false (same_scan scan x)
     by_test more false = more
 
-first_same : (facts : Facts) (kept : List KeptScan) (scan : Purpose) → ((d : Purpose) → facts.usable d ≡ is_kept kept d) → (wanted : List Purpose)
+first_same : (facts : Facts) (kept : Kept) (scan : Purpose) → ((d : Purpose) → facts.usable d ≡ is_kept kept d) → (wanted : List Purpose)
     → list_any (same_scan scan) (take 1 (unusable facts wanted)) ≡ option_map_or (same_scan scan) (find (λ d. not (is_kept kept d)) wanted) false
 first_same facts kept scan usable wanted = ap (λ l. list_any (same_scan scan) (take 1 l)) (unusable-missing facts kept usable wanted) ∙ any_first scan (λ d. not (is_kept kept d)) wanted
 
-opened_first : (facts : Facts) (kept : List KeptScan) (scan : Purpose) → ((d : Purpose) → facts.usable d ≡ is_kept kept d) → (opened : List Opening)
+opened_first : (facts : Facts) (kept : Kept) (scan : Purpose) → ((d : Purpose) → facts.usable d ≡ is_kept kept d) → (opened : List Opening)
     → list_any (same_scan scan) (flat_map (λ o. take 1 (unusable facts (build_scans o.kind o.rel))) opened) ≡ list_any (λ o. is_first_missing scan kept o.kind o.rel) opened
 opened_first facts kept scan usable [] = refl
 opened_first facts kept scan usable (o ∷ opened) =
@@ -108,7 +107,7 @@ opened_first facts kept scan usable (o ∷ opened) =
     ∙ ap (λ t. is_first_missing scan kept o.kind o.rel || t) (opened_first facts kept scan usable opened)
 
 -- a scan of a catalog cache is the first that is lacked
-one_first : (facts : Facts) (kept : List KeptScan) (scan wanted : Purpose) → ((d : Purpose) → facts.usable d ≡ is_kept kept d) → list_any (same_scan scan) (take 1 (unusable facts (wanted ∷ []))) ≡ is_missing scan kept wanted
+one_first : (facts : Facts) (kept : Kept) (scan wanted : Purpose) → ((d : Purpose) → facts.usable d ≡ is_kept kept d) → list_any (same_scan scan) (take 1 (unusable facts (wanted ∷ []))) ≡ is_missing scan kept wanted
 one_first facts kept scan wanted usable = first_same facts kept scan usable (wanted ∷ []) ∙ by_test (is_kept kept wanted)
   where
     by_test : (t : Bool) → option_map_or (same_scan scan) (cond (not t) (Some wanted) None) false ≡ (not t && same_scan scan wanted)
@@ -118,15 +117,15 @@ one_first facts kept scan wanted usable = first_same facts kept scan usable (wan
 act_first : (facts : Facts) (s : Progress) (scan : Purpose) (p : Plan) → FactsFit facts s → list_any (same_scan scan) (act_next facts s.granted p) ≡ is_next_of_act scan s p
 act_first facts s scan (Do (Lookup name mode) rest) fits = by_granted s.granted
   where
-    by_granted : (t : Bool) → list_any (same_scan scan) (take 1 (if t then [] else unusable facts (scans.RelName name ∷ []))) ≡ (not t && is_missing scan s.kept (scans.RelName name))
+    by_granted : (t : Bool) → list_any (same_scan scan) (take 1 (if t then [] else unusable facts (scans.RelName name ∷ []))) ≡ (not t && is_missing scan (kept_at s) (scans.RelName name))
     by_granted true = refl
-    by_granted false = one_first facts s.kept scan (scans.RelName name) fits.usable
-act_first facts s scan (Do (Search wanted) rest) fits = one_first facts s.kept scan wanted fits.usable
-act_first facts s scan (Do (Open rel kind) rest) fits = first_same facts s.kept scan fits.usable (build_scans kind rel)
+    by_granted false = one_first facts (kept_at s) scan (scans.RelName name) fits.usable
+act_first facts s scan (Do (Search wanted) rest) fits = one_first facts (kept_at s) scan wanted fits.usable
+act_first facts s scan (Do (Open rel kind) rest) fits = first_same facts (kept_at s) scan fits.usable (build_scans kind rel)
 act_first facts s scan (Do (Read d) rest) fits = refl
 act_first facts s scan (Do (Lock rel mode) rest) fits = refl
 act_first facts s scan (Do (Write draft) rest) fits = refl
-act_first facts s scan (Done (tells.Regclass oid)) fits = one_first facts s.kept scan (scans.RelOid oid) fits.usable
+act_first facts s scan (Done (tells.Regclass oid)) fits = one_first facts (kept_at s) scan (scans.RelOid oid) fits.usable
 act_first facts s scan p fits = refl
 
 -- the scan may be made now
@@ -139,12 +138,12 @@ next_same facts s rest scan fits = by_outcome (outcome_of (plan_at s.exec))
     acts : List Purpose
     acts = act_next facts s.granted (plan_at s.exec)
 
-    both : list_any (same_scan scan) (builds ++ acts) ≡ (list_any (λ o. is_first_missing scan s.kept o.kind o.rel) s.opened || is_next_of_act scan s (plan_at s.exec))
-    both = list_any-append (same_scan scan) builds acts ∙ ap (λ t. t || list_any (same_scan scan) acts) (opened_first facts s.kept scan fits.usable s.opened)
-        ∙ ap (λ t. list_any (λ o. is_first_missing scan s.kept o.kind o.rel) s.opened || t) (act_first facts s scan (plan_at s.exec) fits)
+    both : list_any (same_scan scan) (builds ++ acts) ≡ (list_any (λ o. is_first_missing scan (kept_at s) o.kind o.rel) s.opened || is_next_of_act scan s (plan_at s.exec))
+    both = list_any-append (same_scan scan) builds acts ∙ ap (λ t. t || list_any (same_scan scan) acts) (opened_first facts (kept_at s) scan fits.usable s.opened)
+        ∙ ap (λ t. list_any (λ o. is_first_missing scan (kept_at s) o.kind o.rel) s.opened || t) (act_first facts s scan (plan_at s.exec) fits)
 
     by_outcome : (o : Outcome) → list_any (same_scan scan) (elim o as (λ x. List Purpose) [ Badly ↦ [] | other ↦ builds ++ acts ])
-        ≡ (not (elim o as (λ x. Bool) [ Badly ↦ true | other ↦ false ]) && (list_any (λ p. is_first_missing scan s.kept p.kind p.rel) s.opened || is_next_of_act scan s (plan_at s.exec)))
+        ≡ (not (elim o as (λ x. Bool) [ Badly ↦ true | other ↦ false ]) && (list_any (λ p. is_first_missing scan (kept_at s) p.kind p.rel) s.opened || is_next_of_act scan s (plan_at s.exec)))
     by_outcome Unsettled = both
     by_outcome Well = both
     by_outcome Badly = refl
@@ -166,7 +165,7 @@ some_found p (x ∷ l) = by_test (some_found p l) (p x)
     by_test more false = more
 
 -- the test of the opened descriptors
-pub lacks_opened_is : (kept : List KeptScan) (opened : List Opening) → lacks_opened kept opened ≡ not (is_empty (builds_missing kept opened))
+pub lacks_opened_is : (kept : Kept) (opened : List Opening) → lacks_opened kept opened ≡ not (is_empty (builds_missing kept opened))
 lacks_opened_is kept [] = refl
 lacks_opened_is kept (o ∷ opened) =
     by_test (is_some (find p (build_scans o.kind o.rel)))
@@ -188,10 +187,10 @@ lacks_opened_is kept (o ∷ opened) =
 
 -- no scan is missing
 pub lacks_any_is : (s : Progress) → not (lacks_any s) ≡ is_empty (scans_missing s)
-lacks_any_is s = ap (λ t. not (not (has_failed s) && (t || not (is_empty (act_missing s (plan_at s.exec)))))) (lacks_opened_is s.kept s.opened) ∙ by_outcome (outcome_of (plan_at s.exec))
+lacks_any_is s = ap (λ t. not (not (has_failed s) && (t || not (is_empty (act_missing s (plan_at s.exec)))))) (lacks_opened_is (kept_at s) s.opened) ∙ by_outcome (outcome_of (plan_at s.exec))
   where
     builds : List Purpose
-    builds = builds_missing s.kept s.opened
+    builds = builds_missing (kept_at s) s.opened
 
     acts : List Purpose
     acts = act_missing s (plan_at s.exec)
@@ -216,10 +215,10 @@ owes_nothing_is facts command s rest fits =
     ∙ ap (λ t. is_empty (owed_first s command) && is_empty (owed_at s.due) && t) (empty_map OwesScan (scans_owed facts (session_at s rest)) ∙ ap is_empty (scans_same facts s rest fits) ∙ sym (lacks_any_is s))
 
 -- the test of the opened descriptors, where the command hasn't failed
-pub lacks_builds_is : (s : Progress) → (not (has_failed s) && lacks_opened s.kept s.opened) ≡ lacks_builds s
-lacks_builds_is s = ap (λ t. not (has_failed s) && t) (lacks_opened_is s.kept s.opened) ∙ by_outcome (outcome_of (plan_at s.exec))
+pub lacks_builds_is : (s : Progress) → (not (has_failed s) && lacks_opened (kept_at s) s.opened) ≡ lacks_builds s
+lacks_builds_is s = ap (λ t. not (has_failed s) && t) (lacks_opened_is (kept_at s) s.opened) ∙ by_outcome (outcome_of (plan_at s.exec))
   where
-    by_outcome : (o : Outcome) → (not (elim o as (λ x. Bool) [ Badly ↦ true | other ↦ false ]) && not (is_empty (builds_missing s.kept s.opened))) ≡ elim o as (λ x. Bool) [ Badly ↦ false | other ↦ not (is_empty (builds_missing s.kept s.opened)) ]
+    by_outcome : (o : Outcome) → (not (elim o as (λ x. Bool) [ Badly ↦ true | other ↦ false ]) && not (is_empty (builds_missing (kept_at s) s.opened))) ≡ elim o as (λ x. Bool) [ Badly ↦ false | other ↦ not (is_empty (builds_missing (kept_at s) s.opened)) ]
     by_outcome Unsettled = refl
     by_outcome Well = refl
     by_outcome Badly = refl
@@ -255,7 +254,7 @@ pub builds_of : (kind : Kind) (rel : Oid) → AllByRecursion (λ d. is_build_sca
 builds_of Table rel = (refl, (refl, (refl, (refl, (refl, (refl, tt))))))
 builds_of Index rel = (refl, (refl, tt))
 
-opened_any : (kept : List KeptScan) (opened : List Opening) → list_any is_build_scan (builds_missing kept opened) ≡ lacks_opened kept opened
+opened_any : (kept : Kept) (opened : List Opening) → list_any is_build_scan (builds_missing kept opened) ≡ lacks_opened kept opened
 opened_any kept [] = refl
 opened_any kept (o ∷ opened) =
     list_any-append is_build_scan (missing kept (build_scans o.kind o.rel)) (builds_missing kept opened)
@@ -270,7 +269,7 @@ opened_any kept (o ∷ opened) =
     by_test true = refl
     by_test false = refl
 
-no_build : (kept : List KeptScan) (scan : Purpose) → is_build_scan scan ≡ false → list_any is_build_scan (missing kept (scan ∷ [])) ≡ false
+no_build : (kept : Kept) (scan : Purpose) → is_build_scan scan ≡ false → list_any is_build_scan (missing kept (scan ∷ [])) ≡ false
 no_build kept scan other = by_test (is_kept kept scan)
   where
     by_test : (t : Bool) → list_any is_build_scan (cond (not t) (scan ∷ []) []) ≡ false
@@ -280,30 +279,30 @@ no_build kept scan other = by_test (is_kept kept scan)
 act_any : (s : Progress) (p : Plan) → ReadsBuilds p → list_any is_build_scan (act_missing s p) ≡ lacks_to_build s p
 act_any s (Do (Lookup name mode) rest) reads = by_granted s.granted
   where
-    by_granted : (t : Bool) → list_any is_build_scan (if t then [] else missing s.kept (scans.RelName name ∷ [])) ≡ false
+    by_granted : (t : Bool) → list_any is_build_scan (if t then [] else missing (kept_at s) (scans.RelName name ∷ [])) ≡ false
     by_granted true = refl
-    by_granted false = no_build s.kept (scans.RelName name) refl
-act_any s (Do (Search scan) rest) reads = no_build s.kept scan reads
-act_any s (Do (Open rel kind) rest) reads = any_found (λ scan. not (is_kept s.kept scan)) (build_scans kind rel) (builds_of kind rel)
-act_any s (Do (Read scan) rest) reads = by_test (is_kept s.kept scan)
+    by_granted false = no_build (kept_at s) (scans.RelName name) refl
+act_any s (Do (Search scan) rest) reads = no_build (kept_at s) scan reads
+act_any s (Do (Open rel kind) rest) reads = any_found (λ scan. not (is_kept (kept_at s) scan)) (build_scans kind rel) (builds_of kind rel)
+act_any s (Do (Read scan) rest) reads = by_test (is_kept (kept_at s) scan)
   where
     by_test : (t : Bool) → list_any is_build_scan (cond (not t) (scan ∷ []) []) ≡ not t
     by_test true = refl
     by_test false = ap (λ t. t || false) reads
 act_any s (Do (Lock rel mode) rest) reads = refl
 act_any s (Do (Write draft) rest) reads = refl
-act_any s (Done (tells.Regclass oid)) reads = no_build s.kept (scans.RelOid oid) refl
+act_any s (Done (tells.Regclass oid)) reads = no_build (kept_at s) (scans.RelOid oid) refl
 act_any s p reads = refl
 
 -- the test whether a scan for a descriptor is missing
-pub lacks_build_scan_is : (s : Progress) → (not (has_failed s) && (lacks_opened s.kept s.opened || lacks_to_build s (plan_at s.exec))) ≡ list_any is_build_scan (scans_missing s)
+pub lacks_build_scan_is : (s : Progress) → (not (has_failed s) && (lacks_opened (kept_at s) s.opened || lacks_to_build s (plan_at s.exec))) ≡ list_any is_build_scan (scans_missing s)
 lacks_build_scan_is s = by_outcome (outcome_of (plan_at s.exec))
   where
-    both : (lacks_opened s.kept s.opened || lacks_to_build s (plan_at s.exec)) ≡ list_any is_build_scan (builds_missing s.kept s.opened ++ act_missing s (plan_at s.exec))
-    both = ap (λ t. t || lacks_to_build s (plan_at s.exec)) (sym (opened_any s.kept s.opened)) ∙ ap (λ t. list_any is_build_scan (builds_missing s.kept s.opened) || t) (sym (act_any s (plan_at s.exec) (stage_reads s.exec)))
-        ∙ sym (list_any-append is_build_scan (builds_missing s.kept s.opened) (act_missing s (plan_at s.exec)))
+    both : (lacks_opened (kept_at s) s.opened || lacks_to_build s (plan_at s.exec)) ≡ list_any is_build_scan (builds_missing (kept_at s) s.opened ++ act_missing s (plan_at s.exec))
+    both = ap (λ t. t || lacks_to_build s (plan_at s.exec)) (sym (opened_any (kept_at s) s.opened)) ∙ ap (λ t. list_any is_build_scan (builds_missing (kept_at s) s.opened) || t) (sym (act_any s (plan_at s.exec) (stage_reads s.exec)))
+        ∙ sym (list_any-append is_build_scan (builds_missing (kept_at s) s.opened) (act_missing s (plan_at s.exec)))
 
-    by_outcome : (o : Outcome) → (not (elim o as (λ x. Bool) [ Badly ↦ true | other ↦ false ]) && (lacks_opened s.kept s.opened || lacks_to_build s (plan_at s.exec))) ≡ list_any is_build_scan (elim o as (λ x. List Purpose) [ Badly ↦ [] | other ↦ builds_missing s.kept s.opened ++ act_missing s (plan_at s.exec) ])
+    by_outcome : (o : Outcome) → (not (elim o as (λ x. Bool) [ Badly ↦ true | other ↦ false ]) && (lacks_opened (kept_at s) s.opened || lacks_to_build s (plan_at s.exec))) ≡ list_any is_build_scan (elim o as (λ x. List Purpose) [ Badly ↦ [] | other ↦ builds_missing (kept_at s) s.opened ++ act_missing s (plan_at s.exec) ])
     by_outcome Unsettled = both
     by_outcome Well = both
     by_outcome Badly = refl

@@ -17,14 +17,14 @@ use Rattle.history_model.specs.Versions.{versions_of, versions_by, change_by, en
 use Rattle.history_model.specs.Orderly.{MayComeNext, IsSound}
 use Rattle.history_model.proofs.Prefixes.{EachEntry-more, EachEntry-prefix, EachEntry-rest, EachFrom-both, EachFrom-keeps}
 use Rattle.history_model.proofs.Reading.{is_committed-kept, versions_of-more as versions-more}
-use Rattle.history_model.proofs.Every.{every-weaker, every-filter, SomeOf, some-weaker, some_with, some-left, some-map, some-unmap, some-filter, some-unfilter}
+use Rattle.history_model.proofs.Every.{SomeOf, some-weaker, some_with, some-left, some-map, some-unmap, some-filter, some-unfilter}
 use Rattle.history_model.proofs.Asking.{oid_eq}
 use Rattle.history_model.proofs.Lawful.{IsLawful}
 use Rattle.history_model.proofs.Runs.{Runs}
 use Rattle.history_model.proofs.Touched.{entry_of, OfStamps, Touch}
 use Rattle.history_model.proofs.Seen.{runs-after}
-use Rattle.history_model.proofs.InOrder.{IsIn, every_given, some_given}
-use Rattle.history_model.proofs.WeakChanges.{every_self}
+use Rattle.history_model.proofs.GivenRows.{given_seen, row_given}
+use Rattle.history_model.proofs.InOrder.{IsIn}
 use Rattle.history_model.proofs.Ordered.{Ordered, lawful_of, sound_ordered}
 use Rattle.history_model.proofs.Locked.{IsSeenAs, found_first}
 use Rattle.cacheless.specs.Types.{Oid, Kind, Row, Purpose, Entry, Event, Item}
@@ -144,12 +144,6 @@ relation_row : (rel : Oid) (name : List ℕ) (kind : Kind) (row : Row) → IsRel
 relation_row rel name kind (rows.Class oid own kind' fill) is = (fill, ap (λ o. rows.Class o own kind' fill) is.0 ∙ ap (λ n. rows.Class rel n kind' fill) is.1.0 ∙ ap (λ x. rows.Class rel name x fill) is.1.1)
 relation_row rel name kind row is = absurd is
 
--- the rows that a scan gives are seen, and it asks for them
-pub given_seen : (history : List Entry) (b : ℕ) (d : Purpose) → AllByRecursion (λ row. IsIn row (rows_of history b) × (selects d row ≡ true)) (answer_of history b d)
-given_seen history b d = every_given (λ row. IsIn row (rows_of history b) × (selects d row ≡ true)) d [] (filter (selects d) (rows_of history b)) tt
-    (every-filter (λ row. IsIn row (rows_of history b) × (selects d row ≡ true)) (selects d) (rows_of history b)
-    (every-weaker (λ row. IsIn row (rows_of history b)) (λ row. selects d row ≡ true → IsIn row (rows_of history b) × (selects d row ≡ true)) (λ row is asks. (is, asks)) (rows_of history b) (every_self (rows_of history b))))
-
 -- a row that is seen is that of a version which is seen
 pub version_seen : (P : Row → Type 0) (history : List Entry) (b : ℕ) → SomeOf P (rows_of history b) → SomeOf (λ v. P v.row × (sees history b v ≡ true)) (versions_of history)
 version_seen P history b some = some-weaker (λ v. (sees history b v ≡ true) × P v.row) (λ v. P v.row × (sees history b v ≡ true)) (λ v h. (h.1, h.0)) (versions_of history)
@@ -159,10 +153,6 @@ version_seen P history b some = some-weaker (λ v. (sees history b v ≡ true) �
 pub row_seen : (P : Row → Type 0) (history : List Entry) (b : ℕ) → SomeOf (λ v. P v.row × (sees history b v ≡ true)) (versions_of history) → SomeOf P (rows_of history b)
 row_seen P history b some = some-map P (λ v. v.row) (filter (sees history b) (versions_of history))
     (some-filter (λ v. P v.row) (sees history b) (versions_of history) (some-weaker (λ v. P v.row × (sees history b v ≡ true)) (λ v. (sees history b v ≡ true) × P v.row) (λ v h. (h.1, h.0)) (versions_of history) some))
-
--- a row that is seen a scan gives which asks for such rows
-pub row_given : (P : Row → Type 0) (history : List Entry) (b : ℕ) (d : Purpose) → ((row : Row) → P row → selects d row ≡ true) → SomeOf P (rows_of history b) → SomeOf P (answer_of history b d)
-row_given P history b d asks some = some_given P d [] (filter (selects d) (rows_of history b)) (inr (some-filter P (selects d) (rows_of history b) (some-weaker P (λ row. (selects d row ≡ true) × P row) (λ row is. (asks row is, is)) (rows_of history b) some)))
 
 pub relation_seen : (history : List Entry) (b : ℕ) (rel : Oid) (name : List ℕ) (kind : Kind) → IsSeenAs history b rel name kind → SomeOf (λ v. IsRelation rel name kind v.row × (sees history b v ≡ true)) (versions_of history)
 relation_seen history b rel name kind seen =

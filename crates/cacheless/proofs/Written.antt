@@ -4,6 +4,7 @@ pub mod SeenRows
 pub mod WrittenMessages
 pub mod FitToWrite
 pub mod AlterationsFit
+pub mod TableDropped
 pub mod NewTableItems
 pub mod NewNames
 pub mod AlteringLocks

@@ -1,5 +1,5 @@
 -- What the running command answers, by what the code holds.
-use Rattle.std.specs.Prelude.{◌≡◌, ℕ, true, false, Some, List, All}
+use Rattle.std.specs.Prelude.{◌≡◌, ℕ, true, false, Some, IfSome, List}
 use Rattle.base_types.specs.declared.scan.Purpose.TheVariants as scans
 use Rattle.event_kinds.specs.declared.entry.Event.TheVariants as events
 use Rattle.command_answers.specs.Answers.{answer_text}
@@ -7,23 +7,22 @@ use Rattle.ddl_effect.specs.Plans.{Absent}
 use Rattle.ddl_effect.specs.Stages.{plan_at}
 use Rattle.history_model.specs.Lives.{last_event_of}
 use Rattle.history_model.specs.Read.{place_read}
-use Rattle.cacheless.specs.Types.{Answer, Entry}
-use Rattle.cacheless.specs.declared.kept_scan.KeptScan.{KeptScan}
+use Rattle.cacheless.specs.Types.{Answer, Purpose, Entry}
 use Rattle.cacheless.specs.declared.progress.Progress.{Progress}
-use Rattle.cacheless.specs.State.{is_kept, rows_kept, place_kept}
+use Rattle.cacheless.specs.State.{Kept, kept_at, is_kept, rows_kept, place_kept}
 use Rattle.cacheless.specs.Told.{told_left}
 
 -- what the running command answers, once it has come out
 abbrev pub told_at : Progress → Answer
-told_at s = told_left (rows_kept s.kept) (place_kept s.kept) s.locks.items s.blocks.block (plan_at s.exec)
+told_at s = told_left (rows_kept (kept_at s)) (place_kept (kept_at s)) s.locks.items s.blocks.block (plan_at s.exec)
 
 -- the text is that of what this command answers
 abbrev pub IsToldText : Progress → List ℕ → Type 0
 IsToldText s text = text ≡ answer_text (told_at s)
 
--- the place that is kept with a scan is that of the last such scan
-abbrev pub KeptAt : List Entry → ℕ → KeptScan → Type 0
-KeptAt seen b k = place_read seen b k.scan ≡ k.at
+-- the place kept with each scan is that of the backend's last such scan
+abbrev pub AreLastScans : List Entry → ℕ → Kept → Type 0
+AreLastScans seen b kept = (scan : Purpose) → IfSome (kept scan) (λ read. place_read seen b scan ≡ read.at)
 
 -- nothing of the running command is taken back or released
 pub record IsWhole (seen : List Entry) (s : Progress) : Type 0 where
@@ -32,9 +31,9 @@ pub record IsWhole (seen : List Entry) (s : Progress) : Type 0 where
 
 -- where a lookup found no relation its scan is kept, until something of the command is taken back or released
 abbrev pub KeepsAbsent : List Entry → Progress → Type 0
-KeepsAbsent seen s = (name : List ℕ) → plan_at s.exec ≡ Absent name → IsWhole seen s → is_kept s.kept (scans.RelName name) ≡ true
+KeepsAbsent seen s = (name : List ℕ) → plan_at s.exec ≡ Absent name → IsWhole seen s → is_kept (kept_at s) (scans.RelName name) ≡ true
 
 -- the places that the code holds are those of the last scans of its backend, and it has those that it has to tell
 pub record PlacesFit (seen : List Entry) (s : Progress) : Type 0 where
-  pub kept : All (KeptAt seen s.id) s.kept
+  pub kept : AreLastScans seen s.id (kept_at s)
   pub absent : KeepsAbsent seen s

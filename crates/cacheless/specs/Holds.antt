@@ -1,5 +1,5 @@
 -- What the code holds is the session of its backend in a history.
-use Rattle.std.specs.Prelude.{◌≡◌, ◌≤◌, ◌+◌, ◌++◌, ◌∷◌, [], ℕ, Bool, true, false, Option, List, length, drop, All, Some, slice_get, ⊤}
+use Rattle.std.specs.Prelude.{◌≡◌, ◌≤◌, ◌+◌, ◌++◌, ◌∷◌, [], ℕ, Bool, true, false, Option, List, length, drop, Some, IfSome, slice_get, ⊤}
 use Rattle.std.specs.List.{AllByRecursion}
 use Rattle.base_types.specs.Scenario.{IsBackend}
 use Rattle.base_types.specs.declared.row.Row.TheVariants as rows
@@ -11,7 +11,6 @@ use Rattle.ddl_effect.specs.Commands.{commands_of}
 use Rattle.ddl_effect.specs.Stages.{plan_at, plan_again}
 use Rattle.history_model.specs.Writes.{is_empty}
 use Rattle.cacheless.specs.Types.{Row, Purpose, Command, Scenario, Entry, Event}
-use Rattle.cacheless.specs.declared.kept_scan.KeptScan.{KeptScan}
 use Rattle.cacheless.specs.declared.progress.Counts.{Counts}
 use Rattle.cacheless.specs.declared.progress.Progress.{Progress}
 use Rattle.cacheless.specs.Facts.{Facts, facts_of}
@@ -20,12 +19,12 @@ use Rattle.cacheless.specs.Owed.{owed_at_start, owed_after}
 use Rattle.cacheless.specs.Settled.{done_here, act_done, is_finished, next_session, settled}
 use Rattle.cacheless.specs.Sessions.{entered, session_of}
 use Rattle.cacheless.specs.Puts.{PutsOpened}
-use Rattle.cacheless.specs.State.{owed_at, running_of, lists_at, is_kept, is_absent, IsNew, Rest, session_at}
+use Rattle.cacheless.specs.State.{owed_at, running_of, lists_at, Kept, kept_at, is_kept, is_absent, IsNew, Rest, session_at}
 use Rattle.cacheless.specs.Silently.{IsAtRest}
 
 -- what is kept of a scan is what the last such scan gave
-pub record ReadRight (rows : Purpose → List Row) (k : KeptScan) : Type 0 where
-  pub rows_are : k.rows ≡ rows k.scan
+abbrev pub AreRight : (Purpose → List Row) → Kept → Type 0
+AreRight rows kept = (scan : Purpose) → IfSome (kept scan) (λ read. read.rows ≡ rows scan)
 
 -- there is a row, and it is that of a relation
 abbrev pub is_class : Option Row → Bool
@@ -43,8 +42,8 @@ pub record FactsFit (facts : Facts) (s : Progress) : Type 0 where
   pub running : facts.running ≡ running_of s.running
   pub lists : facts.lists ≡ lists_at s
   pub owed : owed_after facts.last ≡ owed_at s.due
-  pub usable : (scan : Purpose) → facts.usable scan ≡ is_kept s.kept scan
-  pub kept : All (ReadRight facts.rows) s.kept
+  pub usable : (scan : Purpose) → facts.usable scan ≡ is_kept (kept_at s) scan
+  pub kept : AreRight facts.rows (kept_at s)
   pub given : s.granted ≡ true → GivenFits facts (plan_at s.exec) s.given
 
 -- the running command has made so many entries at most

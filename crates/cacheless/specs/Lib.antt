@@ -11,6 +11,7 @@ pub mod Sessions
 pub mod Plays
 pub mod MayEnter
 pub mod TableWrites
+pub mod WholeTables
 pub mod Protected
 pub mod Lines
 pub mod Schedule
@@ -22,7 +23,6 @@ pub mod Judged
 pub mod OpenedReads
 pub mod Puts
 pub mod State
-pub mod KeptStarts
 pub mod SameItems
 pub mod May
 pub mod Endings

@@ -15,14 +15,13 @@ use Rattle.ddl_effect.specs.Stages.{plan_at}
 use Rattle.history_model.specs.Names.{has_name}
 use Rattle.history_model.specs.Writes.{is_empty}
 use Rattle.cacheless.specs.Types.{Oid, Mode, Kind, Row, Purpose, Message, Command, Item, Event, Opening}
-use Rattle.cacheless.specs.declared.kept_scan.KeptScan.{KeptScan}
 use Rattle.cacheless.specs.declared.progress.Progress.{Progress}
 use Rattle.cacheless.specs.Session.{Badly, outcome_of}
 use Rattle.cacheless.specs.Owed.{OwesFetch}
 use Rattle.cacheless.specs.Ends.{End, Ends, Commits, TakesBack}
 use Rattle.cacheless.specs.Plays.{drafted}
 use Rattle.cacheless.specs.SameItems.{same_items}
-use Rattle.cacheless.specs.State.{owed_at, owed_first, one_if, is_kept, rows_kept, row_sought, act_missing, is_visible_at, unsent_at, xid_at, has_write_since, end_at}
+use Rattle.cacheless.specs.State.{owed_at, owed_first, one_if, Kept, kept_at, is_kept, rows_kept, row_sought, act_missing, is_visible_at, unsent_at, xid_at, has_write_since, end_at}
 
 -- the counts are small enough to be summed
 abbrev pub HasRoom : Progress → Type 0
@@ -41,19 +40,19 @@ abbrev pub has_looked_at : Progress → Bool
 has_looked_at s = nat_lt (s.tally.scans + s.tally.grants + started_at s + s.tally.full) s.tally.looks
 
 -- the scan is the first that a descriptor lacks
-abbrev pub is_first_missing : Purpose → List KeptScan → Kind → Oid → Bool
+abbrev pub is_first_missing : Purpose → Kept → Kind → Oid → Bool
 is_first_missing scan kept kind rel = option_map_or (same_scan scan) (find (λ d. not (is_kept kept d)) (build_scans kind rel)) false
 
 -- the scan is this one, and isn't kept
-abbrev pub is_missing : Purpose → List KeptScan → Purpose → Bool
+abbrev pub is_missing : Purpose → Kept → Purpose → Bool
 is_missing scan kept wanted = not (is_kept kept wanted) && same_scan scan wanted
 
 -- the scan is the first that the next act or the answer lacks
 abbrev pub is_next_of_act : Purpose → Progress → Plan → Bool
-is_next_of_act scan s (Do (Lookup name mode) rest) = not s.granted && is_missing scan s.kept (scans.RelName name)
-is_next_of_act scan s (Do (Search wanted) rest) = is_missing scan s.kept wanted
-is_next_of_act scan s (Done told) = option_map_or (is_missing scan s.kept) (told_rests_on told) false
-is_next_of_act scan s (Do (Open rel kind) rest) = is_first_missing scan s.kept kind rel
+is_next_of_act scan s (Do (Lookup name mode) rest) = not s.granted && is_missing scan (kept_at s) (scans.RelName name)
+is_next_of_act scan s (Do (Search wanted) rest) = is_missing scan (kept_at s) wanted
+is_next_of_act scan s (Done told) = option_map_or (is_missing scan (kept_at s)) (told_rests_on told) false
+is_next_of_act scan s (Do (Open rel kind) rest) = is_first_missing scan (kept_at s) kind rel
 is_next_of_act scan s plan = false
 
 -- the command has failed
@@ -62,21 +61,21 @@ has_failed s = elim (outcome_of (plan_at s.exec)) [ Badly ↦ true | other ↦ f
 
 -- the scan may be made now
 abbrev pub is_next_at : Purpose → Progress → Bool
-is_next_at scan s = not (has_failed s) && (list_any (λ o. is_first_missing scan s.kept o.kind o.rel) s.opened || is_next_of_act scan s (plan_at s.exec))
+is_next_at scan s = not (has_failed s) && (list_any (λ o. is_first_missing scan (kept_at s) o.kind o.rel) s.opened || is_next_of_act scan s (plan_at s.exec))
 
 -- an opened descriptor lacks a scan
-abbrev pub lacks_opened : List KeptScan → List Opening → Bool
+abbrev pub lacks_opened : Kept → List Opening → Bool
 lacks_opened kept opened = is_some (find (λ o. is_some (find (λ scan. not (is_kept kept scan)) (build_scans o.kind o.rel))) opened)
 
 -- the next act lacks a scan for a descriptor
 abbrev pub lacks_to_build : Progress → Plan → Bool
-lacks_to_build s (Do (Open rel kind) rest) = is_some (find (λ scan. not (is_kept s.kept scan)) (build_scans kind rel))
-lacks_to_build s (Do (Read scan) rest) = not (is_kept s.kept scan)
+lacks_to_build s (Do (Open rel kind) rest) = is_some (find (λ scan. not (is_kept (kept_at s) scan)) (build_scans kind rel))
+lacks_to_build s (Do (Read scan) rest) = not (is_kept (kept_at s) scan)
 lacks_to_build s plan = false
 
 -- a scan has to come before the next act
 abbrev pub lacks_any : Progress → Bool
-lacks_any s = not (has_failed s) && (lacks_opened s.kept s.opened || not (is_empty (act_missing s (plan_at s.exec))))
+lacks_any s = not (has_failed s) && (lacks_opened (kept_at s) s.opened || not (is_empty (act_missing s (plan_at s.exec))))
 
 -- nothing has to come before the next act
 abbrev pub owes_nothing : Command → Progress → Bool
@@ -99,13 +98,13 @@ is_write_at next written (Do (Write draft) rest) = same_items written (drafted n
 is_write_at next written plan = false
 
 -- the new name that a change gives a relation, if it gives one: none where the row that is kept of it has it already
-abbrev pub names_by : List KeptScan → Change → List (List ℕ)
+abbrev pub names_by : Kept → Change → List (List ℕ)
 names_by kept (changes.Insert (rows.Class oid name kind fill)) = name ∷ []
 names_by kept (changes.Replace (rows.Class oid name kind fill)) = if list_any (has_name name) (rows_kept kept (scans.Class oid)) then [] else name ∷ []
 names_by kept change = []
 
 -- the next act writes a relation of this name
-abbrev pub is_clash_at : List KeptScan → List ℕ → Plan → Bool
+abbrev pub is_clash_at : Kept → List ℕ → Plan → Bool
 is_clash_at kept name (Do (Write draft) rest) = list_any (bytes_eq name) (flat_map (names_by kept) draft.changes)
 is_clash_at kept name plan = false
 
@@ -123,7 +122,7 @@ may_write_at next command written s = owes_nothing command s && is_write_at next
 
 -- a write that is refused for this name may come next
 abbrev pub may_clash_at : Command → List ℕ → Progress → Bool
-may_clash_at command name s = owes_nothing command s && is_clash_at s.kept name (plan_at s.exec)
+may_clash_at command name s = owes_nothing command s && is_clash_at (kept_at s) name (plan_at s.exec)
 
 -- the event is the release of these commands
 abbrev pub releases : ℕ → Event → Bool

@@ -12,7 +12,7 @@ use Rattle.cacheless.specs.TableWrites.{WritesTables}
 abbrev pub AreSpelled : Scenario → Type 0
 AreSpelled scenario = AllByRecursion (λ p. IsCommand p.command) scenario.commands
 
--- a sound history in which the backends do what the commands of a script say, and of which each write keeps tables
+-- a sound history in which the backends do what the commands of a script say, which have forms that lines may have, and of which each write keeps tables
 pub record IsPlayed (scenario : Scenario) (history : List Entry) : Type 0 where
   pub sound : IsSound history
   pub plays : Plays scenario history

@@ -8,13 +8,12 @@ use Rattle.ddl_effect.specs.Stages.{plan_at, acts_left}
 use Rattle.ddl_effect.specs.declared.want.Want.{Want}
 use Rattle.ddl_effect.specs.declared.want.Want.TheVariants as wants
 use Rattle.cacheless.specs.Types.{Row, Command, Line, Opening}
-use Rattle.cacheless.specs.declared.kept_scan.KeptScan.{KeptScan}
 use Rattle.cacheless.specs.declared.progress.Progress.{Progress}
 use Rattle.cacheless.specs.declared.silent.Silent.{Silent}
 use Rattle.cacheless.specs.declared.silent.Silent.TheVariants as silents
 use Rattle.cacheless.specs.Ends.{End, Ends}
 use Rattle.cacheless.specs.Settled.{if_locked, looked_up}
-use Rattle.cacheless.specs.State.{rows_kept, row_sought, is_out, end_at}
+use Rattle.cacheless.specs.State.{Kept, kept_at, rows_kept, row_sought, is_out, end_at}
 use Rattle.cacheless.specs.May.{has_failed, owes_nothing}
 use Rattle.cacheless.specs.Answering.{IsToldText}
 
@@ -22,8 +21,8 @@ use Rattle.cacheless.specs.Answering.{IsToldText}
 abbrev pub gives_at : Progress → Act → Option (List Row)
 gives_at s (Lookup name mode) = looked_up s.locks.items mode (cons_option (row_sought s name) [])
 gives_at s (Open rel kind) = Some []
-gives_at s (Search scan) = Some (rows_kept s.kept scan)
-gives_at s (Read scan) = Some (rows_kept s.kept scan)
+gives_at s (Search scan) = Some (rows_kept (kept_at s) scan)
+gives_at s (Read scan) = Some (rows_kept (kept_at s) scan)
 gives_at s (Lock rel mode) = if_locked (has_lock s.locks.items rel mode) []
 gives_at s (Write draft) = None
 
@@ -54,7 +53,7 @@ abbrev pub is_to_answer_at : Progress → Bool
 is_to_answer_at s = elim (slice_get s.commands s.finished) [ Some command ↦ is_to_answer command s | None ↦ false ]
 
 -- the rows that are given to an act: the row that a lookup found, or those that are kept of its scan
-abbrev pub rows_for : Want → Option Row → List KeptScan → List Row
+abbrev pub rows_for : Want → Option Row → Kept → List Row
 rows_for (wants.Lookup name mode) row kept = cons_option row []
 rows_for (wants.Search scan) row kept = rows_kept kept scan
 rows_for (wants.Read scan) row kept = rows_kept kept scan
@@ -63,7 +62,7 @@ rows_for want row kept = []
 -- the rows that the next act is given
 abbrev pub rows_given : Progress → Want → List Row
 rows_given s (wants.Lookup name mode) = cons_option (row_sought s name) []
-rows_given s want = rows_for want None s.kept
+rows_given s want = rows_for want None (kept_at s)
 
 -- the descriptor that an act opens
 abbrev pub opened_for : Want → List Opening

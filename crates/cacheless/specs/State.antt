@@ -1,8 +1,8 @@
 -- What the code holds of a backend, in the words of the definitions.
 use Rattle.std.specs.Prelude.{◌≡◌, ℕ, Bool, true, false, not, Option, Some, None, List, [], ◌∷◌, ◌++◌, ◌+◌, ◌==◌, ◌&&◌, ◌||◌, map, filter, if◌then◌else◌, is_none, is_some, slice_get, nat_lt}
 use Rattle.std.specs.Option.{option_map, option_map_or}
-use Rattle.std.specs.List.{find, list_any, flat_map}
-use Rattle.base_types.specs.Scans.{same_scan, is_build_scan, build_scans}
+use Rattle.std.specs.List.{list_any, flat_map}
+use Rattle.base_types.specs.Scans.{is_build_scan, build_scans}
 use Rattle.base_types.specs.declared.scan.Purpose.TheVariants as scans
 use Rattle.base_types.specs.declared.command.Command.TheVariants as commands
 use Rattle.event_kinds.specs.declared.entry.Event.TheVariants as events
@@ -10,7 +10,6 @@ use Rattle.command_answers.specs.declared.error.CommandError.TheVariants as erro
 use Rattle.row_visibility.specs.declared.clash.Clash.TheVariants as clashes
 use Rattle.lock_modes.specs.Own.{cleared, new_lock}
 use Rattle.inval_messages.specs.Lists.{Written, has_write_from, unsent_after}
-use Rattle.inval_messages.specs.Messages.{is_spared}
 use Rattle.command_lists.specs.Lists.{all_lists, no_lists}
 use Rattle.ddl_effect.specs.Plans.{Plan, Do, Lookup, left_rests_on}
 use Rattle.txn_blocks.specs.Blocks.{Block, Outside, Inside, Failed, Blocks, no_block, ends_block, refused_by, innermost, blocks_well, blocks_badly}
@@ -25,7 +24,8 @@ use Rattle.cacheless.specs.Types.{Oid, Message, Row, Purpose, Command, CommandEr
 use Rattle.cacheless.specs.Session.{Session, Finished, Tally, Badly, Well, Unsettled, outcome_of, is_settled, plan_first, refused_first}
 use Rattle.cacheless.specs.Owed.{Owes, OwesLook, OwesFetch}
 use Rattle.cacheless.specs.Ends.{End, Ends, Commits, TakesBack}
-use Rattle.cacheless.specs.declared.kept_scan.KeptScan.{KeptScan}
+use Rattle.local_caches.specs.Caches.{kept_of}
+pub use Rattle.local_caches.specs.Kept.{Kept, nothing_kept, kept_with, kept_spared, is_kept, rows_kept, place_kept}
 use Rattle.cacheless.specs.declared.progress.Due.{Due}
 use Rattle.cacheless.specs.declared.progress.Due.TheVariants as dues
 use Rattle.txn_blocks.specs.declared.transaction.RunningTransaction.{RunningTransaction}
@@ -88,25 +88,13 @@ unsent_at s = unsent_after (published_at s) (lists_at s)
 abbrev pub has_write_since : ℕ → Progress → Bool
 has_write_since from s = has_write_from from (lists_at s)
 
--- the scan is kept
-abbrev pub is_kept : List KeptScan → Purpose → Bool
-is_kept kept scan = list_any (λ k. same_scan k.scan scan) kept
-
--- the rows that are kept of a scan
-abbrev pub rows_kept : List KeptScan → Purpose → List Row
-rows_kept kept scan = option_map_or (λ k. k.rows) (find (λ k. same_scan k.scan scan) kept) []
-
--- the place of a scan that is kept
-abbrev pub place_kept : List KeptScan → Purpose → ℕ
-place_kept kept scan = option_map_or (λ k. k.at) (find (λ k. same_scan k.scan scan) kept) 0
-
--- what is kept once messages are executed: what none of them covers
-abbrev pub kept_spared : List Message → List KeptScan → List KeptScan
-kept_spared messages kept = filter (λ k. is_spared k.scan messages) kept
+-- what is kept of each scan
+abbrev pub kept_at : Progress → Kept
+kept_at s = kept_of s.caches
 
 -- the row by which a lookup of the name goes on: once its lock is granted the one that it had found by then, else the first of those that are kept
 abbrev pub row_sought : Progress → List ℕ → Option Row
-row_sought s name = if s.granted then s.given else slice_get (rows_kept s.kept (scans.RelName name)) 0
+row_sought s name = if s.granted then s.given else slice_get (rows_kept (kept_at s) (scans.RelName name)) 0
 
 -- that of the next act, if it is a lookup
 abbrev pub row_next : Progress → Plan → Option Row
@@ -114,21 +102,21 @@ row_next s (Do (Lookup name mode) rest) = row_sought s name
 row_next s plan = None
 
 -- those of these scans that aren't kept
-abbrev pub missing : List KeptScan → List Purpose → List Purpose
+abbrev pub missing : Kept → List Purpose → List Purpose
 missing kept wanted = filter (λ scan. not (is_kept kept scan)) wanted
 
 -- the scans that the opened descriptors lack
-abbrev pub builds_missing : List KeptScan → List Opening → List Purpose
+abbrev pub builds_missing : Kept → List Opening → List Purpose
 builds_missing kept opened = flat_map (λ o. missing kept (build_scans o.kind o.rel)) opened
 
 -- the scans that the next act or the answer lacks: a lookup isn't repeated once its lock is granted
 abbrev pub act_missing : Progress → Plan → List Purpose
-act_missing s (Do (Lookup name mode) rest) = if s.granted then [] else missing s.kept (scans.RelName name ∷ [])
-act_missing s plan = missing s.kept (left_rests_on plan)
+act_missing s (Do (Lookup name mode) rest) = if s.granted then [] else missing (kept_at s) (scans.RelName name ∷ [])
+act_missing s plan = missing (kept_at s) (left_rests_on plan)
 
 -- the scans that come before the next act: none once the command has failed
 abbrev pub scans_missing : Progress → List Purpose
-scans_missing s = elim (outcome_of (plan_at s.exec)) [ Badly ↦ [] | other ↦ builds_missing s.kept s.opened ++ act_missing s (plan_at s.exec) ]
+scans_missing s = elim (outcome_of (plan_at s.exec)) [ Badly ↦ [] | other ↦ builds_missing (kept_at s) s.opened ++ act_missing s (plan_at s.exec) ]
 
 -- the running command has come out
 abbrev pub is_out : Progress → Bool
@@ -136,7 +124,7 @@ is_out s = is_settled (outcome_of (plan_at s.exec))
 
 -- its opened descriptors lack scans, which messages took away, and it hasn't failed
 abbrev pub lacks_builds : Progress → Bool
-lacks_builds s = elim (outcome_of (plan_at s.exec)) [ Badly ↦ false | other ↦ not (is_empty (builds_missing s.kept s.opened)) ]
+lacks_builds s = elim (outcome_of (plan_at s.exec)) [ Badly ↦ false | other ↦ not (is_empty (builds_missing (kept_at s) s.opened)) ]
 
 -- a fetch of so many messages asks for a look that counts for no scan
 abbrev pub is_full : ℕ → Progress → Bool
@@ -225,7 +213,7 @@ pub record IsLockedIn (locks : List OwnLock) (old new : Progress) : Type 0 where
   pub locks_are : new.locks.items ≡ locks
   pub is : new ≡ record old { locks = new.locks }
 
--- a search that found no relation is made anew, by the rows that its scan gave
+-- a lookup that found no relation is made anew
 pub record SearchesAgain (old new : Progress) : Type 0 where
   pub plan : plan_at new.exec ≡ plan_again old.exec
   pub is : new ≡ record old { exec = new.exec }
@@ -246,7 +234,7 @@ pub record IsNew (id : ℕ) (all : List Command) (s : Progress) : Type 0 where
   pub granted : s.granted ≡ false
   pub opened : s.opened ≡ []
   pub locks : s.locks.items ≡ []
-  pub kept : s.kept ≡ []
+  pub kept : kept_at s ≡ nothing_kept
   pub answer : s.answer ≡ None
 
 -- what the code doesn't hold of its session

@@ -1,4 +1,4 @@
--- What the writes of commands keep of tables: relations and columns that were written stay, a relation keeps its name and kind, columns are numbered from 1, and no two columns of a relation have one name.
+-- What the writes of commands keep of tables: relations and columns that were written stay, a relation keeps its name and kind, columns are numbered from 1, no two columns of a relation have one name, and a write gives no name to two relations.
 use Rattle.std.specs.Prelude.{◌≡◌, ⊤, ◌⊎◌, ℕ, Bool, true, false, not, List, [], ◌∷◌, ◌==◌, ◌-◌, ◌||◌, ◌&&◌, nat_lt}
 use Rattle.std.specs.List.{AllByRecursion, list_any, list_all}
 use Rattle.std.specs.Option.{IfSome, option_map_or}
@@ -67,6 +67,16 @@ abbrev pub AreCalledApart : List Item → Type 0
 AreCalledApart [] = ⊤
 AreCalledApart (item ∷ items) = AllByRecursion (λ later. IfSome (added_row item) (λ row. IfSome (added_row later) (λ other. AreNamesakes row other → ⊥))) items × AreCalledApart items
 
+-- two rows are of relations that have one name
+abbrev pub ShareName : Row → Row → Type 0
+ShareName (rows.Class oid own kind fill) (rows.Class to name kind' fill') = own ≡ name
+ShareName row other = ⊥
+
+-- no two changes give relations one name
+abbrev pub AreNamedApart : List Item → Type 0
+AreNamedApart [] = ⊤
+AreNamedApart (item ∷ items) = AllByRecursion (λ later. IfSome (added_row item) (λ row. IfSome (added_row later) (λ other. ShareName row other → ⊥))) items × AreNamedApart items
+
 -- a write keeps tables
 pub record KeepsTables (before : List Entry) (b : ℕ) (items : List Item) : Type 0 where
   pub stay : list_all takes_no_table items ≡ true
@@ -74,6 +84,7 @@ pub record KeepsTables (before : List Entry) (b : ℕ) (items : List Item) : Typ
   pub columns : list_all (is_next_column before b items) items ≡ true
   pub called : AllByRecursion (CallsApart before b) items
   pub apart : AreCalledApart items
+  pub named : AreNamedApart items
 
 -- if the event is a write, it keeps tables
 abbrev pub KeepsTablesBy : List Entry → ℕ → Event → Type 0

@@ -8,20 +8,22 @@ ghost use Rattle.cacheless.specs.Lines.{name_in, commit_answer};
 ghost use Rattle.cacheless.specs.Protected.{protects};
 ghost use Rattle.cacheless.specs.State.{rows_kept as kept_rows, place_kept as kept_place};
 ghost use Rattle.cacheless.specs.Told.{told_field, told_well};
+ghost use Rattle.local_caches.specs.Caches.{kept_of};
 
+use crate::Progress;
 use crate::silent::rows_kept;
-use crate::{KeptScans, Progress};
 use base_types::{
     Field, Kind, Listed, Name, NoMemory, Oid, Purpose, Row, field_text, fields_of, read_by, writers,
 };
 use command_answers::{Answer, Column, CommandError, Shown, answer_text};
 use ddl_effect::{Told, Want};
 use event_kinds::LineText;
+use local_caches::LocalCaches;
 use lock_modes::OwnLocks;
 use std::alloc::Global;
 
 impl Progress {
-    ghost use Rattle.cacheless.specs.State.{is_out as has_come_out};
+    ghost use Rattle.cacheless.specs.State.{kept_at, is_out as has_come_out};
     ghost use Rattle.cacheless.specs.Answering.{told_at, IsToldText};
 
     // The text of what its command answers, worked out of the scans that it keeps and of its locks.
@@ -44,7 +46,7 @@ impl Progress {
             Want::Fails(error) => Ok(Answer::Error(error)),
             Want::Absent(name) => Ok(Answer::Error(CommandError::NoRelation {
                 name,
-                at: place_kept(&self.kept, Purpose::RelName(name)),
+                at: place_kept(&self.caches, Purpose::RelName(name)),
             })),
             Want::Done(_) => match self.exec.told() {
                 Some(told) => self.told_by(alloc, told),
@@ -56,15 +58,15 @@ impl Progress {
 
     // What a command answers that came out well, by what it tells.
     fn told_by(&self, alloc: Global, told: &Told) -> Result<Answer, NoMemory>
-        ensures { IfOk result (λ answer. answer ≡ told_well (kept_rows self.now.kept) (kept_place self.now.kept) self.now.locks.items self.now.blocks.block told.now) }
+        ensures { IfOk result (λ answer. answer ≡ told_well (kept_rows (kept_at self.now)) (kept_place (kept_at self.now)) self.now.locks.items self.now.blocks.block told.now) }
     {
         match told {
             Told::Ok => Ok(Answer::Ok),
             Told::Relation { rel, kind } => {
-                shown_all(alloc, &self.kept, &self.locks, *rel, *kind)
+                shown_all(alloc, &self.caches, &self.locks, *rel, *kind)
             }
             Told::Field { rel, kind, field } => {
-                shown_one(alloc, &self.kept, &self.locks, *rel, *kind, *field)
+                shown_one(alloc, &self.caches, &self.locks, *rel, *kind, *field)
             }
             Told::Columns(columns) => Ok(Answer::Columns(copied(alloc, columns.as_slice())?)),
             Told::Column { num, col_type } => Ok(Answer::Column {
@@ -73,8 +75,8 @@ impl Progress {
             }),
             Told::Regclass(oid) => Ok(Answer::Regclass {
                 rel: *oid,
-                name: name_of(rows_kept(&self.kept, Purpose::RelOid(*oid))),
-                at: place_kept(&self.kept, Purpose::RelOid(*oid)),
+                name: name_of(rows_kept(&self.caches, Purpose::RelOid(*oid))),
+                at: place_kept(&self.caches, Purpose::RelOid(*oid)),
             }),
             Told::Commit => Ok(self.told_commit()),
         }
@@ -110,28 +112,25 @@ fn name_of(rows: &[Row]) -> Option<Name>
 }
 
 // The place of a scan that is kept.
-fn place_kept(kept: &KeptScans, scan: Purpose) -> u64
-    ensures { result ≡ kept_place kept.now scan }
+fn place_kept(caches: &LocalCaches, scan: Purpose) -> u64
+    ensures { result ≡ kept_place (kept_of caches.now) scan }
 {
-    match kept.find(&scan) {
-        Some(k) => k.at,
-        None => 0,
-    }
+    caches.at(&scan).unwrap_or(0)
 }
 
 // All fields of a relation.
 fn shown_all(
     alloc: Global,
-    kept: &KeptScans,
+    caches: &LocalCaches,
     locks: &OwnLocks,
     rel: Oid,
     kind: Kind,
 ) -> Result<Answer, NoMemory>
-    ensures { IfOk result (λ answer. answer ≡ answers.Shown kind rel (map (told_field (kept_rows kept.now) (kept_place kept.now) locks.now.items rel kind) (all_fields kind))) }
+    ensures { IfOk result (λ answer. answer ≡ answers.Shown kind rel (map (told_field (kept_rows (kept_of caches.now)) (kept_place (kept_of caches.now)) locks.now.items rel kind) (all_fields kind))) }
 {
     let mut fields = Listed::new(alloc);
     for field in fields_of(kind) {
-        fields.push(shown_field(alloc, kept, locks, rel, kind, *field)?)?;
+        fields.push(shown_field(alloc, caches, locks, rel, kind, *field)?)?;
     }
     Ok(Answer::Shown { kind, rel, fields })
 }
@@ -139,42 +138,37 @@ fn shown_all(
 // One of its fields.
 fn shown_one(
     alloc: Global,
-    kept: &KeptScans,
+    caches: &LocalCaches,
     locks: &OwnLocks,
     rel: Oid,
     kind: Kind,
     field: Field,
 ) -> Result<Answer, NoMemory>
-    ensures { IfOk result (λ answer. answer ≡ answers.One (told_field (kept_rows kept.now) (kept_place kept.now) locks.now.items rel kind field)) }
+    ensures { IfOk result (λ answer. answer ≡ answers.One (told_field (kept_rows (kept_of caches.now)) (kept_place (kept_of caches.now)) locks.now.items rel kind field)) }
 {
-    let shown = shown_field(alloc, kept, locks, rel, kind, field)?;
+    let shown = shown_field(alloc, caches, locks, rel, kind, field)?;
     Ok(Answer::One(shown))
 }
 
 // A field of a relation.
 fn shown_field(
     alloc: Global,
-    kept: &KeptScans,
+    caches: &LocalCaches,
     locks: &OwnLocks,
     rel: Oid,
     kind: Kind,
     field: Field,
 ) -> Result<Shown, NoMemory>
-    ensures { IfOk result (λ shown. shown ≡ told_field (kept_rows kept.now) (kept_place kept.now) locks.now.items rel kind field) }
+    ensures { IfOk result (λ shown. shown ≡ told_field (kept_rows (kept_of caches.now)) (kept_place (kept_of caches.now)) locks.now.items rel kind field) }
 {
     let scan = read_by(field, rel);
-    let found = kept.find(&scan);
-    let rows: &[Row] = match found {
-        Some(k) => k.rows.as_slice(),
-        None => &[],
-    };
     Ok(Shown {
         field,
-        value: LineText::new(field_text(alloc, field, rel, rows)?),
+        value: LineText::new(field_text(alloc, field, rel, rows_kept(caches, scan))?),
         at: if is_protected(locks, rel, kind, field) {
             None
         } else {
-            Some(found.map_or(0, |k| k.at))
+            Some(place_kept(caches, scan))
         },
     })
 }

@@ -15,12 +15,13 @@ ghost use Rattle.history_model.specs.Names.{has_name as is_named};
 ghost use Rattle.cacheless.specs.Plays.{drafted};
 ghost use Rattle.cacheless.specs.SameItems.{same_item as items_match, same_items as all_match, changes_match, forced_match};
 ghost use Rattle.cacheless.specs.May.{is_write_at, is_clash_at, names_by};
+ghost use Rattle.local_caches.specs.Caches.{kept_of};
 
-use crate::KeptScans;
 use crate::silent::rows_kept;
 use base_types::{Change, ConKind, Name, Oid, Purpose, Row, live_word, on_word, valid_word};
 use ddl_effect::{Altering, Draft, Exec};
 use event_kinds::Item;
+use local_caches::LocalCaches;
 
 // Whether the next act writes these items, where the next new oid is this one.
 pub(crate) fn writes_items(exec: &Exec, next: u32, items: &[Item]) -> bool
@@ -370,52 +371,52 @@ fn same_name(a: &Name, b: &Name) -> bool
 }
 
 // Whether the next act writes a relation of this new name.
-pub(crate) fn gives_name(exec: &Exec, kept: &KeptScans, name: Name) -> bool
-    ensures { result ≡ is_clash_at kept.now name (plan_at exec.now) }
+pub(crate) fn gives_name(exec: &Exec, caches: &LocalCaches, name: Name) -> bool
+    ensures { result ≡ is_clash_at (kept_of caches.now) name (plan_at exec.now) }
 {
     match exec {
-        Exec::Writing(draft) => draft_gives(draft, kept, name),
-        Exec::Altering(altering) => alteration_gives(altering, kept, name),
+        Exec::Writing(draft) => draft_gives(draft, caches, name),
+        Exec::Altering(altering) => alteration_gives(altering, caches, name),
         _ => false,
     }
 }
 
 // Whether a draft gives a relation this new name.
-fn draft_gives(draft: &Draft, kept: &KeptScans, name: Name) -> bool
-    ensures { result ≡ list_any (bytes_eq name) (flat_map (names_by kept.now) draft.now.changes) }
+fn draft_gives(draft: &Draft, caches: &LocalCaches, name: Name) -> bool
+    ensures { result ≡ list_any (bytes_eq name) (flat_map (names_by (kept_of caches.now)) draft.now.changes) }
 {
-    any_gives(draft.changes.as_slice(), kept, name)
+    any_gives(draft.changes.as_slice(), caches, name)
 }
 
 // Whether one of the changes gives a relation this new name.
-fn any_gives(changes: &[Change], kept: &KeptScans, name: Name) -> bool
-    ensures { result ≡ list_any (λ change. list_any (bytes_eq name) (names_by kept.now change)) changes.now }
+fn any_gives(changes: &[Change], caches: &LocalCaches, name: Name) -> bool
+    ensures { result ≡ list_any (λ change. list_any (bytes_eq name) (names_by (kept_of caches.now) change)) changes.now }
 {
     changes
         .iter()
-        .any(|change| change_gives(change, kept, name))
+        .any(|change| change_gives(change, caches, name))
 }
 
 // Whether an alteration gives a relation this new name.
-fn alteration_gives(altering: &Altering, kept: &KeptScans, name: Name) -> bool
-    ensures { result ≡ is_clash_at kept.now name (altering_at altering.now) }
+fn alteration_gives(altering: &Altering, caches: &LocalCaches, name: Name) -> bool
+    ensures { result ≡ is_clash_at (kept_of caches.now) name (altering_at altering.now) }
 {
     match altering {
-        Altering::Inserting { row } => change_gives(&Change::Insert(*row), kept, name),
-        Altering::Replacing { row, .. } => change_gives(&Change::Replace(*row), kept, name),
+        Altering::Inserting { row } => change_gives(&Change::Insert(*row), caches, name),
+        Altering::Replacing { row, .. } => change_gives(&Change::Replace(*row), caches, name),
         _ => false,
     }
 }
 
 // Whether a change gives a relation this new name: a row that is put gives none which the row that is
 // kept of it has already.
-fn change_gives(change: &Change, kept: &KeptScans, name: Name) -> bool
-    ensures { result ≡ list_any (bytes_eq name) (names_by kept.now change.now) }
+fn change_gives(change: &Change, caches: &LocalCaches, name: Name) -> bool
+    ensures { result ≡ list_any (bytes_eq name) (names_by (kept_of caches.now) change.now) }
 {
     match change {
         Change::Insert(Row::Class { name: own, .. }) => same_name(&name, own),
         Change::Replace(Row::Class { oid, name: own, .. }) => {
-            same_name(&name, own) && !has_name(rows_kept(kept, Purpose::Class(*oid)), own)
+            same_name(&name, own) && !has_name(rows_kept(caches, Purpose::Class(*oid)), own)
         }
         _ => false,
     }

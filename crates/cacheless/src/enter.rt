@@ -8,7 +8,7 @@ ghost use Rattle.event_kinds.specs.declared.entry.Entry.{Entry};
 ghost use Rattle.history_model.specs.Log.{fetched_by};
 ghost use Rattle.cacheless.specs.State.{due_looked, due_fetched, locks_accepted};
 
-use crate::{Due, KeptScans, Progress};
+use crate::{Due, Progress};
 use base_types::Command;
 use event_kinds::Event;
 use inval_messages::Message;
@@ -21,13 +21,13 @@ const MOST_FETCHED: usize = 32;
 
 impl Progress {
     ghost use Rattle.std.specs.Prelude.{List, ℕ};
-    ghost use Rattle.cacheless.specs.State.{kept_spared, is_in_accept, is_full as counts_full, one_if, SearchesAgain};
+    ghost use Rattle.cacheless.specs.State.{kept_at, nothing_kept, kept_spared, is_in_accept, is_full as counts_full, one_if, SearchesAgain};
     ghost use Rattle.cacheless.specs.May.{HasRoom};
     ghost use Rattle.cacheless.specs.Holds.{HasNotStarted, HasStarted, Rests, HasEntered};
 
     /// It has started (`SharedInvalBackendInit` in `src/backend/storage/ipc/sinvaladt.c`).
     pub fn enter_start(&mut self)
-        ensures kept { self.new.kept ≡ self.old.kept }
+        ensures kept { kept_at self.new ≡ kept_at self.old }
         ensures answer { self.new.answer ≡ self.old.answer }
         ensures holds { (scenario : Scenario) (seen : List Entry) → HasNotStarted scenario seen self.old → HasStarted scenario seen self.old self.new }
     {
@@ -38,7 +38,7 @@ impl Progress {
     /// It has stopped (`CleanupInvalidationState` in `src/backend/storage/ipc/sinvaladt.c`).
     pub fn enter_stop(&mut self)
         requires few { self.old.finished ≤ 20000 }
-        ensures kept { self.new.kept ≡ self.old.kept }
+        ensures kept { kept_at self.new ≡ kept_at self.old }
         ensures answer { self.new.answer ≡ self.old.answer }
         ensures holds { (scenario : Scenario) (seen : List Entry) → (rests : Rests scenario seen self.old) → HasEntered scenario seen self.old Event.Stop rests self.new }
     {
@@ -52,7 +52,7 @@ impl Progress {
     pub fn enter_look(&mut self, some_wait: bool)
         requires few { self.old.finished ≤ 20000 }
         requires room { HasRoom self.old }
-        ensures kept { self.new.kept ≡ self.old.kept }
+        ensures kept { kept_at self.new ≡ kept_at self.old }
         ensures answer { self.new.answer ≡ None }
         ensures holds { (scenario : Scenario) (seen : List Entry) → (rests : Rests scenario seen self.old) → HasEntered scenario seen self.old (Event.Look some_wait) rests self.new }
     {
@@ -64,17 +64,17 @@ impl Progress {
         self.answer = None;
     }
 
-    /// It took these messages from the queue: what they cover doesn't serve any more, and a search that
+    /// It took these messages from the queue: what they cover isn't usable any more, and a lookup that
     /// found no relation is made anew. Condition: its counts are small enough to be summed.
     pub fn enter_fetch(&mut self, messages: &[Message])
         requires few { self.old.finished ≤ 20000 }
         requires room { HasRoom self.old }
-        ensures kept { self.new.kept ≡ kept_spared messages.now self.old.kept }
+        ensures kept { kept_at self.new ≡ kept_spared messages.now (kept_at self.old) }
         ensures answer { self.new.answer ≡ None }
         ensures holds { (scenario : Scenario) (seen : List Entry) → (rests : Rests scenario seen self.old) → messages.now ≡ fetched_by seen self.old.id (length messages.now) → HasEntered scenario seen self.old (Event.Fetch (length messages.now)) rests self.new }
     {
         self.running = Some(RunningTransaction::begun(self.finished + 1, self.running));
-        self.kept.execute(messages);
+        self.caches.execute(messages);
         self.due = after_fetch(messages.len());
         self.search_again();
         self.tally.fetches += 1;
@@ -84,18 +84,18 @@ impl Progress {
         self.answer = None;
     }
 
-    /// It was told to reset all that it caches: nothing that it has read serves any more
+    /// It was told to reset all that it caches: nothing that it has read is usable any more
     /// (`InvalidateSystemCaches` in `src/backend/utils/cache/inval.c`, `RelationCacheInvalidate` in
     /// `src/backend/utils/cache/relcache.c`). Condition: its counts are small enough to be summed.
-    pub fn enter_reset(&mut self, alloc: Global)
+    pub fn enter_reset(&mut self)
         requires few { self.old.finished ≤ 20000 }
         requires room { HasRoom self.old }
-        ensures kept { self.new.kept ≡ [] }
+        ensures kept { kept_at self.new ≡ nothing_kept }
         ensures answer { self.new.answer ≡ None }
         ensures holds { (scenario : Scenario) (seen : List Entry) → (rests : Rests scenario seen self.old) → HasEntered scenario seen self.old Event.FetchReset rests self.new }
     {
         self.running = Some(RunningTransaction::begun(self.finished + 1, self.running));
-        self.kept = KeptScans::new(alloc);
+        self.caches.reset();
         self.due = Due::Nothing;
         self.search_again();
         self.tally.fetches += 1;

@@ -16,14 +16,14 @@ use txn_blocks::RunningTransaction;
 impl Progress {
     ghost use Rattle.std.specs.Prelude.{List};
     ghost use Rattle.inval_messages.specs.Lists.{cats_in, rels_in, lists_from};
-    ghost use Rattle.cacheless.specs.State.{published_at, lists_at, kept_spared};
+    ghost use Rattle.cacheless.specs.State.{kept_at, published_at, lists_at, kept_spared};
     ghost use Rattle.cacheless.specs.Holds.{Rests, HasEntered};
 
     /// Its transaction is committed (`ProcArrayEndTransaction` in
     /// `src/backend/storage/ipc/procarray.c`).
     pub fn enter_visible(&mut self, xid: Xid)
         requires few { self.old.finished ≤ 20000 }
-        ensures kept { self.new.kept ≡ self.old.kept }
+        ensures kept { kept_at self.new ≡ kept_at self.old }
         ensures answer { self.new.answer ≡ self.old.answer }
         ensures holds { (scenario : Scenario) (seen : List Entry) → (rests : Rests scenario seen self.old) → HasEntered scenario seen self.old (Event.Visible xid) rests self.new }
     {
@@ -42,7 +42,7 @@ impl Progress {
     pub fn enter_publish(&mut self, count: u32)
         requires few { self.old.finished ≤ 20000 }
         requires fits { published_at self.old + count < 2 ^ 64 }
-        ensures kept { self.new.kept ≡ self.old.kept }
+        ensures kept { kept_at self.new ≡ kept_at self.old }
         ensures answer { self.new.answer ≡ self.old.answer }
         ensures holds { (scenario : Scenario) (seen : List Entry) → (rests : Rests scenario seen self.old) → HasEntered scenario seen self.old (Event.Publish count) rests self.new }
     {
@@ -56,18 +56,18 @@ impl Progress {
         accept(&mut self.locks, accepting);
     }
 
-    /// What it wrote from this command on is taken back: what its messages cover doesn't serve any more,
+    /// What it wrote from this command on is taken back: what its messages cover isn't usable any more,
     /// and nobody else hears of them (`AtEOXact_Inval` and `AtEOSubXact_Inval` in
     /// `src/backend/utils/cache/inval.c`).
     pub fn enter_gone(&mut self, from: u32)
         requires few { self.old.finished ≤ 20000 }
-        ensures kept { self.new.kept ≡ kept_spared (rels_in (lists_from from (lists_at self.old))) (kept_spared (cats_in (lists_from from (lists_at self.old))) self.old.kept) }
+        ensures kept { kept_at self.new ≡ kept_spared (rels_in (lists_from from (lists_at self.old))) (kept_spared (cats_in (lists_from from (lists_at self.old))) (kept_at self.old)) }
         ensures answer { self.new.answer ≡ self.old.answer }
         ensures holds { (scenario : Scenario) (seen : List Entry) → (rests : Rests scenario seen self.old) → HasEntered scenario seen self.old (Event.Gone from) rests self.new }
     {
         self.running = Some(RunningTransaction::begun(self.finished + 1, self.running));
-        self.kept.execute(self.lists.cats_from(from));
-        self.kept.execute(self.lists.rels_from(from));
+        self.caches.execute(self.lists.cats_from(from));
+        self.caches.execute(self.lists.rels_from(from));
         self.lists.abort_from(from);
         self.due = Due::Nothing;
         let accepting = self.is_in_acceptance();
@@ -79,7 +79,7 @@ impl Progress {
     /// `src/backend/storage/lmgr/lock.c`).
     pub fn enter_release(&mut self, from: u32)
         requires few { self.old.finished ≤ 20000 }
-        ensures kept { self.new.kept ≡ self.old.kept }
+        ensures kept { kept_at self.new ≡ kept_at self.old }
         ensures answer { self.new.answer ≡ self.old.answer }
         ensures holds { (scenario : Scenario) (seen : List Entry) → (rests : Rests scenario seen self.old) → HasEntered scenario seen self.old (Event.Release from) rests self.new }
     {

@@ -15,7 +15,7 @@ use txn_blocks::RunningTransaction;
 impl Progress {
     ghost use Rattle.std.specs.Prelude.{List};
     ghost use Rattle.ddl_effect.specs.Stages.{plan_at};
-    ghost use Rattle.cacheless.specs.State.{FailsWith, IsLockedIn};
+    ghost use Rattle.cacheless.specs.State.{kept_at, FailsWith, IsLockedIn};
     ghost use Rattle.cacheless.specs.May.{HasRoom, lacks_any, is_lock_at};
     ghost use Rattle.cacheless.specs.Holds.{Rests, HasEntered};
 
@@ -37,7 +37,7 @@ impl Progress {
         requires whole { lacks_any self.old ≡ false }
         requires place { 0 < self.old.locks.room }
         requires new { has_lock self.old.locks.items rel mode ≡ false }
-        ensures kept { self.new.kept ≡ self.old.kept }
+        ensures kept { kept_at self.new ≡ kept_at self.old }
         ensures answer { self.new.answer ≡ None }
         ensures holds { (scenario : Scenario) (seen : List Entry) → (rests : Rests scenario seen self.old) → HasEntered scenario seen self.old (Event.LockOk rel mode) rests self.new }
     {
@@ -54,7 +54,7 @@ impl Progress {
     /// conflicts, and that mode.
     pub fn enter_refused(&mut self, rel: Oid, mode: Mode, holder: u32, held: Mode)
         requires few { self.old.finished ≤ 20000 }
-        ensures kept { self.new.kept ≡ self.old.kept }
+        ensures kept { kept_at self.new ≡ kept_at self.old }
         ensures answer { self.new.answer ≡ None }
         ensures holds { (scenario : Scenario) (seen : List Entry) → (rests : Rests scenario seen self.old) → HasEntered scenario seen self.old (Event.LockHeld rel mode holder held) rests self.new }
     {

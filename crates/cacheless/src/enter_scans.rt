@@ -6,33 +6,31 @@ ghost use Rattle.event_kinds.specs.declared.entry.Entry.{Entry};
 ghost use Rattle.history_model.specs.Versions.{answer_of};
 
 use crate::enter::accept;
-use crate::{Due, KeptScan, Progress};
-use base_types::{Listed, NoMemory, Purpose, Row};
+use crate::{Due, Progress};
+use base_types::{NoMemory, Purpose, Row};
 use event_kinds::Event;
 use txn_blocks::RunningTransaction;
 
 impl Progress {
-    ghost use Rattle.std.specs.Prelude.{List, ℕ, ◌++◌, ◌∷◌, []};
+    ghost use Rattle.std.specs.Prelude.{List, ℕ, length};
+    ghost use Rattle.local_caches.specs.Kept.{kept_with, is_keyed};
+    ghost use Rattle.cacheless.specs.State.{kept_at};
     ghost use Rattle.cacheless.specs.May.{HasRoom, is_next_at};
     ghost use Rattle.cacheless.specs.Holds.{Rests, HasEntered};
 
     /// A scan gave it these rows, in the entry of this number. Conditions: it is the first that an
-    /// opened descriptor, the next act or the answer lacks, and the counts are small enough to be summed.
-    /// Out of memory, it may not be used any more.
+    /// opened descriptor, the next act or the answer lacks, a scan for the row of a key gave one at most,
+    /// and the counts are small enough to be summed. Out of memory, it may not be used any more.
     pub fn enter_scan(&mut self, scan: &Purpose, rows: Vec<Row>, at: u64) -> Result<(), NoMemory>
         requires few { self.old.finished ≤ 20000 }
         requires room { HasRoom self.old }
         requires next { is_next_at scan.now self.old ≡ true }
-        ensures kept { OnOk result (self.new.kept ≡ self.old.kept ++ record { scan = scan.now; rows = rows.items; at = at } ∷ []) }
+        requires one { is_keyed scan.now ≡ true → length rows.items ≤ 1 }
+        ensures kept { OnOk result (kept_at self.new ≡ kept_with scan.now rows.items at (kept_at self.old)) }
         ensures answer { OnOk result (self.new.answer ≡ None) }
         ensures holds { OnOk result ((scenario : Scenario) (seen : List Entry) (count : ℕ) → (rests : Rests scenario seen self.old) → rows.items ≡ answer_of seen self.old.id scan.now → HasEntered scenario seen self.old (Event.Scan scan.now count) rests self.new) }
     {
-        let made = KeptScan {
-            scan: *scan,
-            rows: Listed::from_vec(rows),
-            at,
-        };
-        self.kept.push(made)?;
+        self.caches.put(scan, rows, at)?;
         self.running = Some(RunningTransaction::begun(self.finished + 1, self.running));
         self.due = Due::Nothing;
         self.tally.scans += 1;

@@ -27,7 +27,7 @@ impl Progress {
     ghost use Rattle.std.specs.Prelude.{List, ℕ};
     ghost use Rattle.ddl_effect.specs.Stages.{plan_at, want_of};
     ghost use Rattle.ddl_effect.specs.declared.want.Want.TheVariants as wants;
-    ghost use Rattle.cacheless.specs.State.{lists_at, kept_spared};
+    ghost use Rattle.cacheless.specs.State.{kept_at, lists_at, kept_spared};
     ghost use Rattle.cacheless.specs.Holds.{Rests, HasEntered};
 
     /// It wrote: these are the messages of its changes in their order, so many new oids were drawn, of
@@ -48,18 +48,19 @@ impl Progress {
         requires order { AllByRecursion (λ list. list.command < self.old.finished + 1) (lists_at self.old) }
         requires place { 0 < self.old.locks.room }
         requires new { 0 < new_oids → has_lock self.old.locks.items first AccessExclusive ≡ false }
-        ensures kept { OnOk result (self.new.kept ≡ kept_spared messages.now self.old.kept) }
+        ensures kept { OnOk result (kept_at self.new ≡ kept_spared messages.now (kept_at self.old)) }
         ensures answer { OnOk result (self.new.answer ≡ None) }
         ensures holds { OnOk result ((scenario : Scenario) (seen : List Entry) (items : List Item) → (rests : Rests scenario seen self.old) → messages.now ≡ messages_in seen self.old.id items → flat_map (locked_by (self.old.finished + 1)) items ≡ locks_made new_oids first (self.old.finished + 1) → HasEntered scenario seen self.old (Event.Write xid items) rests self.new) }
     {
         let command = self.finished + 1;
         register(&mut self.lists, command, messages)?;
-        self.kept.execute(messages);
+        self.caches.execute(messages);
         lock_new(&mut self.locks, new_oids, first, command);
         self.running = Some(RunningTransaction::begun(command, self.running).with_xid(xid));
         self.due = Due::Nothing;
         self.exec.give(alloc, &[])?;
         self.opened = Listed::new(alloc);
+        self.caches.unpin_all();
         self.granted = false;
         let accepting = self.is_in_acceptance();
         accept(&mut self.locks, accepting);
@@ -70,7 +71,7 @@ impl Progress {
     /// Its write was refused, which ends its command: the new name is taken.
     pub fn enter_clash(&mut self, name: Name, clash: Clash)
         requires few { self.old.finished ≤ 20000 }
-        ensures kept { self.new.kept ≡ self.old.kept }
+        ensures kept { kept_at self.new ≡ kept_at self.old }
         ensures answer { self.new.answer ≡ None }
         ensures holds { (scenario : Scenario) (seen : List Entry) → (rests : Rests scenario seen self.old) → HasEntered scenario seen self.old (clash_event name clash) rests self.new }
     {

@@ -7,13 +7,15 @@ ghost use Rattle.base_types.specs.Scans.{is_build_scan};
 ghost use Rattle.ddl_effect.specs.Stages.{plan_at, want_of};
 ghost use Rattle.txn_blocks.specs.Blocks.{ends_block as does_end_block};
 ghost use Rattle.cacheless.specs.May.{is_first_missing as is_first, is_missing as lacks, names_relation as names};
+ghost use Rattle.local_caches.specs.Caches.{kept_of};
 
 use crate::draft_items::{gives_name, writes_items};
-use crate::scans::{first_lacking, first_missing, has_kept};
-use crate::{Due, KeptScans, Progress};
+use crate::scans::first_lacking;
+use crate::{Due, Progress};
 use base_types::{Command, Kind, Mode, Name, Oid, Purpose, Row, same_scan};
 use ddl_effect::Want;
 use event_kinds::{Event, Item};
+use local_caches::LocalCaches;
 
 impl Progress {
     ghost use Rattle.std.specs.Prelude.{List, ℕ};
@@ -22,7 +24,7 @@ impl Progress {
     ghost use Rattle.history_model.specs.Writes.{is_empty as none_in};
     ghost use Rattle.cacheless.specs.Facts.{facts_of};
     ghost use Rattle.cacheless.specs.Plays.{MayPlayIn};
-    ghost use Rattle.cacheless.specs.State.{owed_at, owed_first, act_missing, scans_missing, lacks_builds, session_at};
+    ghost use Rattle.cacheless.specs.State.{kept_at, owed_at, owed_first, act_missing, scans_missing, lacks_builds, session_at};
     ghost use Rattle.cacheless.specs.Holds.{Holds};
     ghost use Rattle.cacheless.specs.May.{HasRoom, may_look_at, started_at, has_looked_at, has_failed as failed, lacks_opened, lacks_any, lacks_to_build, is_next_of_act, is_next_at, owes_nothing as nothing_owed, is_lock_at, may_scan_at, may_lock_at, may_write_at, may_clash_at, may_play_at, may_last_at, may_play_now};
     ghost use Rattle.std.specs.Bool.{Decides};
@@ -150,12 +152,12 @@ impl Progress {
 
     // Whether the scan is the first that an opened descriptor lacks.
     fn is_next_build(&self, scan: &Purpose) -> bool
-        ensures { result ≡ list_any (λ o. is_first scan.now self.now.kept o.kind o.rel) self.now.opened }
+        ensures { result ≡ list_any (λ o. is_first scan.now (kept_at self.now) o.kind o.rel) self.now.opened }
     {
         self.opened
             .as_slice()
             .iter()
-            .any(|o| is_first_missing(scan, &self.kept, o.kind, o.rel))
+            .any(|o| is_first_missing(scan, &self.caches, o.kind, o.rel))
     }
 
     // Whether the scan is the first that the next act or the answer lacks.
@@ -165,12 +167,12 @@ impl Progress {
     {
         match want {
             Want::Lookup { name, .. } => {
-                !self.granted && is_missing(scan, &self.kept, &Purpose::RelName(*name))
+                !self.granted && is_missing(scan, &self.caches, &Purpose::RelName(*name))
             }
             Want::Search(wanted) | Want::Done(Some(wanted)) => {
-                is_missing(scan, &self.kept, wanted)
+                is_missing(scan, &self.caches, wanted)
             }
-            Want::Open { rel, kind } => is_first_missing(scan, &self.kept, *kind, *rel),
+            Want::Open { rel, kind } => is_first_missing(scan, &self.caches, *kind, *rel),
             _ => false,
         }
     }
@@ -209,7 +211,7 @@ impl Progress {
     fn may_clash(&self, command: &Command, name: Name) -> bool
         ensures { result ≡ may_clash_at command.now name self.now }
     {
-        self.owes_nothing(command) && gives_name(&self.exec, &self.kept, name)
+        self.owes_nothing(command) && gives_name(&self.exec, &self.caches, name)
     }
 
     /// Whether nothing has to come before the next act.
@@ -247,16 +249,16 @@ impl Progress {
 
     // The same, as it is tested.
     fn lacks_a_build(&self) -> bool
-        ensures { result ≡ (not (failed self.now) && (lacks_opened self.now.kept self.now.opened || lacks_to_build self.now (plan_at self.now.exec))) }
+        ensures { result ≡ (not (failed self.now) && (lacks_opened (kept_at self.now) self.now.opened || lacks_to_build self.now (plan_at self.now.exec))) }
     {
         !self.has_failed() && (self.lacks_build() || self.act_lacks_build())
     }
 
     // Whether an opened descriptor lacks a scan.
     fn lacks_build(&self) -> bool
-        ensures { result ≡ lacks_opened self.now.kept self.now.opened }
+        ensures { result ≡ lacks_opened (kept_at self.now) self.now.opened }
     {
-        first_lacking(&self.kept, self.opened.as_slice()).is_some()
+        first_lacking(&self.caches, self.opened.as_slice()).is_some()
     }
 
     // Whether an opened descriptor lacks a scan, in a command that hasn't failed.
@@ -268,7 +270,7 @@ impl Progress {
 
     // The same, as it is tested.
     fn lacks_serving(&self) -> bool
-        ensures { result ≡ (not (failed self.now) && lacks_opened self.now.kept self.now.opened) }
+        ensures { result ≡ (not (failed self.now) && lacks_opened (kept_at self.now) self.now.opened) }
     {
         !self.has_failed() && self.lacks_build()
     }
@@ -285,8 +287,8 @@ impl Progress {
         ensures { result ≡ lacks_to_build self.now (plan_at self.now.exec) }
     {
         match self.exec.next() {
-            Want::Open { rel, kind } => first_missing(&self.kept, kind, rel).is_some(),
-            Want::Read(scan) => !has_kept(&self.kept, &scan),
+            Want::Open { rel, kind } => self.caches.first_missing(kind, rel).is_some(),
+            Want::Read(scan) => !self.caches.has(&scan),
             _ => false,
         }
     }
@@ -298,32 +300,32 @@ impl Progress {
     {
         match want {
             Want::Lookup { name, .. } => {
-                !self.granted && !has_kept(&self.kept, &Purpose::RelName(*name))
+                !self.granted && !self.caches.has(&Purpose::RelName(*name))
             }
             Want::Search(scan) | Want::Read(scan) | Want::Done(Some(scan)) => {
-                !has_kept(&self.kept, scan)
+                !self.caches.has(scan)
             }
-            Want::Open { rel, kind } => first_missing(&self.kept, *kind, *rel).is_some(),
+            Want::Open { rel, kind } => self.caches.first_missing(*kind, *rel).is_some(),
             _ => false,
         }
     }
 }
 
 // Whether the scan is the first that a descriptor lacks.
-fn is_first_missing(scan: &Purpose, kept: &KeptScans, kind: Kind, rel: Oid) -> bool
-    ensures { result ≡ is_first scan.now kept.now kind rel }
+fn is_first_missing(scan: &Purpose, caches: &LocalCaches, kind: Kind, rel: Oid) -> bool
+    ensures { result ≡ is_first scan.now (kept_of caches.now) kind rel }
 {
-    match first_missing(kept, kind, rel) {
+    match caches.first_missing(kind, rel) {
         Some(first) => same_scan(scan, &first),
         None => false,
     }
 }
 
 // Whether the scan is this one, and isn't kept.
-fn is_missing(scan: &Purpose, kept: &KeptScans, wanted: &Purpose) -> bool
-    ensures { result ≡ lacks scan.now kept.now wanted.now }
+fn is_missing(scan: &Purpose, caches: &LocalCaches, wanted: &Purpose) -> bool
+    ensures { result ≡ lacks scan.now (kept_of caches.now) wanted.now }
 {
-    !has_kept(kept, wanted) && same_scan(scan, wanted)
+    !caches.has(wanted) && same_scan(scan, wanted)
 }
 
 // Whether there is a row, and it is that of the relation.

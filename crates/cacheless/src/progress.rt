@@ -5,12 +5,13 @@ ghost use Rattle.cacheless.specs.Runs.{runs};
 ghost use Rattle.cacheless.specs.State.{IsNew};
 ghost use Rattle.cacheless.specs.Holds.{HasNotStarted};
 
+use crate::Opening;
 use crate::begun::begun;
-use crate::{KeptScans, Opening};
 use base_types::{Command, Listed, NoMemory, Row};
 use command_lists::InvalLists;
 use ddl_effect::Exec;
 use event_kinds::LineText;
+use local_caches::LocalCaches;
 use lock_modes::OwnLocks;
 use std::alloc::Global;
 use txn_blocks::{RunningTransaction, TxnBlocks};
@@ -79,8 +80,8 @@ pub struct Progress {
     // the descriptors that it has opened
     pub opened: Listed<Opening>,
     pub locks: OwnLocks,
-    // the scans that serve
-    pub kept: KeptScans,
+    // what it has read of the catalogs
+    pub caches: LocalCaches,
     // what the running command answers, where that is worked out
     pub answer: Option<LineText>,
 }
@@ -110,7 +111,7 @@ impl Progress {
             given: None,
             opened: Listed::new(alloc),
             locks: OwnLocks::new(alloc),
-            kept: KeptScans::new(alloc),
+            caches: LocalCaches::new(alloc),
             answer: None,
         })
     }

@@ -5,12 +5,14 @@ ghost use Rattle.ddl_effect.specs.Stages.{plan_at, want_of};
 ghost use Rattle.cacheless.specs.Runs.{runs};
 ghost use Rattle.cacheless.specs.State.{blocks_passed, rows_kept as kept_rows};
 ghost use Rattle.cacheless.specs.Silently.{rows_for as gives_rows};
+ghost use Rattle.local_caches.specs.Caches.{kept_of};
 
 use crate::begun::begun;
-use crate::{Counts, KeptScans, Opening, Progress};
+use crate::{Counts, Opening, Progress};
 use base_types::{Command, Kind, Listed, Name, NoMemory, Oid, Purpose, Row};
 use ddl_effect::{Exec, Want};
 use event_kinds::Line;
+use local_caches::LocalCaches;
 use std::alloc::Global;
 use txn_blocks::TxnBlocks;
 
@@ -28,7 +30,7 @@ impl Progress {
     ghost use Rattle.std.specs.Prelude.{List};
     ghost use Rattle.base_types.specs.Scenario.{Scenario};
     ghost use Rattle.event_kinds.specs.declared.entry.Entry.{Entry};
-    ghost use Rattle.cacheless.specs.State.{is_out as has_come_out, row_sought as sought_row, row_next as next_row, end_at};
+    ghost use Rattle.cacheless.specs.State.{kept_at, is_out as has_come_out, row_sought as sought_row, row_next as next_row, end_at};
     ghost use Rattle.cacheless.specs.Silently.{opened_for, gives_next, acts_on, is_to_answer, is_to_answer_at, is_finished_at, Acts, Answers, Finishes, IsSilentOf, HasAnswered, IsLineOf, left_of};
     ghost use Rattle.cacheless.specs.Holds.{Holds, Rests, HasActed, HasPassed};
     ghost use Rattle.cacheless.specs.Answering.{PlacesFit};
@@ -42,7 +44,7 @@ impl Progress {
         ensures rests { OnOk result ((scenario : Scenario) (seen : List Entry) → Holds scenario seen self.old → Rests scenario seen self.new) }
         ensures answered { OnOk result (is_to_answer_at self.new ≡ true → is_some self.new.answer ≡ true) }
         ensures goes_on { OnOk result ((scenario : Scenario) (seen : List Entry) (held : Holds scenario seen self.old) → TellsNow scenario seen self.old held → PlacesFit seen self.old → HasGoneOn scenario seen self.old held lines.old self.new lines.new) }
-        ensures kept { OnOk result (self.new.kept ≡ self.old.kept) }
+        ensures kept { OnOk result (kept_at self.new ≡ kept_at self.old) }
         ensures same { OnOk result (self.new.commands ≡ self.old.commands) }
     {
         'settling: loop {
@@ -105,7 +107,7 @@ impl Progress {
         if self.granted {
             self.given
         } else {
-            rows_kept(&self.kept, Purpose::RelName(name))
+            rows_kept(&self.caches, Purpose::RelName(name))
                 .first()
                 .copied()
         }
@@ -150,7 +152,7 @@ impl Progress {
     pub fn act(&mut self, alloc: Global) -> Result<(), NoMemory>
         requires acts { Acts self.old }
         ensures acts { OnOk result ((scenario : Scenario) (seen : List Entry) (held : Holds scenario seen self.old) → HasActed scenario seen self.old held self.new) }
-        ensures kept { OnOk result (self.new.kept ≡ self.old.kept) }
+        ensures kept { OnOk result (kept_at self.new ≡ kept_at self.old) }
         ensures answer { OnOk result (self.new.answer ≡ self.old.answer) }
         ensures less { OnOk result (left_of self.new < left_of self.old) }
         ensures same { OnOk result (self.new.commands ≡ self.old.commands) }
@@ -166,12 +168,13 @@ impl Progress {
         requires acts { Acts self.old }
         requires opens { want_of (plan_at self.old.exec) ≡ Want.Open rel kind }
         ensures acts { OnOk result ((scenario : Scenario) (seen : List Entry) (held : Holds scenario seen self.old) → HasActed scenario seen self.old held self.new) }
-        ensures kept { OnOk result (self.new.kept ≡ self.old.kept) }
+        ensures kept { OnOk result (kept_at self.new ≡ kept_at self.old) }
         ensures answer { OnOk result (self.new.answer ≡ self.old.answer) }
         ensures less { OnOk result (left_of self.new < left_of self.old) }
         ensures same { OnOk result (self.new.commands ≡ self.old.commands) }
     {
         self.opened.push(Opening { rel, kind })?;
+        self.caches.pin(rel)?;
         self.exec.give(alloc, &[])?;
         self.granted = false;
         Ok(())
@@ -182,14 +185,14 @@ impl Progress {
         requires acts { Acts self.old }
         requires other { opened_for (want_of (plan_at self.old.exec)) ≡ [] }
         ensures acts { OnOk result ((scenario : Scenario) (seen : List Entry) (held : Holds scenario seen self.old) → HasActed scenario seen self.old held self.new) }
-        ensures kept { OnOk result (self.new.kept ≡ self.old.kept) }
+        ensures kept { OnOk result (kept_at self.new ≡ kept_at self.old) }
         ensures answer { OnOk result (self.new.answer ≡ self.old.answer) }
         ensures less { OnOk result (left_of self.new < left_of self.old) }
         ensures same { OnOk result (self.new.commands ≡ self.old.commands) }
     {
         let want = self.exec.next();
         let row = self.row_next();
-        self.exec.give(alloc, rows_for(&want, &row, &self.kept))?;
+        self.exec.give(alloc, rows_for(&want, &row, &self.caches))?;
         self.granted = false;
         Ok(())
     }
@@ -213,7 +216,7 @@ impl Progress {
         requires few { length self.old.commands ≤ 20000 }
         requires finishes { Finishes self.old }
         ensures passes { OnOk result ((scenario : Scenario) (seen : List Entry) (held : Holds scenario seen self.old) → HasPassed scenario seen self.old held self.new) }
-        ensures kept { OnOk result (self.new.kept ≡ self.old.kept) }
+        ensures kept { OnOk result (kept_at self.new ≡ kept_at self.old) }
         ensures answer { OnOk result (self.new.answer ≡ None) }
         ensures line { IfOk result (λ line. IsLineOf self.old line) }
         ensures less { OnOk result (left_of self.new < left_of self.old) }
@@ -235,6 +238,7 @@ impl Progress {
         self.tally = Counts::none();
         self.granted = false;
         self.opened = Listed::new(alloc);
+        self.caches.unpin_all();
         Ok(Line {
             backend: self.id,
             command: number,
@@ -254,25 +258,25 @@ fn pass(blocks: &mut TxnBlocks, exec: &Exec, number: u32, command: &Command)
 }
 
 // The rows that are given to an act: the row that a lookup found, or those that are kept of its scan.
-fn rows_for<'a>(want: &Want, row: &'a Option<Row>, kept: &'a KeptScans) -> &'a [Row]
-    ensures { result.now ≡ gives_rows want.now row.now kept.now }
+fn rows_for<'a>(want: &Want, row: &'a Option<Row>, caches: &'a LocalCaches) -> &'a [Row]
+    ensures { result.now ≡ gives_rows want.now row.now (kept_of caches.now) }
 {
     match want {
         Want::Lookup { .. } => match row {
             Some(row) => std::slice::from_ref(row),
             None => &[],
         },
-        Want::Search(scan) | Want::Read(scan) => rows_kept(kept, *scan),
+        Want::Search(scan) | Want::Read(scan) => rows_kept(caches, *scan),
         _ => &[],
     }
 }
 
 // The rows that are kept of a scan.
-pub(crate) fn rows_kept(kept: &KeptScans, scan: Purpose) -> &[Row]
-    ensures { result.now ≡ kept_rows kept.now scan }
+pub(crate) fn rows_kept(caches: &LocalCaches, scan: Purpose) -> &[Row]
+    ensures { result.now ≡ kept_rows (kept_of caches.now) scan }
 {
-    match kept.find(&scan) {
-        Some(k) => k.rows.as_slice(),
+    match caches.rows(&scan) {
+        Some(rows) => rows,
         None => &[],
     }
 }

@@ -67,6 +67,31 @@ impl CatCache {
         }
     }
 
+    /// What `find` answers, without a pin: it serves until a call changes the cache. `Unknown`: exactly where
+    /// there is no entry.
+    pub fn peek(&self, key: &Key) -> Found
+        ensures result { result ≡ found (entry_of self.now key.now) }
+        ensures shows { IfSome (entry_of self.now key.now) (ShowsEntry self.now) }
+    {
+        match self.keys.find(key_hash(self.id, key), key) {
+            Some(Known::Held(r)) => Found::Row(r),
+            Some(Known::Absent { at }) => Found::Absent { at },
+            None => Found::Unknown,
+        }
+    }
+
+    /// What `find_list` answers, without a pin: it serves until a call changes the cache. `Unknown`: exactly
+    /// where there is none.
+    pub fn peek_list(&self, prefix: &Key) -> FoundList
+        ensures result { result ≡ found_list (list_of self.now prefix.now) }
+        ensures shows { IfSome (list_of self.now prefix.now) (ShowsList self.now) }
+    {
+        match self.prefixes.find(key_hash(self.id, prefix), prefix) {
+            Some(Known::Held(r)) => FoundList::List(r),
+            _ => FoundList::Unknown,
+        }
+    }
+
     /// Looks for the list of a prefix of keys, and pins it (`SearchCatCacheList` in
     /// `src/backend/utils/cache/catcache.c`). `Unknown`: exactly where there is none. Condition: the list has
     /// fewer than 4,294,967,295 pins.

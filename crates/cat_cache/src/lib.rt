@@ -7,8 +7,9 @@
 //! It takes out the entries of all keys with that hash, and every list: a row that is new may belong into any.
 //! A reset takes out everything.
 //!
-//! What is handed out must not vanish under its user. So a row or a list is pinned as it is found, and what
-//! is taken out while it is pinned is dead: it isn't found any more, and goes with its last pin.
+//! What is handed out must not vanish under its user. So `find` and `find_list` pin the row or list that they
+//! find, and what is taken out while it is pinned is dead: it isn't found any more, and goes with its last
+//! pin. `peek` and `peek_list` lend without a pin, until the next call that changes the cache.
 //!
 //! The promise to the layers above: contracts see a cache as a map from keys to entries (`entry_of` in
 //! `specs/Caches.antt`), one from prefixes of keys to lists (`list_of`), and one from references to what they

@@ -7,7 +7,7 @@ use Rattle.base_types.specs.declared.row.Row.{Row}
 use Rattle.base_types.specs.declared.scan.Purpose.{Purpose}
 use Rattle.base_types.specs.Scans.{selects, row_number, number_before, goes_before, put_in_order, scan_of, IsInOrder}
 use Rattle.base_types.proofs.ScanOrder.{scan_of-answers}
-use Rattle.history_model.proofs.Every.{every-weaker, every-map, every-both, SomeOf, some-map, from_some}
+use Rattle.history_model.proofs.Every.{every-weaker, every, every-map, every-both, SomeOf, some-map, from_some}
 use Rattle.history_model.proofs.Seen.{Pairwise}
 
 -- an element of the list
@@ -36,10 +36,10 @@ in_inserted P (x ∷ given) (suc n) row (inl here) = inr (in_inserted P given n 
 in_inserted P (x ∷ given) (suc n) row (inr (inl there)) = inl there
 in_inserted P (x ∷ given) (suc n) row (inr (inr later)) = inr (in_inserted P given n row (inr later))
 
-differ_inserted : (given : List Row) (n : ℕ) (row : Row) → Pairwise Differ given → AllByRecursion (Differ row) given → Pairwise Differ (insert given n row)
-differ_inserted given zero row pairs all = (all, pairs)
-differ_inserted [] (suc n) row pairs all = (tt, tt)
-differ_inserted (x ∷ given) (suc n) row pairs all = (every_inserted (Differ x) given n row pairs.0 (λ same. all.0 (sym same)), differ_inserted given n row pairs.1 all.1)
+pair_inserted : (R : Row → Row → Type 0) → ((row other : Row) → R row other → R other row) → (given : List Row) (n : ℕ) (row : Row) → Pairwise R given → AllByRecursion (R row) given → Pairwise R (insert given n row)
+pair_inserted R back given zero row pairs all = (all, pairs)
+pair_inserted R back [] (suc n) row pairs all = (tt, tt)
+pair_inserted R back (x ∷ given) (suc n) row pairs all = (every_inserted (R x) given n row pairs.0 (back row x all.0), pair_inserted R back given n row pairs.1 all.1)
 
 -- what a scan gives has what it found
 pub every_given : (P : Row → Type 0) (d : Purpose) (given rows : List Row) → AllByRecursion P given → AllByRecursion P rows → AllByRecursion P (fold (put_in_order d) given rows)
@@ -53,13 +53,17 @@ some_given P d given (row ∷ rows) (inl there) = some_given P d (put_in_order d
 some_given P d given (row ∷ rows) (inr (inl here)) = some_given P d (put_in_order d given row) rows (inl (in_inserted P given (position_or_len (goes_before d row) given) row (inl here)))
 some_given P d given (row ∷ rows) (inr (inr later)) = some_given P d (put_in_order d given row) rows (inr later)
 
-differ_given : (d : Purpose) (given rows : List Row) → Pairwise Differ given → AllByRecursion (λ row. AllByRecursion (Differ row) given) rows → Pairwise Differ rows → Pairwise Differ (fold (put_in_order d) given rows)
-differ_given d given [] pairs apart also = pairs
-differ_given d given (row ∷ rows) pairs apart also =
-    differ_given d (put_in_order d given row) rows (differ_inserted given (position_or_len (goes_before d row) given) row pairs apart.0)
-    (every-weaker (λ x. AllByRecursion (Differ x) given × Differ row x) (λ x. AllByRecursion (Differ x) (put_in_order d given row))
-    (λ x h. every_inserted (Differ x) given (position_or_len (goes_before d row) given) row h.0 (λ same. h.1 (sym same))) rows
-    (every-both (λ x. AllByRecursion (Differ x) given) (Differ row) rows apart.1 also.0)) also.1
+pair_with : (R : Row → Row → Type 0) → ((row other : Row) → R row other → R other row) → (d : Purpose) (given rows : List Row) → Pairwise R given → AllByRecursion (λ row. AllByRecursion (R row) given) rows → Pairwise R rows → Pairwise R (fold (put_in_order d) given rows)
+pair_with R back d given [] pairs apart also = pairs
+pair_with R back d given (row ∷ rows) pairs apart also =
+    pair_with R back d (put_in_order d given row) rows (pair_inserted R back given (position_or_len (goes_before d row) given) row pairs apart.0)
+    (every-weaker (λ x. AllByRecursion (R x) given × R row x) (λ x. AllByRecursion (R x) (put_in_order d given row))
+    (λ x h. every_inserted (R x) given (position_or_len (goes_before d row) given) row h.0 (back row x h.1)) rows
+    (every-both (λ x. AllByRecursion (R x) given) (R row) rows apart.1 also.0)) also.1
+
+-- what holds of each two rows, in either order, holds of each two that a scan gives of them
+pub pair_given : (R : Row → Row → Type 0) → ((row other : Row) → R row other → R other row) → (d : Purpose) (rows : List Row) → Pairwise R rows → Pairwise R (fold (put_in_order d) [] rows)
+pair_given R back d rows pairs = pair_with R back d [] rows tt (every (λ row. ⊤) (λ row. tt) rows) pairs
 
 -- rows in order whose numbers differ
 in_order_rises : (given : List Row) → IsInOrder number_before given → Pairwise Differ given → Rises given
@@ -135,11 +139,7 @@ pub given_rises : (d : Purpose) (rows : List Row) → IsInOrder (goes_before d) 
 given_rises d rows order by_number pairs = of by_number
   where
     apart : Pairwise Differ (fold (put_in_order d) [] rows)
-    apart = differ_given d [] rows tt (every-weaker (λ row. ⊤) (λ row. ⊤) (λ row h. h) rows (nothing rows)) pairs
-      where
-        nothing : (xs : List Row) → AllByRecursion (λ row. ⊤) xs
-        nothing [] = tt
-        nothing (x ∷ xs) = (tt, nothing xs)
+    apart = pair_given Differ (λ row other differ same. differ (sym same)) d rows pairs
 
     of : IsByNumber d rows → Rises (fold (put_in_order d) [] rows)
     of (inl numbered) = in_order_rises (fold (put_in_order d) [] rows) (in_order_by (goes_before d) number_before numbered (fold (put_in_order d) [] rows) order) apart

@@ -25,7 +25,7 @@ use Rattle.history_model.specs.Read.{is_scan_of, rows_read}
 use Rattle.history_model.specs.Orderly.{MayComeNext, IsSound}
 use Rattle.history_model.proofs.Prefixes.{EachEntry-more, EachEntry-prefix, EachEntry-rest, EachFrom-both, EachFrom-keeps}
 use Rattle.history_model.proofs.Reading.{held_of-more as held-more, rows_read-own, rows_read-other}
-use Rattle.history_model.proofs.Every.{every-weaker, every-filter, any-weaker, any-filter, any-left, some-weaker, some-filter}
+use Rattle.history_model.proofs.Every.{every-weaker, any-weaker, any-filter, any-left, some-weaker, some-filter}
 use Rattle.history_model.proofs.Asking.{oid_eq}
 use Rattle.history_model.proofs.Touched.{entry_of}
 use Rattle.history_model.proofs.Guards.{is_changing, any_with}
@@ -33,11 +33,12 @@ use Rattle.history_model.proofs.FixedRows.{fixed, is_loose}
 use Rattle.history_model.proofs.Exclude.{Agree, AllAgree}
 use Rattle.history_model.proofs.Granted.{lock_parts}
 use Rattle.history_model.proofs.Seen.{Pairwise}
-use Rattle.history_model.proofs.InOrder.{IsIn, Differ, every_given}
+use Rattle.history_model.proofs.InOrder.{IsIn, Differ}
 use Rattle.history_model.proofs.Ordered.{all_each, locks_exclude, one_version, one_seen}
 use Rattle.history_model.proofs.Past.{none_in_way}
 use Rattle.history_model.proofs.Answers.{other_answers, own_answers}
-use Rattle.history_model.proofs.WeakChanges.{AsksOf, AreModesOf, class_apart, class_numbers, every_self, asked_differ, unheld_visible, fixed_visible}
+use Rattle.history_model.proofs.WeakChanges.{AsksOf, AreModesOf, class_apart, class_numbers, asked_differ, unheld_visible, fixed_visible}
+use Rattle.history_model.proofs.GivenRows.{given_seen}
 use Rattle.history_model.proofs.Observed.{LeavesRead}
 
 -- the modes under which rows are changed
@@ -261,7 +262,8 @@ abbrev refilled : Option ℕ → Row → Row
 refilled fill (rows.Class oid own kind old) = rows.Class oid own kind fill
 refilled fill row = row
 
-class_of : (row : Row) (rel : Oid) (name : List ℕ) (kind : Kind) → fixed row ≡ rows.Class rel name kind None → (fill : Option ℕ) × (row ≡ rows.Class rel name kind fill)
+-- a row that is this but for what a weak mode may change
+pub class_of : (row : Row) (rel : Oid) (name : List ℕ) (kind : Kind) → fixed row ≡ rows.Class rel name kind None → (fill : Option ℕ) × (row ≡ rows.Class rel name kind fill)
 class_of (rows.Class oid own kind' fill) rel name kind is = (fill, ap (refilled fill) is)
 class_of (rows.Att of num own col_type stat live) rel name kind is = absurd (cc)
 class_of row rel name kind is = absurd (cc)
@@ -302,9 +304,9 @@ one_number n row (x ∷ []) (inl is) apart all = ap (λ r. r ∷ []) (sym is)
 one_number n row (x ∷ []) (inr more) apart all = absurd more
 one_number n row (x ∷ y ∷ given) there apart all = absurd (apart.0.0 (all.0 ∙ sym all.1.0))
 
--- a relation of which a scan shows the row first, as one that looks it up by its name, its oid shows alone
-pub found_first : (history : List Entry) (b : ℕ) (d : Purpose) (rel : Oid) (name : List ℕ) (kind : Kind) (fill : Option ℕ) (more : List Row) → IsSound history → answer_of history b d ≡ rows.Class rel name kind fill ∷ more → IsSeenAs history b rel name kind
-found_first history b d rel name kind fill more sound first = (fill, ap (fold (put_in_order (scans.Class rel)) []) (one_number rel.0 row found there apart (class_numbers rel (rows_of history b))))
+-- a relation whose row a backend sees its oid shows alone
+pub seen_alone : (history : List Entry) (b : ℕ) (rel : Oid) (name : List ℕ) (kind : Kind) (fill : Option ℕ) → IsSound history → IsIn (rows.Class rel name kind fill) (rows_of history b) → answer_of history b (scans.Class rel) ≡ rows.Class rel name kind fill ∷ []
+seen_alone history b rel name kind fill sound seen = ap (fold (put_in_order (scans.Class rel)) []) (one_number rel.0 row found there apart (class_numbers rel (rows_of history b)))
   where
     row : Row
     row = rows.Class rel name kind fill
@@ -312,12 +314,13 @@ found_first history b d rel name kind fill more sound first = (fill, ap (fold (p
     found : List Row
     found = filter (selects (scans.Class rel)) (rows_of history b)
 
-    seen : IsIn row (rows_of history b)
-    seen = (subst (AllByRecursion (λ r. IsIn r (rows_of history b))) first (every_given (λ r. IsIn r (rows_of history b)) d [] (filter (selects d) (rows_of history b)) tt
-        (every-filter (λ r. IsIn r (rows_of history b)) (selects d) (rows_of history b) (every-weaker (λ r. IsIn r (rows_of history b)) (λ r. selects d r ≡ true → IsIn r (rows_of history b)) (λ r is asks. is) (rows_of history b) (every_self (rows_of history b)))))).0
-
     there : IsIn row found
     there = some-filter (λ r. row ≡ r) (selects (scans.Class rel)) (rows_of history b) (some-weaker (λ r. row ≡ r) (λ r. (selects (scans.Class rel) r ≡ true) × (row ≡ r)) (λ r is. (subst (λ x. selects (scans.Class rel) x ≡ true) is (eq-eqb rel.0 rel.0 refl), is)) (rows_of history b) seen)
 
     apart : Pairwise Differ found
     apart = asked_differ (scans.Class rel) rel (class_apart rel) (sees history b) (versions_of history) (one_seen history b (versions_of history) (one_version history sound))
+
+-- and so one of which a scan shows the row first, as one that looks it up by its name
+pub found_first : (history : List Entry) (b : ℕ) (d : Purpose) (rel : Oid) (name : List ℕ) (kind : Kind) (fill : Option ℕ) (more : List Row) → IsSound history → answer_of history b d ≡ rows.Class rel name kind fill ∷ more → IsSeenAs history b rel name kind
+found_first history b d rel name kind fill more sound first =
+    (fill, seen_alone history b rel name kind fill sound (subst (AllByRecursion (λ row. IsIn row (rows_of history b) × (selects d row ≡ true))) first (given_seen history b d)).0.0)

@@ -122,7 +122,7 @@ none_any p [] none = tt
 none_any p (x ∷ xs) none = let parts = or_parts (p x) (list_any p xs) none in (parts.0, none_any p xs parts.1)
 
 -- no grant in a mode that isn't held
-not_held : (test : Mode → Bool) (modes : List Mode) (held : List Grant) (a c : ℕ) (rel : Oid) → ((mode : Mode) → test mode ≡ true → list_any (same_mode mode) modes ≡ true) → list_any (holds held a rel) modes ≡ false → IsHeldIn test held a c rel → ⊥
+pub not_held : (test : Mode → Bool) (modes : List Mode) (held : List Grant) (a c : ℕ) (rel : Oid) → ((mode : Mode) → test mode ≡ true → list_any (same_mode mode) modes ≡ true) → list_any (holds held a rel) modes ≡ false → IsHeldIn test held a c rel → ⊥
 not_held test modes held a c rel among none is = any_with (guards_in test a c rel) (λ g. AllByRecursion (λ mode. is_lock a rel mode g ≡ false) modes) ⊥ of held is
     (every-swap (λ mode g. is_lock a rel mode g ≡ false) modes held (every-weaker (λ mode. holds held a rel mode ≡ false) (λ mode. AllByRecursion (λ g. is_lock a rel mode g ≡ false) held) (λ mode free. none_any (is_lock a rel mode) held free) modes (none_any (holds held a rel) modes none)))
   where
@@ -432,7 +432,7 @@ items_fixed : (f : Field) (rel : Oid) → ((row : Row) → item_of f rel (fixed 
 items_fixed f rel same [] = refl
 items_fixed f rel same (row ∷ given) = ap (λ o. cons_option o (filter_map (item_of f rel) (map fixed given))) (same row) ∙ ap (λ l. cons_option (item_of f rel row) l) (items_fixed f rel same given)
 
-number_fixed : (row : Row) → row_number (fixed row) ≡ row_number row
+pub number_fixed : (row : Row) → row_number (fixed row) ≡ row_number row
 number_fixed (rows.Class oid own kind fill) = refl
 number_fixed (rows.Att of num own col_type stat live) = refl
 number_fixed row = refl

@@ -18,6 +18,10 @@ module _ {D : Type 0} where
   abbrev pub new_held : Ref → D → Held D
   new_held r value = record { at = r; value = value; pins = 1; valid = true }
 
+  -- a descriptor that nothing has made out of date
+  abbrev pub valid_value : Held D → Option D
+  valid_value h = if h.valid then Some h.value else None
+
   -- what opening a relation answers
   abbrev pub opened : Option (Held D) → Opened
   opened None = Unknown

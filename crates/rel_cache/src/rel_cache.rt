@@ -1,5 +1,5 @@
 ghost use Rattle.std.specs.Prelude.{◌≡◌, ◌≢◌, ◌⊎◌, ◌<◌, ◌≤◌, ◌+◌, ◌&&◌, ℕ, true, false, not, nat_lt, nat_eq, Some, None, Option, IsSome, IfSome, IfNone, IfOk, IfErr, OnErr, IsSomeAnd, IsTrue};
-ghost use Rattle.std.specs.Option.{option_map, option_and_then, option_map_or, ForSome};
+ghost use Rattle.std.specs.Option.{option_copied, option_map, option_and_then, option_map_or, ForSome};
 ghost use Rattle.indexmap.specs.IndexMap.{get as place_of, index_map_len, keys, spare};
 ghost use Rattle.rel_cache.specs.Named.{AreIndexed, ArePlaced, with_mark};
 
@@ -24,7 +24,7 @@ pub struct RelCache<D> {
 
 #[tactic(auto, unfolding(crate::specs::Caches::held_of))]
 impl<D: Drop> RelCache<D> {
-    ghost use Rattle.rel_cache.specs.Descriptors.{Held, opened, need, new_held, opened_once, closed_once, renewed, told};
+    ghost use Rattle.rel_cache.specs.Descriptors.{Held, valid_value, opened, need, new_held, opened_once, closed_once, renewed, told};
     ghost use Rattle.rel_cache.specs.Caches.{held_of, HeldUnder, HasGoneFrom, ChangesHeld, awaits, AreTold, relation_at};
 
     /// No descriptors, which takes no memory.
@@ -56,6 +56,26 @@ impl<D: Drop> RelCache<D> {
         } else {
             Opened::Invalid(at)
         }
+    }
+
+    /// The descriptor of a relation, without a pin (`RelationIdCacheLookup` in
+    /// `src/backend/utils/cache/relcache.c`). `None`: exactly where none is held that nothing has made out of
+    /// date.
+    pub fn find(&self, rel: Oid) -> Option<&D>
+        ensures { option_copied result ≡ option_and_then valid_value (held_of self.now rel) }
+    {
+        match self.index.get(&rel.0) {
+            Some(Place { at, valid: true }) => Some(&self.descriptors.get(at).value),
+            _ => None,
+        }
+    }
+
+    /// The reference under which the descriptor of a relation is held, without a pin. `None`: exactly where
+    /// none is.
+    pub fn reference(&self, rel: Oid) -> Option<Ref>
+        ensures { result ≡ option_map (λ h. h.at) (held_of self.now rel) }
+    {
+        Some(self.index.get(&rel.0)?.at)
     }
 
     /// Takes one pin away; the descriptor stays, also without pins (`RelationClose` and

@@ -16,6 +16,7 @@ use cacheless::Progress;
 use ddl_effect::Want;
 use event_kinds::{Entry, Event, Item, Line};
 use inval_messages::Message;
+use local_caches::is_keyed;
 use row_visibility::Clash;
 use std::alloc::Global;
 
@@ -131,7 +132,7 @@ impl Session {
         if !is_countable(&self.progress) {
             return None;
         }
-        self.progress.enter_reset(segment.alloc);
+        self.progress.enter_reset();
         self.fetched = segment.queue.len();
         Some(())
     }
@@ -143,6 +144,9 @@ impl Session {
             rows: count,
         };
         if !is_countable(&self.progress) || !self.progress.may_play(segment.next_oid, &event) {
+            return None;
+        }
+        if is_keyed(purpose) && rows.len() > 1 {
             return None;
         }
         self.progress

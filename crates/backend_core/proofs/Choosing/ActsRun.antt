@@ -16,7 +16,7 @@ use Rattle.cacheless.specs.OnCourse.{OnItsWay, AllOnCourse}
 use Rattle.cacheless.specs.Owed.{Owes, OwesLook, begins, owed_at_start}
 use Rattle.cacheless.specs.Runs.{runs}
 use Rattle.cacheless.specs.Session.{Session, Unsettled, Badly, none_open, outcome_of, is_settled, plan_admitted, plan_first, refused_first}
-use Rattle.cacheless.specs.State.{owed_first}
+use Rattle.cacheless.specs.State.{kept_at, owed_first}
 use Rattle.cacheless.specs.Types.{CommandError, Told}
 use Rattle.cacheless.proofs.Plans.ActOrder.{FollowsOrder, follows_order}
 use Rattle.cacheless.proofs.Same.{start_owed}
@@ -106,11 +106,11 @@ module _ (scenario : Scenario) (seen : List Entry) (s : Backend) (waits : Awaits
   -- before a scan
   pub scan_runs : (scan : Purpose) → is_next_at scan s.progress ≡ true → owed_first s.progress command ≡ [] → is_some (facts_of seen s.progress.id).running ≡ true
   scan_runs scan next free = runs_here free (λ badly. both_ways _ (not_true (has_failed s.progress) both.0) (ap (λ o. elim o as (λ x. Bool) [ Badly ↦ true | other ↦ false ]) badly))
-      (λ told none. or_either (list_any (λ o. is_first_missing scan s.progress.kept o.kind o.rel) s.progress.opened) (is_next_of_act scan s.progress (plan_at s.progress.exec)) both.1
-      (λ opened. both_ways _ (ap (list_any (λ o. is_first_missing scan s.progress.kept o.kind o.rel)) ((follows scenario seen s waits courses command at).plain told none).opened) opened)
+      (λ told none. or_either (list_any (λ o. is_first_missing scan (kept_at s.progress) o.kind o.rel) s.progress.opened) (is_next_of_act scan s.progress (plan_at s.progress.exec)) both.1
+      (λ opened. both_ways _ (ap (list_any (λ o. is_first_missing scan (kept_at s.progress) o.kind o.rel)) ((follows scenario seen s waits courses command at).plain told none).opened) opened)
       (λ act. by_plan (plan_at s.progress.exec) refl act told none))
     where
-      both : (not (has_failed s.progress) ≡ true) × ((list_any (λ o. is_first_missing scan s.progress.kept o.kind o.rel) s.progress.opened || is_next_of_act scan s.progress (plan_at s.progress.exec)) ≡ true)
+      both : (not (has_failed s.progress) ≡ true) × ((list_any (λ o. is_first_missing scan (kept_at s.progress) o.kind o.rel) s.progress.opened || is_next_of_act scan s.progress (plan_at s.progress.exec)) ≡ true)
       both = and_true (not (has_failed s.progress)) _ next
 
       by_plan : (p : Plan) → plan_at s.progress.exec ≡ p → is_next_of_act scan s.progress p ≡ true → DoesSome (plan_of none_open command)

@@ -19,7 +19,7 @@ use Rattle.cacheless.specs.May.{has_failed, names_relation, is_lock_at, is_first
 use Rattle.cacheless.specs.OpenedReads.{ReadsOpened}
 use Rattle.cacheless.specs.Session.{Badly, outcome_of}
 use Rattle.cacheless.specs.Silently.{gives_at, gives_next, IsAtRest}
-use Rattle.cacheless.specs.State.{is_kept, row_sought, missing, builds_missing, act_missing}
+use Rattle.cacheless.specs.State.{kept_at, is_kept, row_sought, missing, builds_missing, act_missing}
 use Rattle.cacheless.proofs.ReadsBuilds.{ReadsBuilds, stage_reads}
 use Rattle.cacheless.proofs.Same.{lacks_opened_is}
 use Rattle.cacheless.proofs.Plans.SilentActs.{empty_list}
@@ -62,12 +62,12 @@ goes_on : (p : Progress) (act : Act) → Wants (plan_at p.exec) act → has_fail
 goes_on p act wants = ap (λ q. elim (outcome_of q) as (λ x. Bool) [ Badly ↦ true | other ↦ false ]) wants.is
 
 -- what the act lacks is lacking
-lacks_is : (p : Progress) (act : Act) (wants : Wants (plan_at p.exec) act) → lacks_opened p.kept p.opened ≡ false → lacks_any p ≡ not (is_empty (act_missing p (Do act wants.rest)))
+lacks_is : (p : Progress) (act : Act) (wants : Wants (plan_at p.exec) act) → lacks_opened (kept_at p) p.opened ≡ false → lacks_any p ≡ not (is_empty (act_missing p (Do act wants.rest)))
 lacks_is p act wants whole = λ i. not (goes_on p act wants i) && (whole i || not (is_empty (act_missing p (wants.is i))))
 
 next_is : (p : Progress) (act : Act) (wants : Wants (plan_at p.exec) act) (scan : Purpose) → is_next_of_act scan p (Do act wants.rest) ≡ true → is_next_at scan p ≡ true
-next_is p act wants scan is = (λ i. not (goes_on p act wants i) && (list_any (λ o. is_first_missing scan p.kept o.kind o.rel) p.opened || is_next_of_act scan p (wants.is i)))
-    ∙ ap (λ t. list_any (λ o. is_first_missing scan p.kept o.kind o.rel) p.opened || t) is ∙ or-true (list_any (λ o. is_first_missing scan p.kept o.kind o.rel) p.opened)
+next_is p act wants scan is = (λ i. not (goes_on p act wants i) && (list_any (λ o. is_first_missing scan (kept_at p) o.kind o.rel) p.opened || is_next_of_act scan p (wants.is i)))
+    ∙ ap (λ t. list_any (λ o. is_first_missing scan (kept_at p) o.kind o.rel) p.opened || t) is ∙ or-true (list_any (λ o. is_first_missing scan (kept_at p) o.kind o.rel) p.opened)
 
 -- a list lacks what is found of it
 found_lacks : {X : Type 0} (f : X → Bool) (xs : List X) → is_empty (filter f xs) ≡ not (is_some (find f xs))
@@ -91,26 +91,26 @@ unlocked_named locks mode (Some (rows.Class oid name kind fill)) rel found = by_
     by_lock false same = let one : oid ≡ rel = cc same in eq-eqb rel.0 oid.0 (ap (λ o. o.0) (sym one))
 unlocked_named locks mode o rel found = absurd (cc found)
 
-module _ (p : Progress) (command : Command) (still : IsAtRest p) (free : IsFree p command) (whole : lacks_opened p.kept p.opened ≡ false) where
+module _ (p : Progress) (command : Command) (still : IsAtRest p) (free : IsFree p command) (whole : lacks_opened (kept_at p) p.opened ≡ false) where
   -- the scan of a name
   pub lookup_next : (name : List ℕ) (mode : Mode) → want_of (plan_at p.exec) ≡ wants.Lookup name mode → owes_nothing command p ≡ false → IsScanNext p (scans.RelName name) false
-  lookup_next name mode want owes = by_tests p.granted (is_kept p.kept (scans.RelName name)) refl refl
+  lookup_next name mode want owes = by_tests p.granted (is_kept (kept_at p) (scans.RelName name)) refl refl
     where
       act : Wants (plan_at p.exec) (Lookup name mode)
       act = plan_wanted (plan_at p.exec) (Lookup name mode) (ap wanted_act want)
 
-      lacks : (t : Bool) → p.granted ≡ t → lacks_any p ≡ not (is_empty (if t then [] else missing p.kept (scans.RelName name ∷ [])))
-      lacks t is = lacks_is p (Lookup name mode) act whole ∙ ap (λ x. not (is_empty (if x then [] else missing p.kept (scans.RelName name ∷ [])))) is
+      lacks : (t : Bool) → p.granted ≡ t → lacks_any p ≡ not (is_empty (if t then [] else missing (kept_at p) (scans.RelName name ∷ [])))
+      lacks t is = lacks_is p (Lookup name mode) act whole ∙ ap (λ x. not (is_empty (if x then [] else missing (kept_at p) (scans.RelName name ∷ [])))) is
 
-      by_tests : (t kept : Bool) → p.granted ≡ t → is_kept p.kept (scans.RelName name) ≡ kept → IsScanNext p (scans.RelName name) false
+      by_tests : (t kept : Bool) → p.granted ≡ t → is_kept (kept_at p) (scans.RelName name) ≡ kept → IsScanNext p (scans.RelName name) false
       by_tests true kept is has = absurd (both_ways _ owes (out_owes p command free (lacks true is)))
-      by_tests false true is has = absurd (both_ways _ owes (out_owes p command free (lacks false is ∙ one_lacks (is_kept p.kept (scans.RelName name)) (scans.RelName name) ∙ ap not has)))
+      by_tests false true is has = absurd (both_ways _ owes (out_owes p command free (lacks false is ∙ one_lacks (is_kept (kept_at p) (scans.RelName name)) (scans.RelName name) ∙ ap not has)))
       by_tests false false is has = record {
         command = command;
         free = free;
-        lacks = lacks false is ∙ one_lacks (is_kept p.kept (scans.RelName name)) (scans.RelName name) ∙ ap not has;
+        lacks = lacks false is ∙ one_lacks (is_kept (kept_at p) (scans.RelName name)) (scans.RelName name) ∙ ap not has;
         next = next_is p (Lookup name mode) act (scans.RelName name) ((λ i. not (is i) && (not (has i) && same_scan (scans.RelName name) (scans.RelName name))) ∙ same_scan-itself (scans.RelName name));
-        first = λ other. none_built p.kept p.opened (scans.RelName name) other whole;
+        first = λ other. none_built (kept_at p) p.opened (scans.RelName name) other whole;
         kind = refl;
       }
 
@@ -128,34 +128,34 @@ module _ (p : Progress) (command : Command) (still : IsAtRest p) (free : IsFree 
 
   -- the scan of a catalog cache
   pub search_next : (scan : Purpose) → want_of (plan_at p.exec) ≡ wants.Search scan → IsScanNext p scan false
-  search_next scan want = by_kept (is_kept p.kept scan) refl
+  search_next scan want = by_kept (is_kept (kept_at p) scan) refl
     where
       act : Wants (plan_at p.exec) (Search scan)
       act = plan_wanted (plan_at p.exec) (Search scan) (ap wanted_act want)
 
-      lacks : (t : Bool) → is_kept p.kept scan ≡ t → lacks_any p ≡ not t
-      lacks t is = lacks_is p (Search scan) act whole ∙ one_lacks (is_kept p.kept scan) scan ∙ ap not is
+      lacks : (t : Bool) → is_kept (kept_at p) scan ≡ t → lacks_any p ≡ not t
+      lacks t is = lacks_is p (Search scan) act whole ∙ one_lacks (is_kept (kept_at p) scan) scan ∙ ap not is
 
-      by_kept : (t : Bool) → is_kept p.kept scan ≡ t → IsScanNext p scan false
+      by_kept : (t : Bool) → is_kept (kept_at p) scan ≡ t → IsScanNext p scan false
       by_kept true is = absurd (not_at_rest p command (Search scan) still free act (out_owes p command free (lacks true is)) refl)
       by_kept false is = record {
         command = command;
         free = free;
         lacks = lacks false is;
         next = next_is p (Search scan) act scan (ap (λ t. not t && same_scan scan scan) is ∙ same_scan-itself scan);
-        first = λ other. none_built p.kept p.opened scan other whole;
+        first = λ other. none_built (kept_at p) p.opened scan other whole;
         kind = subst ReadsBuilds act.is (stage_reads p.exec);
       }
 
   -- the first scan of a descriptor that is to be opened
-  pub open_next : (rel : Oid) (kind : Kind) (scan : Purpose) → want_of (plan_at p.exec) ≡ wants.Open rel kind → find (λ d. not (is_kept p.kept d)) (build_scans kind rel) ≡ Some scan → IsScanNext p scan true
+  pub open_next : (rel : Oid) (kind : Kind) (scan : Purpose) → want_of (plan_at p.exec) ≡ wants.Open rel kind → find (λ d. not (is_kept (kept_at p) d)) (build_scans kind rel) ≡ Some scan → IsScanNext p scan true
   open_next rel kind scan want is = record {
     command = command;
     free = free;
-    lacks = lacks_is p (Open rel kind) act whole ∙ ap not (found_lacks (λ d. not (is_kept p.kept d)) (build_scans kind rel)) ∙ ap (λ f. not (not (is_some f))) is;
-    first = λ other. none_built p.kept p.opened scan other whole;
+    lacks = lacks_is p (Open rel kind) act whole ∙ ap not (found_lacks (λ d. not (is_kept (kept_at p) d)) (build_scans kind rel)) ∙ ap (λ f. not (not (is_some f))) is;
+    first = λ other. none_built (kept_at p) p.opened scan other whole;
     next = next_is p (Open rel kind) act scan (ap (λ f. option_map_or (same_scan scan) f false) is ∙ same_scan-itself scan);
-    kind = find_all (λ d. is_build_scan d ≡ true) (λ d. not (is_kept p.kept d)) (build_scans kind rel) scan (each_builds kind rel) is;
+    kind = find_all (λ d. is_build_scan d ≡ true) (λ d. not (is_kept (kept_at p) d)) (build_scans kind rel) scan (each_builds kind rel) is;
   }
     where
       act : Wants (plan_at p.exec) (Open rel kind)
@@ -172,8 +172,8 @@ module _ (p : Progress) (command : Command) (still : IsAtRest p) (free : IsFree 
       not_false true is = refl
       not_false false is = absurd (cc is)
 
-      kept : is_kept p.kept scan ≡ true
-      kept = kept_opened p.kept scan p.opened (empty_list (builds_missing p.kept p.opened) (not_false (is_empty (builds_missing p.kept p.opened)) (sym (lacks_opened_is p.kept p.opened) ∙ whole))) (subst (ReadsOpened p.opened) act.is reads).0
+      kept : is_kept (kept_at p) scan ≡ true
+      kept = kept_opened (kept_at p) scan p.opened (empty_list (builds_missing (kept_at p) p.opened) (not_false (is_empty (builds_missing (kept_at p) p.opened)) (sym (lacks_opened_is (kept_at p) p.opened) ∙ whole))) (subst (ReadsOpened p.opened) act.is reads).0
 
 -- a command that hasn't failed wants no failure
 abbrev fails : Want → Bool

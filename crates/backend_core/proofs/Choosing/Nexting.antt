@@ -21,10 +21,10 @@ use Rattle.cacheless.specs.Runs.{runs}
 use Rattle.cacheless.specs.Settled.{opened_by}
 use Rattle.cacheless.specs.Session.{none_open}
 use Rattle.cacheless.specs.Silently.{is_ends, IsAtRest}
-use Rattle.cacheless.specs.State.{owed_at, is_kept, act_missing, is_out, end_at}
+use Rattle.cacheless.specs.State.{owed_at, kept_at, is_kept, act_missing, is_out, end_at}
 use Rattle.cacheless.proofs.Answers.OpenedReads.{reads_out, reads_first, reads_after}
 use Rattle.cacheless.proofs.Tests.{both_true, not_both}
-use Rattle.backend_core.specs.Types.{Oid, Kind, Event, Row, Purpose, Command, CommandError, Opening, KeptScan, Scenario, Entry, Next, Progress, Backend}
+use Rattle.backend_core.specs.Types.{Oid, Kind, Event, Row, Purpose, Command, CommandError, Opening, Kept, Scenario, Entry, Next, Progress, Backend}
 use Rattle.backend_core.specs.declared.next.Next.TheVariants as nexts
 use Rattle.backend_core.specs.Agrees.{command_at, AwaitsEntry}
 use Rattle.backend_core.specs.Steps.{IsFree, IsScanNext, EndsNext, InCommand, end_event, IsNextOf, ComesOfCommit, ComesOfBack}
@@ -135,12 +135,12 @@ each_builds Table rel = (refl, (refl, (refl, (refl, (refl, (refl, tt))))))
 each_builds Index rel = (refl, (refl, tt))
 
 -- a scan that a descriptor lacks
-pub record IsBuildNext (kept : List KeptScan) (opened : List Opening) (scan : Purpose) : Type 0 where
+pub record IsBuildNext (kept : Kept) (opened : List Opening) (scan : Purpose) : Type 0 where
   pub lacks : lacks_opened kept opened ≡ true
   pub first : list_any (λ o. is_first_missing scan kept o.kind o.rel) opened ≡ true
   pub build : is_build_scan scan ≡ true
 
-build_some : (kept : List KeptScan) (opened : List Opening) (scan : Purpose) → build_first kept opened ≡ Some scan → IsBuildNext kept opened scan
+build_some : (kept : Kept) (opened : List Opening) (scan : Purpose) → build_first kept opened ≡ Some scan → IsBuildNext kept opened scan
 build_some kept [] scan is = absurd (cc is)
 build_some kept (o ∷ opened) scan is = by_first (find (λ d. not (is_kept kept d)) (build_scans o.kind o.rel)) refl is (build_some kept opened scan)
   where
@@ -162,12 +162,12 @@ build_some kept (o ∷ opened) scan is = by_first (find (λ d. not (is_kept kept
     }
 
 -- the first scan that is lacked, of lists that are these
-pub first_built : (kept : List KeptScan) (opened given : List Opening) (lacking : Option Opening) (o : Opening) (result : Option Purpose) → given ≡ opened → lacking ≡ lacking_first kept given → lacking ≡ Some o → result ≡ find (λ d. not (is_kept kept d)) (build_scans o.kind o.rel) → result ≡ build_first kept opened
+pub first_built : (kept : Kept) (opened given : List Opening) (lacking : Option Opening) (o : Opening) (result : Option Purpose) → given ≡ opened → lacking ≡ lacking_first kept given → lacking ≡ Some o → result ≡ find (λ d. not (is_kept kept d)) (build_scans o.kind o.rel) → result ≡ build_first kept opened
 first_built kept opened given lacking o result given_is lacking_is some result_is =
     result_is ∙ sym (ap (λ x. elim x as (λ y. Option Purpose) [ Some q ↦ find (λ d. not (is_kept kept d)) (build_scans q.kind q.rel) | None ↦ None ]) (ap (lacking_first kept) (sym given_is) ∙ sym lacking_is ∙ some))
 
 -- where no scan is found none is lacked
-pub build_none : (kept : List KeptScan) (opened : List Opening) → build_first kept opened ≡ None → lacks_opened kept opened ≡ false
+pub build_none : (kept : Kept) (opened : List Opening) → build_first kept opened ≡ None → lacks_opened kept opened ≡ false
 build_none kept [] is = refl
 build_none kept (o ∷ opened) is = by_first (find (λ d. not (is_kept kept d)) (build_scans o.kind o.rel)) refl is (build_none kept opened)
   where
@@ -178,11 +178,11 @@ build_none kept (o ∷ opened) is = by_first (find (λ d. not (is_kept kept d)) 
     by_first None at one more = ap (λ f. is_some (cond (is_some f) (Some o) (lacking_first kept opened))) at ∙ more one
 
 -- where none is lacked none is found
-pub none_built : (kept : List KeptScan) (opened : List Opening) (scan other : Purpose) → lacks_opened kept opened ≡ false → build_first kept opened ≡ Some other → scan ≡ other
+pub none_built : (kept : Kept) (opened : List Opening) (scan other : Purpose) → lacks_opened kept opened ≡ false → build_first kept opened ≡ Some other → scan ≡ other
 none_built kept opened scan other whole is = absurd (both_ways _ whole (build_some kept opened other is).lacks)
 
 -- it comes next in a command that hasn't failed
-pub build_next : (p : Progress) (command : Command) (scan : Purpose) → IsFree p command → has_failed p ≡ false → build_first p.kept p.opened ≡ Some scan → IsScanNext p scan true
+pub build_next : (p : Progress) (command : Command) (scan : Purpose) → IsFree p command → has_failed p ≡ false → build_first (kept_at p) p.opened ≡ Some scan → IsScanNext p scan true
 build_next p command scan free goes is = record {
   command = command;
   free = free;
@@ -192,5 +192,5 @@ build_next p command scan free goes is = record {
   kind = next.build;
 }
   where
-    next : IsBuildNext p.kept p.opened scan
-    next = build_some p.kept p.opened scan is
+    next : IsBuildNext (kept_at p) p.opened scan
+    next = build_some (kept_at p) p.opened scan is

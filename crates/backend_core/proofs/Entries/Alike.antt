@@ -13,7 +13,7 @@ use Rattle.cacheless.specs.Puts.{PutsOpened}
 use Rattle.cacheless.specs.Session.{Badly, outcome_of, is_settled}
 use Rattle.cacheless.specs.Settled.{settled}
 use Rattle.cacheless.specs.Silently.{IsAtRest, is_to_answer_at}
-use Rattle.cacheless.specs.State.{owed_at, owed_first, act_missing, is_absent, IsLockedIn, Rest, session_at}
+use Rattle.cacheless.specs.State.{kept_at, owed_at, owed_first, act_missing, is_absent, IsLockedIn, Rest, session_at}
 use Rattle.backend_core.specs.Types.{Oid, Mode, Command, Draft, Exec, OwnLock, Scenario, Entry, Progress, Backend}
 use Rattle.backend_core.specs.Agrees.{command_at, AwaitsEntry}
 use Rattle.backend_core.specs.Fits.{Fits}
@@ -102,6 +102,6 @@ pub drafted_write : (s : Progress) (draft : Draft) → plan_at s.exec ≡ writin
 drafted_write s draft plan next = record {
   command = next.command;
   free = record { at = next.free.at; due = next.free.due; first = next.free.first };
-  owes = subst (λ p. (is_empty (owed_first s next.command) && is_empty (owed_at s.due) && not (not (elim (outcome_of p) as (λ x. Bool) [ Badly ↦ true | outcome ↦ false ]) && (lacks_opened s.kept s.opened || not (is_empty (act_missing s p))))) ≡ true) plan next.owes;
+  owes = subst (λ p. (is_empty (owed_first s next.command) && is_empty (owed_at s.due) && not (not (elim (outcome_of p) as (λ x. Bool) [ Badly ↦ true | outcome ↦ false ]) && (lacks_opened (kept_at s) s.opened || not (is_empty (act_missing s p))))) ≡ true) plan next.owes;
   wants = refl;
 }

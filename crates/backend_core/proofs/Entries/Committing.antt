@@ -1,5 +1,5 @@
 -- A commit becomes visible, and publishes its messages.
-use Rattle.std.proofs.Common.{◌≡◌, ◌+◌, ◌∙◌, ◌==◌, ℕ, Bool, true, false, Option, Some, None, List, [], refl, sym, ap, subst, length, take, is_some, All}
+use Rattle.std.proofs.Common.{◌≡◌, ◌+◌, ◌∙◌, ◌==◌, ℕ, Bool, true, false, Option, Some, None, List, [], refl, sym, ap, subst, length, take, is_some}
 use Rattle.std.specs.Option.{option_map_or, unwrap_or}
 use Rattle.std.proofs.lemmas.Bool.{eq-eqb}
 use Rattle.std.proofs.lemmas.List.{length-take, take_min}
@@ -19,10 +19,10 @@ use Rattle.cacheless.specs.Owed.{Owes, owed_after, owed_of}
 use Rattle.cacheless.specs.Plays.{MayPlayIn}
 use Rattle.cacheless.specs.Session.{Session, Well, outcome_of}
 use Rattle.cacheless.specs.Sessions.{ends_command}
-use Rattle.cacheless.specs.State.{running_of, lists_at, unsent_at}
+use Rattle.cacheless.specs.State.{kept_at, running_of, lists_at, unsent_at}
 use Rattle.cacheless.proofs.Allowed.Releases.{OwesNoScan, owes_no_scan}
 use Rattle.backend_core.specs.Types.{Xid, Command, Scenario, Entry, Event, Message, OwnLock, Progress, Backend}
-use Rattle.backend_core.specs.Agrees.{IsPlayed, KeptAt, command_at, AwaitsEntry}
+use Rattle.backend_core.specs.Agrees.{IsPlayed, AreLastScans, command_at, AwaitsEntry}
 use Rattle.backend_core.specs.Fits.{Fits}
 use Rattle.backend_core.specs.Steps.{EndsNext, Enters}
 use Rattle.backend_core.proofs.Entries.EndEntries.{end_plays, end_now, end_call, end_enters}
@@ -145,9 +145,9 @@ module _ (scenario : Scenario) (old : List Entry) (was : Backend) (event : Event
 
 -- the state after its visibility step
 pub commit_enters : (scenario : Scenario) (old new : List Entry) (had has : ℕ → ℕ) (was : Backend) (xid : Xid) (p : Progress) (waits : AwaitsEntry scenario old was) → IsPlayed scenario old → AllOnCourse scenario old → EndsNext was.progress (events.Visible xid)
-    → HasEntered scenario old was.progress (events.Visible xid) waits.rests p → p.kept ≡ was.progress.kept → p.answer ≡ was.progress.answer → Appends old new had has (entry_of was.progress.id (was.progress.finished + 1) (events.Visible xid)) → Enters scenario old new had has was (record was { progress = p })
+    → HasEntered scenario old was.progress (events.Visible xid) waits.rests p → kept_at p ≡ kept_at was.progress → p.answer ≡ was.progress.answer → Appends old new had has (entry_of was.progress.id (was.progress.finished + 1) (events.Visible xid)) → Enters scenario old new had has was (record was { progress = p })
 commit_enters scenario old new had has was xid p waits played courses next goes kept same appends =
-    end_enters scenario old new had has was event p waits refl played courses next goes (subst (All (KeptAt old was.progress.id)) (sym kept) waits.keeps.places.kept)
+    end_enters scenario old new had has was event p waits refl played courses next goes (subst (AreLastScans old was.progress.id) (sym kept) waits.keeps.places.kept)
     (absent_still scenario old was event waits p goes kept (ap (λ (x : Session). x.left) goes.session) (ap (λ (x : Session). x.ended) goes.session) (untaken facts (command_at was) (waiting waits) was.looked was.looked_to_build waits.fits now.commit)) same
     (commit_fits scenario old was event waits refl next now.commit (begun (was.progress.finished + 1) facts.running).published true _ (length old + 1) refl (λ from is. cc is)) appends
   where
@@ -163,10 +163,10 @@ commit_enters scenario old new had has was xid p waits played courses next goes 
 -- the state after a publish
 pub publish_enters : (scenario : Scenario) (old new : List Entry) (had has : ℕ → ℕ) (was : Backend) (messages : List Message) (p : Progress) (waits : AwaitsEntry scenario old was) → IsPlayed scenario old → AllOnCourse scenario old
     → EndsNext was.progress (events.Publish (length (take 64 (unsent_at was.progress)))) → messages ≡ take 64 (unsent_at was.progress)
-    → HasEntered scenario old was.progress (events.Publish (length messages)) waits.rests p → p.kept ≡ was.progress.kept → p.answer ≡ was.progress.answer
+    → HasEntered scenario old was.progress (events.Publish (length messages)) waits.rests p → kept_at p ≡ kept_at was.progress → p.answer ≡ was.progress.answer
     → Appends old new had has (entry_of was.progress.id (was.progress.finished + 1) (events.Publish (length messages))) → Enters scenario old new had has was (record was { progress = p })
 publish_enters scenario old new had has was messages p waits played courses next is goes kept same appends =
-    end_enters scenario old new had has was event p waits refl played courses now_next goes (subst (All (KeptAt old was.progress.id)) (sym kept) waits.keeps.places.kept)
+    end_enters scenario old new had has was event p waits refl played courses now_next goes (subst (AreLastScans old was.progress.id) (sym kept) waits.keeps.places.kept)
     (absent_still scenario old was event waits p goes kept (ap (λ (x : Session). x.left) goes.session) (ap (λ (x : Session). x.ended) goes.session) (untaken facts (command_at was) (waiting waits) was.looked was.looked_to_build waits.fits (publish_now scenario old was messages waits next is).commit)) same
     (commit_fits scenario old was event waits refl now_next (publish_now scenario old was messages waits next is).commit ((begun (was.progress.finished + 1) facts.running).published + length messages) (begun (was.progress.finished + 1) facts.running).visible _ (length old + 1) refl (λ from same. cc same)) appends
   where

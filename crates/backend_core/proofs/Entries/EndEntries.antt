@@ -1,5 +1,5 @@
 -- The entries of an end of a backend that waits.
-use Rattle.std.proofs.Common.{◌≡◌, ◌≤◌, ◌+◌, ◌∙◌, ◌&&◌, ◌||◌, ℕ, Bool, true, false, Option, Some, None, List, [], refl, sym, ap, subst, length, drop, is_some, All, arith}
+use Rattle.std.proofs.Common.{◌≡◌, ◌≤◌, ◌+◌, ◌∙◌, ◌&&◌, ◌||◌, ℕ, Bool, true, false, Option, Some, None, List, [], refl, sym, ap, subst, length, drop, is_some, arith}
 use Rattle.std.specs.Option.{option_map_or}
 use Rattle.std.proofs.Math.Bool.{or-true}
 use Rattle.std.proofs.lemmas.Bool.{both_ways}
@@ -23,11 +23,11 @@ use Rattle.cacheless.specs.Runs.{runs}
 use Rattle.cacheless.specs.Schedule.{LooksTruly}
 use Rattle.cacheless.specs.Sessions.{ends_command, entered}
 use Rattle.cacheless.specs.Silently.{is_to_answer}
-use Rattle.cacheless.specs.State.{owed_at, has_write_since, is_out, end_of_running}
+use Rattle.cacheless.specs.State.{kept_at, owed_at, has_write_since, is_out, end_of_running}
 use Rattle.cacheless.proofs.Deciding.{holds_decides}
 use Rattle.cacheless.proofs.Tests.{both_true}
 use Rattle.backend_core.specs.Types.{Purpose, Command, Scenario, Entry, Event, Progress, Backend}
-use Rattle.backend_core.specs.Agrees.{IsPlayed, KeptAt, KeepsAbsent, command_at, AwaitsEntry}
+use Rattle.backend_core.specs.Agrees.{IsPlayed, AreLastScans, KeepsAbsent, command_at, AwaitsEntry}
 use Rattle.backend_core.specs.Fits.{Fits}
 use Rattle.backend_core.specs.Steps.{EndsNext, InCommand, AfterAll, Enters}
 use Rattle.backend_core.proofs.Choosing.EndsNow.{EndsBy, ends_by}
@@ -121,7 +121,7 @@ built_at scenario seen s waits command at = subst (λ c. runs c ≡ true) (get_o
 
 -- after an entry of an end the backend agrees
 pub end_enters : (scenario : Scenario) (old new : List Entry) (had has : ℕ → ℕ) (was : Backend) (event : Event) (p : Progress) (waits : AwaitsEntry scenario old was) → ends_command event ≡ true → IsPlayed scenario old → AllOnCourse scenario old → EndsNext was.progress event
-    → HasEntered scenario old was.progress event waits.rests p → All (KeptAt old was.progress.id) p.kept → KeepsAbsent (with_own old was.progress event) p → p.answer ≡ was.progress.answer
+    → HasEntered scenario old was.progress event waits.rests p → AreLastScans old was.progress.id (kept_at p) → KeepsAbsent (with_own old was.progress event) p → p.answer ≡ was.progress.answer
     → Fits (facts_by old was.progress.id (was.progress.finished + 1) event (facts_of old was.progress.id)) (command_at was)
     (entered (facts_of (with_own old was.progress event) was.progress.id) (drop was.progress.finished was.progress.commands) (length old + 1) (was.progress.finished + 1) event (waiting waits)) was.looked was.looked_to_build
     → Appends old new had has (entry_of was.progress.id (was.progress.finished + 1) event) → Enters scenario old new had has was (record was { progress = p })

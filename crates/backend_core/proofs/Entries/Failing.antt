@@ -1,5 +1,5 @@
 -- An entry that shows an error, which ends its command: a lock or a write that is refused.
-use Rattle.std.proofs.Common.{◌≡◌, ◌+◌, ◌∙◌, ℕ, true, false, Some, None, List, [], refl, sym, ap, subst, length, drop, is_some, All, arith}
+use Rattle.std.proofs.Common.{◌≡◌, ◌+◌, ◌∙◌, ℕ, true, false, Some, None, List, [], refl, sym, ap, subst, length, drop, is_some, arith}
 use Rattle.std.proofs.lemmas.Bool.{both_ways}
 use Rattle.event_kinds.specs.declared.entry.Event.TheVariants as events
 use Rattle.row_visibility.specs.declared.clash.Clash.{Clash}
@@ -21,9 +21,9 @@ use Rattle.cacheless.specs.Plays.{started_in, MayPlayIn}
 use Rattle.cacheless.specs.Schedule.{LooksTruly}
 use Rattle.cacheless.specs.Session.{Session, Tally, number_of, outcome_of, is_settled}
 use Rattle.cacheless.specs.Sessions.{noted, ends_command, entered}
-use Rattle.cacheless.specs.State.{is_absent, clash_event, error_of}
+use Rattle.cacheless.specs.State.{kept_at, is_absent, clash_event, error_of}
 use Rattle.backend_core.specs.Types.{Oid, Mode, Purpose, Command, CommandError, Scenario, Entry, Event, Progress, Backend}
-use Rattle.backend_core.specs.Agrees.{IsPlayed, command_at, KeptAt, AwaitsEntry}
+use Rattle.backend_core.specs.Agrees.{IsPlayed, command_at, AreLastScans, AwaitsEntry}
 use Rattle.backend_core.specs.Fits.{looks_due, LooksFit}
 use Rattle.backend_core.specs.Steps.{Enters}
 use Rattle.backend_core.proofs.Choosing.Chosen.{Acts}
@@ -73,12 +73,12 @@ pub record IsActing (scenario : Scenario) (old : List Entry) (was : Backend) (co
 
 -- after it the backend agrees
 pub failed_enters : (scenario : Scenario) (old new : List Entry) (had has : ℕ → ℕ) (was : Backend) (p : Progress) (event : Event) (error : CommandError) (command : Command) (waits : AwaitsEntry scenario old was) → IsPlayed scenario old → AllOnCourse scenario old → IsActing scenario old was command
-    → ShowsError scenario old was (waiting waits) event error → MayPlayIn (next_oid old) (facts_of old was.progress.id) (command_at was) (waiting waits) event → HasEntered scenario old was.progress event waits.rests p → p.kept ≡ was.progress.kept → p.answer ≡ None
+    → ShowsError scenario old was (waiting waits) event error → MayPlayIn (next_oid old) (facts_of old was.progress.id) (command_at was) (waiting waits) event → HasEntered scenario old was.progress event waits.rests p → kept_at p ≡ kept_at was.progress → p.answer ≡ None
     → Appends old new had has (entry_of was.progress.id (was.progress.finished + 1) event) → Enters scenario old new had has was (record was { progress = p })
 failed_enters scenario old new had has was p event error command waits played courses acting shows plays goes kept none appends =
     own_enters scenario old new had has was (record was { progress = p }) event waits played courses (record { plays = plays; truly = shows.truly; queue = shows.queue }) goes
     (keeps_at scenario old was event waits p goes (record was { progress = p }) refl shows.lives
-    (kept_stays old (entry_of was.progress.id (was.progress.finished + 1) event) was.progress.id p.kept shows.others (subst (All (KeptAt old was.progress.id)) (sym kept) waits.keeps.places.kept))
+    (kept_stays old (entry_of was.progress.id (was.progress.finished + 1) event) was.progress.id (kept_at p) shows.others (subst (AreLastScans old was.progress.id) (sym kept) waits.keeps.places.kept))
     (keeps_none (with_own old was.progress event) p (ap is_absent (ap (λ (x : Session). x.left) goes.session ∙ shows.left))))
     (fits_at scenario old was event waits p goes was.looked was.looked_to_build
     (inside_fits scenario old was waits courses command acting.at later now was.looked was.looked_to_build same shows.lists shows.last

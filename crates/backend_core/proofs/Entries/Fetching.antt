@@ -1,12 +1,10 @@
 -- The fetch of messages that wait, or of a reset.
-use Rattle.std.proofs.Common.{◌≡◌, ◌≤◌, ◌+◌, ◌-◌, ◌∙◌, ◌==◌, ◌&&◌, ℕ, Bool, true, false, not, Option, Some, None, List, [], ◌∷◌, ◌++◌, refl, sym, ap, subst, length, drop, is_some, All, arith}
+use Rattle.std.proofs.Common.{◌≡◌, ◌≤◌, ◌+◌, ◌-◌, ◌∙◌, ◌==◌, ◌&&◌, ℕ, Bool, true, false, not, Option, Some, None, List, [], ◌∷◌, ◌++◌, refl, sym, ap, subst, length, drop, is_some, arith}
 use Rattle.std.proofs.Math.Bool.{and-false}
 use Rattle.std.proofs.Math.Nat.{min-le_right}
 use Rattle.std.proofs.lemmas.List.{length-take-le, length-drop}
-use Rattle.std.proofs.lemmas.List.Elements.{All-filter}
 use Rattle.base_types.specs.declared.fetched.Fetched.TheVariants as fetches
 use Rattle.event_kinds.specs.declared.entry.Event.TheVariants as events
-use Rattle.inval_messages.specs.Messages.{is_spared}
 use Rattle.ddl_effect.specs.Plans.{Plan, Absent}
 use Rattle.ddl_effect.specs.Stages.{plan_at}
 use Rattle.history_model.specs.Drawn.{next_oid}
@@ -25,15 +23,15 @@ use Rattle.cacheless.specs.Owed.{Owes, OwesFetch, OwesLook, owed_after, owes_bui
 use Rattle.cacheless.specs.Plays.{started_in, MayPlayIn}
 use Rattle.cacheless.specs.Session.{Session, Tally, number_of}
 use Rattle.cacheless.specs.Sessions.{resumed, noted, ends_command, placed_at, entered}
-use Rattle.cacheless.specs.State.{owed_at, one_if, kept_spared}
+use Rattle.cacheless.specs.State.{owed_at, one_if, kept_at, nothing_kept, kept_spared}
 use Rattle.cacheless.proofs.Allowed.NextOnCourse.{entered_noted}
 use Rattle.backend_core.specs.Types.{Purpose, Command, Scenario, Entry, Event, Message, Progress, Backend}
-use Rattle.backend_core.specs.Agrees.{IsPlayed, command_at, KeptAt, AwaitsEntry}
+use Rattle.backend_core.specs.Agrees.{IsPlayed, command_at, AreLastScans, AwaitsEntry}
 use Rattle.backend_core.specs.Fits.{looks_due, LooksFit, Fits}
 use Rattle.backend_core.specs.Steps.{Enters}
 use Rattle.backend_core.specs.Words.{has_begun, marks_build}
 use Rattle.backend_core.proofs.Choosing.Chosen.{Busy, due_busy, may_call, hidden, one_at_most, started_still}
-use Rattle.backend_core.proofs.Fitting.Entered.{fits_at, keeps_at, kept_stays, keeps_none}
+use Rattle.backend_core.proofs.Fitting.Entered.{fits_at, keeps_at, kept_stays, kept-spared, keeps_none}
 use Rattle.backend_core.proofs.Fitting.FitsEntries.{StaysAt, Goes, fits_inside}
 use Rattle.backend_core.proofs.Entries.Looking.{begun_written}
 use Rattle.backend_core.proofs.Own.{waiting, follows, going, OwnEntry, Inside as StaysWithin, own_enters}
@@ -71,7 +69,7 @@ pub fetch_call : (scenario : Scenario) (seen : List Entry) (s : Backend) → Awa
 fetch_call scenario seen s waits due = let d : IsDue seen s = is_due scenario seen s waits due in
     may_call scenario seen s waits d.command d.at (events.Fetch (due_to seen s.progress.id)) d.busy refl (fetch_owed (last_event_of seen s.progress.id) d.owed, refl)
 
--- a search that found no relation is taken up again, and nothing else changes
+-- a lookup that found no relation is taken up again, and nothing else changes
 record IsResumed (p : Plan) (s : Session) : Type 0 where
   blocks : (resumed p s).blocks ≡ s.blocks
   finished : (resumed p s).finished ≡ s.finished
@@ -145,11 +143,11 @@ record BringsBack (scenario : Scenario) (old : List Entry) (was : Backend) (even
 
 -- after either the backend agrees
 fetch_agrees : (scenario : Scenario) (old new : List Entry) (had has : ℕ → ℕ) (was : Backend) (p : Progress) (event : Event) (marked : Bool) (waits : AwaitsEntry scenario old was) → IsPlayed scenario old → AllOnCourse scenario old → was.progress.due ≡ dues.Fetch → BringsBack scenario old was event waits
-    → HasEntered scenario old was.progress event waits.rests p → All (KeptAt old was.progress.id) p.kept → p.answer ≡ None → Appends old new had has (entry_of was.progress.id (was.progress.finished + 1) event)
+    → HasEntered scenario old was.progress event waits.rests p → AreLastScans old was.progress.id (kept_at p) → p.answer ≡ None → Appends old new had has (entry_of was.progress.id (was.progress.finished + 1) event)
     → Enters scenario old new had has was (record was { progress = p; looked_to_build = was.looked_to_build && not marked })
 fetch_agrees scenario old new had has was p event marked waits played courses is_fetch brings goes kept none appends =
     own_enters scenario old new had has was (record was { progress = p; looked_to_build = was.looked_to_build && not marked }) event waits played courses brings.own goes
-    (keeps_at scenario old was event waits p goes (record was { progress = p; looked_to_build = was.looked_to_build && not marked }) refl brings.lives (kept_stays old e b p.kept brings.others kept)
+    (keeps_at scenario old was event waits p goes (record was { progress = p; looked_to_build = was.looked_to_build && not marked }) refl brings.lives (kept_stays old e b (kept_at p) brings.others kept)
     (keeps_none (old ++ e ∷ []) p (ap is_absent left ∙ found_again old b s due.command (follows scenario old was waits courses due.command due.at).sought)))
     (fits_at scenario old was event waits p goes was.looked (was.looked_to_build && not marked) (subst (λ f. Fits f (command_at was) (entered (facts_of (with_own old was.progress event) b) (drop was.progress.finished was.progress.commands) (length old + 1) (was.progress.finished + 1) event s) was.looked (was.looked_to_build && not marked)) (sym brings.facts)
     (fetch_fits (facts_of old b) (command_at was) s _ event brings.usable due.command was.looked was.looked_to_build marked due.at waits.fits brings.fetched due.runs (hidden scenario old was waits due.command due.at due.busy) (going scenario old was waits courses due.command due.at) due.owed)))
@@ -247,12 +245,12 @@ fetched_count old b count due = length-take-le count (drop (position_of old b) (
 -- the messages of a fetch
 pub messages_enter : (scenario : Scenario) (old new : List Entry) (had has : ℕ → ℕ) (was now : Backend) (count : ℕ) (taken given : List Message) (waits : AwaitsEntry scenario old was) → IsPlayed scenario old → AllOnCourse scenario old → was.progress.due ≡ dues.Fetch
     → Fetches scenario.size old new had has was.progress.id (was.progress.finished + 1) taken (fetches.Messages count) → given ≡ taken
-    → (given ≡ fetched_by old was.progress.id (length given) → HasEntered scenario old was.progress (events.Fetch (length given)) waits.rests now.progress) → now.progress.kept ≡ kept_spared given was.progress.kept → now.progress.answer ≡ None
+    → (given ≡ fetched_by old was.progress.id (length given) → HasEntered scenario old was.progress (events.Fetch (length given)) waits.rests now.progress) → kept_at now.progress ≡ kept_spared given (kept_at was.progress) → now.progress.answer ≡ None
     → now ≡ record was { progress = now.progress; looked_to_build = was.looked_to_build && not (marks_build was.progress given) } → Enters scenario old new had has was now
 messages_enter scenario old new had has was now count taken given waits played courses due gives same goes kept none is =
     subst (Enters scenario old new had has was) (sym is)
     (fetch_agrees scenario old new had has was now.progress (events.Fetch (length given)) (marks_build was.progress given) waits played courses due (messages_bring scenario old was (length given) waits due gives.served) (goes (same ∙ gives.messages ∙ ap (fetched_by old was.progress.id) counts))
-    (subst (All (KeptAt old was.progress.id)) (sym kept) (All-filter (λ k. is_spared k.scan given) (KeptAt old was.progress.id) was.progress.kept waits.keeps.places.kept)) none
+    (subst (AreLastScans old was.progress.id) (sym kept) (kept-spared old was.progress.id given (kept_at was.progress) waits.keeps.places.kept)) none
     (subst (λ n. Appends old new had has (entry_of was.progress.id (was.progress.finished + 1) (events.Fetch n))) counts gives.appends))
   where
     counts : count ≡ length given
@@ -260,9 +258,9 @@ messages_enter scenario old new had has was now count taken given waits played c
 
 -- a reset
 pub reset_enters : (scenario : Scenario) (old new : List Entry) (had has : ℕ → ℕ) (was now : Backend) (given : List Message) (waits : AwaitsEntry scenario old was) → IsPlayed scenario old → AllOnCourse scenario old → was.progress.due ≡ dues.Fetch
-    → Fetches scenario.size old new had has was.progress.id (was.progress.finished + 1) given fetches.Reset → HasEntered scenario old was.progress events.FetchReset waits.rests now.progress → now.progress.kept ≡ [] → now.progress.answer ≡ None
+    → Fetches scenario.size old new had has was.progress.id (was.progress.finished + 1) given fetches.Reset → HasEntered scenario old was.progress events.FetchReset waits.rests now.progress → kept_at now.progress ≡ nothing_kept → now.progress.answer ≡ None
     → now ≡ record was { progress = now.progress; looked_to_build = was.looked_to_build && not (has_begun was.progress) } → Enters scenario old new had has was now
 reset_enters scenario old new had has was now given waits played courses due gives goes kept none is =
     subst (Enters scenario old new had has was) (sym is)
     (fetch_agrees scenario old new had has was now.progress events.FetchReset (has_begun was.progress) waits played courses due (reset_brings scenario old was waits due gives.lapped) goes
-    (subst (All (KeptAt old was.progress.id)) (sym kept) (λ i d within. absurd (omega (arith, within)))) none gives.appends)
+    (subst (AreLastScans old was.progress.id) (sym kept) (λ scan. tt)) none gives.appends)

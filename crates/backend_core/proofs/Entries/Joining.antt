@@ -2,7 +2,6 @@
 use Rattle.std.proofs.Common.{◌≡◌, ◌+◌, ◌∙◌, ◌∷◌, ◌++◌, ◌==◌, inl, ℕ, true, false, Option, Some, None, List, [], refl, sym, ap, subst, length, All, is_some, slice_get, arith}
 use Rattle.std.proofs.lemmas.Bool.{eq-eqb, both_ways}
 use Rattle.std.proofs.lemmas.List.{length_push}
-use Rattle.std.proofs.lemmas.List.Elements.{All-nil}
 use Rattle.event_kinds.specs.declared.entry.Event.TheVariants as events
 use Rattle.txn_blocks.specs.Blocks.{no_block}
 use Rattle.ddl_effect.specs.Commands.{commands_of}
@@ -22,15 +21,15 @@ use Rattle.cacheless.specs.Owed.{owed_after}
 use Rattle.cacheless.specs.Plays.{started_in, MayPlayAt}
 use Rattle.cacheless.specs.Runs.{runs}
 use Rattle.cacheless.specs.Session.{Session, first_of, at_command}
-use Rattle.cacheless.specs.State.{is_absent, session_at}
+use Rattle.cacheless.specs.State.{kept_at, is_absent, session_at}
 use Rattle.cacheless.proofs.Entries.EnteredLooks.{not_absent}
 use Rattle.cacheless.proofs.Resting.{first_left}
 use Rattle.cacheless.proofs.Reading.{facts_of-own}
 use Rattle.cacheless.proofs.Allowed.SettledCourse.{begins_on_course}
 use Rattle.cacheless.proofs.Allowed.StaysOnCourse.{has_written-quiet}
-use Rattle.backend_core.specs.Types.{Command, Scenario, Entry, KeptScan, Progress, Backend}
+use Rattle.backend_core.specs.Types.{Command, Scenario, Entry, Progress, Backend}
 use Rattle.backend_core.specs.declared.life.Life.TheVariants as lives
-use Rattle.backend_core.specs.Agrees.{IsPlayed, KeptAt, AgreesNow, HasNotJoined}
+use Rattle.backend_core.specs.Agrees.{IsPlayed, AreLastScans, AgreesNow, HasNotJoined}
 use Rattle.backend_core.specs.Fits.{looks_due, IsPast, Fits}
 use Rattle.backend_core.specs.Steps.{MakesEntry, Enters}
 use Rattle.backend_core.proofs.Fitting.Entered.{keeps_none}
@@ -71,7 +70,7 @@ fits_first facts o at runs lists last = record {
     none = ap (λ r. option_map_or (λ (t : Running). elim (t.first == 1) as (λ x. ℕ) [ true ↦ 1 | false ↦ 0 ]) r 0) runs
 
 -- the state after it
-pub join_enters : (scenario : Scenario) (old new : List Entry) (had has : ℕ → ℕ) (was : Backend) (p : Progress) → HasNotJoined scenario old was → IsPlayed scenario old → HasStarted scenario old was.progress p → p.kept ≡ was.progress.kept → p.answer ≡ was.progress.answer
+pub join_enters : (scenario : Scenario) (old new : List Entry) (had has : ℕ → ℕ) (was : Backend) (p : Progress) → HasNotJoined scenario old was → IsPlayed scenario old → HasStarted scenario old was.progress p → kept_at p ≡ kept_at was.progress → p.answer ≡ was.progress.answer
     → Appends old new had has (entry_of was.progress.id 0 events.Start) → Enters scenario old new had has was (record was { progress = p; life = lives.Alive })
 join_enters scenario old new had has was p before played started kept same appends = record {
   makes = makes;
@@ -82,7 +81,7 @@ join_enters scenario old new had has was p before played started kept same appen
       life = record { last = 0; alive = ap (life_of (old ++ e ∷ [])) started.moves.id ∙ life_of-own old e b own; most = omega arith };
       built = subst (All (λ c. runs c ≡ true)) (sym started.moves.commands) before.built;
       places = record {
-        kept = subst (λ (l : List KeptScan). All (KeptAt (old ++ e ∷ []) p.id) l) (sym (kept ∙ before.new.progress.kept)) (All-nil (KeptAt (old ++ e ∷ []) p.id));
+        kept = subst (AreLastScans (old ++ e ∷ []) p.id) (sym (kept ∙ before.new.progress.kept)) (λ scan. tt);
         absent = keeps_none (old ++ e ∷ []) p (ap is_absent (ap (λ (s : Session). s.left) started.session) ∙ not_absent no_block (slice_get was.progress.commands 0));
       };
     };

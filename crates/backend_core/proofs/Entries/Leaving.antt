@@ -1,5 +1,5 @@
 -- A backend leaves.
-use Rattle.std.proofs.Common.{◌≡◌, ◌+◌, ◌∙◌, ◌∷◌, ◌++◌, ℕ, Option, Some, None, List, [], refl, sym, ap, subst, length, slice_get, is_some, arith, All, get_or}
+use Rattle.std.proofs.Common.{◌≡◌, ◌+◌, ◌∙◌, ◌∷◌, ◌++◌, ℕ, Option, Some, None, List, [], refl, sym, ap, subst, length, slice_get, is_some, arith}
 use Rattle.std.specs.Option.{option_map_or}
 use Rattle.std.proofs.lemmas.Bool.{eq-eqb, both_ways}
 use Rattle.event_kinds.specs.declared.entry.Event.TheVariants as events
@@ -20,16 +20,16 @@ use Rattle.cacheless.specs.Plays.{MayPlayIn}
 use Rattle.cacheless.specs.Session.{Session}
 use Rattle.cacheless.specs.Sessions.{session_of}
 use Rattle.cacheless.specs.Settled.{settled}
-use Rattle.cacheless.specs.State.{running_of, session_at}
+use Rattle.cacheless.specs.State.{running_of, kept_at, session_at}
 use Rattle.cacheless.proofs.CommandEnds.{left_none}
 use Rattle.cacheless.proofs.Answers.JudgedLines.{finished_lines-more}
-use Rattle.cacheless.proofs.Answers.ReadPlaces.{place_read-more}
 use Rattle.backend_core.specs.Types.{Event, Scenario, Entry, Progress, Backend}
 use Rattle.backend_core.specs.declared.life.Life.TheVariants as lives
-use Rattle.backend_core.specs.Agrees.{IsPlayed, command_at, KeptAt, AwaitsEntry, HasLeft}
+use Rattle.backend_core.specs.Agrees.{IsPlayed, command_at, AreLastScans, AwaitsEntry, HasLeft}
 use Rattle.backend_core.specs.Coherent.{IsCoherent}
 use Rattle.backend_core.specs.Steps.{Steps}
 use Rattle.backend_core.proofs.Coherent.{stands_coherent}
+use Rattle.backend_core.proofs.Fitting.Entered.{kept_stays}
 use Rattle.backend_core.proofs.Own.{waiting, waiting_is, own_makes}
 
 -- it runs no transaction then
@@ -58,7 +58,7 @@ leave_call scenario seen s waits none = record {
 
 -- the state after it
 pub leave_steps : (scenario : Scenario) (old new : List Entry) (had has : ℕ → ℕ) (was : Backend) (p : Progress) (waits : AwaitsEntry scenario old was) → IsPlayed scenario old → AllOnCourse scenario old → command_at was ≡ None → was.progress.running ≡ None
-    → HasEntered scenario old was.progress events.Stop waits.rests p → p.kept ≡ was.progress.kept → Appends old new had has (entry_of was.progress.id (was.progress.finished + 1) events.Stop) → Steps scenario old new had has was (record was { progress = p; life = lives.Stopped })
+    → HasEntered scenario old was.progress events.Stop waits.rests p → kept_at p ≡ kept_at was.progress → Appends old new had has (entry_of was.progress.id (was.progress.finished + 1) events.Stop) → Steps scenario old new had has was (record was { progress = p; life = lives.Stopped })
 leave_steps scenario old new had has was p waits played courses past none goes kept appends = record {
   makes = own_makes scenario old new had has was events.Stop waits played courses (record {
     plays = subst (λ o. MayPlayIn (next_oid old) (facts_of old was.progress.id) o (waiting waits) events.Stop) (sym past) (none_runs scenario old was waits none);
@@ -94,7 +94,7 @@ leave_steps scenario old new had has was p waits played courses past none goes k
     has_left : HasLeft scenario (old ++ e ∷ []) left
     has_left = record {
       holds = goes.holds;
-      kept = subst (λ k. All (KeptAt (old ++ e ∷ []) k) p.kept) (sym goes.moves.id) (subst (All (KeptAt (old ++ e ∷ []) b)) (sym kept) (λ i d within. place_read-more old e b (get_or was.progress.kept i d).scan refl ∙ waits.keeps.places.kept i d within));
+      kept = subst (λ k. AreLastScans (old ++ e ∷ []) k (kept_at p)) (sym goes.moves.id) (subst (AreLastScans (old ++ e ∷ []) b) (sym kept) (kept_stays old e b (kept_at was.progress) (λ scan. refl) waits.keeps.places.kept));
       life = ap (life_of (old ++ e ∷ [])) goes.moves.id ∙ life_of-own old e b (eq-eqb b b refl);
       lines = waits.lines ∙ ap (lines_from scenario old b 1 s.finished) waits.rests.holds.commands ∙ sym (finished_lines-more scenario old e b s (waiting_is scenario old was waits))
           ∙ (λ i. lines_from scenario (old ++ e ∷ []) (sym goes.moves.id i) 1 (sym finished_same i) (commands_of scenario (sym goes.moves.id i)))

@@ -1,5 +1,5 @@
 -- The locks that a backend asks for.
-use Rattle.std.proofs.Common.{◌≡◌, ◌<◌, ◌+◌, ◌∙◌, ◌&&◌, ℕ, Bool, true, false, not, Option, Some, None, Err, List, [], ◌∷◌, refl, sym, ap, subst, length, drop, is_some, All, arith}
+use Rattle.std.proofs.Common.{◌≡◌, ◌<◌, ◌+◌, ◌∙◌, ◌&&◌, ℕ, Bool, true, false, not, Option, Some, None, Err, List, [], ◌∷◌, refl, sym, ap, subst, length, drop, is_some, arith}
 use Rattle.std.specs.List.{cons_option}
 use Rattle.std.proofs.lemmas.Bool.{and_parts}
 use Rattle.base_types.specs.declared.row.Row.TheVariants as rows
@@ -26,13 +26,13 @@ use Rattle.cacheless.specs.Session.{Session, number_of, outcome_of, is_settled}
 use Rattle.cacheless.specs.Sessions.{entered}
 use Rattle.cacheless.specs.Settled.{if_locked, looked_up}
 use Rattle.cacheless.specs.Silently.{gives_next}
-use Rattle.cacheless.specs.State.{owed_at, owed_first, row_sought, is_absent}
+use Rattle.cacheless.specs.State.{kept_at, owed_at, owed_first, row_sought, is_absent}
 use Rattle.cacheless.proofs.Plans.AloneLocks.{session_holds}
 use Rattle.cacheless.proofs.Allowed.NextKeeps as keeping
 use Rattle.cacheless.proofs.SameRows.{oid_decides}
 use Rattle.cacheless.proofs.Tests.{not_true}
 use Rattle.backend_core.specs.Types.{Oid, Mode, Row, OwnLock, Scenario, Entry, Event, Progress, Backend}
-use Rattle.backend_core.specs.Agrees.{IsPlayed, command_at, KeptAt, AwaitsEntry}
+use Rattle.backend_core.specs.Agrees.{IsPlayed, command_at, AreLastScans, AwaitsEntry}
 use Rattle.backend_core.specs.Fits.{looks_due, LooksFit}
 use Rattle.backend_core.specs.Steps.{IsLockNext, Enters}
 use Rattle.backend_core.proofs.Choosing.ActsRun.{act_runs}
@@ -140,12 +140,12 @@ module _ (scenario : Scenario) (old : List Entry) (was : Backend) (waits : Await
   lock_drawn = keeping.lock_drawn old was.progress.id s next.command rel mode played.sound played.tables (follows scenario old was waits courses next.command next.free.at) asks.0 asks.1
 
   -- a lock that is granted, to a backend that had the room for it made
-  module _ (first : Backend) (id : was.progress.id ≡ first.progress.id) (new : List Entry) (had has : ℕ → ℕ) (p : Progress) (kept : p.kept ≡ was.progress.kept) (none : p.answer ≡ None) where
+  module _ (first : Backend) (id : was.progress.id ≡ first.progress.id) (new : List Entry) (had has : ℕ → ℕ) (p : Progress) (kept : kept_at p ≡ kept_at was.progress) (none : p.answer ≡ None) where
     pub granted_enters : HasEntered scenario old was.progress (events.LockOk rel mode) waits.rests p
         → Appends old new had has (entry_of was.progress.id (was.progress.finished + 1) (events.LockOk rel mode)) → Enters scenario old new had has first (record was { progress = p })
     granted_enters goes appends = alike_enters scenario old new had has first was (record was { progress = p }) id (
         own_enters scenario old new had has was (record was { progress = p }) event waits played courses (record { plays = plays event next.may; truly = tt; queue = tt }) goes
-        (keeps_still scenario old was event waits p goes (record was { progress = p }) refl refl (λ scan. refl) (subst (All (KeptAt old was.progress.id)) (sym kept) waits.keeps.places.kept)
+        (keeps_still scenario old was event waits p goes (record was { progress = p }) refl refl (λ scan. refl) (subst (AreLastScans old was.progress.id) (sym kept) waits.keeps.places.kept)
         (keeps_none (with_own old was.progress event) p (ap is_absent (ap (λ (x : Session). x.left) goes.session ∙ is_act.is))))
         (fits_at scenario old was event waits p goes was.looked was.looked_to_build
         (inside_fits scenario old was waits courses next.command next.free.at later now was.looked was.looked_to_build same refl (λ from is. cc is) (record { blocks = refl; finished = refl; blocked = refl; ended = refl; left = λ is there. refl }) acting.runs (Acts acting.unsettled)

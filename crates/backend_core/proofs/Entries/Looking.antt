@@ -1,5 +1,5 @@
 -- The looks of a backend.
-use Rattle.std.proofs.Common.{◌≡◌, ◌≢◌, ◌≤◌, ◌+◌, ◌*◌, ◌∙◌, ◌⊎◌, inl, inr, ◌&&◌, ◌||◌, ℕ, Bool, true, false, not, Option, Some, None, List, [], ◌∷◌, refl, sym, ap, subst, length, drop, is_none, is_some, All, arith}
+use Rattle.std.proofs.Common.{◌≡◌, ◌≢◌, ◌≤◌, ◌+◌, ◌*◌, ◌∙◌, ◌⊎◌, inl, inr, ◌&&◌, ◌||◌, ℕ, Bool, true, false, not, Option, Some, None, List, [], ◌∷◌, refl, sym, ap, subst, length, drop, is_none, is_some, arith}
 use Rattle.std.specs.Option.{option_map_or}
 use Rattle.std.proofs.Math.Bool.{and-false}
 use Rattle.std.proofs.lemmas.Bool.{both_ways}
@@ -24,9 +24,9 @@ use Rattle.cacheless.specs.Plays.{started_in, MayPlayIn}
 use Rattle.cacheless.specs.Schedule.{LooksTruly}
 use Rattle.cacheless.specs.Session.{Session, number_of}
 use Rattle.cacheless.specs.Sessions.{entered}
-use Rattle.cacheless.specs.State.{owed_at, owed_first, begins_in, one_if, running_of}
+use Rattle.cacheless.specs.State.{kept_at, owed_at, owed_first, begins_in, one_if, running_of}
 use Rattle.backend_core.specs.Types.{Command, Scenario, Entry, Event, Progress, Backend}
-use Rattle.backend_core.specs.Agrees.{IsPlayed, command_at, KeptAt, AwaitsEntry}
+use Rattle.backend_core.specs.Agrees.{IsPlayed, command_at, AreLastScans, AwaitsEntry}
 use Rattle.backend_core.specs.Fits.{looks_due, LooksFit, Fits}
 use Rattle.backend_core.specs.Steps.{OwesLookNow, IsLookNext, Enters}
 use Rattle.backend_core.specs.Words.{is_looked_for}
@@ -162,21 +162,21 @@ module _ (scenario : Scenario) (old : List Entry) (was : Backend) (waits : Await
         (record { blocks = refl; finished = refl; blocked = refl; ended = refl; left = λ is there. refl }) counts.goes hides (going scenario old was waits courses command at) looks_more))
 
     -- so after it the backend agrees
-    pub look_agrees : (new : List Entry) (had has : ℕ → ℕ) (p : Progress) → IsPlayed scenario old → some_wait ≡ is_waiting old was.progress.id → Busy was.progress command → HasEntered scenario old was.progress event waits.rests p → p.kept ≡ was.progress.kept → p.answer ≡ None
+    pub look_agrees : (new : List Entry) (had has : ℕ → ℕ) (p : Progress) → IsPlayed scenario old → some_wait ≡ is_waiting old was.progress.id → Busy was.progress command → HasEntered scenario old was.progress event waits.rests p → kept_at p ≡ kept_at was.progress → p.answer ≡ None
         → Appends old new had has (entry_of was.progress.id (was.progress.finished + 1) event) → Enters scenario old new had has was (record was { progress = p; looked = looked; looked_to_build = to_build })
     look_agrees new had has p played is busy goes kept none appends =
         own_enters scenario old new had has was (record was { progress = p; looked = looked; looked_to_build = to_build }) event waits played courses
         (record { plays = subst (λ o. MayPlayIn (next_oid old) facts o s event) (sym at) (look_may facts s counts.owes within); truly = look_true old was.progress.id some_wait (sym is); queue = tt })
         goes
         (keeps_still scenario old was event waits p goes (record was { progress = p; looked = looked; looked_to_build = to_build }) refl refl (λ scan. refl)
-        (subst (All (KeptAt old was.progress.id)) (sym kept) waits.keeps.places.kept)
+        (subst (AreLastScans old was.progress.id) (sym kept) waits.keeps.places.kept)
         (absent_still scenario old was event waits p goes kept (ap (λ (x : Session). x.left) goes.session) (ap (λ (x : Session). x.ended) goes.session) (λ from gone. both_ways _ (standing scenario old was waits command at busy) (ap took_back gone))))
         (fits_at scenario old was event waits p goes looked to_build (look_fits (hidden scenario old was waits command at busy)))
         refl (StaysWithin refl none) (λ inside. refl) appends
 
 -- the look that is owed
 pub look_enters : (scenario : Scenario) (old new : List Entry) (had has : ℕ → ℕ) (was : Backend) (p : Progress) (some_wait : Bool) (waits : AwaitsEntry scenario old was) → IsPlayed scenario old → AllOnCourse scenario old → OwesLookNow was.progress → some_wait ≡ is_waiting old was.progress.id
-    → HasEntered scenario old was.progress (events.Look some_wait) waits.rests p → p.kept ≡ was.progress.kept → p.answer ≡ None
+    → HasEntered scenario old was.progress (events.Look some_wait) waits.rests p → kept_at p ≡ kept_at was.progress → p.answer ≡ None
     → Appends old new had has (entry_of was.progress.id (was.progress.finished + 1) (events.Look some_wait)) → Enters scenario old new had has was (record was { progress = p })
 look_enters scenario old new had has was p some_wait waits played courses next is goes kept none appends =
     look_agrees scenario old was waits courses next.command next.at some_wait was.looked was.looked_to_build (by_side next.owes) new had has p played is (look_busy was.progress next) goes kept none appends
@@ -201,7 +201,7 @@ look_before_call scenario seen s some_wait builds waits played next is = may_cal
 
 pub look_before_enters : (scenario : Scenario) (old new : List Entry) (had has : ℕ → ℕ) (was : Backend) (p : Progress) (some_wait builds looked to_build : Bool) (waits : AwaitsEntry scenario old was) → IsPlayed scenario old → AllOnCourse scenario old → IsLookNext builds was → some_wait ≡ is_waiting old was.progress.id
     → looked ≡ (was.looked || not builds) → to_build ≡ (was.looked_to_build || builds)
-    → HasEntered scenario old was.progress (events.Look some_wait) waits.rests p → p.kept ≡ was.progress.kept → p.answer ≡ None
+    → HasEntered scenario old was.progress (events.Look some_wait) waits.rests p → kept_at p ≡ kept_at was.progress → p.answer ≡ None
     → Appends old new had has (entry_of was.progress.id (was.progress.finished + 1) (events.Look some_wait)) → Enters scenario old new had has was (record was { progress = p; looked = looked; looked_to_build = to_build })
 look_before_enters scenario old new had has was p some_wait builds looked to_build waits played courses next is looked_is to_build_is goes kept none appends =
     look_agrees scenario old was waits courses next.next.command next.next.free.at some_wait looked to_build

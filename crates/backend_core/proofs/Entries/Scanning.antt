@@ -1,30 +1,30 @@
 -- The scans of a backend.
-use Rattle.std.proofs.Common.{◌≡◌, ◌≤◌, ◌+◌, ◌∙◌, ◌&&◌, ℕ, Bool, true, false, not, None, List, [], ◌∷◌, ◌++◌, refl, sym, ap, subst, length, drop, get_or, All, arith}
+use Rattle.std.proofs.Common.{◌≡◌, ◌≤◌, ◌+◌, ◌∙◌, ◌&&◌, ℕ, Bool, true, false, not, Option, Some, None, IfSome, List, [], refl, sym, ap, subst, length, drop, if◌then◌else◌, arith}
 use Rattle.std.proofs.lemmas.Bool.{both_ways, eq-eqb, lt-ltb}
-use Rattle.std.proofs.lemmas.List.Elements.{All-push}
-use Rattle.std.proofs.lemmas.List.Folds.{list_any_at}
 use Rattle.base_types.specs.Scans.{same_scan}
-use Rattle.base_types.proofs.SameScan.{same_scan-true, same_scan-itself}
 use Rattle.event_kinds.specs.declared.entry.Event.TheVariants as events
 use Rattle.ddl_effect.specs.Plans.{Plan, Absent}
 use Rattle.ddl_effect.specs.Stages.{plan_at}
+use Rattle.local_caches.specs.Kept.{is_keyed}
 use Rattle.history_model.specs.Drawn.{next_oid}
+use Rattle.history_model.specs.Read.{place_read}
+use Rattle.history_model.specs.Versions.{answer_of}
 use Rattle.seg_calls.specs.Calls.{entry_of, MayRequest, Appends}
 use Rattle.cacheless.specs.Facts.{Facts, facts_of, facts_by}
 use Rattle.cacheless.specs.Holds.{HasEntered, with_own}
-use Rattle.cacheless.specs.May.{has_failed, is_next_at}
+use Rattle.cacheless.specs.May.{has_failed}
 use Rattle.cacheless.specs.OnCourse.{AllOnCourse}
 use Rattle.cacheless.specs.Owed.{owed_after}
 use Rattle.cacheless.specs.Plays.{started_in, has_looked, MayPlayIn}
 use Rattle.cacheless.specs.Session.{Session, Badly, number_of, outcome_of}
 use Rattle.cacheless.specs.Sessions.{entered}
-use Rattle.cacheless.specs.State.{is_absent, owed_at, one_if, is_kept}
-use Rattle.cacheless.proofs.Entries.EnteredScans.{next_lacks}
+use Rattle.cacheless.specs.State.{kept_at, kept_with, is_absent, owed_at, one_if}
 use Rattle.cacheless.proofs.Answers.ReadPlaces.{place_read-more, place_read-scan}
+use Rattle.cacheless.proofs.OneOfKey.{one_of_key}
 use Rattle.cacheless.proofs.Same.{next_same}
 use Rattle.cacheless.proofs.Tests.{and_true, not_true}
-use Rattle.backend_core.specs.Types.{Row, Purpose, Scenario, Entry, Event, KeptScan, Progress, Backend}
-use Rattle.backend_core.specs.Agrees.{IsPlayed, command_at, KeptAt, AwaitsEntry}
+use Rattle.backend_core.specs.Types.{Row, Purpose, Scenario, Entry, Event, Read, Progress, Backend}
+use Rattle.backend_core.specs.Agrees.{IsPlayed, command_at, AreLastScans, AwaitsEntry}
 use Rattle.backend_core.specs.Fits.{looks_due, LooksFit, Fits}
 use Rattle.backend_core.specs.Steps.{IsScanNext, MakesEntry, Enters}
 use Rattle.backend_core.specs.Words.{is_looked_for}
@@ -51,13 +51,9 @@ one_less false false to_build l t is left right = absurd (cc is)
 looked_enough : (facts : Facts) (s : Session) (looked to_build : Bool) → LooksFit facts s looked to_build → owed_after facts.last ≡ [] → 1 ≤ one_if looked + one_if to_build → has_looked facts s ≡ true
 looked_enough facts s looked to_build fits none some = lt-ltb (s.tally.scans + s.tally.grants + started_in (number_of s) facts + s.tally.full) s.tally.looks (omega (arith, fits.enough, ap looks_due none, some))
 
--- what comes next is another scan than each that is kept
-none_kept : (p : Progress) (scan : Purpose) (k : KeptScan) → is_next_at scan p ≡ true → (same_scan k.scan scan ≡ true → is_kept p.kept scan ≡ true) → same_scan scan k.scan ≡ false
-none_kept p scan k next among = by_same (same_scan scan k.scan) refl
-  where
-    by_same : (t : Bool) → same_scan scan k.scan ≡ t → same_scan scan k.scan ≡ false
-    by_same false is = is
-    by_same true is = absurd (both_ways _ (not_true (is_kept p.kept scan) (next_lacks p scan next)) (among (subst (λ x. same_scan x scan ≡ true) (same_scan-true scan k.scan is) (same_scan-itself scan))))
+-- where it asks for the row of a key it gives one at most
+pub scan_one : (scenario : Scenario) (old : List Entry) (b : ℕ) (scan : Purpose) (rows : List Row) → IsPlayed scenario old → rows ≡ answer_of old b scan → is_keyed scan ≡ true → length rows ≤ 1
+scan_one scenario old b scan rows played are keyed = subst (λ l. length l ≤ 1) (sym are) (one_of_key old b scan played.sound played.tables keyed)
 
 -- all that a scan rests on
 module _ (scenario : Scenario) (old : List Entry) (was : Backend) (waits : AwaitsEntry scenario old was) (courses : AllOnCourse scenario old) (scan : Purpose) (builds : Bool) (next : IsScanNext was.progress scan builds) (looked_for : is_looked_for builds was ≡ true) (count : ℕ) where
@@ -121,15 +117,20 @@ module _ (scenario : Scenario) (old : List Entry) (was : Backend) (waits : Await
       (scan_runs scenario old was waits courses next.command next.free.at scan next.next next.free.first) (scan_busy was.progress next.command next.lacks) (looks_less l t left right)
 
   -- what was kept stays where it is, and the scan stands at its entry
-  kept_then : (rows : List Row) → All (KeptAt (with_own old was.progress event) was.progress.id) (was.progress.kept ++ record { scan = scan; rows = rows; at = length old + 1 } ∷ [])
-  kept_then rows = All-push (KeptAt (with_own old was.progress event) was.progress.id) was.progress.kept (record { scan = scan; rows = rows; at = length old + 1 })
-      (λ i d within. place_read-more old e was.progress.id (get_or was.progress.kept i d).scan
-      (none_kept was.progress scan (get_or was.progress.kept i d) next.next (list_any_at (λ k. same_scan k.scan scan) was.progress.kept i d within))
-      ∙ waits.keeps.places.kept i d within)
-      (place_read-scan old e was.progress.id scan (eq-eqb was.progress.id was.progress.id refl) (same_scan-itself scan))
+  kept_then : (rows : List Row) → AreLastScans (with_own old was.progress event) was.progress.id (kept_with scan rows (length old + 1) (kept_at was.progress))
+  kept_then rows other = by_same (same_scan scan other) refl (kept_at was.progress other) (waits.keeps.places.kept other)
     where
       e : Entry
       e = entry_of was.progress.id (was.progress.finished + 1) event
+
+      made : Read
+      made = record { rows = rows; at = length old + 1 }
+
+      by_same : (t : Bool) → same_scan scan other ≡ t → (o : Option Read) → IfSome o (λ (read : Read). place_read old was.progress.id other ≡ read.at)
+          → IfSome (if t then Some made else o) (λ (read : Read). place_read (with_own old was.progress event) was.progress.id other ≡ read.at)
+      by_same true same o at = place_read-scan old e was.progress.id other (eq-eqb was.progress.id was.progress.id refl) same
+      by_same false others None at = tt
+      by_same false others (Some read) at = place_read-more old e was.progress.id other others ∙ at
 
   -- it has no failure to tell
   present : is_absent (plan_at was.progress.exec) ≡ false
@@ -141,13 +142,13 @@ module _ (scenario : Scenario) (old : List Entry) (was : Backend) (waits : Await
 
   -- so after it the backend agrees
   pub scan_enters : (new : List Entry) (had has : ℕ → ℕ) (p : Progress) (l t : Bool) (rows : List Row) (at : ℕ) → IsPlayed scenario old → HasEntered scenario old was.progress event waits.rests p → at ≡ length old + 1
-      → p.kept ≡ was.progress.kept ++ record { scan = scan; rows = rows; at = at } ∷ [] → p.answer ≡ None
+      → kept_at p ≡ kept_with scan rows at (kept_at was.progress) → p.answer ≡ None
       → l ≡ (was.looked && not (not builds)) → t ≡ (was.looked_to_build && not builds)
       → Appends old new had has (entry_of was.progress.id (was.progress.finished + 1) event) → Enters scenario old new had has was (record was { progress = p; looked = l; looked_to_build = t })
   scan_enters new had has p l t rows at played goes at_is kept none left right appends =
       own_enters scenario old new had has was (record was { progress = p; looked = l; looked_to_build = t }) event waits played courses scan_own goes
       (keeps_at scenario old was event waits p goes (record was { progress = p; looked = l; looked_to_build = t }) refl refl
-      (subst (All (KeptAt (with_own old was.progress event) was.progress.id)) (sym (kept ∙ ap (λ n. was.progress.kept ++ record { scan = scan; rows = rows; at = n } ∷ []) at_is)) (kept_then rows))
+      (subst (AreLastScans (with_own old was.progress event) was.progress.id) (sym (kept ∙ ap (λ n. kept_with scan rows n (kept_at was.progress)) at_is)) (kept_then rows))
       (keeps_none (with_own old was.progress event) p (ap is_absent (ap (λ (x : Session). x.left) goes.session) ∙ present)))
       (fits_at scenario old was event waits p goes l t (scan_fits l t left right))
       refl (Inside refl none) (λ inside. refl) appends

@@ -1,12 +1,10 @@
 -- What was written is taken back.
-use Rattle.std.proofs.Common.{◌≡◌, ◌+◌, ◌∙◌, ℕ, Bool, true, false, Option, Some, None, List, [], refl, sym, ap, subst, length, is_some, All}
+use Rattle.std.proofs.Common.{◌≡◌, ◌+◌, ◌∙◌, ℕ, Bool, true, false, Option, Some, None, List, [], refl, sym, ap, subst, length, is_some}
 use Rattle.std.specs.List.{cons_option}
 use Rattle.std.specs.Option.{option_map_or}
 use Rattle.std.proofs.lemmas.Bool.{both_ways, eq-eqb, false_from_ne_true}
-use Rattle.std.proofs.lemmas.List.Elements.{All-filter}
 use Rattle.event_kinds.specs.declared.entry.Event.TheVariants as events
 use Rattle.inval_messages.specs.Lists.{has_write_from, lists_from, cats_in, rels_in}
-use Rattle.inval_messages.specs.Messages.{is_spared}
 use Rattle.ddl_effect.specs.declared.told.Told.TheVariants as tells
 use Rattle.ddl_effect.specs.Plans.{Done, told_rests_on}
 use Rattle.ddl_effect.specs.Stages.{told_of}
@@ -21,14 +19,15 @@ use Rattle.cacheless.specs.Holds.{HasEntered, with_own}
 use Rattle.cacheless.specs.OnCourse.{AllOnCourse}
 use Rattle.cacheless.specs.Owed.{Owes, unusable, owed_after, owed_of, builds_owed}
 use Rattle.cacheless.specs.Session.{Session, Well, outcome_of, is_settled, plan_first}
-use Rattle.cacheless.specs.State.{lists_at, kept_spared}
+use Rattle.cacheless.specs.State.{lists_at, kept_at, kept_spared}
 use Rattle.cacheless.proofs.Allowed.Releases.{OwesNoScan, ends_free}
-use Rattle.backend_core.specs.Types.{Command, Scenario, Entry, Event, OwnLock, Message, KeptScan, Progress, Backend}
-use Rattle.backend_core.specs.Agrees.{IsPlayed, KeptAt, command_at, AwaitsEntry}
+use Rattle.backend_core.specs.Types.{Command, Scenario, Entry, Event, OwnLock, Progress, Backend}
+use Rattle.backend_core.specs.Agrees.{IsPlayed, AreLastScans, command_at, AwaitsEntry}
 use Rattle.backend_core.specs.Fits.{first_at, Fits}
 use Rattle.backend_core.specs.Steps.{EndsNext, Enters}
 use Rattle.backend_core.proofs.Entries.EndEntries.{end_now, end_call, end_enters}
 use Rattle.backend_core.proofs.Choosing.EndsNow.{end_by, EndsBy, comes_now, commit_end, back_end}
+use Rattle.backend_core.proofs.Fitting.Entered.{kept-spared}
 use Rattle.backend_core.proofs.Fitting.FitsEnds.{later_at, GoesOn, end_same, fits_ending, takes_back_on, write_from_first, none_from, goes_first, begun_xid, begun_visible, written_runs}
 use Rattle.backend_core.proofs.Own.{waiting, follows}
 
@@ -94,16 +93,13 @@ module _ (scenario : Scenario) (old : List Entry) (was : Backend) (from : ℕ) (
       (λ n is. let same : from ≡ n = (let both : Some (events.Gone from) ≡ Some (events.Gone n) = is in cc both) in
       takes_back_on facts later (command_at was) s was.looked was.looked_to_build (events.Gone from) locks at waits.fits now n goes_on (takes.0 ∙ ap TakesBack same) (subst (λ k. has_write_from k later.lists ≡ false) same (none_from from facts.lists)) (takes_free courses locks at))
 
--- what holds of each scan that was kept holds of each that is kept still
-spared_twice : (P : KeptScan → Type 0) (cats rels : List Message) (kept : List KeptScan) → All P kept → All P (kept_spared rels (kept_spared cats kept))
-spared_twice P cats rels kept holds = All-filter (λ k. is_spared k.scan rels) P (kept_spared cats kept) (All-filter (λ k. is_spared k.scan cats) P kept holds)
-
 -- the state after it
 pub take_back_enters : (scenario : Scenario) (old new : List Entry) (had has : ℕ → ℕ) (was : Backend) (from : ℕ) (p : Progress) (waits : AwaitsEntry scenario old was) → IsPlayed scenario old → AllOnCourse scenario old → EndsNext was.progress (events.Gone from)
-    → HasEntered scenario old was.progress (events.Gone from) waits.rests p → p.kept ≡ kept_spared (rels_in (lists_from from (lists_at was.progress))) (kept_spared (cats_in (lists_from from (lists_at was.progress))) was.progress.kept) → p.answer ≡ was.progress.answer
+    → HasEntered scenario old was.progress (events.Gone from) waits.rests p → kept_at p ≡ kept_spared (rels_in (lists_from from (lists_at was.progress))) (kept_spared (cats_in (lists_from from (lists_at was.progress))) (kept_at was.progress)) → p.answer ≡ was.progress.answer
     → Appends old new had has (entry_of was.progress.id (was.progress.finished + 1) (events.Gone from)) → Enters scenario old new had has was (record was { progress = p })
 take_back_enters scenario old new had has was from p waits played courses next goes kept same appends =
     end_enters scenario old new had has was (events.Gone from) p waits refl played courses next goes
-    (subst (All (KeptAt old was.progress.id)) (sym kept) (spared_twice (KeptAt old was.progress.id) (cats_in (lists_from from (lists_at was.progress))) (rels_in (lists_from from (lists_at was.progress))) was.progress.kept waits.keeps.places.kept))
+    (subst (AreLastScans old was.progress.id) (sym kept) (kept-spared old was.progress.id (rels_in (lists_from from (lists_at was.progress))) (kept_spared (cats_in (lists_from from (lists_at was.progress))) (kept_at was.progress))
+    (kept-spared old was.progress.id (cats_in (lists_from from (lists_at was.progress))) (kept_at was.progress) waits.keeps.places.kept)))
     (λ name missed whole. absurd (whole.untaken from (ap (last_event_of (with_own old was.progress (events.Gone from))) goes.moves.id ∙ last_event_of-own old (entry_of was.progress.id (was.progress.finished + 1) (events.Gone from)) was.progress.id (eq-eqb was.progress.id was.progress.id refl)))) same
     (take_back_fits scenario old was from waits next courses _ (length old + 1)) appends

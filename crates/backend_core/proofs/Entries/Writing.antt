@@ -1,5 +1,5 @@
 -- The write of a backend, where its draft is at hand.
-use Rattle.std.proofs.Common.{◌≡◌, ◌≤◌, ◌<◌, ◌+◌, ◌∙◌, ◌==◌, ◌&&◌, ◌||◌, ℕ, false, Some, None, Result, Ok, Err, OnOk, OnErr, List, [], ◌∷◌, refl, sym, ap, subst, length, drop, All, arith}
+use Rattle.std.proofs.Common.{◌≡◌, ◌≤◌, ◌<◌, ◌+◌, ◌∙◌, ◌==◌, ◌&&◌, ◌||◌, ℕ, false, Some, None, Result, Ok, Err, OnOk, OnErr, List, [], ◌∷◌, refl, sym, ap, subst, length, drop, arith}
 use Rattle.std.specs.List.{AllByRecursion, flat_map}
 use Rattle.std.proofs.Math.Bool.{and-false}
 use Rattle.std.proofs.lemmas.Bool.{both_ways, ne_eqb}
@@ -32,22 +32,21 @@ use Rattle.cacheless.specs.Owed.{owed_of}
 use Rattle.cacheless.specs.Plays.{started_in, IsWrite, IsClash, MayPlay, MayPlayIn}
 use Rattle.cacheless.specs.Session.{Session, number_of, outcome_of, is_settled}
 use Rattle.cacheless.specs.Sessions.{written, entered}
-use Rattle.cacheless.specs.State.{is_absent, owed_at, lists_at, kept_spared, locks_made, messages_in, clash_event, error_of}
+use Rattle.cacheless.specs.State.{is_absent, owed_at, lists_at, kept_at, kept_spared, locks_made, messages_in, clash_event, error_of}
 use Rattle.cacheless.proofs.Allowed.NextKeeps.{spelled_at}
 use Rattle.cacheless.proofs.Plans.AloneLocks.{session_holds}
-use Rattle.cacheless.proofs.Entries.EnteredFetches.{all-spared}
 use Rattle.cacheless.proofs.Written.Listed.{lists_before_it}
 use Rattle.cacheless.proofs.Same.{owes_nothing_is}
 use Rattle.cacheless.proofs.Plans.SilentActs.{empty_list, on_its_way}
 use Rattle.cacheless.proofs.Written.WriteFits.{WriteFits, write_fits}
 use Rattle.backend_core.specs.Types.{Oid, Xid, Command, Draft, Item, Message, Scenario, Entry, Event, Progress, Backend}
-use Rattle.backend_core.specs.Agrees.{IsPlayed, KeptAt, AwaitsEntry}
+use Rattle.backend_core.specs.Agrees.{IsPlayed, AreLastScans, AwaitsEntry}
 use Rattle.backend_core.specs.Fits.{looks_due, LooksFit}
 use Rattle.backend_core.specs.Steps.{IsWriteNext, MakesEntry, Enters, IsRefused}
 use Rattle.backend_core.proofs.Choosing.ActsRun.{act_runs}
 use Rattle.backend_core.proofs.Entries.Alike.{alike_enters}
 use Rattle.backend_core.proofs.Choosing.Chosen.{Acts, may_request, started_still}
-use Rattle.backend_core.proofs.Fitting.Entered.{fits_at, keeps_at, kept_stays, keeps_none}
+use Rattle.backend_core.proofs.Fitting.Entered.{fits_at, keeps_at, kept_stays, kept-spared, keeps_none}
 use Rattle.backend_core.proofs.Entries.Failing.{IsActing, clash_shows, failed_enters}
 use Rattle.backend_core.proofs.Entries.Inside.{made_refused, entry_fits}
 use Rattle.backend_core.proofs.Own.{waiting, waiting_is, at_session, follows, going, OwnEntry, Inside, own_makes, own_enters}
@@ -126,13 +125,13 @@ module _ (scenario : Scenario) (old : List Entry) (was : Backend) (draft : Draft
       (subst (MakesEntry scenario old new had has) id (own_makes scenario old new had has was (events.Write made.xid (items_drawn old draft)) waits played courses (write_own made.xid) makes.appends))
 
   -- after it the backend agrees
-  wrote_enters : (new : List Entry) (had has : ℕ → ℕ) (p : Progress) (xid : Xid) (messages : List Message) → HasEntered scenario old was.progress (events.Write xid (items_drawn old draft)) waits.rests p → p.kept ≡ kept_spared messages was.progress.kept → p.answer ≡ None
+  wrote_enters : (new : List Entry) (had has : ℕ → ℕ) (p : Progress) (xid : Xid) (messages : List Message) → HasEntered scenario old was.progress (events.Write xid (items_drawn old draft)) waits.rests p → kept_at p ≡ kept_spared messages (kept_at was.progress) → p.answer ≡ None
       → Appends old new had has (entry_of was.progress.id (was.progress.finished + 1) (events.Write xid (items_drawn old draft))) → Enters scenario old new had has was (record was { progress = p })
   wrote_enters new had has p xid messages goes kept none appends =
       own_enters scenario old new had has was (record was { progress = p }) event waits played courses (write_own xid) goes
       (keeps_at scenario old was event waits p goes (record was { progress = p }) refl refl
-      (subst (All (KeptAt (with_own old was.progress event) was.progress.id)) (sym kept) (all-spared (KeptAt (with_own old was.progress event) was.progress.id) messages was.progress.kept
-      (kept_stays old (entry_of was.progress.id (was.progress.finished + 1) event) was.progress.id was.progress.kept (λ scan. refl) waits.keeps.places.kept)))
+      (subst (AreLastScans (with_own old was.progress event) was.progress.id) (sym kept) (kept-spared (with_own old was.progress event) was.progress.id messages (kept_at was.progress)
+      (kept_stays old (entry_of was.progress.id (was.progress.finished + 1) event) was.progress.id (kept_at was.progress) (λ scan. refl) waits.keeps.places.kept)))
       (keeps_none (with_own old was.progress event) p (ap is_absent (ap (λ (x : Session). x.left) goes.session ∙ ap (λ q. (written q s).left) at))))
       (fits_at scenario old was event waits p goes was.looked was.looked_to_build
       (entry_fits scenario old was waits courses next.command next.free.at later now was.looked was.looked_to_build
@@ -158,14 +157,14 @@ module _ (scenario : Scenario) (old : List Entry) (was : Backend) (draft : Draft
       started = ap (λ q. started_in (length (written q s).finished + 1) later) at ∙ started_still (number_of s) (was.progress.finished + 1) facts.running acting.runs
 
   -- so it does where memory for it isn't refused
-  pub wrote_agrees : {E : Type 0} (first : Backend) → was.progress.id ≡ first.progress.id → (new : List Entry) (had has : ℕ → ℕ) (p : Progress) (result : Result (Unit {0}) E) (made : Made) (messages : List Message) → MakesWrite old new had has was.progress.id (was.progress.finished + 1) draft made → messages ≡ made.messages.items → OnOk result (p.kept ≡ kept_spared messages was.progress.kept) → OnOk result (p.answer ≡ None)
+  pub wrote_agrees : {E : Type 0} (first : Backend) → was.progress.id ≡ first.progress.id → (new : List Entry) (had has : ℕ → ℕ) (p : Progress) (result : Result (Unit {0}) E) (made : Made) (messages : List Message) → MakesWrite old new had has was.progress.id (was.progress.finished + 1) draft made → messages ≡ made.messages.items → OnOk result (kept_at p ≡ kept_spared messages (kept_at was.progress)) → OnOk result (p.answer ≡ None)
       → OnOk result ((scenario : Scenario) (seen : List Entry) (items : List Item) → (rests : Rests scenario seen was.progress) → messages ≡ messages_in seen was.progress.id items → flat_map (locked_by (was.progress.finished + 1)) items ≡ locks_made draft.new_oids made.first_oid (was.progress.finished + 1) → HasEntered scenario seen was.progress (events.Write made.xid items) rests p)
       → OnOk result (Enters scenario old new had has first (record was { progress = p }))
   wrote_agrees first id new had has p (Ok x) made messages makes are kept none goes = alike_enters scenario old new had has first was (record was { progress = p }) id (wrote_enters new had has p made.xid messages (goes scenario old (items_drawn old draft) waits.rests (are ∙ makes.messages) (suits.locks made.first_oid [] makes.first)) kept none makes.appends)
   wrote_agrees first id new had has p (Err e) made messages makes are kept none goes = tt
 
   -- and after one that is refused
-  pub clash_enters : (first : Backend) → was.progress.id ≡ first.progress.id → (new : List Entry) (had has : ℕ → ℕ) (p : Progress) (name : List ℕ) (clash : Clash) → HasEntered scenario old was.progress (clash_event name clash) waits.rests p → p.kept ≡ was.progress.kept → p.answer ≡ None
+  pub clash_enters : (first : Backend) → was.progress.id ≡ first.progress.id → (new : List Entry) (had has : ℕ → ℕ) (p : Progress) (name : List ℕ) (clash : Clash) → HasEntered scenario old was.progress (clash_event name clash) waits.rests p → kept_at p ≡ kept_at was.progress → p.answer ≡ None
       → Writes old new had has was.progress.id (was.progress.finished + 1) draft (Err (refusals.Clash name clash)) → Enters scenario old new had has first (record was { progress = p })
   clash_enters first id new had has p name clash goes kept none writes = let refused = clashes_as old new had has was.progress.id (was.progress.finished + 1) draft name clash writes in alike_enters scenario old new had has first was (record was { progress = p }) id (failed_enters scenario old new had has was p (clash_event name clash) (error_of name clash) next.command waits played courses acting (clash_shows scenario old was s name clash)
       (subst (λ o. MayPlayIn (next_oid old) facts o s (clash_event name clash)) (sym next.free.at)

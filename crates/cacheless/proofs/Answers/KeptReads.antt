@@ -5,12 +5,11 @@ use Rattle.base_types.specs.Scans.{same_scan, build_scans}
 use Rattle.base_types.proofs.SameScan.{same_scan-true}
 use Rattle.cacheless.specs.OpenedReads.{is_of_opened}
 use Rattle.cacheless.proofs.Plans.SilentActs.{both_empty}
-use Rattle.cacheless.specs.State.{is_kept, missing, builds_missing}
+use Rattle.cacheless.specs.State.{Kept, is_kept, missing, builds_missing}
 use Rattle.cacheless.specs.Types.{Purpose, Opening}
-use Rattle.cacheless.specs.declared.kept_scan.KeptScan.{KeptScan}
 
 -- where the scans of a descriptor are there, each is
-kept_among : (kept : List KeptScan) (scan : Purpose) (wanted : List Purpose) → missing kept wanted ≡ [] → list_any (same_scan scan) wanted ≡ true → is_kept kept scan ≡ true
+kept_among : (kept : Kept) (scan : Purpose) (wanted : List Purpose) → missing kept wanted ≡ [] → list_any (same_scan scan) wanted ≡ true → is_kept kept scan ≡ true
 kept_among kept scan [] none has = absurd (cc)
 kept_among kept scan (first ∷ wanted) none has = by_same (kept_among kept scan wanted both.1) (same_scan scan first) refl has
   where
@@ -26,7 +25,7 @@ kept_among kept scan (first ∷ wanted) none has = by_same (kept_among kept scan
     by_same later false is any = later any
 
 -- where no scan is missing for the opened descriptors, what is read is kept
-pub kept_opened : (kept : List KeptScan) (scan : Purpose) (opened : List Opening) → builds_missing kept opened ≡ [] → is_of_opened scan opened ≡ true → is_kept kept scan ≡ true
+pub kept_opened : (kept : Kept) (scan : Purpose) (opened : List Opening) → builds_missing kept opened ≡ [] → is_of_opened scan opened ≡ true → is_kept kept scan ≡ true
 kept_opened kept scan [] none has = absurd (cc)
 kept_opened kept scan (o ∷ opened) none has = by_here (kept_opened kept scan opened both.1) (list_any (same_scan scan) (build_scans o.kind o.rel)) refl has
   where

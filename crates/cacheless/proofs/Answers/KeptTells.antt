@@ -1,10 +1,10 @@
 -- What the code answers is the line of its command: the scans that it keeps are the last ones.
-use Rattle.std.proofs.Common.{◌≡◌, ◌≤◌, ◌∙◌, ◌||◌, ◌⊎◌, inl, inr, ℕ, Bool, true, false, Some, List, [], ◌∷◌, cond, suc, refl, sym, ap, length, drop, All, arith}
-use Rattle.std.specs.List.{AllByRecursion, find}
+use Rattle.std.proofs.Common.{◌≡◌, ◌≤◌, ◌∙◌, ◌||◌, ◌⊎◌, inl, inr, ℕ, Bool, true, false, Option, None, Some, IfSome, is_some, List, [], ◌∷◌, refl, sym, ap, length, drop}
+use Rattle.std.specs.List.{AllByRecursion}
 use Rattle.std.specs.Option.{option_map_or}
 use Rattle.base_types.specs.declared.scan.Purpose.TheVariants as scans
-use Rattle.base_types.specs.Scans.{same_scan, build_scans}
-use Rattle.base_types.proofs.SameScan.{same_scan-true}
+use Rattle.base_types.specs.Scans.{build_scans}
+use Rattle.local_caches.specs.Kept.{Read}
 use Rattle.std.proofs.lemmas.Bool.{and_parts}
 use Rattle.command_answers.specs.Answers.{answer_text}
 use Rattle.ddl_effect.specs.Plans.{Absent}
@@ -12,7 +12,6 @@ use Rattle.ddl_effect.specs.Stages.{plan_at}
 use Rattle.history_model.specs.Lives.{last_event_of}
 use Rattle.history_model.specs.Read.{place_read, rows_read, is_usable}
 use Rattle.cacheless.specs.Types.{Purpose, Command, Opening, Scenario, Entry}
-use Rattle.cacheless.specs.declared.kept_scan.KeptScan.{KeptScan}
 use Rattle.cacheless.specs.declared.progress.Progress.{Progress}
 use Rattle.cacheless.specs.Facts.{facts_of}
 use Rattle.cacheless.specs.Lines.{answer_judged, line_of}
@@ -21,11 +20,11 @@ use Rattle.cacheless.specs.OnCourse.{is_over, FollowsPlan}
 use Rattle.cacheless.specs.Played.{IsPlayed}
 use Rattle.cacheless.specs.Session.{Outcome, Badly, number_of, outcome_of}
 use Rattle.cacheless.specs.Settled.{finished_as, settled}
-use Rattle.cacheless.specs.State.{is_kept, rows_kept, place_kept, is_out, Rest, session_at}
+use Rattle.cacheless.specs.State.{Kept, kept_at, is_kept, rows_kept, place_kept, is_out, Rest, session_at}
 use Rattle.cacheless.specs.May.{has_failed, owes_nothing}
 use Rattle.cacheless.specs.Silently.{is_to_answer}
 use Rattle.cacheless.specs.Holds.{FactsFit, Holds}
-use Rattle.cacheless.specs.Answering.{told_at, IsToldText, KeptAt}
+use Rattle.cacheless.specs.Answering.{told_at, IsToldText, AreLastScans}
 use Rattle.cacheless.proofs.Same.{owes_nothing_is}
 use Rattle.cacheless.proofs.HeldLocks.{settled-locks}
 use Rattle.cacheless.proofs.Resting.{kept_rows}
@@ -36,33 +35,32 @@ use Rattle.cacheless.proofs.Answers.ToldAnswers.{HasComeOut, has_come_out, answe
 use Rattle.cacheless.proofs.Answers.ToldFields.{none_unusable}
 
 -- the place that is found of a scan is that of the last such scan
-kept_place : (places : Purpose → ℕ) (kept : List KeptScan) (scan : Purpose) → All (λ (k : KeptScan). places k.scan ≡ k.at) kept → is_kept kept scan ≡ true → places scan ≡ place_kept kept scan
-kept_place places [] scan at is = absurd (cc)
-kept_place places (k ∷ kept) scan at is = by_same (kept_place places kept scan (λ i d within. at (suc i) d (omega (arith, within)))) (same_scan k.scan scan) refl is
+kept_place : (places : Purpose → ℕ) (kept : Kept) (scan : Purpose) → IfSome (kept scan) (λ read. places scan ≡ read.at) → is_kept kept scan ≡ true → places scan ≡ place_kept kept scan
+kept_place places kept scan at is = by_read (kept scan) at is
   where
-    by_same : (is_kept kept scan ≡ true → places scan ≡ place_kept kept scan) → (t : Bool) → same_scan k.scan scan ≡ t → (t || is_kept kept scan) ≡ true → places scan ≡ option_map_or (λ k. k.at) (cond t (Some k) (find (λ k. same_scan k.scan scan) kept)) 0
-    by_same later true same any = ap places (sym (same_scan-true k.scan scan same)) ∙ at 0 k (omega arith)
-    by_same later false other any = later any
+    by_read : (o : Option Read) → IfSome o (λ read. places scan ≡ read.at) → is_some o ≡ true → places scan ≡ option_map_or (λ read. read.at) o 0
+    by_read None at has = absurd (cc)
+    by_read (Some read) at has = at
 
 -- a scan that is usable is told of alike
-kept_alike : (seen : List Entry) (p : Progress) (scan : Purpose) → FactsFit (facts_of seen p.id) p → All (KeptAt seen p.id) p.kept → is_usable seen p.id scan ≡ true → IsAlike (rows_read seen p.id) (rows_kept p.kept) (place_read seen p.id) (place_kept p.kept) scan
+kept_alike : (seen : List Entry) (p : Progress) (scan : Purpose) → FactsFit (facts_of seen p.id) p → AreLastScans seen p.id (kept_at p) → is_usable seen p.id scan ≡ true → IsAlike (rows_read seen p.id) (rows_kept (kept_at p)) (place_read seen p.id) (place_kept (kept_at p)) scan
 kept_alike seen p scan fits at usable = record {
-  rows_are = sym (kept_rows (rows_read seen p.id) p.kept scan fits.kept has);
-  place_is = sym (kept_place (place_read seen p.id) p.kept scan at has);
+  rows_are = sym (kept_rows (rows_read seen p.id) (kept_at p) scan fits.kept has);
+  place_is = sym (kept_place (place_read seen p.id) (kept_at p) scan (at scan) has);
 }
   where
-    has : is_kept p.kept scan ≡ true
+    has : is_kept (kept_at p) scan ≡ true
     has = sym (fits.usable scan) ∙ usable
 
 -- so are several
-all_alike : (seen : List Entry) (p : Progress) (wanted : List Purpose) → FactsFit (facts_of seen p.id) p → All (KeptAt seen p.id) p.kept → AllByRecursion (λ d. is_usable seen p.id d ≡ true) wanted
-    → AllByRecursion (IsAlike (rows_read seen p.id) (rows_kept p.kept) (place_read seen p.id) (place_kept p.kept)) wanted
+all_alike : (seen : List Entry) (p : Progress) (wanted : List Purpose) → FactsFit (facts_of seen p.id) p → AreLastScans seen p.id (kept_at p) → AllByRecursion (λ d. is_usable seen p.id d ≡ true) wanted
+    → AllByRecursion (IsAlike (rows_read seen p.id) (rows_kept (kept_at p)) (place_read seen p.id) (place_kept (kept_at p))) wanted
 all_alike seen p [] fits at usable = tt
 all_alike seen p (scan ∷ wanted) fits at usable = (kept_alike seen p scan fits at usable.0, all_alike seen p wanted fits at usable.1)
 
 -- and those of the opened descriptors
-opened_alike : (seen : List Entry) (p : Progress) (opened : List Opening) → FactsFit (facts_of seen p.id) p → All (KeptAt seen p.id) p.kept → builds_owed (facts_of seen p.id) opened ≡ []
-    → AreAlike (rows_read seen p.id) (rows_kept p.kept) (place_read seen p.id) (place_kept p.kept) opened
+opened_alike : (seen : List Entry) (p : Progress) (opened : List Opening) → FactsFit (facts_of seen p.id) p → AreLastScans seen p.id (kept_at p) → builds_owed (facts_of seen p.id) opened ≡ []
+    → AreAlike (rows_read seen p.id) (rows_kept (kept_at p)) (place_read seen p.id) (place_kept (kept_at p)) opened
 opened_alike seen p [] fits at none = tt
 opened_alike seen p (o ∷ opened) fits at none =
     let both = both_empty (unusable (facts_of seen p.id) (build_scans o.kind o.rel)) (builds_owed (facts_of seen p.id) opened) none in
@@ -70,19 +68,19 @@ opened_alike seen p (o ∷ opened) fits at none =
 
 -- a command that failed to find a relation has the scan of its name at hand
 abbrev pub KeepsMissed : Progress → Type 0
-KeepsMissed p = (name : List ℕ) → plan_at p.exec ≡ Absent name → is_kept p.kept (scans.RelName name) ≡ true
+KeepsMissed p = (name : List ℕ) → plan_at p.exec ≡ Absent name → is_kept (kept_at p) (scans.RelName name) ≡ true
 
 -- so a command that has come out answers what is told by the scans that are kept
-pub answer_kept : (scenario : Scenario) (seen : List Entry) (p : Progress) (rest : Rest) (command : Command) → HasComeOut scenario seen p.id (session_at p rest) command → FactsFit (facts_of seen p.id) p → All (KeptAt seen p.id) p.kept
+pub answer_kept : (scenario : Scenario) (seen : List Entry) (p : Progress) (rest : Rest) (command : Command) → HasComeOut scenario seen p.id (session_at p rest) command → FactsFit (facts_of seen p.id) p → AreLastScans seen p.id (kept_at p)
     → KeepsMissed p → answer_judged scenario seen p.id (number_of (session_at p rest)) (finished_as (session_at p rest)) command rest.refused ≡ told_at p
-answer_kept scenario seen p rest command come fits at missed = answer_told_by (rows_kept p.kept) (place_kept p.kept) scenario seen p.id (session_at p rest) command come (record {
+answer_kept scenario seen p rest command come fits at missed = answer_told_by (rows_kept (kept_at p)) (place_kept (kept_at p)) scenario seen p.id (session_at p rest) command come (record {
   opened = λ well. opened_alike seen p p.opened fits at (come.builds well);
-  absent = λ name is. sym (kept_place (place_read seen p.id) p.kept (scans.RelName name) at (missed name is));
+  absent = λ name is. sym (kept_place (place_read seen p.id) (kept_at p) (scans.RelName name) (at (scans.RelName name)) (missed name is));
   named = λ oid is. kept_alike seen p (scans.RelOid oid) fits at (come.named oid is);
 })
 
 -- and so says its line, where it is judged
-pub told_line : (scenario : Scenario) (seen : List Entry) (p : Progress) (rest : Rest) (command : Command) (text : List ℕ) → HasComeOut scenario seen p.id (session_at p rest) command → FactsFit (facts_of seen p.id) p → All (KeptAt seen p.id) p.kept
+pub told_line : (scenario : Scenario) (seen : List Entry) (p : Progress) (rest : Rest) (command : Command) (text : List ℕ) → HasComeOut scenario seen p.id (session_at p rest) command → FactsFit (facts_of seen p.id) p → AreLastScans seen p.id (kept_at p)
     → KeepsMissed p → length seen ≤ rest.judged → IsToldText p text
     → record { backend = p.id; command = number_of (session_at p rest); text = text } ≡ line_of scenario seen p.id (number_of (session_at p rest)) (finished_as (session_at p rest)) command
 told_line scenario seen p rest command text come fits at missed judged told =
@@ -104,7 +102,7 @@ failed_badly o is = absurd (cc is)
 
 -- so what the code answers is the line of its command, once that is to be answered, and while nothing of it is taken back or released
 pub told_now : (scenario : Scenario) (seen : List Entry) (p : Progress) (command : Command) (text : List ℕ) → IsPlayed scenario seen → (holds : Holds scenario seen p) → FollowsPlan seen p.id (session_at p holds.rest) command → is_over (last_event_of seen p.id) (session_at p holds.rest) ≡ false → length seen ≤ holds.rest.judged
-    → All (KeptAt seen p.id) p.kept → KeepsMissed p → is_to_answer command p ≡ true → IsToldText p text
+    → AreLastScans seen p.id (kept_at p) → KeepsMissed p → is_to_answer command p ≡ true → IsToldText p text
     → record { backend = p.id; command = number_of (session_at p holds.rest); text = text } ≡ line_of scenario seen p.id (number_of (session_at p holds.rest)) (finished_as (session_at p holds.rest)) command
 told_now scenario seen p command text played holds follows stands judged at missed out told = told_line scenario seen p holds.rest command text
     (has_come_out scenario seen p.id (session_at p holds.rest) command (session_held scenario seen p played holds) follows parts.0 stands (by_failed (has_failed p) refl parts.1))

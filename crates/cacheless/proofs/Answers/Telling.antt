@@ -1,5 +1,5 @@
 -- What a backend answers without an entry is what the history says.
-use Rattle.std.proofs.Common.{◌≡◌, ◌≤◌, ◌+◌, ◌∙◌, ◌&&◌, ◌||◌, ℕ, Bool, true, false, Option, Some, None, List, [], ◌∷◌, ◌++◌, refl, sym, ap, subst, length, drop, slice_get, is_some, is_none, unwrap_or, All, arith}
+use Rattle.std.proofs.Common.{◌≡◌, ◌≤◌, ◌+◌, ◌∙◌, ◌&&◌, ◌||◌, ℕ, Bool, true, false, Option, Some, None, List, [], ◌∷◌, ◌++◌, refl, sym, ap, subst, length, drop, slice_get, is_some, is_none, unwrap_or, arith}
 use Rattle.std.specs.Option.{option_map}
 use Rattle.std.proofs.Math.Bool.{or-true}
 use Rattle.std.proofs.lemmas.Bool.{both_ways, and_parts}
@@ -14,7 +14,7 @@ use Rattle.txn_blocks.specs.Blocks.{Blocks}
 use Rattle.history_model.specs.Lives.{last_event_of}
 use Rattle.cacheless.specs.Types.{Mode, Row, Command, OwnLock, Scenario, Entry, Event, Line}
 use Rattle.cacheless.specs.declared.progress.Progress.{Progress}
-use Rattle.cacheless.specs.Answering.{IsToldText, KeptAt, IsWhole, PlacesFit}
+use Rattle.cacheless.specs.Answering.{IsToldText, AreLastScans, IsWhole, PlacesFit}
 use Rattle.cacheless.specs.Facts.{Facts, facts_of}
 use Rattle.cacheless.specs.Holds.{is_class, GivenFits, FactsFit, Holds, HasActed, HasPassed}
 use Rattle.cacheless.specs.Lines.{line_of, lines_from}
@@ -24,7 +24,7 @@ use Rattle.cacheless.specs.Owed.{act_owed}
 use Rattle.cacheless.specs.Settled.{class_oid, if_locked, looked_up, act_done, blocks_after, finished_as, next_session}
 use Rattle.cacheless.specs.May.{has_failed, owes_nothing}
 use Rattle.cacheless.specs.Silently.{acts_on, is_ends, is_finished_at, is_to_answer, is_to_answer_at, Answers, Finishes, IsSettled, HasAnswered, IsLineOf}
-use Rattle.cacheless.specs.State.{is_kept, is_out, end_at, Rest, session_at}
+use Rattle.cacheless.specs.State.{kept_at, is_kept, is_out, end_at, Rest, session_at}
 use Rattle.cacheless.specs.Telling.{AreLines, IsJudgedHere, TellsNow, HasGoneOn}
 use Rattle.cacheless.proofs.Plans.ActOrder.{at_lookup}
 use Rattle.cacheless.proofs.Plans.AfterActs.{IsUnfound, after_lookup, after_opening, opening_alike, after_search, after_reading, no_lock}
@@ -86,18 +86,18 @@ finds_class locks mode (row ∷ more) given gave is none = absurd (cc is)
 
 -- a lookup that found no relation was granted no lock, so its scan is kept
 unfound_kept : (facts : Facts) (s : Progress) (locks : List OwnLock) (name : List ℕ) (mode : Mode) (rest : List Row → Plan) (given : List Row) → FactsFit facts s → plan_at s.exec ≡ Do (Lookup name mode) rest → act_owed facts s.granted (Do (Lookup name mode) rest) ≡ []
-    → looked_up locks mode (facts.rows (scans.RelName name)) ≡ Some given → class_oid given ≡ None → is_kept s.kept (scans.RelName name) ≡ true
+    → looked_up locks mode (facts.rows (scans.RelName name)) ≡ Some given → class_oid given ≡ None → is_kept (kept_at s) (scans.RelName name) ≡ true
 unfound_kept facts s locks name mode rest given fits at owed gave none = by_granted s.granted refl owed
   where
-    by_granted : (t : Bool) → s.granted ≡ t → act_owed facts t (Do (Lookup name mode) rest) ≡ [] → is_kept s.kept (scans.RelName name) ≡ true
+    by_granted : (t : Bool) → s.granted ≡ t → act_owed facts t (Do (Lookup name mode) rest) ≡ [] → is_kept (kept_at s) (scans.RelName name) ≡ true
     by_granted true is nothing = let found = subst (λ p. GivenFits facts p s.given) at (fits.given is) in
         absurd (finds_class locks mode (facts.rows (scans.RelName name)) given gave (ap is_class found.0 ∙ found.1) none)
     by_granted false is nothing = sym (fits.usable (scans.RelName name)) ∙ cond_none (facts.usable (scans.RelName name)) (scans.RelName name) nothing
 
 -- where an act left that no relation has a name, the scan of the name is kept
 absent_kept : (seen : List Entry) (was : Progress) (rest : Rest) (command : Command) (act : Act) (further : List Row → Plan) (given : List Row) → FactsFit (facts_of seen was.id) was → OnItsWay seen was.id (session_at was rest) command → plan_at was.exec ≡ Do act further
-    → IsDoneHere (facts_of seen was.id) (session_at was rest) act further given → (name : List ℕ) → further given ≡ Absent name → is_kept was.kept (scans.RelName name) ≡ true
-absent_kept seen was rest command (Lookup sought mode) further given fits way at done name absent = subst (λ n. is_kept was.kept (scans.RelName n) ≡ true) one
+    → IsDoneHere (facts_of seen was.id) (session_at was rest) act further given → (name : List ℕ) → further given ≡ Absent name → is_kept (kept_at was) (scans.RelName name) ≡ true
+absent_kept seen was rest command (Lookup sought mode) further given fits way at done name absent = subst (λ n. is_kept (kept_at was) (scans.RelName n) ≡ true) one
     (unfound_kept (facts_of seen was.id) was was.locks.items sought mode further given fits at done.owed done.gave unfound.none)
   where
     unfound : IsUnfound sought (further given) given
@@ -117,9 +117,9 @@ unsettled : (scenario : Scenario) (seen : List Entry) (was p : Progress) (held :
 unsettled scenario seen was p held acted = ap (λ x. is_settled (outcome_of x)) acted.left
 
 -- an act leaves the places
-pub act_places : (scenario : Scenario) (seen : List Entry) (was p : Progress) (held : Holds scenario seen was) → EntersCourse scenario seen was.id (session_at was held.rest) → (acted : HasActed scenario seen was held p) → p.kept ≡ was.kept → PlacesFit seen was → PlacesFit seen p
+pub act_places : (scenario : Scenario) (seen : List Entry) (was p : Progress) (held : Holds scenario seen was) → EntersCourse scenario seen was.id (session_at was held.rest) → (acted : HasActed scenario seen was held p) → kept_at p ≡ kept_at was → PlacesFit seen was → PlacesFit seen p
 act_places scenario seen was p held course acted kept places = record {
-  kept = subst (λ b. All (KeptAt seen b) p.kept) (sym acted.moves.id) (subst (All (KeptAt seen was.id)) (sym kept) places.kept);
+  kept = subst (λ b. AreLastScans seen b (kept_at p)) (sym acted.moves.id) (subst (AreLastScans seen was.id) (sym kept) places.kept);
   absent = λ name missed whole. ap (λ l. is_kept l (scans.RelName name)) kept
       ∙ absent_kept seen was held.rest acted.command acted.act acted.further acted.given held.facts
       (on_its_way seen was.id s acted.command acted.act acted.further (course.follows acted.command (at_finished scenario seen was held ∙ acted.at)) acted.left) acted.left
@@ -227,9 +227,9 @@ pub answer_places : (seen : List Entry) (s : Progress) (text : List ℕ) → Pla
 answer_places seen s text places = record { kept = places.kept; absent = λ name missed whole. places.absent name missed (record { untaken = whole.untaken; going = whole.going }) }
 
 -- the passing to the next command leaves the places
-pub pass_places : (scenario : Scenario) (seen : List Entry) (was p : Progress) (held : Holds scenario seen was) (passed : HasPassed scenario seen was held p) → p.kept ≡ was.kept → PlacesFit seen was → PlacesFit seen p
+pub pass_places : (scenario : Scenario) (seen : List Entry) (was p : Progress) (held : Holds scenario seen was) (passed : HasPassed scenario seen was held p) → kept_at p ≡ kept_at was → PlacesFit seen was → PlacesFit seen p
 pass_places scenario seen was p held passed kept places = record {
-  kept = subst (λ b. All (KeptAt seen b) p.kept) (sym passed.id) (subst (All (KeptAt seen was.id)) (sym kept) places.kept);
+  kept = subst (λ b. AreLastScans seen b (kept_at p)) (sym passed.id) (subst (AreLastScans seen was.id) (sym kept) places.kept);
   absent = λ name missed whole. absurd (both_ways _ (not_absent blocks next) (ap is_absent (sym (ap (λ x. x.left) passed.session) ∙ missed)));
 }
   where
@@ -299,7 +299,7 @@ pass_lines scenario seen was p held now passed lines line says are = ap (λ l. l
         ∙ ap (λ n. line_of scenario seen was.id n (finished_as s) passed.command) (let n : number_of s ≡ 1 + length s.finished = omega arith in n)
 
 -- each of these goes on
-pub act_goes : (scenario : Scenario) (seen : List Entry) (was p : Progress) (held : Holds scenario seen was) (lines : List Line) → HasActed scenario seen was held p → p.kept ≡ was.kept → p.answer ≡ was.answer → TellsNow scenario seen was held → PlacesFit seen was → HasGoneOn scenario seen was held lines p lines
+pub act_goes : (scenario : Scenario) (seen : List Entry) (was p : Progress) (held : Holds scenario seen was) (lines : List Line) → HasActed scenario seen was held p → kept_at p ≡ kept_at was → p.answer ≡ was.answer → TellsNow scenario seen was held → PlacesFit seen was → HasGoneOn scenario seen was held lines p lines
 act_goes scenario seen was p held lines acted kept same now places = record {
   holds = acted.holds;
   tells = act_tells scenario seen was p held now acted same;
@@ -321,7 +321,7 @@ answer_goes scenario seen was p held lines asked has now places = subst (λ x. H
       lines_are = λ are. are;
     }
 
-pub pass_goes : (scenario : Scenario) (seen : List Entry) (was p : Progress) (held : Holds scenario seen was) (lines after : List Line) (line : Line) → HasPassed scenario seen was held p → p.kept ≡ was.kept → p.answer ≡ None → IsLineOf was line → after ≡ lines ++ line ∷ [] → TellsNow scenario seen was held → PlacesFit seen was → HasGoneOn scenario seen was held lines p after
+pub pass_goes : (scenario : Scenario) (seen : List Entry) (was p : Progress) (held : Holds scenario seen was) (lines after : List Line) (line : Line) → HasPassed scenario seen was held p → kept_at p ≡ kept_at was → p.answer ≡ None → IsLineOf was line → after ≡ lines ++ line ∷ [] → TellsNow scenario seen was held → PlacesFit seen was → HasGoneOn scenario seen was held lines p after
 pass_goes scenario seen was p held lines after line passed kept none says pushed now places = record {
   holds = passed.holds;
   tells = pass_tells scenario seen was p held now passed none;

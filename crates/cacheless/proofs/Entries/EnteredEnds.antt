@@ -1,5 +1,5 @@
 -- What the entries of a command's end make of what the code holds.
-use Rattle.std.proofs.Common.{◌≡◌, ◌≤◌, ◌+◌, ◌∙◌, ◌&&◌, ◌||◌, ℕ, Bool, true, false, not, Option, Some, None, List, [], ◌∷◌, ◌++◌, refl, sym, ap, subst, cond, All, slice_get, filter, nat_lt}
+use Rattle.std.proofs.Common.{◌≡◌, ◌≤◌, ◌+◌, ◌∙◌, ◌&&◌, ◌||◌, ℕ, Bool, true, false, not, Option, Some, None, List, ◌++◌, refl, sym, ap, subst, slice_get, filter, nat_lt}
 use Rattle.std.specs.List.{AllByRecursion, list_any}
 use Rattle.std.proofs.lemmas.List.Folds.{list_any-append}
 use Rattle.event_kinds.specs.declared.entry.Event.TheVariants as events
@@ -7,18 +7,19 @@ use Rattle.lock_modes.specs.Rooms.{Roomy}
 use Rattle.inval_messages.specs.Messages.{covers, is_spared}
 use Rattle.inval_messages.specs.Lists.{Written, lists_before, lists_from, cats_in, rels_in, sent_in}
 use Rattle.command_lists.specs.Lists.{Held, all_lists}
+use Rattle.local_caches.specs.Caches.{kept_of}
+use Rattle.local_caches.specs.declared.local_caches.LocalCaches.{LocalCaches}
 use Rattle.history_model.specs.Transactions.{begun, after_release}
 use Rattle.history_model.specs.Sent.{ends_transaction}
 use Rattle.history_model.proofs.Every.{every-weaker, every-filter}
 use Rattle.cacheless.specs.Types.{Xid, Message, Purpose, Scenario, Entry, Event, OwnLock}
-use Rattle.cacheless.specs.declared.kept_scan.KeptScan.{KeptScan}
 use Rattle.cacheless.specs.declared.progress.Due.TheVariants as dues
 use Rattle.txn_blocks.specs.declared.transaction.RunningTransaction.{RunningTransaction}
 use Rattle.cacheless.specs.declared.progress.Progress.{Progress}
 use Rattle.cacheless.specs.Facts.{Facts, facts_of}
 use Rattle.txn_blocks.specs.Transactions.{begun_own, ends_own, released_own}
-use Rattle.cacheless.specs.State.{running_of, lists_at, lists_left, is_kept, kept_spared, is_in_accept, locks_accepted}
-use Rattle.cacheless.specs.Holds.{ReadRight, FactsFit, Rests, HasEntered}
+use Rattle.cacheless.specs.State.{running_of, lists_at, lists_left, Kept, kept_at, is_kept, kept_spared, is_in_accept, locks_accepted}
+use Rattle.cacheless.specs.Holds.{AreRight, FactsFit, Rests, HasEntered}
 use Rattle.cacheless.proofs.Entries.EnteredFetches.{is_kept-spared, all-spared}
 use Rattle.cacheless.proofs.Entries.Entering.{facts_after, noted_after, with_locks, own_entered, release_begun, ends_same, runs_begun, counts_stay}
 
@@ -86,21 +87,22 @@ is_spared-append scan first later = ap not (list_any-append (covers scan) first 
     apart true b = refl
     apart false b = refl
 
-pub spared_twice : (first later : List Message) (kept : List KeptScan) → kept_spared later (kept_spared first kept) ≡ kept_spared (first ++ later) kept
-spared_twice first later [] = refl
-spared_twice first later (k ∷ kept) = by_first (is_spared k.scan first) (is_spared-append k.scan first later) (spared_twice first later kept)
+kept_twice : (first later : List Message) (kept : Kept) (scan : Purpose) → (is_spared scan (first ++ later) && is_kept kept scan) ≡ is_kept (kept_spared later (kept_spared first kept)) scan
+kept_twice first later kept scan =
+    ap (λ t. t && is_kept kept scan) (is_spared-append scan first later) ∙ turned (is_spared scan first) (is_spared scan later) (is_kept kept scan)
+    ∙ ap (λ t. is_spared scan later && t) (sym (is_kept-spared first kept scan)) ∙ sym (is_kept-spared later (kept_spared first kept) scan)
   where
-    by_first : (t : Bool) → is_spared k.scan (first ++ later) ≡ (t && is_spared k.scan later) → kept_spared later (kept_spared first kept) ≡ kept_spared (first ++ later) kept
-        → kept_spared later (cond t (k ∷ kept_spared first kept) (kept_spared first kept)) ≡ cond (is_spared k.scan (first ++ later)) (k ∷ kept_spared (first ++ later) kept) (kept_spared (first ++ later) kept)
-    by_first true both rest = ap (λ l. cond (is_spared k.scan later) (k ∷ l) l) rest ∙ sym (ap (λ t. cond t (k ∷ kept_spared (first ++ later) kept) (kept_spared (first ++ later) kept)) both)
-    by_first false both rest = rest ∙ sym (ap (λ t. cond t (k ∷ kept_spared (first ++ later) kept) (kept_spared (first ++ later) kept)) both)
+    turned : (a b c : Bool) → ((a && b) && c) ≡ (b && (a && c))
+    turned true b c = refl
+    turned false true c = refl
+    turned false false c = refl
 
 -- the state once writes are taken back
-abbrev pub taken_back : Progress → List Message → List Message → Held → Progress
-taken_back was cats rels lists = record was {
+abbrev pub taken_back : Progress → LocalCaches → Held → Progress
+taken_back was caches lists = record was {
   due = dues.Nothing;
   running = Some (begun_own (was.finished + 1) was.running);
-  kept = kept_spared rels (kept_spared cats was.kept);
+  caches = caches;
   lists = lists;
 }
 
@@ -109,20 +111,19 @@ gone_usable : (old : List Entry) (was : Progress) (from : ℕ) (cats rels : List
     → is_spared scan (sent_in (lists_from from (facts_of old was.id).lists)) ≡ is_spared scan (cats ++ rels)
 gone_usable old was from cats rels scan fits cats_are rels_are = ap (λ l. is_spared scan (sent_in (lists_from from l))) fits.lists ∙ sym (λ i. is_spared scan (cats_are i ++ rels_are i))
 
-pub gone_holds : (scenario : Scenario) (old : List Entry) (was : Progress) (from : ℕ) (cats rels : List Message) (lists : Held) (locks : Roomy OwnLock) (rests : Rests scenario old was)
-    → cats ≡ cats_in (lists_from from (lists_at was)) → rels ≡ rels_in (lists_from from (lists_at was)) → all_lists lists.lists ≡ lists_before from (lists_at was)
-    → locks.items ≡ locks_accepted (is_in_accept (taken_back was cats rels lists) (slice_get was.commands was.finished)) was.locks.items
-    → HasEntered scenario old was (events.Gone from) rests (with_locks (taken_back was cats rels lists) locks)
-gone_holds scenario old was from cats rels lists locks rests cats_are rels_are before items = own_entered scenario old was (taken_back was cats rels lists) event locks rests (record { session = λ _ _ _ _ _ _. refl; finished = λ _. refl }) (record {
+pub gone_holds : (scenario : Scenario) (old : List Entry) (was : Progress) (from : ℕ) (cats rels : List Message) (caches : LocalCaches) (lists : Held) (locks : Roomy OwnLock) (rests : Rests scenario old was)
+    → cats ≡ cats_in (lists_from from (lists_at was)) → rels ≡ rels_in (lists_from from (lists_at was)) → kept_of caches ≡ kept_spared rels (kept_spared cats (kept_at was)) → all_lists lists.lists ≡ lists_before from (lists_at was)
+    → locks.items ≡ locks_accepted (is_in_accept (taken_back was caches lists) (slice_get was.commands was.finished)) was.locks.items
+    → HasEntered scenario old was (events.Gone from) rests (with_locks (taken_back was caches lists) locks)
+gone_holds scenario old was from cats rels caches lists locks rests cats_are rels_are keeps before items = own_entered scenario old was (taken_back was caches lists) event locks rests (record { session = λ _ _ _ _ _ _. refl; finished = λ _. refl }) (record {
   moves = record { id = refl; commands = refl; finished = refl };
   session = refl;
   facts = let f = rests.holds.facts in record {
     running = ap (λ o. Some (begun (was.finished + 1) o)) f.running ∙ runs_begun (was.finished + 1) was.running;
     lists = ap (lists_before from) f.lists ∙ sym before;
     owed = refl;
-    usable = λ scan. ap (λ t. t && (facts_of old was.id).usable scan) (gone_usable old was from cats rels scan f cats_are rels_are) ∙ ap (λ t. is_spared scan (cats ++ rels) && t) (f.usable scan)
-        ∙ sym (ap (λ l. is_kept l scan) (spared_twice cats rels was.kept) ∙ is_kept-spared (cats ++ rels) was.kept scan);
-    kept = subst (All (ReadRight after.rows)) (sym (spared_twice cats rels was.kept)) (all-spared (ReadRight after.rows) (cats ++ rels) was.kept (λ i d within. let k = f.kept i d within in record { rows_are = k.rows_are }));
+    usable = λ scan. ap (λ t. t && (facts_of old was.id).usable scan) (gone_usable old was from cats rels scan f cats_are rels_are) ∙ ap (λ t. is_spared scan (cats ++ rels) && t) (f.usable scan) ∙ kept_twice cats rels (kept_at was) scan ∙ ap (λ k. is_kept k scan) (sym keeps);
+    kept = subst (AreRight after.rows) (sym keeps) (all-spared (λ scan read. read.rows ≡ after.rows scan) rels (kept_spared cats (kept_at was)) (all-spared (λ scan read. read.rows ≡ after.rows scan) cats (kept_at was) f.kept));
     given = f.given;
   };
   counts = counts_stay rests.holds.counts;

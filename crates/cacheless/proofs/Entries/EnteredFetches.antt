@@ -1,12 +1,11 @@
 -- What a fetch of messages and a reset make of what the code holds.
-use Rattle.std.proofs.Common.{◌≡◌, ◌≤◌, ◌+◌, ◌∙◌, ◌==◌, ◌&&◌, ◌||◌, ℕ, Bool, true, false, Option, Some, None, List, [], ◌∷◌, refl, sym, ap, subst, length, slice_get, arith, All, cond, take, ◌-◌}
-use Rattle.std.proofs.Math.Bool.{and-false}
-use Rattle.std.proofs.lemmas.List.Elements.{All-filter}
-use Rattle.base_types.specs.Scans.{same_scan}
-use Rattle.base_types.proofs.SameScan.{same_scan-true}
+use Rattle.std.proofs.Common.{◌≡◌, ◌≤◌, ◌+◌, ◌∙◌, ◌==◌, ◌&&◌, ℕ, Bool, true, false, Option, Some, None, IfSome, is_some, List, [], ◌∷◌, refl, sym, ap, subst, length, slice_get, arith, take, ◌-◌, if◌then◌else◌}
 use Rattle.event_kinds.specs.declared.entry.Event.TheVariants as events
 use Rattle.inval_messages.specs.Messages.{is_spared}
 use Rattle.lock_modes.specs.Rooms.{Roomy}
+use Rattle.local_caches.specs.Caches.{kept_of}
+use Rattle.local_caches.specs.Kept.{Read}
+use Rattle.local_caches.specs.declared.local_caches.LocalCaches.{LocalCaches}
 use Rattle.ddl_effect.specs.Plans.{Plan, Done, Fails, Absent, Do, NotBuilt}
 use Rattle.ddl_effect.specs.Stages.{plan_at, plan_again, altering_at, altering_again}
 use Rattle.ddl_effect.specs.declared.altering.Altering.{Altering}
@@ -15,7 +14,6 @@ use Rattle.ddl_effect.specs.declared.exec.Exec.TheVariants as stages
 use Rattle.history_model.specs.Log.{fetched_by}
 use Rattle.history_model.specs.Transactions.{begun}
 use Rattle.cacheless.specs.Types.{Oid, Message, Purpose, Scenario, Entry, Event, OwnLock, Exec}
-use Rattle.cacheless.specs.declared.kept_scan.KeptScan.{KeptScan}
 use Rattle.cacheless.specs.declared.progress.Due.{Due}
 use Rattle.cacheless.specs.declared.progress.Due.TheVariants as dues
 use Rattle.cacheless.specs.declared.progress.Progress.{Progress}
@@ -25,40 +23,28 @@ use Rattle.cacheless.specs.Owed.{Owes, OwesLook, owed_after}
 use Rattle.cacheless.specs.Sessions.{resumed, placed_at, counted}
 use Rattle.cacheless.specs.Puts.{PutsOpened}
 use Rattle.txn_blocks.specs.Transactions.{begun_own}
-use Rattle.cacheless.specs.State.{owed_at, due_fetched, one_if, is_kept, kept_spared, is_absent, is_full, is_in_accept, locks_accepted, Rest, rest_of, tally_at, session_at}
-use Rattle.cacheless.specs.Holds.{ReadRight, GivenFits, FactsFit, Rests, HasEntered}
+use Rattle.cacheless.specs.State.{owed_at, due_fetched, one_if, Kept, kept_at, nothing_kept, is_kept, kept_spared, is_absent, is_full, is_in_accept, locks_accepted, Rest, rest_of, tally_at, session_at}
+use Rattle.cacheless.specs.Holds.{AreRight, GivenFits, FactsFit, Rests, HasEntered}
 use Rattle.cacheless.proofs.Tests.{not_both}
 use Rattle.cacheless.proofs.Same.{full_same}
 use Rattle.cacheless.proofs.Written.Putting.{puts_again}
 use Rattle.cacheless.proofs.Entries.Entering.{facts_after, noted_after, with_locks, own_entered, runs_begun}
 
 -- a scan is kept still where it was kept and no message covers it
-pub is_kept-spared : (messages : List Message) (kept : List KeptScan) (scan : Purpose) → is_kept (kept_spared messages kept) scan ≡ (is_spared scan messages && is_kept kept scan)
-is_kept-spared messages [] scan = sym (and-false (is_spared scan messages))
-is_kept-spared messages (k ∷ kept) scan = by_spared (is_spared k.scan messages) refl (is_kept-spared messages kept scan)
+pub is_kept-spared : (messages : List Message) (kept : Kept) (scan : Purpose) → is_kept (kept_spared messages kept) scan ≡ (is_spared scan messages && is_kept kept scan)
+is_kept-spared messages kept scan = by_test (is_spared scan messages)
   where
-    spared : List KeptScan
-    spared = kept_spared messages kept
-
-    gone : (t : Bool) → same_scan k.scan scan ≡ t → is_spared k.scan messages ≡ false → is_kept spared scan ≡ (is_spared scan messages && is_kept kept scan) → is_kept spared scan ≡ (is_spared scan messages && (t || is_kept kept scan))
-    gone true same covered rest = rest ∙ ap (λ u. u && is_kept kept scan) none ∙ sym (ap (λ u. u && (true || is_kept kept scan)) none)
-      where
-        none : is_spared scan messages ≡ false
-        none = ap (λ p. is_spared p messages) (sym (same_scan-true k.scan scan same)) ∙ covered
-    gone false other covered rest = rest
-
-    stays : (t : Bool) → same_scan k.scan scan ≡ t → is_spared k.scan messages ≡ true → is_kept spared scan ≡ (is_spared scan messages && is_kept kept scan) → (t || is_kept spared scan) ≡ (is_spared scan messages && (t || is_kept kept scan))
-    stays true same free rest = sym (ap (λ u. u && (true || is_kept kept scan)) (ap (λ p. is_spared p messages) (sym (same_scan-true k.scan scan same)) ∙ free))
-    stays false other free rest = rest
-
-    by_spared : (t : Bool) → is_spared k.scan messages ≡ t → is_kept spared scan ≡ (is_spared scan messages && is_kept kept scan)
-        → is_kept (cond t (k ∷ spared) spared) scan ≡ (is_spared scan messages && (same_scan k.scan scan || is_kept kept scan))
-    by_spared true free rest = stays (same_scan k.scan scan) refl free rest
-    by_spared false covered rest = gone (same_scan k.scan scan) refl covered rest
+    by_test : (t : Bool) → is_some (if t then kept scan else None) ≡ (t && is_kept kept scan)
+    by_test true = refl
+    by_test false = refl
 
 -- what holds of each scan that was kept holds of each that is kept still
-pub all-spared : (P : KeptScan → Type 0) (messages : List Message) (kept : List KeptScan) → All P kept → All P (kept_spared messages kept)
-all-spared P messages kept holds = All-filter (λ k. is_spared k.scan messages) P kept holds
+pub all-spared : (P : Purpose → Read → Type 0) (messages : List Message) (kept : Kept) → ((scan : Purpose) → IfSome (kept scan) (P scan)) → (scan : Purpose) → IfSome (kept_spared messages kept scan) (P scan)
+all-spared P messages kept holds scan = by_test (is_spared scan messages)
+  where
+    by_test : (t : Bool) → IfSome (if t then kept scan else None) (P scan)
+    by_test true = holds scan
+    by_test false = tt
 
 -- a search that is made anew has found nothing yet
 alters_seek : (altering : Altering) → is_absent (altering_again altering) ≡ false
@@ -123,19 +109,19 @@ given_again facts was exec again fit = by_plan (plan_at was.exec) refl fit
     by_plan NotBuilt at fit = stays NotBuilt at refl fit
 
 -- the state after a fetch of these messages, but for its full fetches
-abbrev pub fetched_first : Progress → ℕ → List Message → Exec → Progress
-fetched_first was count messages exec = record was {
+abbrev pub fetched_first : Progress → ℕ → LocalCaches → Exec → Progress
+fetched_first was count caches exec = record was {
   exec = exec;
   due = due_fetched count;
   running = Some (begun_own (was.finished + 1) was.running);
-  kept = kept_spared messages was.kept;
+  caches = caches;
   tally = record was.tally { fetches = was.tally.fetches + 1 };
   answer = None;
 }
 
 -- the state after the fetch
-abbrev pub fetched : Progress → ℕ → List Message → Exec → Progress
-fetched was count messages exec = record (fetched_first was count messages exec) { tally = record was.tally { fetches = was.tally.fetches + 1; full = was.tally.full + one_if (is_full count (fetched_first was count messages exec)) } }
+abbrev pub fetched : Progress → ℕ → LocalCaches → Exec → Progress
+fetched was count caches exec = record (fetched_first was count caches exec) { tally = record was.tally { fetches = was.tally.fetches + 1; full = was.tally.full + one_if (is_full count (fetched_first was count caches exec)) } }
 
 owed_fetched : (count : ℕ) → owed_after (Some (events.Fetch count)) ≡ owed_at (due_fetched count)
 owed_fetched count = by_test (count == 32)
@@ -155,10 +141,10 @@ one_at_most : (t : Bool) → one_if t ≤ 1
 one_at_most true = omega arith
 one_at_most false = omega arith
 
-pub fetch_holds : (scenario : Scenario) (old : List Entry) (was : Progress) (count : ℕ) (messages : List Message) (exec : Exec) (locks : Roomy OwnLock) (rests : Rests scenario old was) → messages ≡ fetched_by old was.id count → plan_at exec ≡ plan_again was.exec
-    → locks.items ≡ locks_accepted (is_in_accept (fetched was count messages exec) (slice_get was.commands was.finished)) was.locks.items
-    → HasEntered scenario old was (events.Fetch count) rests (with_locks (fetched was count messages exec) locks)
-fetch_holds scenario old was count messages exec locks rests are again items = own_entered scenario old was now event locks rests (record { session = λ _ _ _ _ _ _. refl; finished = λ s. ends_same s.left s }) (record {
+pub fetch_holds : (scenario : Scenario) (old : List Entry) (was : Progress) (count : ℕ) (messages : List Message) (caches : LocalCaches) (exec : Exec) (locks : Roomy OwnLock) (rests : Rests scenario old was) → messages ≡ fetched_by old was.id count → kept_of caches ≡ kept_spared messages (kept_at was) → plan_at exec ≡ plan_again was.exec
+    → locks.items ≡ locks_accepted (is_in_accept (fetched was count caches exec) (slice_get was.commands was.finished)) was.locks.items
+    → HasEntered scenario old was (events.Fetch count) rests (with_locks (fetched was count caches exec) locks)
+fetch_holds scenario old was count messages caches exec locks rests are keeps again items = own_entered scenario old was now event locks rests (record { session = λ _ _ _ _ _ _. refl; finished = λ s. ends_same s.left s }) (record {
   moves = record { id = refl; commands = refl; finished = refl };
   session = whole ∙ sym (ap (λ t. session_at now (rest_of t)) whole);
   facts = record { running = fits.running; lists = fits.lists; owed = fits.owed; usable = fits.usable; kept = fits.kept; given = fits.given };
@@ -176,10 +162,10 @@ fetch_holds scenario old was count messages exec locks rests are again items = o
     event = events.Fetch count
 
     now : Progress
-    now = fetched was count messages exec
+    now = fetched was count caches exec
 
     first : Progress
-    first = fetched_first was count messages exec
+    first = fetched_first was count caches exec
 
     after : Facts
     after = facts_after old was event
@@ -189,8 +175,8 @@ fetch_holds scenario old was count messages exec locks rests are again items = o
       running = ap (λ o. Some (begun (was.finished + 1) o)) f.running ∙ runs_begun (was.finished + 1) was.running;
       lists = f.lists;
       owed = owed_fetched count;
-      usable = λ scan. ap (λ l. is_spared scan l && (facts_of old was.id).usable scan) (sym are) ∙ ap (λ t. is_spared scan messages && t) (f.usable scan) ∙ sym (is_kept-spared messages was.kept scan);
-      kept = all-spared (ReadRight after.rows) messages was.kept (λ i d within. let k = f.kept i d within in record { rows_are = k.rows_are });
+      usable = λ scan. ap (λ l. is_spared scan l && (facts_of old was.id).usable scan) (sym are) ∙ ap (λ t. is_spared scan messages && t) (f.usable scan) ∙ sym (is_kept-spared messages (kept_at was) scan) ∙ ap (λ k. is_kept k scan) (sym keeps);
+      kept = subst (AreRight after.rows) (sym keeps) (all-spared (λ scan read. read.rows ≡ after.rows scan) messages (kept_at was) f.kept);
       given = λ granted. given_again after was exec again (f.given granted);
     }
 
@@ -213,28 +199,28 @@ fetch_holds scenario old was count messages exec locks rests are again items = o
         ∙ ap noted_as (full_more (is_full count first) once)
 
 -- the state after a reset
-abbrev pub was_reset : Progress → Exec → List KeptScan → Progress
-was_reset was exec kept = record was {
+abbrev pub was_reset : Progress → LocalCaches → Exec → Progress
+was_reset was caches exec = record was {
   exec = exec;
   due = dues.Nothing;
   running = Some (begun_own (was.finished + 1) was.running);
-  kept = kept;
+  caches = caches;
   tally = record was.tally { fetches = was.tally.fetches + 1 };
   answer = None;
 }
 
-pub reset_holds : (scenario : Scenario) (old : List Entry) (was : Progress) (exec : Exec) (locks : Roomy OwnLock) (rests : Rests scenario old was) → plan_at exec ≡ plan_again was.exec
-    → locks.items ≡ locks_accepted (is_in_accept (was_reset was exec []) (slice_get was.commands was.finished)) was.locks.items
-    → HasEntered scenario old was events.FetchReset rests (with_locks (was_reset was exec []) locks)
-reset_holds scenario old was exec locks rests again items = own_entered scenario old was now event locks rests (record { session = λ _ _ _ _ _ _. refl; finished = λ s. ends_same s.left s }) (record {
+pub reset_holds : (scenario : Scenario) (old : List Entry) (was : Progress) (caches : LocalCaches) (exec : Exec) (locks : Roomy OwnLock) (rests : Rests scenario old was) → kept_of caches ≡ nothing_kept → plan_at exec ≡ plan_again was.exec
+    → locks.items ≡ locks_accepted (is_in_accept (was_reset was caches exec) (slice_get was.commands was.finished)) was.locks.items
+    → HasEntered scenario old was events.FetchReset rests (with_locks (was_reset was caches exec) locks)
+reset_holds scenario old was caches exec locks rests keeps again items = own_entered scenario old was now event locks rests (record { session = λ _ _ _ _ _ _. refl; finished = λ s. ends_same s.left s }) (record {
   moves = record { id = refl; commands = refl; finished = refl };
   session = whole ∙ sym (ap (λ t. session_at now (rest_of t)) whole);
   facts = let f = rests.holds.facts in record {
     running = ap (λ o. Some (begun (was.finished + 1) o)) f.running ∙ runs_begun (was.finished + 1) was.running;
     lists = f.lists;
     owed = refl;
-    usable = λ scan. refl;
-    kept = λ i d within. absurd (omega (arith, within));
+    usable = λ scan. ap (λ k. is_kept k scan) (sym keeps);
+    kept = subst (AreRight after.rows) (sym keeps) (λ scan. tt);
     given = λ granted. given_again after was exec again (f.given granted);
   };
   counts = let c = rests.holds.counts in record { looks = omega (arith, c.looks); scans = omega (arith, c.scans); grants = omega (arith, c.grants); fetches = omega (arith, c.fetches); full = omega (arith, c.full) };
@@ -251,7 +237,7 @@ reset_holds scenario old was exec locks rests again items = own_entered scenario
     event = events.FetchReset
 
     now : Progress
-    now = was_reset was exec []
+    now = was_reset was caches exec
 
     after : Facts
     after = facts_after old was event

@@ -1,5 +1,5 @@
 -- What a granted lock, a refused one and a refused write make of what the code holds.
-use Rattle.std.proofs.Common.{◌≡◌, ◌+◌, ◌∙◌, ◌||◌, ℕ, Bool, true, false, not, Option, Some, None, List, [], ◌∷◌, ◌++◌, refl, sym, ap, subst, map, slice_get, length, get_or, arith}
+use Rattle.std.proofs.Common.{◌≡◌, ◌+◌, ◌∙◌, ◌||◌, ℕ, Bool, true, false, not, Option, Some, None, IfSome, List, [], ◌∷◌, ◌++◌, refl, sym, ap, subst, map, slice_get, length, arith}
 use Rattle.std.proofs.Math.Bool.{and-false, or-true}
 use Rattle.base_types.specs.Modes.{same_mode}
 use Rattle.base_types.specs.declared.row.Row.TheVariants as rows
@@ -8,6 +8,7 @@ use Rattle.command_answers.specs.declared.error.CommandError.TheVariants as erro
 use Rattle.row_visibility.specs.declared.clash.Clash.TheVariants as clashes
 use Rattle.lock_modes.specs.Own.{cleared}
 use Rattle.lock_modes.specs.Rooms.{Roomy}
+use Rattle.local_caches.specs.Kept.{Read}
 use Rattle.inval_messages.specs.Lists.{Written}
 use Rattle.ddl_effect.specs.Plans.{Plan, Absent, Do, Lookup}
 use Rattle.ddl_effect.specs.Stages.{plan_at}
@@ -22,9 +23,9 @@ use Rattle.cacheless.specs.Facts.{Facts, facts_of}
 use Rattle.cacheless.specs.Owed.{Owes, OwesLook, owed_after}
 use Rattle.cacheless.specs.Sessions.{refused_with}
 use Rattle.txn_blocks.specs.Transactions.{begun_own}
-use Rattle.cacheless.specs.State.{begins_in, owed_first, builds_missing, act_missing, scans_missing, row_sought, row_next, lacks_builds, is_in_accept, locks_accepted, clash_event, error_of, failed_with, Rest, rest_of, session_at}
+use Rattle.cacheless.specs.State.{Kept, kept_at, begins_in, owed_first, builds_missing, act_missing, scans_missing, row_sought, row_next, lacks_builds, is_in_accept, locks_accepted, clash_event, error_of, failed_with, Rest, rest_of, session_at}
 use Rattle.cacheless.specs.May.{lacks_any, names_relation, is_lock_at}
-use Rattle.cacheless.specs.Holds.{is_class, GivenFits, FactsFit, Rests, HasEntered}
+use Rattle.cacheless.specs.Holds.{is_class, AreRight, GivenFits, FactsFit, Rests, HasEntered}
 use Rattle.cacheless.proofs.Tests.{and_true, empty_is, right_none}
 use Rattle.cacheless.proofs.Same.{lacks_any_is}
 use Rattle.cacheless.proofs.Resting.{lacks_none, sought_same}
@@ -45,7 +46,7 @@ named_class rel o is = absurd (cc)
 -- the row that a lookup found, as its lock is granted
 found_fits : (facts : Facts) (s : Progress) (rel : Oid) (mode : Mode) (p : Plan) → FactsFit facts s → plan_at s.exec ≡ p → is_lock_at s p rel mode ≡ true → scans_missing s ≡ [] → GivenFits facts p (row_next s p)
 found_fits facts s rel mode (Do (Lookup name wanted) rest) fits at asks none = (
-  sought_same facts s name wanted rest fits at (right_none (builds_missing s.kept s.opened) (act_missing s (Do (Lookup name wanted) rest)) (lacks_none s (Lookup name wanted) rest at none)),
+  sought_same facts s name wanted rest fits at (right_none (builds_missing (kept_at s) s.opened) (act_missing s (Do (Lookup name wanted) rest)) (lacks_none s (Lookup name wanted) rest at none)),
   named_class rel (row_sought s name) (and_true (names_relation rel (row_sought s name)) (same_mode mode wanted) asks).0,
 )
 found_fits facts s rel mode (Absent name) fits at asks none = absurd (cc)
@@ -83,6 +84,14 @@ record Fails (event : Event) (error : CommandError) : Type 0 where
   usable : (before : List Entry) (b command : ℕ) (scan : Purpose) (t : Bool) → usable_by before b command scan event t ≡ t
   rows : (before : List Entry) (b : ℕ) (scan : Purpose) (given : List Row) → rows_by before b scan event given ≡ given
 
+-- what is kept is right still where the scans give what they gave
+right_still : (before after : Purpose → List Row) (kept : Kept) → ((scan : Purpose) → before scan ≡ after scan) → AreRight before kept → AreRight after kept
+right_still before after kept same right scan = by_read (kept scan) (right scan)
+  where
+    by_read : (o : Option Read) → IfSome o (λ read. read.rows ≡ before scan) → IfSome o (λ read. read.rows ≡ after scan)
+    by_read None is = tt
+    by_read (Some read) is = is ∙ same scan
+
 -- a command that has failed accepts nothing
 accepts_none : (error : CommandError) (was : Progress) (o : Option Command) → is_in_accept (failed_with error was) o ≡ false
 accepts_none error was None = refl
@@ -98,7 +107,7 @@ fails_holds event error fails scenario old was locks rests items = own_entered s
     lists = fails.lists old was.id (was.finished + 1) (facts_of old was.id).lists ∙ f.lists;
     owed = fails.owed;
     usable = λ scan. fails.usable old was.id (was.finished + 1) scan ((facts_of old was.id).usable scan) ∙ f.usable scan;
-    kept = λ i d within. let k = f.kept i d within in record { rows_are = k.rows_are ∙ sym (fails.rows old was.id (get_or was.kept i d).scan ((facts_of old was.id).rows (get_or was.kept i d).scan)) };
+    kept = right_still (facts_of old was.id).rows _ (kept_at was) (λ scan. sym (fails.rows old was.id scan ((facts_of old was.id).rows scan))) f.kept;
     given = λ is. tt;
   };
   counts = counts_stay rests.holds.counts;

@@ -1,12 +1,13 @@
 -- What a scan makes of what the code holds.
-use Rattle.std.proofs.Common.{◌≡◌, ◌<◌, ◌+◌, ◌∙◌, ◌&&◌, ◌||◌, ℕ, Bool, true, false, not, Some, None, List, [], ◌∷◌, ◌++◌, refl, sym, ap, subst, length, slice_get, arith, All, get_or, cond}
+use Rattle.std.proofs.Common.{◌≡◌, ◌+◌, ◌∙◌, ◌&&◌, ◌||◌, ℕ, Bool, true, false, not, Option, Some, None, IfSome, is_some, List, [], ◌∷◌, refl, sym, ap, subst, slice_get, arith, cond, if◌then◌else◌}
 use Rattle.std.specs.List.{find, list_any, AllByRecursion}
 use Rattle.std.specs.Option.{option_map_or}
-use Rattle.std.proofs.lemmas.List.Folds.{list_any-append, list_any_at}
-use Rattle.std.proofs.lemmas.List.Elements.{All-push}
 use Rattle.base_types.specs.Scans.{same_scan, build_scans, is_build_scan}
 use Rattle.base_types.specs.declared.scan.Purpose.TheVariants as scans
-use Rattle.base_types.proofs.SameScan.{same_scan-true, same_scan-itself}
+use Rattle.base_types.proofs.SameScan.{same_scan-true}
+use Rattle.local_caches.specs.Caches.{kept_of}
+use Rattle.local_caches.specs.Kept.{Read}
+use Rattle.local_caches.specs.declared.local_caches.LocalCaches.{LocalCaches}
 use Rattle.event_kinds.specs.declared.entry.Event.TheVariants as events
 use Rattle.lock_modes.specs.Rooms.{Roomy}
 use Rattle.ddl_effect.specs.declared.told.Told.TheVariants as tells
@@ -16,20 +17,19 @@ use Rattle.history_model.specs.Read.{rows_by}
 use Rattle.history_model.specs.Transactions.{begun}
 use Rattle.history_model.specs.Versions.{answer_of}
 use Rattle.cacheless.specs.Types.{Kind, Oid, Mode, Row, Purpose, Scenario, Entry, Event, Opening, OwnLock}
-use Rattle.cacheless.specs.declared.kept_scan.KeptScan.{KeptScan}
 use Rattle.cacheless.specs.declared.progress.Due.TheVariants as dues
 use Rattle.cacheless.specs.declared.progress.Progress.{Progress}
 use Rattle.cacheless.specs.Facts.{Facts, facts_of}
 use Rattle.txn_blocks.specs.Transactions.{begun_own}
-use Rattle.cacheless.specs.State.{is_kept, is_in_accept, locks_accepted}
+use Rattle.cacheless.specs.State.{Kept, kept_at, kept_with, is_kept, is_in_accept, locks_accepted}
 use Rattle.cacheless.specs.May.{is_first_missing, is_missing, is_next_of_act, is_next_at, has_failed}
-use Rattle.cacheless.specs.Holds.{ReadRight, GivenFits, Rests, HasEntered}
-use Rattle.cacheless.proofs.Tests.{and_true, or_either, not_true}
+use Rattle.cacheless.specs.Holds.{AreRight, GivenFits, Rests, HasEntered}
+use Rattle.cacheless.proofs.Tests.{and_true, or_either}
 use Rattle.cacheless.proofs.Same.{builds_of}
 use Rattle.cacheless.proofs.Entries.Entering.{facts_after, with_locks, own_entered, runs_begun}
 
 -- a scan for a descriptor that isn't kept
-abbrev pub IsLacking : List KeptScan → Purpose → Type 0
+abbrev pub IsLacking : Kept → Purpose → Type 0
 IsLacking kept scan = (not (is_kept kept scan) ≡ true) × (is_build_scan scan ≡ true)
 
 found_first : (p : Purpose → Bool) (P : Purpose → Type 0) (l : List Purpose) (scan : Purpose) → AllByRecursion P l → option_map_or (same_scan scan) (find p l) false ≡ true → (p scan ≡ true) × P scan
@@ -40,26 +40,30 @@ found_first p P (x ∷ l) scan holds is = by_test (p x) refl is (found_first p P
     by_test true at here rest = let same : x ≡ scan = sym (same_scan-true scan x here) in (subst (λ y. p y ≡ true) same at, subst P same holds.0)
     by_test false at here rest = rest here
 
-first_lacks : (kept : List KeptScan) (scan : Purpose) (kind : Kind) (rel : Oid) → is_first_missing scan kept kind rel ≡ true → IsLacking kept scan
+first_lacks : (kept : Kept) (scan : Purpose) (kind : Kind) (rel : Oid) → is_first_missing scan kept kind rel ≡ true → IsLacking kept scan
 first_lacks kept scan kind rel is = found_first (λ d. not (is_kept kept d)) (λ d. is_build_scan d ≡ true) (build_scans kind rel) scan (builds_of kind rel) is
 
-opened_lacks : (kept : List KeptScan) (scan : Purpose) (opened : List Opening) → list_any (λ o. is_first_missing scan kept o.kind o.rel) opened ≡ true → IsLacking kept scan
+opened_lacks : (kept : Kept) (scan : Purpose) (opened : List Opening) → list_any (λ o. is_first_missing scan kept o.kind o.rel) opened ≡ true → IsLacking kept scan
 opened_lacks kept scan [] is = absurd (cc)
 opened_lacks kept scan (o ∷ opened) is = or_either (is_first_missing scan kept o.kind o.rel) (list_any (λ q. is_first_missing scan kept q.kind q.rel) opened) is (first_lacks kept scan o.kind o.rel) (opened_lacks kept scan opened)
 
-missing_lacks : (kept : List KeptScan) (scan wanted : Purpose) → is_missing scan kept wanted ≡ true → not (is_kept kept scan) ≡ true
+missing_lacks : (kept : Kept) (scan wanted : Purpose) → is_missing scan kept wanted ≡ true → not (is_kept kept scan) ≡ true
 missing_lacks kept scan wanted is = let parts = and_true (not (is_kept kept wanted)) (same_scan scan wanted) is in ap (λ d. not (is_kept kept d)) (same_scan-true scan wanted parts.1) ∙ parts.0
 
-act_lacking : (s : Progress) (scan : Purpose) (p : Plan) → is_next_of_act scan s p ≡ true → not (is_kept s.kept scan) ≡ true
-act_lacking s scan (Do (Lookup name mode) rest) is = missing_lacks s.kept scan (scans.RelName name) (and_true (not s.granted) (is_missing scan s.kept (scans.RelName name)) is).1
-act_lacking s scan (Do (Search wanted) rest) is = missing_lacks s.kept scan wanted is
-act_lacking s scan (Do (Open rel kind) rest) is = (first_lacks s.kept scan kind rel is).0
-act_lacking s scan (Done (tells.Regclass oid)) is = missing_lacks s.kept scan (scans.RelOid oid) is
+act_lacking : (s : Progress) (scan : Purpose) (p : Plan) → is_next_of_act scan s p ≡ true → not (is_kept (kept_at s) scan) ≡ true
+act_lacking s scan (Do (Lookup name mode) rest) is = missing_lacks (kept_at s) scan (scans.RelName name) (and_true (not s.granted) (is_missing scan (kept_at s) (scans.RelName name)) is).1
+act_lacking s scan (Do (Search wanted) rest) is = missing_lacks (kept_at s) scan wanted is
+act_lacking s scan (Do (Open rel kind) rest) is = (first_lacks (kept_at s) scan kind rel is).0
+act_lacking s scan (Done (tells.Regclass oid)) is = missing_lacks (kept_at s) scan (scans.RelOid oid) is
 act_lacking s scan p is = absurd (cc)
 
+none_read : (o : Option Read) → not (is_some o) ≡ true → o ≡ None
+none_read None is = refl
+none_read (Some read) is = absurd (cc)
+
 -- a scan that may be made isn't kept
-pub next_lacks : (s : Progress) (scan : Purpose) → is_next_at scan s ≡ true → not (is_kept s.kept scan) ≡ true
-next_lacks s scan is = or_either _ _ (and_true (not (has_failed s)) _ is).1 (λ here. (opened_lacks s.kept scan s.opened here).0) (act_lacking s scan (plan_at s.exec))
+pub next_lacks : (s : Progress) (scan : Purpose) → is_next_at scan s ≡ true → kept_at s scan ≡ None
+next_lacks s scan is = none_read (kept_at s scan) (or_either _ _ (and_true (not (has_failed s)) _ is).1 (λ here. (opened_lacks (kept_at s) scan s.opened here).0) (act_lacking s scan (plan_at s.exec)))
 
 no_named : (build named : Purpose) → is_build_scan build ≡ true → is_build_scan named ≡ false → same_scan build named ≡ false
 no_named build named is other = by_test (same_scan build named) refl
@@ -75,14 +79,14 @@ rows_by-own : (old : List Entry) (b : ℕ) (made scan : Purpose) (count : ℕ) (
 rows_by-own old b made scan count given is = ap (λ t. elim t [ true ↦ answer_of old b scan | false ↦ given ]) is ∙ ap (answer_of old b) (sym (same_scan-true made scan is))
 
 -- the state after a scan
-abbrev pub built_scan : Progress → List KeptScan → Progress
-built_scan was kept = record was { due = dues.Nothing; running = Some (begun_own (was.finished + 1) was.running); tally = record was.tally { scans = was.tally.scans + 1 }; kept = kept; answer = None }
+abbrev pub built_scan : Progress → LocalCaches → Progress
+built_scan was caches = record was { due = dues.Nothing; running = Some (begun_own (was.finished + 1) was.running); tally = record was.tally { scans = was.tally.scans + 1 }; caches = caches; answer = None }
 
 -- none is of the name that a lookup has its lock for
 next_other : (s : Progress) (scan : Purpose) (name : List ℕ) (mode : Mode) (rest : List Row → Plan) → plan_at s.exec ≡ Do (Lookup name mode) rest → s.granted ≡ true → is_next_at scan s ≡ true → same_scan scan (scans.RelName name) ≡ false
 next_other s scan name mode rest at granted is = or_either _ _ (and_true (not (has_failed s)) _ is).1
-    (λ here. no_named scan (scans.RelName name) (opened_lacks s.kept scan s.opened here).1 refl)
-    (λ there. absurd (let both : false ≡ true = sym (ap (λ p. is_next_of_act scan s p) at ∙ ap (λ t. not t && is_missing scan s.kept (scans.RelName name)) granted) ∙ there in cc both))
+    (λ here. no_named scan (scans.RelName name) (opened_lacks (kept_at s) scan s.opened here).1 refl)
+    (λ there. absurd (let both : false ≡ true = sym (ap (λ p. is_next_of_act scan s p) at ∙ ap (λ t. not t && is_missing scan (kept_at s) (scans.RelName name)) granted) ∙ there in cc both))
 
 -- what a lookup found fits as before
 given_as_before : (old : List Entry) (was : Progress) (scan : Purpose) (count : ℕ) (p : Plan) → plan_at was.exec ≡ p → was.granted ≡ true → is_next_at scan was ≡ true → GivenFits (facts_of old was.id) p was.given → GivenFits (facts_after old was (events.Scan scan count)) p was.given
@@ -91,44 +95,42 @@ given_as_before old was scan count (Do (Lookup name mode) rest) at granted next 
 given_as_before old was scan count (Absent name) at granted next fit = fit
 given_as_before old was scan count p at granted next fit = fit
 
-none_at : {X : Type 0} (p : X → Bool) (xs : List X) (i : ℕ) (d : X) → i < length xs → list_any p xs ≡ false → p (get_or xs i d) ≡ false
-none_at p xs i d within none = by_test (p (get_or xs i d)) refl
+-- with the scan more is kept
+kept_more : (kept : Kept) (scan : Purpose) (given : List Row) (at : ℕ) (other : Purpose) → (same_scan scan other || is_kept kept other) ≡ is_kept (kept_with scan given at kept) other
+kept_more kept scan given at other = by_test (same_scan scan other)
   where
-    by_test : (t : Bool) → p (get_or xs i d) ≡ t → p (get_or xs i d) ≡ false
-    by_test true is = absurd (cc (list_any_at p xs i d within is, none))
-    by_test false is = is
+    by_test : (t : Bool) → (t || is_kept kept other) ≡ is_some (if t then Some (record { rows = given; at = at }) else kept other)
+    by_test true = refl
+    by_test false = refl
 
-swapped : (a b : Bool) → (a || b) ≡ (b || (a || false))
-swapped true true = refl
-swapped true false = refl
-swapped false true = refl
-swapped false false = refl
-
-other_scan : (a b : Purpose) → same_scan a b ≡ false → same_scan b a ≡ false
-other_scan a b other = by_test (same_scan b a) refl
+-- and what is kept is right
+right_more : (old : List Entry) (b : ℕ) (kept : Kept) (scan : Purpose) (given : List Row) (at count : ℕ) → given ≡ answer_of old b scan → AreRight (facts_of old b).rows kept → AreRight (λ other. rows_by old b other (events.Scan scan count) ((facts_of old b).rows other)) (kept_with scan given at kept)
+right_more old b kept scan given at count are right other = by_test (same_scan scan other) refl
   where
-    by_test : (t : Bool) → same_scan b a ≡ t → same_scan b a ≡ false
-    by_test true is = absurd (cc (subst (λ c. same_scan c b ≡ true) (same_scan-true b a is) (same_scan-itself b), other))
-    by_test false is = is
+    before : List Row
+    before = (facts_of old b).rows other
 
-pub built_holds : (scenario : Scenario) (old : List Entry) (was : Progress) (scan : Purpose) (count : ℕ) (given : List Row) (at : ℕ) (kept : List KeptScan) (locks : Roomy OwnLock) (rests : Rests scenario old was)
-    → is_next_at scan was ≡ true → given ≡ answer_of old was.id scan → kept ≡ was.kept ++ record { scan = scan; rows = given; at = at } ∷ []
-    → locks.items ≡ locks_accepted (is_in_accept (built_scan was kept) (slice_get was.commands was.finished)) was.locks.items
-    → HasEntered scenario old was (events.Scan scan count) rests (with_locks (built_scan was kept) locks)
-built_holds scenario old was scan count given at kept locks rests next are pushed items = own_entered scenario old was (built_scan was kept) event locks rests (record { session = λ _ _ _ _ _ _. refl; finished = λ _. refl }) (record {
+    by_read : same_scan scan other ≡ false → (o : Option Read) → IfSome o (λ read. read.rows ≡ before) → IfSome o (λ read. read.rows ≡ rows_by old b other (events.Scan scan count) before)
+    by_read apart None is = tt
+    by_read apart (Some read) is = is ∙ sym (rows_by-others old b scan other count before apart)
+
+    by_test : (t : Bool) → same_scan scan other ≡ t → IfSome (if t then Some (record { rows = given; at = at }) else kept other) (λ read. read.rows ≡ rows_by old b other (events.Scan scan count) before)
+    by_test true same = are ∙ sym (rows_by-own old b scan other count before same)
+    by_test false apart = by_read apart (kept other) (right other)
+
+pub built_holds : (scenario : Scenario) (old : List Entry) (was : Progress) (scan : Purpose) (count : ℕ) (given : List Row) (at : ℕ) (caches : LocalCaches) (locks : Roomy OwnLock) (rests : Rests scenario old was)
+    → is_next_at scan was ≡ true → given ≡ answer_of old was.id scan → kept_of caches ≡ kept_with scan given at (kept_at was)
+    → locks.items ≡ locks_accepted (is_in_accept (built_scan was caches) (slice_get was.commands was.finished)) was.locks.items
+    → HasEntered scenario old was (events.Scan scan count) rests (with_locks (built_scan was caches) locks)
+built_holds scenario old was scan count given at caches locks rests next are pushed items = own_entered scenario old was (built_scan was caches) event locks rests (record { session = λ _ _ _ _ _ _. refl; finished = λ _. refl }) (record {
   moves = record { id = refl; commands = refl; finished = refl };
   session = refl;
   facts = let f = rests.holds.facts in record {
     running = ap (λ o. Some (begun (was.finished + 1) o)) f.running ∙ runs_begun (was.finished + 1) was.running;
     lists = f.lists;
     owed = refl;
-    usable = λ other. ap (λ t. same_scan scan other || t) (f.usable other) ∙ swapped (same_scan scan other) (is_kept was.kept other) ∙ sym (list_any-append (λ k. same_scan k.scan other) was.kept (made ∷ [])) ∙ ap (λ l. is_kept l other) (sym pushed);
-    kept = subst (All (ReadRight after.rows)) (sym pushed) (All-push (ReadRight after.rows) was.kept made
-        (λ i d within. let k = f.kept i d within in record {
-          rows_are = k.rows_are ∙ sym (rows_by-others old was.id scan (get_or was.kept i d).scan count ((facts_of old was.id).rows (get_or was.kept i d).scan)
-              (other_scan (get_or was.kept i d).scan scan (none_at (λ k. same_scan k.scan scan) was.kept i d within unkept)));
-        })
-        (record { rows_are = are ∙ sym (rows_by-own old was.id scan scan count ((facts_of old was.id).rows scan) (same_scan-itself scan)) }));
+    usable = λ other. ap (λ t. same_scan scan other || t) (f.usable other) ∙ kept_more (kept_at was) scan given at other ∙ ap (λ k. is_kept k other) (sym pushed);
+    kept = subst (AreRight after.rows) (sym pushed) (right_more old was.id (kept_at was) scan given at count are f.kept);
     given = λ granted. given_as_before old was scan count (plan_at was.exec) refl granted next (f.given granted);
   };
   counts = let c = rests.holds.counts in record { looks = omega (arith, c.looks); scans = omega (arith, c.scans); grants = omega (arith, c.grants); fetches = omega (arith, c.fetches); full = c.full };
@@ -142,9 +144,3 @@ built_holds scenario old was scan count given at kept locks rests next are pushe
 
     after : Facts
     after = facts_after old was event
-
-    unkept : is_kept was.kept scan ≡ false
-    unkept = not_true (is_kept was.kept scan) (next_lacks was scan next)
-
-    made : KeptScan
-    made = record { scan = scan; rows = given; at = at }

@@ -10,6 +10,8 @@ use Rattle.inval_messages.specs.Lists.{Written, once_more}
 use Rattle.inval_messages.proofs.Parts.{ForCaches, ForDescriptors, cats_of-caches, rels_of-descriptors}
 use Rattle.command_lists.specs.Lists.{Held, all_lists, new_list, with_messages}
 use Rattle.command_lists.proofs.Writes.{with-changes}
+use Rattle.local_caches.specs.Caches.{kept_of}
+use Rattle.local_caches.specs.declared.local_caches.LocalCaches.{LocalCaches}
 use Rattle.ddl_effect.specs.declared.told.Told.TheVariants as tells
 use Rattle.ddl_effect.specs.Plans.{Plan, Done, Fails, Absent, Do, NotBuilt, Lookup, Open, Search, Read, Lock, Write, after_act}
 use Rattle.ddl_effect.specs.Stages.{plan_at, altering_at, want_of}
@@ -22,7 +24,6 @@ use Rattle.history_model.specs.Transactions.{begun}
 use Rattle.history_model.specs.Versions.{old_row, added_row}
 use Rattle.history_model.proofs.Every.{every-append}
 use Rattle.cacheless.specs.Types.{Oid, Xid, Message, Row, Purpose, Scenario, Entry, Event, Item, OwnLock, Exec}
-use Rattle.cacheless.specs.declared.kept_scan.KeptScan.{KeptScan}
 use Rattle.cacheless.specs.declared.progress.Due.TheVariants as dues
 use Rattle.txn_blocks.specs.declared.transaction.RunningTransaction.{RunningTransaction}
 use Rattle.cacheless.specs.declared.progress.Progress.{Progress}
@@ -32,8 +33,8 @@ use Rattle.cacheless.specs.Session.{Session}
 use Rattle.cacheless.specs.Sessions.{written}
 use Rattle.cacheless.specs.Puts.{PutsOpened}
 use Rattle.txn_blocks.specs.Transactions.{begun_own}
-use Rattle.cacheless.specs.State.{running_of, lists_at, kept_spared, is_absent, is_in_accept, locks_accepted, locks_made, messages_in, rest_of, session_at}
-use Rattle.cacheless.specs.Holds.{ReadRight, Rests, HasEntered}
+use Rattle.cacheless.specs.State.{running_of, lists_at, kept_at, kept_spared, is_kept, is_absent, is_in_accept, locks_accepted, locks_made, messages_in, rest_of, session_at}
+use Rattle.cacheless.specs.Holds.{AreRight, Rests, HasEntered}
 use Rattle.cacheless.proofs.Tests.{not_both}
 use Rattle.cacheless.proofs.Written.WrittenMessages.{any_once}
 use Rattle.cacheless.proofs.Entries.EnteredFetches.{is_kept-spared, all-spared}
@@ -96,15 +97,15 @@ written_is (Absent name) s is = absurd (cc)
 written_is NotBuilt s is = absurd (cc)
 
 -- the state after a write
-abbrev pub wrote : Progress → Xid → List KeptScan → Held → Exec → Roomy OwnLock → Progress
-wrote was xid kept lists exec locks = record was {
+abbrev pub wrote : Progress → Xid → LocalCaches → Held → Exec → Roomy OwnLock → Progress
+wrote was xid caches lists exec locks = record was {
   exec = exec;
   opened = [];
   granted = false;
   due = dues.Nothing;
   running = Some (record (begun_own (was.finished + 1) was.running) { xid = Some xid });
   lists = lists;
-  kept = kept;
+  caches = caches;
   locks = locks;
   answer = None;
 }
@@ -113,20 +114,20 @@ runs_written : (number : ℕ) (xid : Xid) (own : Option RunningTransaction) → 
 runs_written number xid None = refl
 runs_written number xid (Some t) = refl
 
-pub write_holds : (scenario : Scenario) (old : List Entry) (was : Progress) (xid : Xid) (items : List Item) (messages : List Message) (new_oids : ℕ) (first : Oid) (lists : Held) (exec : Exec) (locked locks : Roomy OwnLock) (rests : Rests scenario old was)
+pub write_holds : (scenario : Scenario) (old : List Entry) (was : Progress) (xid : Xid) (items : List Item) (messages : List Message) (new_oids : ℕ) (first : Oid) (caches : LocalCaches) (lists : Held) (exec : Exec) (locked locks : Roomy OwnLock) (rests : Rests scenario old was)
     → want_of (plan_at was.exec) ≡ wants.Write → messages ≡ messages_in old was.id items → flat_map (locked_by (was.finished + 1)) items ≡ locks_made new_oids first (was.finished + 1)
-    → all_lists lists.lists ≡ lists_at was ++ with_messages messages (new_list (was.finished + 1)) ∷ [] → plan_at exec ≡ after_act [] (plan_at was.exec) → locked.items ≡ was.locks.items ++ locks_made new_oids first (was.finished + 1)
-    → locks.items ≡ locks_accepted (is_in_accept (wrote was xid (kept_spared messages was.kept) lists exec locked) (slice_get was.commands was.finished)) locked.items
-    → HasEntered scenario old was (events.Write xid items) rests (with_locks (wrote was xid (kept_spared messages was.kept) lists exec locked) locks)
-write_holds scenario old was xid items messages new_oids first lists exec locked locks rests wants_it are makes pushed goes held accepts = own_entered scenario old was now event locks rests (record { session = λ _ _ _ _ _ _. refl; finished = λ s. ends_same s.left s }) (record {
+    → all_lists lists.lists ≡ lists_at was ++ with_messages messages (new_list (was.finished + 1)) ∷ [] → kept_of caches ≡ kept_spared messages (kept_at was) → plan_at exec ≡ after_act [] (plan_at was.exec) → locked.items ≡ was.locks.items ++ locks_made new_oids first (was.finished + 1)
+    → locks.items ≡ locks_accepted (is_in_accept (wrote was xid caches lists exec locked) (slice_get was.commands was.finished)) locked.items
+    → HasEntered scenario old was (events.Write xid items) rests (with_locks (wrote was xid caches lists exec locked) locks)
+write_holds scenario old was xid items messages new_oids first caches lists exec locked locks rests wants_it are makes pushed keeps goes held accepts = own_entered scenario old was now event locks rests (record { session = λ _ _ _ _ _ _. refl; finished = λ s. ends_same s.left s }) (record {
   moves = record { id = refl; commands = refl; finished = refl };
   session = whole ∙ sym (ap (λ t. session_at now (rest_of t)) whole);
   facts = let f = rests.holds.facts in record {
     running = ap (λ o. Some (record (begun (was.finished + 1) o) { xid = Some xid.0 })) f.running ∙ runs_written (was.finished + 1) xid was.running;
     lists = ap (λ l. l ++ written_by old was.id (was.finished + 1) items ∷ []) f.lists ∙ sym listed;
     owed = refl;
-    usable = λ scan. ap (λ t. t && (facts_of old was.id).usable scan) (sym (spared_alike old was.id items scan)) ∙ ap (λ l. is_spared scan l && (facts_of old was.id).usable scan) (sym are) ∙ ap (λ t. is_spared scan messages && t) (f.usable scan) ∙ sym (is_kept-spared messages was.kept scan);
-    kept = all-spared (ReadRight after.rows) messages was.kept (λ i d within. let k = f.kept i d within in record { rows_are = k.rows_are });
+    usable = λ scan. ap (λ t. t && (facts_of old was.id).usable scan) (sym (spared_alike old was.id items scan)) ∙ ap (λ l. is_spared scan l && (facts_of old was.id).usable scan) (sym are) ∙ ap (λ t. is_spared scan messages && t) (f.usable scan) ∙ sym (is_kept-spared messages (kept_at was) scan) ∙ ap (λ k. is_kept k scan) (sym keeps);
+    kept = subst (AreRight after.rows) (sym keeps) (all-spared (λ scan read. read.rows ≡ after.rows scan) messages (kept_at was) f.kept);
     given = λ is. absurd (cc is);
   };
   counts = counts_stay rests.holds.counts;
@@ -144,7 +145,7 @@ write_holds scenario old was xid items messages new_oids first lists exec locked
     event = events.Write xid items
 
     now : Progress
-    now = wrote was xid (kept_spared messages was.kept) lists exec locked
+    now = wrote was xid caches lists exec locked
 
     after : Facts
     after = facts_after old was event

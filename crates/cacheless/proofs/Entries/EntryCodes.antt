@@ -6,20 +6,21 @@ use Rattle.command_answers.specs.declared.error.CommandError.TheVariants as erro
 use Rattle.lock_modes.specs.Rooms.{Roomy}
 use Rattle.inval_messages.specs.Lists.{cats_in, rels_in, lists_from, lists_before}
 use Rattle.command_lists.specs.Lists.{Held, all_lists, new_list, with_messages}
+use Rattle.local_caches.specs.Caches.{kept_of}
+use Rattle.local_caches.specs.declared.local_caches.LocalCaches.{LocalCaches}
 use Rattle.ddl_effect.specs.Plans.{after_act}
 use Rattle.ddl_effect.specs.Stages.{plan_at, want_of}
 use Rattle.ddl_effect.specs.declared.want.Want.TheVariants as wants
 use Rattle.history_model.specs.Log.{fetched_by}
 use Rattle.history_model.specs.Versions.{answer_of}
 use Rattle.cacheless.specs.Types.{Oid, Xid, Mode, Message, Row, Purpose, CommandError, Clash, Scenario, Entry, Item, Opening, OwnLock, Exec}
-use Rattle.cacheless.specs.declared.kept_scan.KeptScan.{KeptScan}
 use Rattle.cacheless.specs.declared.progress.Due.{Due}
 use Rattle.cacheless.specs.declared.progress.Due.TheVariants as dues
 use Rattle.txn_blocks.specs.declared.transaction.RunningTransaction.{RunningTransaction}
 use Rattle.cacheless.specs.declared.progress.Progress.{Progress}
 use Rattle.cacheless.specs.Locks.{locked_by}
 use Rattle.txn_blocks.specs.Transactions.{begun_own, ends_own, released_own}
-use Rattle.cacheless.specs.State.{due_looked, due_fetched, one_if, lists_at, lists_left, kept_spared, row_next, is_full, is_in_accept, locks_accepted, locks_made, locks_written, messages_in, clash_event, error_of, failed_with, FailsWith, SearchesAgain}
+use Rattle.cacheless.specs.State.{due_looked, due_fetched, one_if, lists_at, lists_left, kept_at, nothing_kept, kept_with, kept_spared, row_next, is_full, is_in_accept, locks_accepted, locks_made, locks_written, messages_in, clash_event, error_of, failed_with, FailsWith, SearchesAgain}
 use Rattle.cacheless.specs.May.{lacks_any, is_lock_at, is_next_at}
 use Rattle.cacheless.specs.Holds.{Rests, HasEntered}
 use Rattle.cacheless.proofs.Entries.EnteredLooks.{looked, look_holds}
@@ -37,12 +38,12 @@ look_code was some_wait own due locks begins is items scenario seen rests =
     (look_holds scenario seen was some_wait locks rests (items ∙ ap (λ d. locks_accepted (is_in_accept (record was { due = d; running = Some own }) (slice_get was.commands was.finished)) was.locks.items) is))
 
 -- the state of a fetch, before its tally is
-abbrev pub searched : Progress → ℕ → List Message → Exec → Progress
-searched was count messages exec = record was {
+abbrev pub searched : Progress → ℕ → LocalCaches → Exec → Progress
+searched was count caches exec = record was {
   exec = exec;
   due = due_fetched count;
   running = Some (begun_own (was.finished + 1) was.running);
-  kept = kept_spared messages was.kept;
+  caches = caches;
 }
 
 -- one more fetch
@@ -53,12 +54,12 @@ fetched_once s = record s { tally = record s.tally { fetches = s.tally.fetches +
 abbrev pub fetched_more : Progress → ℕ → Roomy OwnLock → Progress
 fetched_more s full locks = record s { tally = record s.tally { fetches = s.tally.fetches + 1; full = s.tally.full + full }; locks = locks }
 
-pub fetch_code : (was : Progress) (messages : List Message) (count : ℕ) (own : RunningTransaction) (kept : List KeptScan) (due : Due) (mid : Progress) (full : ℕ) (locks : Roomy OwnLock) → count ≡ length messages → own ≡ begun_own (was.finished + 1) was.running
-    → kept ≡ kept_spared messages was.kept → due ≡ due_fetched count → SearchesAgain (record was { running = Some own; kept = kept; due = due }) mid
+pub fetch_code : (was : Progress) (messages : List Message) (count : ℕ) (own : RunningTransaction) (caches : LocalCaches) (due : Due) (mid : Progress) (full : ℕ) (locks : Roomy OwnLock) → count ≡ length messages → own ≡ begun_own (was.finished + 1) was.running
+    → kept_of caches ≡ kept_spared messages (kept_at was) → due ≡ due_fetched count → SearchesAgain (record was { running = Some own; caches = caches; due = due }) mid
     → full ≡ one_if (is_full count (fetched_once mid))
     → locks.items ≡ locks_accepted (is_in_accept (fetched_more mid full mid.locks) (slice_get mid.commands mid.finished)) mid.locks.items
     → (scenario : Scenario) (seen : List Entry) → (rests : Rests scenario seen was) → messages ≡ fetched_by seen was.id (length messages) → HasEntered scenario seen was (events.Fetch (length messages)) rests (record (fetched_more mid full locks) { answer = None })
-fetch_code was messages count own kept due mid full locks counted begins keeps dues again counts items scenario seen rests are = subst Goal (sym state) canonical counts items
+fetch_code was messages count own caches due mid full locks counted begins keeps dues again counts items scenario seen rests are = subst Goal (sym state) canonical counts items
   where
     n : ℕ
     n = length messages
@@ -66,26 +67,26 @@ fetch_code was messages count own kept due mid full locks counted begins keeps d
     Goal : Progress → Type 0
     Goal m = full ≡ one_if (is_full count (fetched_once m)) → locks.items ≡ locks_accepted (is_in_accept (fetched_more m full m.locks) (slice_get m.commands m.finished)) m.locks.items → HasEntered scenario seen was (events.Fetch n) rests (record (fetched_more m full locks) { answer = None })
 
-    state : mid ≡ searched was n messages mid.exec
-    state = again.is ∙ (λ i. record (searched was n messages mid.exec) { due = (dues ∙ ap due_fetched counted) i; running = Some (begins i); kept = keeps i })
+    state : mid ≡ searched was n caches mid.exec
+    state = again.is ∙ (λ i. record (searched was n caches mid.exec) { due = (dues ∙ ap due_fetched counted) i; running = Some (begins i) })
 
-    canonical : Goal (searched was n messages mid.exec)
-    canonical f l = subst (HasEntered scenario seen was (events.Fetch n) rests) (λ i. record (fetched was n messages mid.exec) { tally = record was.tally { fetches = was.tally.fetches + 1; full = was.tally.full + sym (f ∙ ap (λ c. one_if (is_full c (fetched_first was n messages mid.exec))) counted) i }; locks = locks })
-        (fetch_holds scenario seen was n messages mid.exec locks rests are again.plan l)
+    canonical : Goal (searched was n caches mid.exec)
+    canonical f l = subst (HasEntered scenario seen was (events.Fetch n) rests) (λ i. record (fetched was n caches mid.exec) { tally = record was.tally { fetches = was.tally.fetches + 1; full = was.tally.full + sym (f ∙ ap (λ c. one_if (is_full c (fetched_first was n caches mid.exec))) counted) i }; locks = locks })
+        (fetch_holds scenario seen was n messages caches mid.exec locks rests are keeps again.plan l)
 
-pub reset_code : (was : Progress) (own : RunningTransaction) (kept : List KeptScan) (mid : Progress) (locks : Roomy OwnLock) → own ≡ begun_own (was.finished + 1) was.running → kept ≡ [] → SearchesAgain (record was { running = Some own; kept = kept; due = dues.Nothing }) mid
+pub reset_code : (was : Progress) (own : RunningTransaction) (caches : LocalCaches) (mid : Progress) (locks : Roomy OwnLock) → own ≡ begun_own (was.finished + 1) was.running → kept_of caches ≡ nothing_kept → SearchesAgain (record was { running = Some own; caches = caches; due = dues.Nothing }) mid
     → locks.items ≡ locks_accepted (is_in_accept (fetched_once mid) (slice_get mid.commands mid.finished)) mid.locks.items
     → (scenario : Scenario) (seen : List Entry) → (rests : Rests scenario seen was) → HasEntered scenario seen was events.FetchReset rests (record (fetched_once mid) { locks = locks; answer = None })
-reset_code was own kept mid locks begins keeps again items scenario seen rests = subst Goal (sym state) (λ l. reset_holds scenario seen was mid.exec locks rests again.plan l) items
+reset_code was own caches mid locks begins keeps again items scenario seen rests = subst Goal (sym state) (λ l. reset_holds scenario seen was caches mid.exec locks rests keeps again.plan l) items
   where
     Goal : Progress → Type 0
     Goal m = locks.items ≡ locks_accepted (is_in_accept (fetched_once m) (slice_get m.commands m.finished)) m.locks.items → HasEntered scenario seen was events.FetchReset rests (record (fetched_once m) { locks = locks; answer = None })
 
     canonical : Progress
-    canonical = record was { exec = mid.exec; due = dues.Nothing; running = Some (begun_own (was.finished + 1) was.running); kept = [] }
+    canonical = record was { exec = mid.exec; due = dues.Nothing; running = Some (begun_own (was.finished + 1) was.running); caches = caches }
 
     state : mid ≡ canonical
-    state = again.is ∙ (λ i. record canonical { running = Some (begins i); kept = keeps i })
+    state = again.is ∙ (λ i. record canonical { running = Some (begins i) })
 
 pub granted_code : (was : Progress) (rel : Oid) (mode : Mode) (own : RunningTransaction) (given : Option Row) (locks : Roomy OwnLock) → is_lock_at was (plan_at was.exec) rel mode ≡ true → lacks_any was ≡ false → own ≡ begun_own (was.finished + 1) was.running → given ≡ row_next was (plan_at was.exec)
     → locks.items ≡ was.locks.items ++ record { rel = rel; mode = mode; command = was.finished + 1; clear = false } ∷ []
@@ -101,25 +102,25 @@ pub clash_code : (was now : Progress) (name : List ℕ) (clash : Clash) (error :
     → (scenario : Scenario) (seen : List Entry) → (rests : Rests scenario seen was) → HasEntered scenario seen was (clash_event name clash) rests now
 clash_code was now name clash error is fails scenario seen rests = subst (HasEntered scenario seen was (clash_event name clash) rests) (sym (fails.is ∙ ap (λ e. record (failed_with e was) { locks = now.locks }) is)) (clash_holds scenario seen was name clash now.locks rests fails.locks)
 
-pub built_code : (was : Progress) (scan : Purpose) (rows : Vec Row Global) (given : List Row) (at : ℕ) (own : RunningTransaction) (kept : List KeptScan) (locks : Roomy OwnLock) → own ≡ begun_own (was.finished + 1) was.running → is_next_at scan was ≡ true
-    → given ≡ rows.items → kept ≡ was.kept ++ record { scan = scan; rows = given; at = at } ∷ []
-    → locks.items ≡ locks_accepted (is_in_accept (record was { kept = kept; running = Some own; due = dues.Nothing }) (slice_get was.commands was.finished)) was.locks.items
+pub built_code : (was : Progress) (scan : Purpose) (rows : Vec Row Global) (at : ℕ) (own : RunningTransaction) (caches : LocalCaches) (locks : Roomy OwnLock) → own ≡ begun_own (was.finished + 1) was.running → is_next_at scan was ≡ true
+    → kept_of caches ≡ kept_with scan rows.items at (kept_at was)
+    → locks.items ≡ locks_accepted (is_in_accept (record was { caches = caches; running = Some own; due = dues.Nothing }) (slice_get was.commands was.finished)) was.locks.items
     → (scenario : Scenario) (seen : List Entry) (count : ℕ) → (rests : Rests scenario seen was) → rows.items ≡ answer_of seen was.id scan
-    → HasEntered scenario seen was (events.Scan scan count) rests (record was { due = dues.Nothing; running = Some own; tally = record was.tally { scans = was.tally.scans + 1 }; kept = kept; locks = locks; answer = None })
-built_code was scan rows given at own kept locks begins next same pushed items scenario seen count rests are =
-    subst (HasEntered scenario seen was (events.Scan scan count) rests) (λ i. record (built_scan was kept) { running = Some (sym begins i); locks = locks })
-    (built_holds scenario seen was scan count given at kept locks rests next (same ∙ are) pushed items)
+    → HasEntered scenario seen was (events.Scan scan count) rests (record was { due = dues.Nothing; running = Some own; tally = record was.tally { scans = was.tally.scans + 1 }; caches = caches; locks = locks; answer = None })
+built_code was scan rows at own caches locks begins next pushed items scenario seen count rests are =
+    subst (HasEntered scenario seen was (events.Scan scan count) rests) (λ i. record (built_scan was caches) { running = Some (sym begins i); locks = locks })
+    (built_holds scenario seen was scan count rows.items at caches locks rests next are pushed items)
 
-pub write_code : (was : Progress) (xid : Xid) (messages : List Message) (new_oids : ℕ) (first : Oid) (own : RunningTransaction) (lists : Held) (kept : List KeptScan) (exec : Exec) (opened_none : List Opening) (locked locks : Roomy OwnLock)
+pub write_code : (was : Progress) (xid : Xid) (messages : List Message) (new_oids : ℕ) (first : Oid) (own : RunningTransaction) (lists : Held) (caches : LocalCaches) (exec : Exec) (opened_none : List Opening) (locked locks : Roomy OwnLock)
     → own ≡ record (begun_own (was.finished + 1) was.running) { xid = Some xid } → want_of (plan_at was.exec) ≡ wants.Write → all_lists lists.lists ≡ lists_at was ++ with_messages messages (new_list (was.finished + 1)) ∷ []
-    → kept ≡ kept_spared messages was.kept → plan_at exec ≡ after_act [] (plan_at was.exec) → opened_none ≡ [] → locked.items ≡ locks_written new_oids first (was.finished + 1) was.locks.items
-    → locks.items ≡ locks_accepted (is_in_accept (record was { lists = lists; kept = kept; running = Some own; due = dues.Nothing; exec = exec; opened = opened_none; granted = false; locks = locked }) (slice_get was.commands was.finished)) locked.items
+    → kept_of caches ≡ kept_spared messages (kept_at was) → plan_at exec ≡ after_act [] (plan_at was.exec) → opened_none ≡ [] → locked.items ≡ locks_written new_oids first (was.finished + 1) was.locks.items
+    → locks.items ≡ locks_accepted (is_in_accept (record was { lists = lists; caches = caches; running = Some own; due = dues.Nothing; exec = exec; opened = opened_none; granted = false; locks = locked }) (slice_get was.commands was.finished)) locked.items
     → (scenario : Scenario) (seen : List Entry) (items : List Item) → (rests : Rests scenario seen was) → messages ≡ messages_in seen was.id items → flat_map (locked_by (was.finished + 1)) items ≡ locks_made new_oids first (was.finished + 1)
-    → HasEntered scenario seen was (events.Write xid items) rests (record was { lists = lists; kept = kept; running = Some own; due = dues.Nothing; exec = exec; opened = opened_none; granted = false; locks = locks; answer = None })
-write_code was xid messages new_oids first own lists kept exec opened_none locked locks begins wants_it pushed keeps goes none held accepts scenario seen items rests are makes =
-    subst (HasEntered scenario seen was (events.Write xid items) rests) (λ i. record (wrote was xid (sym keeps i) lists exec locks) { running = Some (sym begins i); opened = sym none i })
-    (write_holds scenario seen was xid items messages new_oids first lists exec locked locks rests wants_it are makes pushed goes held
-    (accepts ∙ (λ i. locks_accepted (is_in_accept (record was { lists = lists; kept = keeps i; running = Some own; due = dues.Nothing; exec = exec; opened = none i; granted = false; locks = locked }) (slice_get was.commands was.finished)) locked.items)))
+    → HasEntered scenario seen was (events.Write xid items) rests (record was { lists = lists; caches = caches; running = Some own; due = dues.Nothing; exec = exec; opened = opened_none; granted = false; locks = locks; answer = None })
+write_code was xid messages new_oids first own lists caches exec opened_none locked locks begins wants_it pushed keeps goes none held accepts scenario seen items rests are makes =
+    subst (HasEntered scenario seen was (events.Write xid items) rests) (λ i. record (wrote was xid caches lists exec locks) { running = Some (sym begins i); opened = sym none i })
+    (write_holds scenario seen was xid items messages new_oids first caches lists exec locked locks rests wants_it are makes pushed keeps goes held
+    (accepts ∙ (λ i. locks_accepted (is_in_accept (record was { lists = lists; caches = caches; running = Some own; due = dues.Nothing; exec = exec; opened = none i; granted = false; locks = locked }) (slice_get was.commands was.finished)) locked.items)))
 
 pub visible_code : (was : Progress) (xid : Xid) (own : RunningTransaction) (locks : Roomy OwnLock) → own ≡ begun_own (was.finished + 1) was.running
     → locks.items ≡ locks_accepted (is_in_accept (record was { running = Some (record own { visible = true }); due = dues.Nothing }) (slice_get was.commands was.finished)) was.locks.items
@@ -133,19 +134,15 @@ pub publish_code : (was : Progress) (count : ℕ) (own : RunningTransaction) (lo
 publish_code was count own locks begins items scenario seen rests =
     subst (λ o. HasEntered scenario seen was (events.Publish count) rests (record was { due = dues.Nothing; running = Some (record o { published = o.published + count }); locks = locks })) (sym begins) (publish_holds scenario seen was count locks rests items)
 
-pub gone_code : (was : Progress) (from : ℕ) (own : RunningTransaction) (cats rels : List Message) (kept_first kept : List KeptScan) (lists : Held) (locks : Roomy OwnLock) → own ≡ begun_own (was.finished + 1) was.running
+pub gone_code : (was : Progress) (from : ℕ) (own : RunningTransaction) (cats rels : List Message) (caches_first caches : LocalCaches) (lists : Held) (locks : Roomy OwnLock) → own ≡ begun_own (was.finished + 1) was.running
     → cats ≡ cats_in (lists_from from (lists_at was)) → rels ≡ rels_in (lists_from from (lists_at was))
-    → kept_first ≡ kept_spared cats was.kept → kept ≡ kept_spared rels kept_first
+    → kept_of caches_first ≡ kept_spared cats (kept_at was) → kept_of caches ≡ kept_spared rels (kept_of caches_first)
     → all_lists lists.lists ≡ lists_before from (lists_at was)
-    → locks.items ≡ locks_accepted (is_in_accept (record was { running = Some own; kept = kept; lists = lists; due = dues.Nothing }) (slice_get was.commands was.finished)) was.locks.items
-    → (scenario : Scenario) (seen : List Entry) → (rests : Rests scenario seen was) → HasEntered scenario seen was (events.Gone from) rests (record was { due = dues.Nothing; running = Some own; kept = kept; lists = lists; locks = locks })
-gone_code was from own cats rels kept_first kept lists locks begins cats_are rels_are first keeps before items scenario seen rests =
-    subst (HasEntered scenario seen was (events.Gone from) rests) (λ i. record (taken_back was cats rels lists) { running = Some (sym begins i); kept = sym kept_is i; locks = locks })
-    (gone_holds scenario seen was from cats rels lists locks rests cats_are rels_are before
-    (items ∙ (λ i. locks_accepted (is_in_accept (record was { running = Some own; kept = kept_is i; lists = lists; due = dues.Nothing }) (slice_get was.commands was.finished)) was.locks.items)))
-  where
-    kept_is : kept ≡ kept_spared rels (kept_spared cats was.kept)
-    kept_is = keeps ∙ ap (kept_spared rels) first
+    → locks.items ≡ locks_accepted (is_in_accept (record was { running = Some own; caches = caches; lists = lists; due = dues.Nothing }) (slice_get was.commands was.finished)) was.locks.items
+    → (scenario : Scenario) (seen : List Entry) → (rests : Rests scenario seen was) → HasEntered scenario seen was (events.Gone from) rests (record was { due = dues.Nothing; running = Some own; caches = caches; lists = lists; locks = locks })
+gone_code was from own cats rels caches_first caches lists locks begins cats_are rels_are first keeps before items scenario seen rests =
+    subst (HasEntered scenario seen was (events.Gone from) rests) (λ i. record (taken_back was caches lists) { running = Some (sym begins i); locks = locks })
+    (gone_holds scenario seen was from cats rels caches lists locks rests cats_are rels_are (keeps ∙ ap (kept_spared rels) first) before items)
 
 pub release_code : (was : Progress) (from : ℕ) (first : Bool) (begun : RunningTransaction) (own : Option RunningTransaction) (lists : Held) (held locks : Roomy OwnLock) → first ≡ ends_own from was.running → begun ≡ begun_own (was.finished + 1) was.running → own ≡ released_own from begun
     → all_lists lists.lists ≡ lists_left first (lists_at was) → held.items ≡ filter (λ lock. nat_lt lock.command from) was.locks.items

@@ -44,6 +44,7 @@ table_kept = record {
   columns = refl;
   called = ((tt, tt), ((inl refl, tt), ((inl refl, tt), tt)));
   apart = (((λ are. are), ((λ are. are), tt)), (((λ are. names_differ are.1), tt), (tt, tt)));
+  named = (((λ share. share), ((λ share. share), tt)), (((λ share. share), tt), (tt, tt)));
 }
 
 fill_kept : KeepsTables (found ++ locked) 1 (Put (Class (oid 16384) (codes "t") Table (Some 70)) ∷ [])
@@ -53,6 +54,7 @@ fill_kept = record {
   columns = refl;
   called = ((tt, ((λ are. are), ((λ are. are), ((λ are. are), tt)))), tt);
   apart = (tt, tt);
+  named = (tt, tt);
 }
 
 tables : EachEntry WritesTables (found ++ (locked ++ altered))

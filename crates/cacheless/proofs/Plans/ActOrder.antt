@@ -20,9 +20,9 @@ use Rattle.ddl_effect.specs.declared.told.Told.TheVariants as tells
 use Rattle.ddl_effect.specs.Plans.{Plan, Done, Fails, Absent, NotBuilt, Do, Lookup, Open, Search, Read, Lock, Write, is_built}
 use Rattle.ddl_effect.specs.Commands.{plan_of, found, looking_up, if_passes, if_no_column, first_twice, writing, opening, showing, showing_field, is_table, locking, new_table, altering, column_there, with_column, column_free, reading, changing, adding, add_column, dropping, drop_column, with_name, renaming, rename_column, targeting, set_statistics, filling, set_fillfactor, live_column, listing_columns, telling_column, finding_column}
 use Rattle.history_model.proofs.FixedRows.{fixed}
+use Rattle.history_model.proofs.ColumnsKept.{IsOfColumn, IsOfColumns}
 use Rattle.cacheless.specs.Types.{Oid, Mode, AccessExclusive, Kind, Row, Purpose, Command, CommandError, Draft, Opening, Told}
 use Rattle.cacheless.specs.ActsDone.{after_given, reached, made_first, made_in, opening_by, relation_by}
-use Rattle.cacheless.proofs.ColumnAnswers.{IsOfColumn, IsOfColumns}
 use Rattle.cacheless.proofs.Plans.EffectAlong.{plain_row, GoesByRelation}
 use Rattle.cacheless.proofs.Plans.Ways.{acts}
 

@@ -3,15 +3,13 @@ use Rattle.std.proofs.Common.{◌≡◌, ◌∙◌, ℕ, Bool, true, false, Some
 use Rattle.std.specs.Prelude.{⊤}
 use Rattle.std.specs.List.{AllByRecursion, list_any, list_all}
 use Rattle.std.specs.Option.{option_map_or}
-use Rattle.std.proofs.Math.Bool.{or-true, or-false}
+use Rattle.std.proofs.Math.Bool.{or-true}
 use Rattle.std.proofs.lemmas.Bool.{eqb-true, and_parts, and_from}
 use Rattle.std.proofs.lemmas.List.{take-append-drop}
 use Rattle.base_types.specs.Modes.{mode_number, conflicting_modes, conflicts, same_mode}
 use Rattle.base_types.specs.Scans.{same_oid}
 use Rattle.base_types.specs.Scenario.{Scenario}
 use Rattle.base_types.specs.declared.mode.Mode.TheVariants.{AccessShare, RowShare, RowExclusive, ShareUpdateExclusive, Share, ShareRowExclusive, Exclusive, AccessExclusive}
-use Rattle.base_types.specs.declared.scan.Purpose.TheVariants as scans
-use Rattle.event_kinds.specs.declared.entry.Event.TheVariants as events
 use Rattle.lock_modes.specs.Grants.{holds}
 use Rattle.lock_modes.specs.Own.{is_own, has_lock, cleared, clear_modes}
 use Rattle.ddl_effect.specs.Plans.{Plan, Act, Do}
@@ -23,10 +21,8 @@ use Rattle.history_model.specs.Versions.{answer_of}
 use Rattle.history_model.proofs.Every.{every}
 use Rattle.history_model.proofs.FixedRows.{fixed}
 use Rattle.history_model.proofs.Locked.{changing_modes}
-use Rattle.history_model.proofs.Observed.{LeavesRead}
-use Rattle.history_model.proofs.Prefixes.{EachEntry-weaker, EachEntry-more, EachEntry-prefix}
-use Rattle.history_model.proofs.Touched.{entry_of}
-use Rattle.history_model.proofs.WeakChanges.{column_apart, fixed_visible}
+use Rattle.history_model.proofs.Prefixes.{EachEntry-weaker, EachEntry-prefix}
+use Rattle.history_model.proofs.ColumnsKept.{IsOfColumns, by_number, columns_leave}
 use Rattle.cacheless.specs.Types.{Oid, Mode, Kind, Row, Purpose, OwnLock, Entry, Opening}
 use Rattle.cacheless.specs.ActsDone.{LockedRelation, locked_relation_by, reached, made_in, opening_by, relation_by, IsHeld, WayHolds}
 use Rattle.cacheless.specs.Plays.{Plays}
@@ -34,7 +30,7 @@ use Rattle.cacheless.specs.Session.{Session}
 use Rattle.cacheless.specs.Sessions.{session_of}
 use Rattle.cacheless.specs.TableWrites.{WritesTables}
 use Rattle.cacheless.proofs.Answers.ReadPlaces.{read_at_place}
-use Rattle.cacheless.proofs.ColumnAnswers.{IsOfColumns, by_number, numbered_stay, numbered_same}
+use Rattle.cacheless.proofs.ColumnAnswers.{numbered_same}
 use Rattle.cacheless.proofs.Plans.ActOrder.{FollowsOrder}
 use Rattle.cacheless.proofs.HeldLocks.{Follows, grant_of, locks_of, locks_are_held, lock_is_held}
 use Rattle.cacheless.proofs.Plans.LateActs.{relation_only, locked_are_found, late_alone}
@@ -99,14 +95,9 @@ all_conflict Exclusive = refl
 all_conflict AccessExclusive = refl
 
 -- any clear lock keeps out all who change columns by more than a weak mode may
-lock_keeps_out : (scenario : Scenario) (history : List Entry) (b : ℕ) (s : Session) (rel : Oid) (mode : Mode) → session_of scenario history b ≡ Some s → map cleared s.locks ≡ s.locks → has_lock s.locks rel mode ≡ true → AreKeptOut scenario history b rel (AccessExclusive ∷ [])
+pub lock_keeps_out : (scenario : Scenario) (history : List Entry) (b : ℕ) (s : Session) (rel : Oid) (mode : Mode) → session_of scenario history b ≡ Some s → map cleared s.locks ≡ s.locks → has_lock s.locks rel mode ≡ true → AreKeptOut scenario history b rel (AccessExclusive ∷ [])
 lock_keeps_out scenario history b s rel mode is clear has =
     ap (λ o. list_any (conflicts AccessExclusive) (option_map_or (λ x. clear_modes x.locks rel) o []) && true) is ∙ ap (λ t. t && true) (clear_conflict AccessExclusive rel mode s.locks (all_conflict mode) clear has)
-
-columns_leave : (rel : Oid) (scan : Purpose) → IsOfColumns rel scan → LeavesRead (by_number rel) scan rel (AccessExclusive ∷ [])
-columns_leave rel scan of history a c xid b sound comes other none =
-    numbered_stay history (history ++ entry_of a c (events.Visible xid) ∷ []) b rel scan of sound (EachEntry-more MayComeNext history (entry_of a c (events.Visible xid)) sound comes)
-    (fixed_visible history a c xid b rel (scans.Attribute rel) (column_apart rel) sound comes other (sym (or-false (holds (held_of history) a rel AccessExclusive)) ∙ none))
 
 -- so what was read of a relation's columns by a usable scan is the scan's answer, but for what a weak mode may change
 pub columns_answer : (scenario : Scenario) (history : List Entry) (b : ℕ) (s : Session) (rel : Oid) (mode : Mode) (scan : Purpose) → IsSound history → EachEntry WritesTables history → Plays scenario history → session_of scenario history b ≡ Some s → map cleared s.locks ≡ s.locks

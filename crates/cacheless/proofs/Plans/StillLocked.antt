@@ -24,11 +24,12 @@ use Rattle.history_model.proofs.Prefixes.{EachEntry-more}
 use Rattle.history_model.proofs.Reading.{held_of-more as held-more}
 use Rattle.history_model.proofs.Touched.{entry_of}
 use Rattle.history_model.proofs.WeakChanges.{AsksOf, asks_of, column_apart, fixed_visible}
+use Rattle.history_model.proofs.ColumnsKept.{IsOfColumns}
 use Rattle.cacheless.specs.Types.{Oid, Mode, Kind, Row, Purpose, Entry, Event}
 use Rattle.cacheless.specs.ActsDone.{LockedRelation, locked_relation_by, made_in, IsHeld, WayHolds}
 use Rattle.cacheless.specs.TableWrites.{WritesTables}
 use Rattle.cacheless.proofs.StillSeen.{MayCome}
-use Rattle.cacheless.proofs.ColumnAnswers.{IsOfColumns, columns_stay}
+use Rattle.cacheless.proofs.ColumnAnswers.{columns_stay}
 use Rattle.cacheless.proofs.Plans.ActOrder.{FollowsOrder}
 use Rattle.cacheless.proofs.Plans.StillAfter.{IsOf, RowsStay, still_after}
 

@@ -36,6 +36,7 @@ use Rattle.history_model.specs.Writes.{has_row, modes_enough}
 use Rattle.history_model.proofs.Asking.{oid_eq}
 use Rattle.history_model.proofs.InOrder.{IsIn}
 use Rattle.history_model.proofs.Locked.{changing_modes, held_bars_all}
+use Rattle.history_model.proofs.GivenRows.{given_seen}
 use Rattle.cacheless.specs.Types.{Oid, Mode, AccessExclusive, Row, Command, Draft, Opening, Entry, Item}
 use Rattle.cacheless.specs.Locks.{locked_by}
 use Rattle.cacheless.specs.Plays.{drafted}
@@ -46,7 +47,6 @@ use Rattle.cacheless.proofs.Written.NewNames.{class_called, kept_called, free_ca
 use Rattle.cacheless.proofs.Written.NewTableItems.{next_number}
 use Rattle.cacheless.proofs.NumberedColumns.{AreNumbered, numbered_columns}
 use Rattle.cacheless.proofs.Written.SeenRows.{IsGiven, first_given, found_holds, seen_is_old, ColumnSeen, column_seen}
-use Rattle.cacheless.proofs.StillSeen.{given_seen}
 use Rattle.cacheless.proofs.Written.WrittenBy.{AddsColumn, DropsColumn, RenamesColumn, SetsStatistics, SetsFillfactor, WritesBy}
 use Rattle.cacheless.proofs.Written.WrittenMessages.{Tell, written_tell}
 
@@ -110,7 +110,7 @@ none_named before b rel old new r = ap (λ o. new_name o (Some new)) r.was ∙ r
 replaced : (before : List Entry) (b : ℕ) (rel : Oid) (old new : Row) → Replaces before b rel old new → MayBeWritten before b (rows_draft (Replace new ∷ []))
 replaced before b rel old new r = by_items before b (Replace new ∷ []) (record {
   fit = all_fit before b (forms.Put new ∷ []) refl (put_fits before b rel _ old new r.was r.of r.stays r.enough (written_tell before b (forms.Put new ∷ [])).0, tt);
-  keeps = record { stay = refl; names = (name_kept before b rel old new r, tt); columns = refl; called = (r.called, tt); apart = (tt, tt) };
+  keeps = record { stay = refl; names = (name_kept before b rel old new r, tt); columns = refl; called = (r.called, tt); apart = (tt, tt); named = (tt, tt) };
   nameless = ap (λ l. l ++ []) (none_named before b rel old new r);
   lockless = λ c. refl;
   some = omega arith;
@@ -191,6 +191,7 @@ added_fits before b relations column col_type draft spelled writes has numbered 
     columns = ap (λ t. t && true) (next_number count is_there (of numbered.last));
     called = (free_called before b writes.rel (count + 1) column col_type (negsuc 0) true spelled writes.free, tt);
     apart = (tt, tt);
+    named = (tt, tt);
   };
   nameless = refl;
   lockless = λ c. refl;
@@ -235,7 +236,7 @@ dropped_fits before b relations column draft sound tables writes has = subst (Ma
         remove_fits before b messages oid own num word was (ap (λ o. holds (held_of before) b o AccessExclusive) of_table ∙ has) (table_told before b rel messages new (scans.AttrDef own) r.stays tells.1.0 (eq-eqb rel.0 own.0 (ap (λ o. o.0) (sym of_table)))),
         (put_fits before b rel messages writes.row new r.was r.of r.stays r.enough tells.1.0, tt),
       );
-      keeps = record { stay = refl; names = (tt, (name_kept before b rel writes.row new r, tt)); columns = refl; called = (tt, (r.called, tt)); apart = ((tt, tt), (tt, tt)) };
+      keeps = record { stay = refl; names = (tt, (name_kept before b rel writes.row new r, tt)); columns = refl; called = (tt, (r.called, tt)); apart = ((tt, tt), (tt, tt)); named = ((tt, tt), (tt, tt)) };
       nameless = (λ i. new_name (was i) None ++ (none_named before b rel writes.row new r i ++ []));
       lockless = λ c. refl;
       some = omega arith;

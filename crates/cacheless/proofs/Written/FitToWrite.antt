@@ -56,7 +56,8 @@ pub record Fits (before : List Entry) (b : ℕ) (messages : List Message) (item 
   pub keeps : keeps_relation before b item ≡ true
   pub named : list_all (is_covered messages) (flat_map scans_of (rows_named item (old_row before b item))) ≡ true
 
-all_pass : {X : Type 0} (p : X → Bool) (xs : List X) → AllByRecursion (λ x. p x ≡ true) xs → list_all p xs ≡ true
+-- what each element passes all pass
+pub all_pass : {X : Type 0} (p : X → Bool) (xs : List X) → AllByRecursion (λ x. p x ≡ true) xs → list_all p xs ≡ true
 all_pass p [] all = refl
 all_pass p (x ∷ xs) all = and_from (p x) (list_all p xs) all.0 (all_pass p xs all.1)
 
@@ -98,7 +99,8 @@ IsOfTable rel (rows.Class oid name kind fill) = (oid ≡ rel) × (kind ≡ Table
 IsOfTable rel (rows.Att of num name col_type stat live) = of ≡ rel
 IsOfTable rel row = ⊥
 
-names_table : (rel : Oid) (row : Row) → IsOfTable rel row → relations_of row ≡ rel ∷ []
+-- it names its table alone
+pub names_table : (rel : Oid) (row : Row) → IsOfTable rel row → relations_of row ≡ rel ∷ []
 names_table rel (rows.Class oid name kind fill) of = ap (λ o. o ∷ []) of.0
 names_table rel (rows.Att own num name col_type stat live) of = ap (λ o. o ∷ []) of
 names_table rel row of = absurd of
@@ -124,10 +126,11 @@ pub same_bytes : (xs : List ℕ) → bytes_eq xs xs ≡ true
 same_bytes xs = (bytes_eq-Decides xs xs).1 refl
 
 -- each scan that gives the row asks for it, and the row's own messages are for it
-abbrev IsSent : Row → Purpose → Type 0
+abbrev pub IsSent : Row → Purpose → Type 0
 IsSent row scan = (selects scan row ≡ true) × (sends_itself scan row ≡ true)
 
-sent_itself : (rel : Oid) (row : Row) → IsOfTable rel row → AllByRecursion (IsSent row) (scans_of row)
+-- so it is with such a row
+pub sent_itself : (rel : Oid) (row : Row) → IsOfTable rel row → AllByRecursion (IsSent row) (scans_of row)
 sent_itself rel (rows.Class oid name kind fill) of = ((same_bytes name, refl), ((eq-eqb oid.0 oid.0 refl, refl), ((eq-eqb oid.0 oid.0 refl, refl), tt)))
 sent_itself rel (rows.Att own num name col_type stat live) of =
     ((and_from (same_oid own own) _ (eq-eqb own.0 own.0 refl) (same_bytes name), refl), ((eq-eqb own.0 own.0 refl, refl), ((eq-eqb own.0 own.0 refl, refl), tt)))

@@ -24,10 +24,10 @@ use Rattle.history_model.specs.Versions.{versions_of, sees, added_row, rows_of, 
 use Rattle.history_model.proofs.Every.{every-weaker, every, every-map, every-filter, SomeOf, from_some}
 use Rattle.history_model.proofs.InOrder.{IsIn}
 use Rattle.history_model.proofs.WeakChanges.{every_self}
+use Rattle.history_model.proofs.GivenRows.{row_given}
 use Rattle.cacheless.specs.Types.{Oid, Row, Entry}
 use Rattle.cacheless.specs.TableWrites.{AreNamesakes, IsCalledWell, IsCalledApart, CallsApart, AreCalledApart, WritesTables}
 use Rattle.cacheless.proofs.NamedColumns.{seen_apart, seen_called, apart_from}
-use Rattle.cacheless.proofs.StillSeen.{row_given}
 use Rattle.cacheless.proofs.Written.NewTableItems.{column_item}
 
 -- the row of a relation has no namesake

@@ -41,6 +41,7 @@ use Rattle.cacheless.proofs.Written.NewTableItems.{column_item, table_items, dra
 use Rattle.cacheless.specs.Types.{Draft}
 use Rattle.cacheless.proofs.Written.FitToWrite.{IsFit}
 
+-- the columns of a new table draw no oid and make no relation
 columns_draw : (rel : Oid) (numbered : List (ℕ × NewColumn)) → (flat_map drawn_by (map (column_item rel) numbered) ≡ []) × (flat_map made_by (map (column_item rel) numbered) ≡ [])
 columns_draw rel [] = (refl, refl)
 columns_draw rel (column ∷ numbered) = columns_draw rel numbered

@@ -15,8 +15,9 @@ use Rattle.history_model.proofs.Every.{every-weaker, from_some}
 use Rattle.history_model.proofs.Guards.{key_refl}
 use Rattle.history_model.proofs.InOrder.{IsIn}
 use Rattle.history_model.proofs.Ordered.{ended_named, one_version}
+use Rattle.history_model.proofs.GivenRows.{given_seen}
 use Rattle.cacheless.specs.Types.{Oid, Row, Purpose, Entry, Item}
-use Rattle.cacheless.proofs.StillSeen.{given_seen, version_seen}
+use Rattle.cacheless.proofs.StillSeen.{version_seen}
 
 -- the backend sees the row, and the scan asks for it
 abbrev pub IsGiven : List Entry → ℕ → Purpose → Row → Type 0

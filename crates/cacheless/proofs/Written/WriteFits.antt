@@ -64,6 +64,7 @@ table_keeps history b name columns sound spelled distinct = subst (KeepsTables h
   columns = keeps.columns;
   called = (class_called history b rel name Table None, table_called history b rel 1 columns (rows_drawn history sound) spelled);
   apart = (alone (map (column_item rel) (enumerate_from 1 columns)), table_apart rel 1 [] columns distinct);
+  named = keeps.named;
 })
   where
     rel : Oid

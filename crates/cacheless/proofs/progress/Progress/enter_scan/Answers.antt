@@ -1,7 +1,11 @@
 use Rattle.std.proofs.Common.{◌∙◌, ap}
 use Rattle.cacheless.specs.State.{locks_accepted}
+use Rattle.cacheless.proofs.Entries.EnteredScans.{next_lacks}
 use Rattle.cacheless.proofs.Entries.EntryCodes.{built_code}
 use Rattle.cacheless.proofs.progress.Progress.enter_scan.Goals as goal
 
+pub put-requires-clause-new : goal.put-requires-clause-new
+put-requires-clause-new c = next_lacks c.args.self.now c.args.scan.now c.requires.next
+
 pub returns-clause-holds : goal.returns-clause-holds
-returns-clause-holds c = built_code _ _ c.args.rows _ _ _ _ _ c.begun.ensures c.requires.next c.from_vec.ensures c.in_ok-push.ensures.ok (c.accept.ensures ∙ ap (λ t. locks_accepted t c.args.self.now.locks.items) c.is_in_acceptance-accepting.ensures)
+returns-clause-holds c = built_code _ _ c.args.rows _ _ _ _ c.begun.ensures c.requires.next c.in_ok-put.ensures.ok (c.accept.ensures ∙ ap (λ t. locks_accepted t c.args.self.now.locks.items) c.is_in_acceptance-accepting.ensures)

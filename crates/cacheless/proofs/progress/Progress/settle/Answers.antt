@@ -1,5 +1,6 @@
 use Rattle.std.proofs.Common.{◌∙◌, refl, ap, subst}
 use Rattle.cacheless.specs.Silently.{IsSilentOf}
+use Rattle.cacheless.specs.State.{kept_at}
 use Rattle.cacheless.proofs.Answers.Telling.{act_goes, answer_goes, answered_holds, pass_goes, none_goes, goes_further}
 use Rattle.cacheless.proofs.progress.Progress.settle.Goals as goal
 
@@ -34,7 +35,7 @@ settling-preserved-in_ok-answer-in-Answer c = let has = c.in_ok-answer-in-Answer
   holds = λ scenario seen holds. answered_holds scenario seen c.settling.self _ has (c.settling.invariant.holds scenario seen holds);
   goes = λ scenario seen held now places. let on = c.settling.invariant.goes scenario seen held now places in
       goes_further scenario seen _ _ _ held _ _ _ on (answer_goes scenario seen c.settling.self _ on.holds c.settling.lines (subst (IsSilentOf c.settling.self) c.in-Answer.is c.silent.ensures) has on.tells on.places);
-  kept = ap (λ p. p.kept) has.is ∙ c.settling.invariant.kept;
+  kept = ap kept_at has.is ∙ c.settling.invariant.kept;
   same = ap (λ p. p.commands) has.is ∙ c.settling.invariant.same;
 }
 

@@ -1,0 +1,118 @@
+//! What `bench/caches.sh` measures of a backend's caches that have 10,000 absent names, and no name with a row: so many
+//! lookups of these names in turn (`lookups`), or so many messages that take out nothing (`messages`), of each kind in turn.
+//! Its exit status is 0, or 1 where an argument or memory fails or a name has a row. No lookup reads the pool, in which rows
+//! stand.
+#![tactic(auto)]
+
+use base_types::{CacheId, Name, Oid, Purpose};
+use inval_messages::Message;
+use local_caches::LocalCaches;
+use std::alloc::Global;
+use std::env;
+use std::process::ExitCode;
+use std::rt::Env;
+
+// How many names are cached.
+const NAMES: u32 = 10_000;
+
+// Messages of each kind that cover nothing that is cached: a hash that no key has, and a relation that isn't known.
+const MESSAGES: [Message; 4] = [
+    Message::Cat {
+        cache: CacheId::RelName,
+        hash: u32::MAX,
+    },
+    Message::Cat {
+        cache: CacheId::RelOid,
+        hash: 0,
+    },
+    Message::Cat {
+        cache: CacheId::AttName,
+        hash: 0,
+    },
+    Message::Rel { rel: Oid(7) },
+];
+
+fn main(rt: HostRuntime) -> ExitCode {
+    match run(&rt, rt.alloc()) {
+        Some(()) => ExitCode::SUCCESS,
+        None => ExitCode::from(1),
+    }
+}
+
+fn run<R: Env + AllocGlobal>(rt: &R, alloc: Global) -> Option<()> {
+    let mut arguments = env::args(rt).ok()?.skip(1);
+    let word = arguments.next()?;
+    let count = arguments.next()?.parse::<u64>().ok()?;
+    let scans = all_scans(alloc)?;
+    let mut caches = filled(alloc, scans.as_slice());
+    let done = match word.as_str() {
+        "lookups" => look_up(&caches, scans.as_slice(), count),
+        "messages" => execute(&mut caches, count),
+        _ => None,
+    };
+    // the program ends here, so nothing is freed
+    std::mem::forget(caches);
+    done
+}
+
+// The scans of all names.
+fn all_scans(alloc: Global) -> Option<Vec<Purpose>> {
+    let mut scans = Vec::new(alloc);
+    for number in 0..NAMES {
+        scans.push(Purpose::RelName(name_of(number)?)).ok()?;
+    }
+    Some(scans)
+}
+
+// The name of this number.
+fn name_of(number: u32) -> Option<Name> {
+    let digits = [
+        b'n',
+        digit(number / 1000),
+        digit(number / 100),
+        digit(number / 10),
+        digit(number),
+    ];
+    Name::new(&digits).ok()
+}
+
+// The last digit of a number.
+fn digit(number: u32) -> u8 {
+    b'0' + (number % 10) as u8
+}
+
+// The caches with what each of these scans gave: nothing. Where memory is refused some are left out.
+fn filled(alloc: Global, scans: &[Purpose]) -> LocalCaches {
+    let mut caches = LocalCaches::new(alloc);
+    for scan in scans {
+        put_none(alloc, &mut caches, scan);
+    }
+    caches
+}
+
+// Keeps that a scan gave no row.
+fn put_none(alloc: Global, caches: &mut LocalCaches, scan: &Purpose) {
+    if !caches.has(scan) {
+        let _ = caches.put(scan, Vec::new(alloc), 1);
+    }
+}
+
+// Looks so many names up, all of them in turn.
+fn look_up(caches: &LocalCaches, scans: &[Purpose], count: u64) -> Option<()> {
+    for _ in 0..count / NAMES as u64 {
+        for scan in scans {
+            if !caches.rows(scan)?.is_empty() {
+                return None;
+            }
+        }
+    }
+    Some(())
+}
+
+// Executes so many messages, of each kind in turn.
+fn execute(caches: &mut LocalCaches, count: u64) -> Option<()> {
+    for _ in 0..count / 4 {
+        caches.execute(&MESSAGES);
+    }
+    Some(())
+}

@@ -1,0 +1,71 @@
+-- A relation with which a lookup ends is seen, with the name and the kind that the name's scan gave: where that scan still serves, the relation is locked in any mode and all locks are clear.
+use Rattle.std.proofs.Common.{◌≡◌, ◌<◌, ◌∙◌, ℕ, Bool, true, false, Option, Some, List, [], ◌∷◌, refl, subst, map}
+use Rattle.std.specs.List.{AllByRecursion}
+use Rattle.base_types.specs.declared.row.Row.TheVariants as rows
+use Rattle.base_types.specs.declared.scan.Purpose.TheVariants as scans
+use Rattle.base_types.specs.Scans.{selects}
+use Rattle.lock_modes.specs.Own.{has_lock, cleared}
+use Rattle.ddl_effect.specs.Plans.{Lookup, Plan}
+use Rattle.history_model.specs.Drawn.{next_oid}
+use Rattle.history_model.specs.Orderly.{main_rel, IsSound}
+use Rattle.history_model.specs.Prefixes.{EachEntry}
+use Rattle.history_model.specs.Read.{rows_read, is_usable}
+use Rattle.history_model.specs.Versions.{answer_of}
+use Rattle.history_model.proofs.Asking.{bytes_same}
+use Rattle.history_model.proofs.FoundByName.{named_rows, named_leaves, named_seen}
+use Rattle.history_model.proofs.Locked.{IsSeenAs}
+use Rattle.history_model.proofs.ReadRows.{read_asked, read_drawn}
+use Rattle.cacheless.specs.Types.{Oid, Mode, AccessExclusive, Kind, Row, Entry, Scenario}
+use Rattle.cacheless.specs.OnCourse.{GaveNow}
+use Rattle.cacheless.specs.Plays.{Plays}
+use Rattle.cacheless.specs.Session.{Session}
+use Rattle.cacheless.specs.Sessions.{session_of}
+use Rattle.cacheless.specs.Settled.{if_locked, looked_up}
+use Rattle.cacheless.specs.WholeTables.{WritesNamesApart}
+use Rattle.cacheless.proofs.OneName.{seen_by_name}
+use Rattle.cacheless.proofs.Plans.AloneLocks.{lock_keeps_out, session_holds}
+use Rattle.cacheless.proofs.ProtectedFields.{AreKeptOut, kept_out_read}
+
+-- the relation that the scan of a name gave had that name
+read_named : (history : List Entry) (b : ℕ) (name : List ℕ) (rel : Oid) (own : List ℕ) (kind : Kind) (fill : Option ℕ) (more : List Row) → IsSound history → rows_read history b (scans.RelName name) ≡ rows.Class rel own kind fill ∷ more → own ≡ name
+read_named history b name rel own kind fill more sound gave = bytes_same own name (subst (AllByRecursion (λ row. selects (scans.RelName name) row ≡ true)) gave (read_asked history b (scans.RelName name) sound)).0
+
+-- of a sound history in which backends do what their commands say: a relation that the scan of a name gave first is seen under this name and with this kind, where the scan still serves, and all who hold AccessExclusive are kept out of the relation by clear locks
+pub found_kept_out : (scenario : Scenario) (history : List Entry) (b : ℕ) (name : List ℕ) (rel : Oid) (own : List ℕ) (kind : Kind) (fill : Option ℕ) (more : List Row) → IsSound history → Plays scenario history → AreKeptOut scenario history b rel (AccessExclusive ∷ [])
+    → is_usable history b (scans.RelName name) ≡ true → rows_read history b (scans.RelName name) ≡ rows.Class rel own kind fill ∷ more → IsSeenAs history b rel name kind
+found_kept_out scenario history b name rel own kind fill more sound plays out usable gave =
+    subst (λ n. IsSeenAs history b rel n kind) (read_named history b name rel own kind fill more sound gave)
+    (named_seen name history b rel own kind fill more sound (kept_out_read scenario history b rel (named_rows rel) (scans.RelName name) (AccessExclusive ∷ []) (named_leaves name rel) sound plays out usable) gave)
+
+-- so its name gives it still, and nothing else, but for its fillfactor
+pub name_kept : (scenario : Scenario) (history : List Entry) (b : ℕ) (name : List ℕ) (rel : Oid) (own : List ℕ) (kind : Kind) (fill : Option ℕ) (more : List Row) → IsSound history → EachEntry WritesNamesApart history → Plays scenario history
+    → AreKeptOut scenario history b rel (AccessExclusive ∷ []) → is_usable history b (scans.RelName name) ≡ true → rows_read history b (scans.RelName name) ≡ rows.Class rel own kind fill ∷ more
+    → (now : Option ℕ) × (answer_of history b (scans.RelName name) ≡ rows.Class rel name kind now ∷ [])
+name_kept scenario history b name rel own kind fill more sound apart plays out usable gave =
+    let seen = found_kept_out scenario history b name rel own kind fill more sound plays out usable gave in (seen.0, seen_by_name history b rel name kind sound apart seen ∙ seen.1)
+
+-- a lookup ends: its scan still serves, the relation that this gave is locked, if it gave one, and all locks are clear
+pub lookup_ends : (scenario : Scenario) (history : List Entry) (b : ℕ) (s : Session) (name : List ℕ) (mode : Mode) (rest : List Row → Plan) (given : List Row) → IsSound history → Plays scenario history → session_of scenario history b ≡ Some s → map cleared s.locks ≡ s.locks
+    → is_usable history b (scans.RelName name) ≡ true → looked_up s.locks mode (rows_read history b (scans.RelName name)) ≡ Some given → GaveNow history b (Lookup name mode) rest given
+lookup_ends scenario history b s name mode rest given sound plays is clear usable gives = of (rows_read history b (scans.RelName name)) refl gives
+  where
+    Gave : List Row → Type 0
+    Gave = GaveNow history b (Lookup name mode) rest
+
+    of : (read : List Row) → rows_read history b (scans.RelName name) ≡ read → looked_up s.locks mode read ≡ Some given → Gave given
+    of [] gave gives' = subst Gave (let same : [] ≡ given = cc gives' in same) (record { locked = tt; still = tt })
+    of (rows.Class rel own kind fill ∷ more) gave gives' = by_lock (has_lock s.locks rel mode) refl gives'
+      where
+        by_lock : (t : Bool) → has_lock s.locks rel mode ≡ t → if_locked t (rows.Class rel own kind fill ∷ []) ≡ Some given → Gave given
+        by_lock true has gives'' =
+            let seen = found_kept_out scenario history b name rel own kind fill more sound plays (lock_keeps_out scenario history b s rel mode is clear has) usable gave in
+            subst Gave (let same : rows.Class rel own kind fill ∷ [] ≡ given = cc gives'' in same) (record {
+              locked = (session_holds scenario history b s sound is rel mode ∙ has, tt);
+              still = record { name = name; fill = seen.0; more = []; are = seen.1 };
+            })
+        by_lock false has gives'' = absurd (cc gives'')
+    of (row ∷ more) gave gives' = subst Gave (let same : row ∷ [] ≡ given = cc gives' in same) (record { locked = tt; still = tt })
+
+-- the relation that a lookup asks to lock has a drawn oid, whether it is seen or not
+pub asked_drawn : (history : List Entry) (b : ℕ) (name : List ℕ) (rel : Oid) (own : List ℕ) (kind : Kind) (fill : Option ℕ) (more : List Row) → IsSound history → rows_read history b (scans.RelName name) ≡ rows.Class rel own kind fill ∷ more → rel.0 < next_oid history
+asked_drawn history b name rel own kind fill more sound gave = (subst (AllByRecursion (λ row. (main_rel row).0 < next_oid history)) gave (read_drawn history b (scans.RelName name) sound)).0

@@ -1,0 +1,55 @@
+-- A worked example: a backend has found a table, and holds no lock on it, while another drops it. The table is gone for the first, though the scan of its name still serves. What the drop writes is what the law says that it may write.
+use Rattle.std.proofs.Common.{◌≡◌, ◌++◌, true, false, None, List, [], ◌∷◌, codes, refl, arith}
+use Rattle.base_types.specs.declared.kind.Kind.TheVariants.{Table}
+use Rattle.base_types.specs.declared.mode.Mode.TheVariants.{AccessExclusive}
+use Rattle.base_types.specs.declared.row.Row.TheVariants as rows
+use Rattle.base_types.specs.declared.row_key.RowKey.TheVariants.{Class, Att}
+use Rattle.base_types.specs.declared.scan.Purpose.TheVariants as scans
+use Rattle.event_kinds.specs.declared.entry.Entry.{Entry}
+use Rattle.event_kinds.specs.declared.entry.Event.TheVariants.{LockOk, Write, Visible}
+use Rattle.event_kinds.specs.declared.entry.Item.{Item}
+use Rattle.event_kinds.specs.declared.entry.Item.TheVariants.{Add, Remove}
+use Rattle.history_model.specs.Orderly.{MayComeNext, IsSound}
+use Rattle.history_model.specs.Read.{is_usable}
+use Rattle.history_model.specs.Versions.{answer_of}
+use Rattle.history_model.proofs.Prefixes.{EachEntry-prefix}
+use Rattle.cacheless.specs.TableWrites.{AreNamedApart}
+use Rattle.cacheless.specs.WholeTables.{KeepsColumns}
+use Rattle.cacheless.proofs.Histories.AlteredTable.{found}
+use Rattle.cacheless.proofs.Plans.Given.{oid, xid, entry}
+use Rattle.cacheless.proofs.Written.TableDropped.{DropsTable, table_removed_fits}
+
+-- the first backend locks the table that the second has found
+abbrev pub locked : List Entry
+locked = entry 1 2 (LockOk (oid 16384) AccessExclusive) ∷ []
+
+-- what it writes
+abbrev pub removed : List Item
+removed = Remove (Att (oid 16384) 1) ∷ Remove (Att (oid 16384) 2) ∷ Remove (Class (oid 16384)) ∷ []
+
+-- and drops it
+abbrev pub dropped : List Entry
+dropped = entry 1 2 (Write (xid 2) removed) ∷ entry 1 2 (Visible (xid 2)) ∷ []
+
+sound : IsSound (found ++ (locked ++ dropped))
+sound = search arith
+
+-- the law says so of these items
+pub may_drop : DropsTable (found ++ locked) 1 removed
+may_drop = table_removed_fits (found ++ locked) 1 (oid 16384) (codes "t") None [] (EachEntry-prefix MayComeNext (found ++ locked) dropped sound) refl refl
+
+-- the table is gone for the second backend
+pub is_gone : answer_of (found ++ (locked ++ dropped)) 2 (scans.Class (oid 16384)) ≡ []
+is_gone = refl
+
+-- and the scan by which it has found the table still serves
+pub still_serves : is_usable (found ++ (locked ++ dropped)) 2 (scans.RelName (codes "t")) ≡ true
+still_serves = refl
+
+-- a column may not be taken away alone
+pub not_alone : KeepsColumns (found ++ locked) 1 (Remove (Att (oid 16384) 1) ∷ []) → ⊥
+not_alone keeps = let both : false ≡ true = keeps.whole in cc both
+
+-- nor may a write give one name to two relations
+pub not_twice : AreNamedApart (Add (rows.Class (oid 16385) (codes "t") Table None) ∷ Add (rows.Class (oid 16386) (codes "t") Table None) ∷ []) → ⊥
+not_twice apart = apart.0.0 refl

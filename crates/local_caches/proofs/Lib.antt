@@ -1,0 +1,5 @@
+pub mod Pins
+pub mod OfDescriptors
+pub mod Homes
+pub mod Putting
+pub mod Unpinned

@@ -1,0 +1,95 @@
+-- How often the relations are pinned.
+use Rattle.std.proofs.Common.{◌≡◌, ◌≢◌, ◌<◌, ◌+◌, ◌∙◌, ◌⊎◌, inl, inr, ℕ, false, Option, Some, None, IsSome, IsSomeAnd, List, [], ◌∷◌, ◌++◌, sym, ap, refl, arith, if◌then◌else◌}
+use Rattle.std.proofs.lemmas.Bool.{or_parts, eq-eqb, ne_eqb}
+use Rattle.std.specs.List.{list_any}
+use Rattle.std.specs.Option.{option_map}
+use Rattle.base_types.specs.Scans.{same_oid}
+use Rattle.pin_pool.specs.declared.reference.Ref.{Ref}
+use Rattle.rel_cache.specs.declared.opened.Opened.{Opened}
+use Rattle.rel_cache.specs.declared.opened.Opened.TheVariants.{Valid, Invalid, Unknown}
+use Rattle.rel_cache.specs.Descriptors.{opened, opened_once, closed_once}
+use Rattle.rel_cache.specs.Caches.{held_of, ChangesHeld}
+use Rattle.rel_cache.proofs.Whole.{by_number}
+use Rattle.local_caches.specs.Types.{Oid, Held, RelCache, Part}
+use Rattle.local_caches.specs.Parts.{pins_held}
+use Rattle.local_caches.specs.Whole.{times, ArePinned}
+use Rattle.local_caches.proofs.OfDescriptors.{same_or_other}
+
+-- a relation that isn't among these stands there never
+pub times_none : (rel : Oid) (xs : List Oid) → list_any (λ other. same_oid other rel) xs ≡ false → times rel xs ≡ 0
+times_none rel [] none = refl
+times_none rel (x ∷ xs) none =
+    let parts = or_parts (same_oid x rel) (list_any (λ other. same_oid other rel) xs) none in
+    ap (λ n. n + (if same_oid x rel then 1 else 0)) (times_none rel xs parts.1) ∙ ap (λ t. 0 + (if t then 1 else 0)) parts.0
+
+-- one more at the end
+pub times_more : (rel other : Oid) (xs : List Oid) → times rel (xs ++ other ∷ []) ≡ times rel xs + (if same_oid other rel then 1 else 0)
+times_more rel other [] = refl
+times_more rel other (x ∷ xs) =
+    ap (λ n. n + (if same_oid x rel then 1 else 0)) (times_more rel other xs) ∙ swap (times rel xs) (if same_oid other rel then 1 else 0) (if same_oid x rel then 1 else 0)
+  where
+    swap : (a b c : ℕ) → a + b + c ≡ a + c + b
+    swap a b c = omega arith
+
+-- a descriptor that isn't pinned may be
+pub few_pins : (relations : RelCache (List Part)) (pinned : List Oid) (rel : Oid) → ArePinned relations pinned → list_any (λ other. same_oid other rel) pinned ≡ false → (h : Held (List Part)) → held_of relations rel ≡ Some h → h.pins < 4294967295
+few_pins relations pinned rel pins none h is =
+    let zero : h.pins ≡ 0 = sym (ap pins_held is) ∙ pins rel ∙ times_none rel pinned none in
+    omega (arith, zero)
+
+-- the relation itself, or another one at the end
+times_own : (rel : Oid) (xs : List Oid) → times rel (xs ++ rel ∷ []) ≡ times rel xs + 1
+times_own rel xs = times_more rel rel xs ∙ ap (λ t. times rel xs + (if t then 1 else 0)) (eq-eqb rel.0 rel.0 refl)
+
+times_other : (rel other : Oid) (xs : List Oid) → rel ≢ other → times rel (xs ++ other ∷ []) ≡ times rel xs
+times_other rel other xs differs =
+    let nothing : times rel xs + 0 ≡ times rel xs = omega arith in
+    times_more rel other xs ∙ ap (λ t. times rel xs + (if t then 1 else 0)) (ne_eqb other.0 rel.0 (λ same. differs (by_number rel other (sym same)))) ∙ nothing
+
+-- where a descriptor is opened there is one
+pub is_there : (o : Option (Held (List Part))) (answer : Opened) → answer ≡ opened o → ((r : Ref) × (answer ≡ Valid r)) ⊎ ((r : Ref) × (answer ≡ Invalid r)) → IsSome o
+is_there None answer is (inl valid) = let never : Unknown ≡ Valid valid.0 = sym is ∙ valid.1 in absurd (cc)
+is_there None answer is (inr invalid) = let never : Unknown ≡ Invalid invalid.0 = sym is ∙ invalid.1 in absurd (cc)
+is_there (Some h) answer is there = refl
+
+-- a descriptor that is opened has one pin more
+pub opened_pins : (old new : RelCache (List Part)) (rel : Oid) (pinned now : List Oid) → ArePinned old pinned → IsSome (held_of old rel) → ChangesHeld old new rel (option_map opened_once (held_of old rel)) → now ≡ pinned ++ rel ∷ [] → ArePinned new now
+opened_pins old new rel pinned now pins there changes is other = by (same_or_other other rel) ∙ sym (ap (times other) is)
+  where
+    more : (o : Option (Held (List Part))) → IsSome o → pins_held (option_map opened_once o) ≡ pins_held o + 1
+    more None none = absurd (cc)
+    more (Some h) some = refl
+
+    by : (other ≡ rel) ⊎ (other ≢ rel) → pins_held (held_of new other) ≡ times other (pinned ++ rel ∷ [])
+    by (inl same) =
+        ap (λ o. pins_held (held_of new o)) same ∙ ap pins_held changes.at ∙ more (held_of old rel) there ∙ ap (λ n. n + 1) (pins rel) ∙ sym (times_own rel pinned) ∙ sym (ap (λ o. times o (pinned ++ rel ∷ [])) same)
+    by (inr differs) = ap pins_held (changes.others other differs) ∙ pins other ∙ sym (times_other other rel pinned differs)
+
+-- the last one that is pinned has a pin
+pub has_pin : (relations : RelCache (List Part)) (pinned left : List Oid) (rel : Oid) → ArePinned relations pinned → pinned ≡ left ++ rel ∷ [] → IsSomeAnd (held_of relations rel) (λ h. 0 < h.pins)
+has_pin relations pinned left rel pins is = by (held_of relations rel) (pins rel ∙ ap (times rel) is ∙ times_own rel left)
+  where
+    by : (o : Option (Held (List Part))) → pins_held o ≡ times rel left + 1 → IsSomeAnd o (λ h. 0 < h.pins)
+    by None none = absurd (omega (arith, none))
+    by (Some h) some = omega (arith, some)
+
+-- and is held
+pub is_held : (relations : RelCache (List Part)) (pinned left : List Oid) (rel : Oid) → ArePinned relations pinned → pinned ≡ left ++ rel ∷ [] → option_map (λ h. h.at) (held_of relations rel) ≡ None → ⊥
+is_held relations pinned left rel pins is gone = by (held_of relations rel) (has_pin relations pinned left rel pins is) gone
+  where
+    by : (o : Option (Held (List Part))) → IsSomeAnd o (λ h. 0 < h.pins) → option_map (λ h. h.at) o ≡ None → ⊥
+    by None some none = some
+    by (Some h) some none = absurd (cc)
+
+-- and one pin less once it is closed
+pub closed_pins : (old new : RelCache (List Part)) (rel : Oid) (pinned left : List Oid) → ArePinned old pinned → pinned ≡ left ++ rel ∷ [] → ChangesHeld old new rel (option_map closed_once (held_of old rel)) → ArePinned new left
+closed_pins old new rel pinned left pins is changes other = by (same_or_other other rel)
+  where
+    less : (o : Option (Held (List Part))) (n : ℕ) → pins_held o ≡ n + 1 → pins_held (option_map closed_once o) ≡ n
+    less None n none = absurd (omega (arith, none))
+    less (Some h) n some = omega (arith, some)
+
+    by : (other ≡ rel) ⊎ (other ≢ rel) → pins_held (held_of new other) ≡ times other left
+    by (inl same) =
+        ap (λ o. pins_held (held_of new o)) same ∙ ap pins_held changes.at ∙ less (held_of old rel) (times rel left) (pins rel ∙ ap (times rel) is ∙ times_own rel left) ∙ sym (ap (λ o. times o left) same)
+    by (inr differs) = ap pins_held (changes.others other differs) ∙ pins other ∙ ap (times other) is ∙ times_other other rel left differs

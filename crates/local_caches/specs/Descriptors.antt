@@ -1,0 +1,19 @@
+-- What the descriptors of a backend have together.
+use Rattle.std.specs.Prelude.{◌≡◌, ◌≢◌, ◌++◌, List, [], ◌∷◌}
+use Rattle.rel_cache.specs.Caches.{held_of}
+use Rattle.local_caches.specs.Types.{Oid, Part}
+use Rattle.local_caches.specs.Parts.{parts_held}
+use Rattle.local_caches.specs.declared.descriptors.Descriptors.{Descriptors}
+
+-- the scans that a relation's descriptor has
+unfoldable pub parts_of : Descriptors → Oid → List Part
+parts_of d rel = parts_held (held_of d.relations rel)
+
+-- each relation has the scans that it had
+abbrev pub HasParts : Descriptors → Descriptors → Type 0
+HasParts old new = (rel : Oid) → parts_of new rel ≡ parts_of old rel
+
+-- the relation has one scan more
+pub record AddsPart (old new : Descriptors) (rel : Oid) (part : Part) : Type 0 where
+  pub at : parts_of new rel ≡ parts_of old rel ++ part ∷ []
+  pub others : (other : Oid) → other ≢ rel → parts_of new other ≡ parts_of old other

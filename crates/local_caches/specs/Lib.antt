@@ -1,0 +1,10 @@
+pub mod Kept
+pub mod Types
+pub mod Homes
+pub mod Reads
+pub mod Keyed
+pub mod CatCaches
+pub mod Parts
+pub mod Whole
+pub mod Descriptors
+pub mod Caches

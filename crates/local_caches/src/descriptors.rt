@@ -1,0 +1,120 @@
+ghost use Rattle.std.specs.Prelude.{◌≡◌, [], cond, OnOk, OnErr};
+ghost use Rattle.std.specs.Option.{option_map};
+ghost use Rattle.std.specs.List.{list_any};
+ghost use Rattle.base_types.specs.Scans.{same_oid};
+ghost use Rattle.local_caches.specs.Reads.{given};
+ghost use Rattle.local_caches.specs.Parts.{part_kept};
+ghost use Rattle.local_caches.specs.Whole.{ArePinned};
+
+use crate::given::Given;
+use crate::part::Part;
+use crate::parts::{part_of, put_part};
+use base_types::{Listed, NoMemory, Oid, Purpose};
+use rel_cache::{Opened, RelCache};
+use std::alloc::Global;
+
+// The descriptors of a backend (`RelationIdCache` in `src/backend/utils/cache/relcache.c`), each as the
+// scans that it is built of.
+#[derive(Drop)]
+pub(crate) struct Descriptors {
+    alloc: Global,
+    relations: RelCache<Listed<Part>>,
+    // the relations whose descriptors are pinned
+    pinned: Vec<Oid>,
+    ghost pins: { ArePinned relations pinned.items },
+}
+
+#[tactic(auto, unfolding(crate::specs::Descriptors::parts_of))]
+impl Descriptors {
+    ghost use Rattle.local_caches.specs.Descriptors.{parts_of, HasParts, AddsPart};
+
+    // No descriptors, which takes no memory.
+    pub(crate) fn new(alloc: Global) -> Descriptors
+        ensures { (rel : _) → parts_of result rel ≡ [] }
+    {
+        Descriptors {
+            alloc,
+            relations: RelCache::new(alloc),
+            pinned: Vec::new(alloc),
+        }
+    }
+
+    // The scans that a relation's descriptor is built of; none where it is to be built anew.
+    pub(crate) fn parts(&self, rel: Oid) -> &[Part]
+        ensures { result.now ≡ parts_of self.now rel }
+    {
+        match self.relations.find(rel) {
+            Some(parts) => parts.as_slice(),
+            None => &[],
+        }
+    }
+
+    // What a scan gave for a relation's descriptor.
+    pub(crate) fn find(&self, rel: Oid, scan: &Purpose) -> Option<Given<'_>>
+        ensures { option_map given result ≡ part_kept (parts_of self.now rel) scan.now }
+    {
+        match part_of(self.parts(rel), scan) {
+            Some(part) => Some(Given {
+                rows: part.rows.as_slice(),
+                at: part.at,
+            }),
+            None => None,
+        }
+    }
+
+    // Keeps what a scan gave for a relation's descriptor. Out of memory, nothing changes.
+    pub(crate) fn put(&mut self, rel: Oid, part: Part) -> Result<(), NoMemory>
+        ensures ok { OnOk result (AddsPart self.old self.new rel part) }
+        ensures err { OnErr result (HasParts self.old self.new) }
+    {
+        put_part(self.alloc, &mut self.relations, rel, part)
+    }
+
+    // Executes a message for a relation: its descriptor goes, or is to be built anew where it is pinned
+    // (`RelationCacheInvalidateEntry` in `src/backend/utils/cache/relcache.c`).
+    pub(crate) fn execute(&mut self, rel: Oid)
+        ensures { (other : _) → parts_of self.new other ≡ cond (same_oid rel other) [] (parts_of self.old other) }
+    {
+        let _ = self.relations.note_message(rel);
+    }
+
+    // The same for all of them (`RelationCacheInvalidate` in `src/backend/utils/cache/relcache.c`).
+    pub(crate) fn reset(&mut self)
+        ensures { (rel : _) → parts_of self.new rel ≡ [] }
+    {
+        self.relations.note_reset();
+    }
+
+    // Pins a relation's descriptor, if there is one and it isn't pinned yet. Out of memory, nothing changes.
+    pub(crate) fn pin(&mut self, rel: Oid) -> Result<(), NoMemory>
+        ensures { HasParts self.old self.new }
+    {
+        if is_among(&self.pinned, rel) {
+            return Ok(());
+        }
+        self.pinned.reserve(1)?;
+        match self.relations.open(rel) {
+            Opened::Unknown => {}
+            Opened::Valid(_) | Opened::Invalid(_) => self.pinned.push_reserved(rel),
+        }
+        Ok(())
+    }
+
+    // Lets go of all descriptors that are pinned. They stay, also without pins.
+    pub(crate) fn unpin_all(&mut self)
+        ensures { HasParts self.old self.new }
+    {
+        while let Some(rel) = self.pinned.pop() {
+            if let Some(r) = self.relations.reference(rel) {
+                self.relations.close(r);
+            }
+        }
+    }
+}
+
+// Whether a relation is among these.
+fn is_among(rels: &[Oid], rel: Oid) -> bool
+    ensures { result ≡ list_any (λ other. same_oid other rel) rels.now }
+{
+    rels.iter().any(|other| other.0 == rel.0)
+}

@@ -1,0 +1,156 @@
+ghost use Rattle.std.specs.Prelude.{◌≡◌, ◌≤◌, ◌∷◌, [], true, None, not, length, OnOk, OnErr};
+ghost use Rattle.std.specs.Option.{option_copied, option_map};
+ghost use Rattle.std.specs.List.{find};
+ghost use Rattle.base_types.specs.Scans.{build_scans};
+ghost use Rattle.local_caches.specs.Reads.{given};
+
+use crate::cat_caches::CatCaches;
+use crate::descriptors::Descriptors;
+use crate::given::Given;
+use crate::home::{Home, home_of};
+use crate::part::Part;
+use crate::parts::first_missing_of;
+use base_types::{Kind, Listed, NoMemory, Oid, Purpose, Row};
+use inval_messages::Message;
+use std::alloc::Global;
+
+/// All that a backend has cached of the catalogs: its catalog caches (`SysCache` in
+/// `src/backend/utils/cache/syscache.c`) and its relation cache (`RelationIdCache` in
+/// `src/backend/utils/cache/relcache.c`). Contracts see for each scan nothing, or what it gave and at which
+/// entry of the history.
+#[derive(Drop)]
+pub struct LocalCaches {
+    catalogs: CatCaches,
+    descriptors: Descriptors,
+}
+
+#[tactic(auto, unfolding(crate::specs::Caches::kept_of))]
+impl LocalCaches {
+    ghost use Rattle.local_caches.specs.Caches.{kept_of};
+    ghost use Rattle.local_caches.specs.Kept.{nothing_kept, kept_with, kept_spared, is_kept, is_keyed};
+
+    /// Nothing is kept, which takes no memory (`InitCatalogCache` in `src/backend/utils/cache/syscache.c`,
+    /// `RelationCacheInitialize` in `src/backend/utils/cache/relcache.c`).
+    pub fn new(alloc: Global) -> LocalCaches
+        ensures { kept_of result ≡ nothing_kept }
+    {
+        LocalCaches {
+            catalogs: CatCaches::new(alloc),
+            descriptors: Descriptors::new(alloc),
+        }
+    }
+
+    /// Whether something is kept of the scan.
+    pub fn has(&self, scan: &Purpose) -> bool
+        ensures { result ≡ is_kept (kept_of self.now) scan.now }
+    {
+        self.find(scan).is_some()
+    }
+
+    /// The rows that are kept of a scan (`SearchCatCache` and `SearchCatCacheList` in
+    /// `src/backend/utils/cache/catcache.c`, `RelationIdGetRelation` in
+    /// `src/backend/utils/cache/relcache.c`). `None`: exactly where nothing is kept of it.
+    pub fn rows(&self, scan: &Purpose) -> Option<&[Row]>
+        ensures { option_copied result ≡ option_map (λ read. read.rows) (kept_of self.now scan.now) }
+    {
+        match self.find(scan) {
+            Some(found) => Some(found.rows),
+            None => None,
+        }
+    }
+
+    /// The number of the entry of the history at which a scan was made that is kept, from 1. `None`: exactly
+    /// where nothing is kept of it.
+    pub fn at(&self, scan: &Purpose) -> Option<u64>
+        ensures { result ≡ option_map (λ read. read.at) (kept_of self.now scan.now) }
+    {
+        match self.find(scan) {
+            Some(found) => Some(found.at),
+            None => None,
+        }
+    }
+
+    // What is kept of a scan.
+    fn find(&self, scan: &Purpose) -> Option<Given<'_>>
+        ensures { option_map given result ≡ kept_of self.now scan.now }
+    {
+        match home_of(scan) {
+            Home::Cat(lookup) => self.catalogs.find(&lookup),
+            Home::Rel(rel) => self.descriptors.find(rel, scan),
+        }
+    }
+
+    /// The first scan of a relation's descriptor of which nothing is kept.
+    pub fn first_missing(&self, kind: Kind, rel: Oid) -> Option<Purpose>
+        ensures { result ≡ find (λ scan. not (is_kept (kept_of self.now) scan)) (build_scans kind rel) }
+    {
+        first_missing_of(self.descriptors.parts(rel), kind, rel)
+    }
+
+    /// Keeps what a scan gave at an entry of the history (`CatalogCacheCreateEntry` in
+    /// `src/backend/utils/cache/catcache.c`, `RelationBuildDesc` in `src/backend/utils/cache/relcache.c`).
+    /// Out of memory, nothing changes. Conditions: nothing is kept of the scan, and a scan for the row of a
+    /// key gave one at most.
+    pub fn put(&mut self, scan: &Purpose, rows: Vec<Row>, at: u64) -> Result<(), NoMemory>
+        requires new { kept_of self.old scan.now ≡ None }
+        requires one { is_keyed scan.now ≡ true → length rows.items ≤ 1 }
+        ensures ok { OnOk result (kept_of self.new ≡ kept_with scan.now rows.items at (kept_of self.old)) }
+        ensures err { OnErr result (kept_of self.new ≡ kept_of self.old) }
+    {
+        let rows = Listed::from_vec(rows);
+        match home_of(scan) {
+            Home::Cat(lookup) => self.catalogs.put(&lookup, rows, at),
+            Home::Rel(rel) => {
+                let scan = *scan;
+                self.descriptors.put(rel, Part { scan, rows, at })
+            }
+        }
+    }
+
+    /// Executes messages: of the scans that they cover nothing is kept any more
+    /// (`LocalExecuteInvalidationMessage` in `src/backend/utils/cache/inval.c`).
+    pub fn execute(&mut self, messages: &[Message])
+        ensures { kept_of self.new ≡ kept_spared messages.now (kept_of self.old) }
+    {
+        for message in messages {
+            self.execute_one(*message);
+        }
+    }
+
+    // The same for one message.
+    fn execute_one(&mut self, message: Message)
+        ensures { kept_of self.new ≡ kept_spared (message ∷ []) (kept_of self.old) }
+    {
+        match message {
+            Message::Cat { cache, hash } => self.catalogs.execute(cache, hash),
+            Message::Rel { rel } => self.descriptors.execute(rel),
+        }
+    }
+
+    /// A reset, after which nobody knows what has changed: nothing is kept any more
+    /// (`InvalidateSystemCaches` in `src/backend/utils/cache/inval.c`).
+    pub fn reset(&mut self)
+        ensures { kept_of self.new ≡ nothing_kept }
+    {
+        self.catalogs.reset();
+        self.descriptors.reset();
+    }
+
+    /// Pins the descriptor of a relation, if there is one (`RelationIncrementReferenceCount` in
+    /// `src/backend/utils/cache/relcache.c`): until it is let go, a message or a reset marks it to be built
+    /// anew and leaves it in its place. What is kept of scans is the same with a pin and without. One that is
+    /// pinned isn't pinned again. Out of memory, nothing changes.
+    pub fn pin(&mut self, rel: Oid) -> Result<(), NoMemory>
+        ensures { kept_of self.new ≡ kept_of self.old }
+    {
+        self.descriptors.pin(rel)
+    }
+
+    /// Lets go of all descriptors that are pinned (`RelationDecrementReferenceCount` in
+    /// `src/backend/utils/cache/relcache.c`). They stay, also without pins.
+    pub fn unpin_all(&mut self)
+        ensures { kept_of self.new ≡ kept_of self.old }
+    {
+        self.descriptors.unpin_all();
+    }
+}
